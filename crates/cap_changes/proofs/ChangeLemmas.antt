@@ -1,0 +1,138 @@
+-- The change of a touched key fits its table.
+use Rattle.std.proofs.Common.{◌≡◌, ℕ, List, [], ◌∷◌, length, map, Bool, true, false, not, ◌&&◌, ◌||◌, Option, Some, None, is_some, cond, refl, ◌==◌, nat_le, is_none, arith}
+use Rattle.std.proofs.lemmas.Bool.Decides.{nat_tests}
+use Rattle.std.proofs.lemmas.List.{length-map}
+use Rattle.std.specs.declared.cmp.Ordering.{Ordering}
+use Rattle.std.specs.declared.cmp.Ordering.TheVariants.{Less, Equal, Greater}
+use Rattle.std.specs.Ordering.{is_eq}
+use Rattle.std.specs.List.{zip, list_any}
+use Rattle.cap_value.specs.declared.value.Value.{Value}
+use Rattle.cap_value.specs.Value.{is_null, value_eq, value_eq_decides}
+use Rattle.cap_row.specs.Fields.{Fields}
+use Rattle.cap_row.specs.Key.{key_of, key_fields, is_key, fields_cmp, fields_cmp-Equal}
+use Rattle.cap_changes.specs.Fits.{is_full, is_update, are_update_fields, is_full_field, is_update_field}
+use Rattle.cap_changes.specs.Column.{by_column}
+use Rattle.cap_changes.specs.Change.{IsKeyedRow, full_record, old_field, new_field, change_of}
+use Rattle.cap_changes.specs.declared.change.Change.TheVariants.{Update}
+
+kept_if : {X : Type 0} (some_key has_null : Bool) (x : X) → is_some (cond (some_key && not has_null) (Some x) None) ≡ true → has_null ≡ false
+kept_if true true x e = cc
+kept_if true false x e = refl
+kept_if false true x e = cc
+kept_if false false x e = refl
+
+other_order : (order : Ordering) → (order ≡ Equal → ⊥) → is_eq order ≡ false
+other_order Less other = refl
+other_order Equal other = absurd (other refl)
+other_order Greater other = refl
+
+true_unless : (b : Bool) → (b ≡ false → ⊥) → b ≡ true
+true_unless true other = refl
+true_unless false other = absurd (other refl)
+
+nat_eq-same : (n : ℕ) → (n == n) ≡ true
+nat_eq-same n = grind (arith, nat_tests)
+
+full_field_from : (null rest_null rest : Bool) → (null || rest_null) ≡ false → rest ≡ true → (not null && rest) ≡ true
+full_field_from true rest_null rest e h = cc
+full_field_from false rest_null rest e h = h
+
+rest_from : (null rest_null : Bool) → (null || rest_null) ≡ false → rest_null ≡ false
+rest_from true rest_null e = cc
+rest_from false rest_null e = e
+
+key_field_fits : (null rest_null rest : Bool) → (null || rest_null) ≡ false → rest ≡ true → ((not null && true) && rest) ≡ true
+key_field_fits true rest_null rest e h = cc
+key_field_fits false rest_null rest e h = h
+
+module _ {A : Type 0} where
+  no_null_key : (flags : List Bool) (row : Fields A) → is_some (key_of flags row) ≡ true → list_any is_null (key_fields flags row) ≡ false
+  no_null_key flags row e = kept_if (nat_le 1 (length (key_fields flags row))) (list_any is_null (key_fields flags row)) (key_fields flags row) e
+
+  full_fits_from : (flags : List Bool) (row : Fields A) → length row ≡ length flags → list_any is_null (key_fields flags row) ≡ false →
+      is_full flags (full_record row) ≡ true
+  full_fits_from [] [] wide keyed = refl
+  full_fits_from [] (value ∷ row) wide keyed = cc
+  full_fits_from (key ∷ flags) [] wide keyed = cc
+  full_fits_from (true ∷ flags) (value ∷ row) wide keyed =
+      full_field_from (is_null value) (list_any is_null (key_fields flags row)) _ keyed
+      (full_fits_from flags row (cc) (rest_from (is_null value) _ keyed))
+  full_fits_from (false ∷ flags) (value ∷ row) wide keyed = full_fits_from flags row (cc) keyed
+
+  pub full_fits : (flags : List Bool) (row : Fields A) → IsKeyedRow flags row → is_full flags (full_record row) ≡ true
+  full_fits flags row h = full_fits_from flags row h.wide (no_null_key flags row h.keyed)
+
+  other_field_fits : (same : Bool) (old new : Value A) {rest : Bool} → rest ≡ true →
+      (is_update_field false (cond (not same) (Some old) None) (cond (not same) (Some new) None) && rest) ≡ true
+  other_field_fits true old new h = h
+  other_field_fits false old new h = h
+
+  update_fits_from : (flags : List Bool) (image now : Fields A) → length image ≡ length flags → length now ≡ length flags →
+      list_any is_null (key_fields flags image) ≡ false →
+      are_update_fields flags (zip (by_column old_field flags image now) (by_column new_field flags image now)) ≡ true
+  update_fits_from [] [] [] wide wide' keyed = refl
+  update_fits_from [] (old ∷ image) now wide wide' keyed = cc
+  update_fits_from [] [] (new ∷ now) wide wide' keyed = cc
+  update_fits_from (key ∷ flags) [] now wide wide' keyed = cc
+  update_fits_from (key ∷ flags) (old ∷ image) [] wide wide' keyed = cc
+  update_fits_from (true ∷ flags) (old ∷ image) (new ∷ now) wide wide' keyed =
+      key_field_fits (is_null old) (list_any is_null (key_fields flags image)) _ keyed
+      (update_fits_from flags image now (cc) (cc) (rest_from (is_null old) _ keyed))
+  update_fits_from (false ∷ flags) (old ∷ image) (new ∷ now) wide wide' keyed =
+      other_field_fits (value_eq old new) old new (update_fits_from flags image now (cc) (cc) keyed)
+
+  pub update_fits : (flags : List Bool) (image now : Fields A) → IsKeyedRow flags image → IsKeyedRow flags now →
+      is_update flags (by_column old_field flags image now) (by_column new_field flags image now) ≡ true
+  update_fits flags image now h h' =
+      rw (
+        length-map (zip flags (zip image now)) (λ column. old_field column.0 column.1.0 column.1.1),
+        length-map (zip flags (zip image now)) (λ column. new_field column.0 column.1.0 column.1.1),
+        nat_eq-same (length (zip flags (zip image now))),
+      )
+      (update_fits_from flags image now h.wide h'.wide (no_null_key flags image h.keyed))
+
+  -- equal rows are no change
+  pub change_of-same : (flags : List Bool) (indirect : Bool) (image now : Fields A) → image ≡ now →
+      change_of flags indirect (Some image) (Some now) ≡ None
+  change_of-same flags indirect image now e = rw ((fields_cmp-Equal image now).1 e)
+
+  -- unequal rows are an update
+  pub change_of-other : (flags : List Bool) (indirect : Bool) (image now : Fields A) → (image ≡ now → ⊥) →
+      change_of flags indirect (Some image) (Some now) ≡ Some (Update indirect (by_column old_field flags image now) (by_column new_field flags image now))
+  change_of-other flags indirect image now other = rw (other_order (fields_cmp image now) (λ e. other ((fields_cmp-Equal image now).0 e)))
+
+  same_first : {a b : Value A} {xs ys : Fields A} → (a ∷ xs) ≡ (b ∷ ys) → (a ≡ b) × (xs ≡ ys)
+  same_first e = (cc, cc)
+
+  other_column : (same : Bool) (value : Value A) (rest : Bool) → (is_some (cond (not same) (Some value) None) || rest) ≡ false → (same ≡ true) × (rest ≡ false)
+  other_column true value rest e = (refl, e)
+  other_column false value rest e = cc
+
+  -- rows of one key without a modified field are the same
+  same_from_unmodified : (flags : List Bool) (image now : Fields A) → length image ≡ length flags → length now ≡ length flags →
+      key_fields flags image ≡ key_fields flags now → list_any is_some (by_column new_field flags image now) ≡ false → image ≡ now
+  same_from_unmodified [] [] [] wide wide' keys none = refl
+  same_from_unmodified [] (old ∷ image) now wide wide' keys none = cc
+  same_from_unmodified [] [] (new ∷ now) wide wide' keys none = cc
+  same_from_unmodified (key ∷ flags) [] now wide wide' keys none = cc
+  same_from_unmodified (key ∷ flags) (old ∷ image) [] wide wide' keys none = cc
+  same_from_unmodified (true ∷ flags) (old ∷ image) (new ∷ now) wide wide' keys none =
+      let firsts : (old ≡ new) × (key_fields flags image ≡ key_fields flags now) = same_first keys in
+      λ i. firsts.0 i ∷ same_from_unmodified flags image now (cc) (cc) firsts.1 none i
+  same_from_unmodified (false ∷ flags) (old ∷ image) (new ∷ now) wide wide' keys none =
+      let column : (value_eq old new ≡ true) × (list_any is_some (by_column new_field flags image now) ≡ false) =
+      other_column (value_eq old new) new (list_any is_some (by_column new_field flags image now)) none in
+      λ i. (value_eq_decides old new).0 column.0 i ∷ same_from_unmodified flags image now (cc) (cc) keys column.1 i
+
+  kept_key : (some_key other_key : Bool) (x y : Fields A) → is_some (cond some_key (Some x) None) ≡ true →
+      cond some_key (Some x) None ≡ cond other_key (Some y) None → x ≡ y
+  kept_key true true x y e h = cc
+  kept_key true false x y e h = cc
+  kept_key false other_key x y e h = cc
+
+  pub update_modifies : (flags : List Bool) (image now : Fields A) → IsKeyedRow flags image → IsKeyedRow flags now →
+      key_of flags image ≡ key_of flags now → (image ≡ now → ⊥) → list_any is_some (by_column new_field flags image now) ≡ true
+  update_modifies flags image now h h' keys other =
+      true_unless (list_any is_some (by_column new_field flags image now))
+      (λ none. other (same_from_unmodified flags image now h.wide h'.wide
+      (kept_key (is_key (key_fields flags image)) (is_key (key_fields flags now)) _ _ h.keyed keys) none))

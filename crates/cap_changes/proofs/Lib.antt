@@ -1,0 +1,3 @@
+pub mod ChangeLemmas
+pub mod ColumnLemmas
+pub mod PatchLemmas

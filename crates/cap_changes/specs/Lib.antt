@@ -1,0 +1,7 @@
+pub mod Change
+pub mod Column
+pub mod Fits
+pub mod Group
+pub mod Patch
+pub mod PatchGroup
+pub mod Record

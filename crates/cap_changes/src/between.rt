@@ -1,0 +1,95 @@
+ghost use Rattle.std.specs.Prelude.{◌≡◌, ◌||◌, length, IsTrue, IfOk, IfSome, if◌then◌else◌};
+ghost use Rattle.std.specs.Option.{option_copied, ForSome};
+ghost use Rattle.cap_changes.specs.Change as touched;
+ghost use Rattle.cap_changes.specs.Column.{by_column};
+ghost use Rattle.cap_changes.specs.Fits.{change_fits};
+
+use crate::{Change, Record};
+use cap_row::{Row, Schema};
+use cap_value::{AllocHandle, OutOfMemory, Value};
+
+/// The change of one touched key: `image` is its row when it was first touched, `now` its row now, each none
+/// where there was or is no row. None where nothing has changed.
+///
+/// An update's modified fields are just those outside the key that differ (The Session Extension,
+/// "sqlite3session_changeset").
+pub fn change_between<A: AllocHandle>(
+    alloc: A,
+    schema: &Schema<A>,
+    indirect: bool,
+    image: Option<&Row<A>>,
+    now: Option<&Row<A>>,
+) -> Result<Option<Change<A>>, OutOfMemory>
+    requires image_keyed { ForSome (option_copied image) (touched.IsKeyedRow schema.now) }
+    requires now_keyed { ForSome (option_copied now) (touched.IsKeyedRow schema.now) }
+    requires same_key { ForSome (option_copied image) (λ before.
+        ForSome (option_copied now) (touched.HaveSameKey schema.now before)) }
+    ensures change { IfOk result (λ change.
+        change ≡ touched.change_of schema.now indirect (option_copied image.entry) (option_copied now.entry)) }
+    ensures some { IfOk result (λ change. IfSome change (λ made. IsTrue (touched.is_some_change made))) }
+    ensures fits { IfOk result (λ change. IfSome change (λ made. IsTrue (change_fits schema.now made))) }
+{
+    match (image, now) {
+        (None, None) => Ok(None),
+        (None, Some(now)) => {
+            let new = full_record(alloc, now.fields())?;
+            Ok(Some(Change::Insert { indirect, new }))
+        }
+        (Some(image), None) => {
+            let old = full_record(alloc, image.fields())?;
+            Ok(Some(Change::Delete { indirect, old }))
+        }
+        (Some(image), Some(now)) => {
+            if image.same(now) {
+                return Ok(None);
+            }
+            let (old, new) = update_records(alloc, schema.flags(), image.fields(), now.fields())?;
+            Ok(Some(Change::Update { indirect, old, new }))
+        }
+    }
+}
+
+fn full_record<A: AllocHandle>(alloc: A, row: &[Value<A>]) -> Result<Record<A>, OutOfMemory>
+    ensures { IfOk result (λ full. full ≡ touched.full_record row.now) }
+{
+    let mut fields = Vec::with_capacity(alloc, row.len())?;
+    for value in row {
+        fields.push(Some(value.copy()?))?;
+    }
+    Ok(Record::new(fields))
+}
+
+fn update_records<A: AllocHandle>(
+    alloc: A,
+    flags: &[bool],
+    image: &[Value<A>],
+    now: &[Value<A>],
+) -> Result<(Record<A>, Record<A>), OutOfMemory>
+    ensures old { IfOk result (λ made. made.0 ≡ by_column touched.old_field flags.now image.now now.now) }
+    ensures new { IfOk result (λ made. made.1 ≡ by_column touched.new_field flags.now image.now now.now) }
+{
+    let mut old = Vec::with_capacity(alloc, flags.len())?;
+    let mut new = Vec::with_capacity(alloc, flags.len())?;
+    for (key, (image, now)) in flags.iter().zip(image.iter().zip(now)) {
+        let modified = is_modified(*key, image, now);
+        old.push(copy_if(*key || modified, image)?)?;
+        new.push(copy_if(modified, now)?)?;
+    }
+    Ok((Record::new(old), Record::new(new)))
+}
+
+fn is_modified<A: AllocHandle>(key: bool, image: &Value<A>, now: &Value<A>) -> bool
+    ensures { result ≡ touched.is_modified key image.now now.now }
+{
+    !key && image != now
+}
+
+fn copy_if<A: AllocHandle>(wanted: bool, value: &Value<A>) -> Result<Option<Value<A>>, OutOfMemory>
+    ensures { IfOk result (λ field. field ≡ (if wanted then Some value.now else None)) }
+{
+    if wanted {
+        Ok(Some(value.copy()?))
+    } else {
+        Ok(None)
+    }
+}

@@ -1,0 +1,80 @@
+ghost use Rattle.std.specs.Prelude.{◌≡◌, ◌++◌, ◌∷◌, [], IsTrue, OnOk, OnErr};
+ghost use Rattle.cap_row.specs.Schema.{has_key};
+
+use crate::Change;
+use cap_row::Schema;
+use cap_value::{AllocHandle, Name, OutOfMemory};
+use std::marker::Model;
+
+/// The changes of one table in a changeset.
+///
+/// Its schema has a key column, and each change fits the schema.
+#[derive(Drop)]
+pub struct Group<A: AllocHandle> {
+    table: Name<A>,
+    schema: Schema<A>,
+    changes: Vec<Change<A>, A>,
+}
+
+impl<A: AllocHandle> Model for Group<A> {
+    ghost use Rattle.std.specs.Prelude.{IsTrue};
+    ghost use Rattle.cap_row.specs.Schema.{has_key};
+    ghost use Rattle.cap_changes.specs.Group.{TableChanges};
+
+    ghost Value = { TableChanges A };
+
+    ghost use Rattle.cap_changes.specs.Fits.{AllChangesFit};
+
+    ghost view = { λ g. record { table = g.table; schema = g.schema; changes = g.changes.items } };
+
+    ghost invariant = { λ g. IsTrue (has_key g.schema) × AllChangesFit g.schema g.changes.items };
+}
+
+impl<A: AllocHandle> Group<A> {
+    ghost use Rattle.cap_changes.specs.Fits.{change_fits, AllChangesFit};
+
+    /// A group of this table without changes. It takes no memory.
+    pub fn new(alloc: A, table: Name<A>, schema: Schema<A>) -> Self
+        requires { IsTrue (has_key schema) }
+        ensures { result ≡ record { table = table; schema = schema; changes = [] } }
+    {
+        Group {
+            table,
+            schema,
+            changes: Vec::new(alloc),
+        }
+    }
+
+    /// Puts a change last. Where there is no memory, the group stays as it was.
+    pub fn push(&mut self, change: Change<A>) -> Result<(), OutOfMemory>
+        requires { IsTrue (change_fits self.old.schema change) }
+        ensures ok { OnOk result (self.new ≡ record self.old { changes = self.old.changes ++ change ∷ [] }) }
+        ensures err { OnErr result (self.new ≡ self.old) }
+    {
+        self.changes.push(change)?;
+        Ok(())
+    }
+
+    /// The table's name.
+    pub fn table(&self) -> &Name<A>
+        ensures { result.now ≡ self.now.table }
+    {
+        &self.table
+    }
+
+    /// The table's columns. One at least is in the primary key.
+    pub fn schema(&self) -> &Schema<A>
+        ensures schema { result.now ≡ self.now.schema }
+        ensures keyed { IsTrue (has_key self.now.schema) }
+    {
+        &self.schema
+    }
+
+    /// The changes, in the order in which they were put.
+    pub fn changes(&self) -> &[Change<A>]
+        ensures changes { result.now ≡ self.now.changes }
+        ensures fit { AllChangesFit self.now.schema self.now.changes }
+    {
+        self.changes.as_slice()
+    }
+}

@@ -1,0 +1,52 @@
+ghost use Rattle.std.specs.Prelude.{◌≡◌, ℕ, List, Option, length, slice_get};
+ghost use Rattle.std.specs.Option.{option_copied, option_flatten};
+
+use cap_value::{AllocHandle, Value};
+use std::marker::Model;
+
+/// One field a column of a table, in column order. A field is a value, or is undefined (`None`).
+#[derive(Drop)]
+pub struct Record<A: AllocHandle> {
+    fields: Vec<Option<Value<A>>, A>,
+}
+
+impl<A: AllocHandle> Model for Record<A> {
+    ghost use Rattle.cap_changes.specs.Record.{RecordFields};
+
+    ghost Value = { RecordFields A };
+
+    ghost view = { λ r. r.fields.items };
+}
+
+impl<A: AllocHandle> Record<A> {
+    /// The record of these fields. It takes no memory.
+    pub fn new(fields: Vec<Option<Value<A>>, A>) -> Self
+        ensures { result ≡ fields.items }
+    {
+        Record { fields }
+    }
+
+    /// The fields, one a column.
+    pub fn fields(&self) -> &[Option<Value<A>>]
+        ensures { result.now ≡ self.now }
+    {
+        self.fields.as_slice()
+    }
+
+    /// The value of a column, counted from 0, or none where it is undefined or outside the record.
+    pub fn get(&self, column: usize) -> Option<&Value<A>>
+        ensures { option_copied result ≡ option_flatten (slice_get self.now column) }
+    {
+        match self.fields.get(column) {
+            Some(Some(value)) => Some(value),
+            _ => None,
+        }
+    }
+
+    /// How many fields there are, the undefined ones too.
+    pub fn width(&self) -> usize
+        ensures { result ≡ length self.now }
+    {
+        self.fields.len()
+    }
+}

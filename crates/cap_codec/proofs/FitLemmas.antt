@@ -1,0 +1,172 @@
+-- A record that was read has just the fields that were asked for, so that its change fits the schema.
+use Rattle.std.proofs.Common.{◌≡◌, ℕ, suc, ◌≤◌, Bool, true, false, cond, not, ◌&&◌, ◌==◌, nat_lt, List, [], ◌∷◌, length, map, Option, Some, None, is_some, is_none, Result, Ok, Err, refl, sym, ap, ◌∙◌, inl, inr, arith}
+use Rattle.std.specs.List.{zip}
+use Rattle.std.specs.Cmp.Lexicographic.{pointwise, as_long}
+use Rattle.std.proofs.lemmas.Bool.{and_parts, and_from, not-false, eqb-true, eqb-false, ltb-false, eq-eqb, ne_eqb}
+use Rattle.cap_value.specs.declared.value.Value.{Value}
+use Rattle.cap_value.specs.declared.value.Value.TheVariants.{Null, Int, Text, Blob}
+use Rattle.cap_value.specs.Value.{is_null}
+use Rattle.cap_changes.specs.Record.{RecordFields}
+use Rattle.cap_changes.specs.Fits.{is_full_field, is_patch_field, is_key_field, is_update_field, is_full, is_patch, is_key, is_update, are_update_fields}
+use Rattle.cap_codec.specs.declared.demand.Demand.{Demand}
+use Rattle.cap_codec.specs.declared.demand.Demand.TheVariants as asks
+use Rattle.cap_codec.specs.declared.rule.Rule.{Rule}
+use Rattle.cap_codec.specs.declared.rule.Rule.TheVariants as rules
+use Rattle.cap_codec.specs.declared.fault.BlobFault.{BlobFault}
+use Rattle.cap_codec.specs.declared.fault.FaultKind.TheVariants.{Real, BadField, BadRecord}
+use Rattle.cap_codec.specs.Reading.{◌>>=◌, fault, place, byte_at}
+use Rattle.cap_codec.specs.FieldReading.{allows, number_at, text_at, sized_at, content_at, typed_at, field_at}
+use Rattle.cap_codec.specs.Demands.{demand_of, demands, new_demand, new_demands}
+use Rattle.cap_codec.specs.RecordReading.{record_at}
+use Rattle.cap_codec.proofs.Binds.{bind_ok, guard_ok, chosen, ok_is}
+
+five : (kind : ℕ) → (kind == 2) ≡ false → nat_lt 5 kind ≡ false → (kind == 0) ≡ false → (kind == 1) ≡ false → (kind == 3) ≡ false → (kind == 4) ≡ false → (kind == 5) ≡ true
+five kind e2 below e0 e1 e3 e4 =
+    let f0 = eqb-false kind 0 e0 in let f1 = eqb-false kind 1 e1 in let f2 = eqb-false kind 2 e2 in let f3 = eqb-false kind 3 e3 in let f4 = eqb-false kind 4 e4 in
+    let le = ltb-false 5 kind below in
+    eq-eqb kind 5 (omega arith)
+
+module _ {A : Type 0} where
+  -- what a demand asks of the field that is read
+  abbrev pub meets : Demand → Option (Value A) → Bool
+  meets asks.Key field = is_full_field true field
+  meets asks.Defined field = is_full_field false field
+  meets asks.Any field = true
+  meets asks.Undefined field = is_none field
+  meets asks.Omitted field = is_none field
+
+  allowed_none : (demand : Demand) (kind : ℕ) (field : Option (Value A)) → None ≡ field → allows demand kind ≡ true → (kind == 0) ≡ true → meets demand field ≡ true
+  allowed_none asks.Key kind field is allowed zero_kind = absurd (let e = (and_parts (not (kind == 0)) (not (kind == 5)) allowed).0 in cc (rw zero_kind at e))
+  allowed_none asks.Defined kind field is allowed zero_kind = absurd (cc (rw zero_kind at allowed))
+  allowed_none asks.Any kind field is allowed zero_kind = refl
+  allowed_none asks.Undefined kind field is allowed zero_kind = rw (← is) refl
+  allowed_none asks.Omitted kind field is allowed zero_kind = rw (← is) refl
+
+  allowed_some : (demand : Demand) (kind : ℕ) (value : Value A) → is_null value ≡ false → allows demand kind ≡ true → (kind == 0) ≡ false → meets demand (Some value) ≡ true
+  allowed_some asks.Key kind value known allowed other = rw known refl
+  allowed_some asks.Defined kind value known allowed other = refl
+  allowed_some asks.Any kind value known allowed other = refl
+  allowed_some asks.Undefined kind value known allowed other = absurd (cc (allowed, other))
+  allowed_some asks.Omitted kind value known allowed other = absurd (cc (allowed, other))
+
+  allowed_null : (demand : Demand) (kind : ℕ) (field : Option (Value A)) → Some Null ≡ field → allows demand kind ≡ true → (kind == 0) ≡ false → (kind == 5) ≡ true → meets demand field ≡ true
+  allowed_null asks.Key kind field is allowed other null_kind = absurd (let e = (and_parts (not (kind == 0)) (not (kind == 5)) allowed).1 in cc (rw null_kind at e))
+  allowed_null asks.Defined kind field is allowed other null_kind = rw (← is) refl
+  allowed_null asks.Any kind field is allowed other null_kind = refl
+  allowed_null asks.Undefined kind field is allowed other null_kind = absurd (cc (allowed, other))
+  allowed_null asks.Omitted kind field is allowed other null_kind = absurd (cc (allowed, other))
+
+  content_meets : (total at : ℕ) (demand : Demand) (kind : ℕ) (bytes : List ℕ) (x : Option (Value A) × List ℕ)
+      → (kind == 2) ≡ false → nat_lt 5 kind ≡ false → allows demand kind ≡ true → content_at total at kind bytes ≡ Ok x → meets demand x.0 ≡ true
+  unfolding content_at
+  content_meets total at demand kind bytes x e2 below allowed e =
+      elim (chosen (kind == 0) _ _ _ e) [
+        | inl (t0, h) ↦ allowed_none demand kind x.0 (ap (λ (y : Option (Value A) × List ℕ). y.0) (ok_is (None, bytes) x h)) allowed t0
+        | inr (e0, h0) ↦ elim (chosen (kind == 1) _ _ _ h0) [
+          | inl (t1, h) ↦ let b = bind_ok (number_at total bytes) _ x h in rw (← ok_is _ x b.2) (allowed_some demand kind (Int b.0.0) refl allowed e0)
+          | inr (e1, h1) ↦ elim (chosen (kind == 3) _ _ _ h1) [
+            | inl (t3, h) ↦ let b = bind_ok (text_at total at bytes) _ x h in rw (← ok_is _ x b.2) (allowed_some demand kind (Text b.0.0) refl allowed e0)
+            | inr (e3, h3) ↦ elim (chosen (kind == 4) _ _ _ h3) [
+              | inl (t4, h) ↦ let b = bind_ok (sized_at total at bytes) _ x h in rw (← ok_is _ x b.2) (allowed_some demand kind (Blob b.0.0) refl allowed e0)
+              | inr (e4, h) ↦ allowed_null demand kind x.0 (ap (λ (y : Option (Value A) × List ℕ). y.0) (ok_is (Some Null, bytes) x h)) allowed e0 (five kind e2 below e0 e1 e3 e4)
+            ]
+          ]
+        ]
+      ]
+
+  typed_meets : (total at : ℕ) (demand : Demand) (kind : ℕ) (bytes : List ℕ) (x : Option (Value A) × List ℕ) → typed_at total at demand kind bytes ≡ Ok x → meets demand x.0 ≡ true
+  typed_meets total at demand kind bytes x e =
+      let a = guard_ok (kind == 2) _ _ x e in
+      let b = guard_ok (nat_lt 5 kind) _ _ x a.1 in
+      let c = guard_ok (not (allows demand kind)) _ _ x b.1 in
+      content_meets total at demand kind bytes x a.0 b.0 (not-false (allows demand kind) c.0) c.1
+
+  present_meets : (total : ℕ) (demand : Demand) (bytes : List ℕ) (x : Option (Value A) × List ℕ)
+      → (byte_at total bytes >>= (λ kind. typed_at total (place total bytes) demand kind.0 kind.1)) ≡ Ok x → meets demand x.0 ≡ true
+  present_meets total demand bytes x e =
+      let b = bind_ok (byte_at total bytes) (λ kind. typed_at total (place total bytes) demand kind.0 kind.1) x e in
+      typed_meets total (place total bytes) demand b.0.0 b.0.1 x b.2
+
+  pub field_meets : (total : ℕ) (demand : Demand) (bytes : List ℕ) (x : Option (Value A) × List ℕ) → field_at total demand bytes ≡ Ok x → meets demand x.0 ≡ true
+  unfolding field_at
+  field_meets total asks.Omitted bytes x e = rw (← ok_is (None, bytes) x e) refl
+  field_meets total asks.Key bytes x e = present_meets total asks.Key bytes x e
+  field_meets total asks.Defined bytes x e = present_meets total asks.Defined bytes x e
+  field_meets total asks.Any bytes x e = present_meets total asks.Any bytes x e
+  field_meets total asks.Undefined bytes x e = present_meets total asks.Undefined bytes x e
+
+  pub record_meets : (total : ℕ) (demands : List Demand) (bytes : List ℕ) (x : RecordFields A × List ℕ) → record_at total demands bytes ≡ Ok x → pointwise meets demands x.0 ≡ true
+  unfolding record_at
+  record_meets total [] bytes x e = rw (← ok_is ([], bytes) x e) refl
+  record_meets total (demand ∷ demands) bytes x e =
+      let b = bind_ok (field_at total demand bytes) (λ field. record_at total demands field.1 >>= (λ others. Ok (field.0 ∷ others.0, others.1))) x e in
+      let c = bind_ok (record_at total demands b.0.1) (λ others. Ok (b.0.0 ∷ others.0, others.1)) x b.2 in
+      rw (← ok_is (b.0.0 ∷ c.0.0, c.0.1) x c.2) (and_from (meets demand b.0.0) (pointwise meets demands c.0.0) (field_meets total demand bytes b.0 b.1) (record_meets total demands b.0.1 c.0 c.1))
+
+  full_is : (key : Bool) (field : Option (Value A)) → meets (demand_of rules.Full key) field ≡ is_full_field key field
+  full_is true field = refl
+  full_is false field = refl
+
+  patch_is : (key : Bool) (field : Option (Value A)) → meets (demand_of rules.Keyed key) field ≡ is_patch_field key field
+  patch_is true field = refl
+  patch_is false field = refl
+
+  key_is : (key : Bool) (field : Option (Value A)) → meets (demand_of rules.KeyAlone key) field ≡ is_key_field key field
+  key_is true field = refl
+  key_is false field = refl
+
+  -- column by column, a demand is what the schema asks
+  by_column : (rule : Rule) (fits : Bool → Option (Value A) → Bool) → ((key : Bool) (field : Option (Value A)) → meets (demand_of rule key) field ≡ fits key field)
+      → (flags : List Bool) (fields : RecordFields A) → pointwise meets (demands rule flags) fields ≡ pointwise fits flags fields
+  by_column rule fits is [] [] = refl
+  by_column rule fits is [] (field ∷ fields) = refl
+  by_column rule fits is (key ∷ flags) [] = refl
+  by_column rule fits is (key ∷ flags) (field ∷ fields) = rw (is key field, by_column rule fits is flags fields) refl
+
+  pub full_fits : (total : ℕ) (flags : List Bool) (bytes : List ℕ) (x : RecordFields A × List ℕ) → record_at total (demands rules.Full flags) bytes ≡ Ok x → is_full flags x.0 ≡ true
+  full_fits total flags bytes x e = sym (by_column rules.Full is_full_field full_is flags x.0) ∙ record_meets total (demands rules.Full flags) bytes x e
+
+  pub patch_record_fits : (total : ℕ) (flags : List Bool) (bytes : List ℕ) (x : RecordFields A × List ℕ) → record_at total (demands rules.Keyed flags) bytes ≡ Ok x → is_patch flags x.0 ≡ true
+  patch_record_fits total flags bytes x e = sym (by_column rules.Keyed is_patch_field patch_is flags x.0) ∙ record_meets total (demands rules.Keyed flags) bytes x e
+
+  pub key_fits : (total : ℕ) (flags : List Bool) (bytes : List ℕ) (x : RecordFields A × List ℕ) → record_at total (demands rules.KeyAlone flags) bytes ≡ Ok x → is_key flags x.0 ≡ true
+  key_fits total flags bytes x e = sym (by_column rules.KeyAlone is_key_field key_is flags x.0) ∙ record_meets total (demands rules.KeyAlone flags) bytes x e
+
+  -- an old record has a field a column
+  pub old_is_wide : (total : ℕ) (flags : List Bool) (bytes : List ℕ) (x : RecordFields A × List ℕ) → record_at total (demands rules.Keyed flags) bytes ≡ Ok x → length x.0 ≡ length flags
+  old_is_wide total flags bytes x e = sym (as_long is_patch_field flags x.0 (patch_record_fits total flags bytes x e))
+
+  pair_fits : (key : Bool) (old new : Option (Value A)) → meets (demand_of rules.Keyed key) old ≡ true → meets (new_demand (key, old)) new ≡ true → is_update_field key old new ≡ true
+  pair_fits true old new h n = and_from (is_full_field true old) (is_none new) h n
+  pair_fits false None new h n = n
+  pair_fits false (Some value) None h n = n
+  pair_fits false (Some value) (Some other) h n = refl
+
+  pairs_fit : (flags : List Bool) (old new : RecordFields A) → pointwise meets (demands rules.Keyed flags) old ≡ true → pointwise meets (new_demands flags old) new ≡ true
+      → are_update_fields flags (zip old new) ≡ true
+  pairs_fit [] [] new h n = refl
+  pairs_fit [] (o ∷ old) new h n = cc
+  pairs_fit (key ∷ flags) [] new h n = cc
+  pairs_fit (key ∷ flags) (o ∷ old) [] h n = cc
+  pairs_fit (key ∷ flags) (o ∷ old) (w ∷ new) h n =
+      let a = and_parts (meets (demand_of rules.Keyed key) o) (pointwise meets (demands rules.Keyed flags) old) h in
+      let b = and_parts (meets (new_demand (key, o)) w) (pointwise meets (new_demands flags old) new) n in
+      and_from (is_update_field key o w) (are_update_fields flags (zip old new)) (pair_fits key o w a.0 b.0) (pairs_fit flags old new a.1 b.1)
+
+  new_is_long : (flags : List Bool) (old new : RecordFields A) → pointwise meets (demands rules.Keyed flags) old ≡ true → pointwise meets (new_demands flags old) new ≡ true → length old ≡ length new
+  new_is_long [] [] [] h n = refl
+  new_is_long [] [] (w ∷ new) h n = cc
+  new_is_long [] (o ∷ old) new h n = cc
+  new_is_long (key ∷ flags) [] new h n = cc
+  new_is_long (key ∷ flags) (o ∷ old) [] h n = cc
+  new_is_long (key ∷ flags) (o ∷ old) (w ∷ new) h n =
+      let a = and_parts (meets (demand_of rules.Keyed key) o) (pointwise meets (demands rules.Keyed flags) old) h in
+      let b = and_parts (meets (new_demand (key, o)) w) (pointwise meets (new_demands flags old) new) n in
+      ap suc (new_is_long flags old new a.1 b.1)
+
+  pub update_fits : (total : ℕ) (flags : List Bool) (bytes : List ℕ) (old new : RecordFields A × List ℕ) → record_at total (demands rules.Keyed flags) bytes ≡ Ok old
+      → record_at total (new_demands flags old.0) old.1 ≡ Ok new → is_update flags old.0 new.0 ≡ true
+  update_fits total flags bytes old new e f =
+      let h = record_meets total (demands rules.Keyed flags) bytes old e in
+      let n = record_meets total (new_demands flags old.0) old.1 new f in
+      and_from (length old.0 == length new.0) _ (eq-eqb (length old.0) (length new.0) (new_is_long flags old.0 new.0 h n)) (pairs_fit flags old.0 new.0 h n)

@@ -1,0 +1,155 @@
+-- Reading the changes and the groups of a blob, as the loops do: what was read, and what is left.
+use Rattle.std.proofs.Common.{◌≡◌, ℕ, suc, ◌-◌, ◌<◌, ◌≤◌, ◌==◌, Bool, true, false, List, [], ◌∷◌, ◌++◌, length, take, drop, get_or, Result, Ok, Err, refl, sym, ap, subst, ◌∙◌, append_assoc, arith}
+use Rattle.std.proofs.lemmas.List.{append-nil, take_all}
+use Rattle.cap_changes.specs.declared.change.Change.{Change}
+use Rattle.cap_changes.specs.declared.patch.Patch.{Patch}
+use Rattle.cap_changes.specs.Group.{TableChanges}
+use Rattle.cap_changes.specs.PatchGroup.{TablePatches}
+use Rattle.cap_codec.specs.declared.fault.BlobFault.{BlobFault}
+use Rattle.cap_value.specs.declared.memory.Fault.{Fault}
+use Rattle.cap_value.specs.declared.memory.Fault.TheVariants.{Refused, OutOfMemory}
+use Rattle.cap_codec.specs.Reading.{◌>>=◌, Fails, place}
+use Rattle.cap_codec.specs.BlobReading.{is_operation, wrong_kind, change_at, patch_at, changes_at, groups_at, with_changes, with_patches}
+use Rattle.cap_codec.proofs.Loops.{ChangesFrom, change_goes_on, change_fails, reading_stops, reading_ends, GroupsFrom, group_goes_on, group_fails, other_kind_fails, groups_run_out}
+
+-- the bytes behind the first, as a pattern gives them
+abbrev pub behind_of : List ℕ → List ℕ
+behind_of rest = take (length rest - 1) (drop 1 rest)
+
+behind-is : (op : ℕ) (bs : List ℕ) → behind_of (op ∷ bs) ≡ bs
+behind-is op bs = take_all (length (op ∷ bs) - 1) bs (omega arith)
+
+-- where a step that failed makes all fail
+pub fails_on : {X Y : Type 0} (read : Result X BlobFault) (all : Result Y BlobFault) → ((f : BlobFault) → read ≡ Err f → all ≡ Err f) → (e : Fault BlobFault) → Fails e read → Fails e all
+fails_on read all step (Refused f) h = step f h
+fails_on read all step OutOfMemory h = tt
+
+module _ {A : Type 0} where
+  pub add_changes : TableChanges A → List (Change A) → TableChanges A
+  add_changes group more = record group { changes = group.changes ++ more }
+
+  -- `all` is this group, and the changes that are read from these bytes
+  unfoldable pub ChangesLeft : TableChanges A → ℕ → List ℕ → Result (TableChanges A × List ℕ) BlobFault → Type 0
+  ChangesLeft group total rest all = ChangesFrom change_at (add_changes group) total group.schema rest all
+
+  pub changes_start : (group : TableChanges A) (total : ℕ) (bytes : List ℕ) → ChangesLeft group total bytes (with_changes group (changes_at change_at (length bytes) total group.schema bytes))
+  unfolding ChangesLeft add_changes
+  changes_start group total bytes = (length bytes, omega arith, refl)
+
+  add_changes-more : (group : TableChanges A) (x : Change A) (more : List (Change A)) → add_changes group (x ∷ more) ≡ add_changes (record group { changes = group.changes ++ x ∷ [] }) more
+  unfolding add_changes
+  add_changes-more group x more = ap (λ (xs : List (Change A)). record group { changes = xs }) (sym (append_assoc group.changes (x ∷ []) more))
+
+  pub changes_go_on : (group : TableChanges A) (total : ℕ) (rest after : List ℕ) (x : Change A) (all : Result (TableChanges A × List ℕ) BlobFault) → 1 ≤ length rest → is_operation (get_or rest 0 0) ≡ true
+      → change_at total group.schema (get_or rest 0 0) (behind_of rest) ≡ Ok (x, after) → length after ≤ length (behind_of rest)
+      → ChangesLeft group total rest all → ChangesLeft (record group { changes = group.changes ++ x ∷ [] }) total after all
+  unfolding ChangesLeft
+  changes_go_on group total [] after x all some operation read shorter left = absurd (omega arith)
+  changes_go_on group total (op ∷ behind) after x all some operation read shorter left =
+      subst (λ (make : List (Change A) → TableChanges A). ChangesFrom change_at make total group.schema after all) (λ i more. add_changes-more group x more i)
+      (change_goes_on change_at (add_changes group) total group.schema op behind after x all operation (subst (λ (b : List ℕ). change_at total group.schema op b ≡ Ok (x, after)) (behind-is op behind) read) (subst (λ (b : List ℕ). length after ≤ length b) (behind-is op behind) shorter) left)
+
+  pub changes_fail : (group : TableChanges A) (total : ℕ) (rest : List ℕ) (f : BlobFault) (all : Result (TableChanges A × List ℕ) BlobFault) → 1 ≤ length rest → is_operation (get_or rest 0 0) ≡ true
+      → change_at {A = A} total group.schema (get_or rest 0 0) (behind_of rest) ≡ Err f → ChangesLeft group total rest all → all ≡ Err f
+  unfolding ChangesLeft
+  changes_fail group total [] f all some operation read left = absurd (omega arith)
+  changes_fail group total (op ∷ behind) f all some operation read left = change_fails change_at (add_changes group) total group.schema op behind f all operation (subst (λ (b : List ℕ). change_at {A = A} total group.schema op b ≡ Err f) (behind-is op behind) read) left
+
+  add_changes-nil : (group : TableChanges A) → add_changes group [] ≡ group
+  unfolding add_changes
+  add_changes-nil group = ap (λ (xs : List (Change A)). record group { changes = xs }) (append-nil group.changes)
+
+  pub changes_stop : (group : TableChanges A) (total : ℕ) (rest : List ℕ) (all : Result (TableChanges A × List ℕ) BlobFault) → 1 ≤ length rest → is_operation (get_or rest 0 0) ≡ false
+      → ChangesLeft group total rest all → all ≡ Ok (group, rest)
+  unfolding ChangesLeft
+  changes_stop group total [] all some other left = absurd (omega arith)
+  changes_stop group total (op ∷ behind) all some other left =
+      reading_stops change_at (add_changes group) total group.schema op behind all other left ∙ ap (λ (g : TableChanges A). Ok (g, op ∷ behind)) (add_changes-nil group)
+
+  pub changes_end : (group : TableChanges A) (total : ℕ) (rest : List ℕ) (all : Result (TableChanges A × List ℕ) BlobFault) → length rest < 1 → ChangesLeft group total rest all → all ≡ Ok (group, rest)
+  unfolding ChangesLeft
+  changes_end group total [] all none left = reading_ends change_at (add_changes group) total group.schema all left ∙ ap (λ (g : TableChanges A). Ok (g, [])) (add_changes-nil group)
+  changes_end group total (op ∷ behind) all none left = absurd (omega arith)
+
+module _ {A : Type 0} where
+  pub add_patches : TablePatches A → List (Patch A) → TablePatches A
+  add_patches group more = record group { patches = group.patches ++ more }
+
+  -- `all` is this group, and the patches that are read from these bytes
+  unfoldable pub PatchesLeft : TablePatches A → ℕ → List ℕ → Result (TablePatches A × List ℕ) BlobFault → Type 0
+  PatchesLeft group total rest all = ChangesFrom patch_at (add_patches group) total group.schema rest all
+
+  pub patches_start : (group : TablePatches A) (total : ℕ) (bytes : List ℕ) → PatchesLeft group total bytes (with_patches group (changes_at patch_at (length bytes) total group.schema bytes))
+  unfolding PatchesLeft add_patches
+  patches_start group total bytes = (length bytes, omega arith, refl)
+
+  add_patches-more : (group : TablePatches A) (x : Patch A) (more : List (Patch A)) → add_patches group (x ∷ more) ≡ add_patches (record group { patches = group.patches ++ x ∷ [] }) more
+  unfolding add_patches
+  add_patches-more group x more = ap (λ (xs : List (Patch A)). record group { patches = xs }) (sym (append_assoc group.patches (x ∷ []) more))
+
+  pub patches_go_on : (group : TablePatches A) (total : ℕ) (rest after : List ℕ) (x : Patch A) (all : Result (TablePatches A × List ℕ) BlobFault) → 1 ≤ length rest → is_operation (get_or rest 0 0) ≡ true
+      → patch_at total group.schema (get_or rest 0 0) (behind_of rest) ≡ Ok (x, after) → length after ≤ length (behind_of rest)
+      → PatchesLeft group total rest all → PatchesLeft (record group { patches = group.patches ++ x ∷ [] }) total after all
+  unfolding PatchesLeft
+  patches_go_on group total [] after x all some operation read shorter left = absurd (omega arith)
+  patches_go_on group total (op ∷ behind) after x all some operation read shorter left =
+      subst (λ (make : List (Patch A) → TablePatches A). ChangesFrom patch_at make total group.schema after all) (λ i more. add_patches-more group x more i)
+      (change_goes_on patch_at (add_patches group) total group.schema op behind after x all operation (subst (λ (b : List ℕ). patch_at total group.schema op b ≡ Ok (x, after)) (behind-is op behind) read) (subst (λ (b : List ℕ). length after ≤ length b) (behind-is op behind) shorter) left)
+
+  pub patches_fail : (group : TablePatches A) (total : ℕ) (rest : List ℕ) (f : BlobFault) (all : Result (TablePatches A × List ℕ) BlobFault) → 1 ≤ length rest → is_operation (get_or rest 0 0) ≡ true
+      → patch_at {A = A} total group.schema (get_or rest 0 0) (behind_of rest) ≡ Err f → PatchesLeft group total rest all → all ≡ Err f
+  unfolding PatchesLeft
+  patches_fail group total [] f all some operation read left = absurd (omega arith)
+  patches_fail group total (op ∷ behind) f all some operation read left = change_fails patch_at (add_patches group) total group.schema op behind f all operation (subst (λ (b : List ℕ). patch_at {A = A} total group.schema op b ≡ Err f) (behind-is op behind) read) left
+
+  add_patches-nil : (group : TablePatches A) → add_patches group [] ≡ group
+  unfolding add_patches
+  add_patches-nil group = ap (λ (xs : List (Patch A)). record group { patches = xs }) (append-nil group.patches)
+
+  pub patches_stop : (group : TablePatches A) (total : ℕ) (rest : List ℕ) (all : Result (TablePatches A × List ℕ) BlobFault) → 1 ≤ length rest → is_operation (get_or rest 0 0) ≡ false
+      → PatchesLeft group total rest all → all ≡ Ok (group, rest)
+  unfolding PatchesLeft
+  patches_stop group total [] all some other left = absurd (omega arith)
+  patches_stop group total (op ∷ behind) all some other left =
+      reading_stops patch_at (add_patches group) total group.schema op behind all other left ∙ ap (λ (g : TablePatches A). Ok (g, op ∷ behind)) (add_patches-nil group)
+
+  pub patches_end : (group : TablePatches A) (total : ℕ) (rest : List ℕ) (all : Result (TablePatches A × List ℕ) BlobFault) → length rest < 1 → PatchesLeft group total rest all → all ≡ Ok (group, rest)
+  unfolding PatchesLeft
+  patches_end group total [] all none left = reading_ends patch_at (add_patches group) total group.schema all left ∙ ap (λ (g : TablePatches A). Ok (g, [])) (add_patches-nil group)
+  patches_end group total (op ∷ behind) all none left = absurd (omega arith)
+
+module _ {X : Type 0} (one_at : ℕ → List ℕ → Result (X × List ℕ) BlobFault) (kind : ℕ) where
+  -- `all` is these groups, and those that are read from these bytes
+  unfoldable pub GroupsLeft : List X → ℕ → List ℕ → Result (List X) BlobFault → Type 0
+  GroupsLeft front total rest all = GroupsFrom one_at kind front total rest all
+
+  none_in_front : (read : Result (List X) BlobFault) → (read >>= λ xs. Ok ([] ++ xs)) ≡ read
+  none_in_front (Ok xs) = refl
+  none_in_front (Err f) = refl
+
+  pub groups_start : (total : ℕ) (bytes : List ℕ) → GroupsLeft [] total bytes (groups_at one_at kind (length bytes) total bytes)
+  unfolding GroupsLeft
+  groups_start total bytes = (length bytes, omega arith, none_in_front (groups_at one_at kind (length bytes) total bytes))
+
+  pub groups_go_on : (front : List X) (total : ℕ) (rest after : List ℕ) (x : X) (all : Result (List X) BlobFault) → 1 ≤ length rest → (get_or rest 0 0 == kind) ≡ true
+      → one_at total (behind_of rest) ≡ Ok (x, after) → length after ≤ length (behind_of rest) → GroupsLeft front total rest all → GroupsLeft (front ++ x ∷ []) total after all
+  unfolding GroupsLeft
+  groups_go_on front total [] after x all some same read shorter left = absurd (omega arith)
+  groups_go_on front total (byte ∷ behind) after x all some same read shorter left = group_goes_on one_at kind front total byte behind after x all same (subst (λ (b : List ℕ). one_at total b ≡ Ok (x, after)) (behind-is byte behind) read) (subst (λ (b : List ℕ). length after ≤ length b) (behind-is byte behind) shorter) left
+
+  pub groups_fail : (front : List X) (total : ℕ) (rest : List ℕ) (f : BlobFault) (all : Result (List X) BlobFault) → 1 ≤ length rest → (get_or rest 0 0 == kind) ≡ true
+      → one_at total (behind_of rest) ≡ Err f → GroupsLeft front total rest all → all ≡ Err f
+  unfolding GroupsLeft
+  groups_fail front total [] f all some same read left = absurd (omega arith)
+  groups_fail front total (byte ∷ behind) f all some same read left = group_fails one_at kind front total byte behind f all same (subst (λ (b : List ℕ). one_at total b ≡ Err f) (behind-is byte behind) read) left
+
+  pub groups_other : (front : List X) (total : ℕ) (rest : List ℕ) (all : Result (List X) BlobFault) → 1 ≤ length rest → (get_or rest 0 0 == kind) ≡ false
+      → GroupsLeft front total rest all → all ≡ Err (wrong_kind (get_or rest 0 0) (place total rest))
+  unfolding GroupsLeft
+  groups_other front total [] all some other left = absurd (omega arith)
+  groups_other front total (byte ∷ behind) all some other left = other_kind_fails one_at kind front total byte behind all other left
+
+  pub groups_stop : (front : List X) (total : ℕ) (rest : List ℕ) (all : Result (List X) BlobFault) → length rest < 1 → GroupsLeft front total rest all → all ≡ Ok front
+  unfolding GroupsLeft
+  groups_stop front total [] all none left = groups_run_out one_at kind front total all left
+  groups_stop front total (byte ∷ behind) all none left = absurd (omega arith)

@@ -1,0 +1,10 @@
+pub mod Varint
+pub mod Field
+pub mod Changeset
+pub mod Patchset
+pub mod Reading
+pub mod FieldReading
+pub mod HeaderReading
+pub mod Demands
+pub mod RecordReading
+pub mod BlobReading

@@ -1,0 +1,88 @@
+//! The changes of a group.
+
+ghost use Rattle.std.specs.Prelude.{◌≡◌, ◌≤◌, length, IfOk, IsTrue};
+ghost use Rattle.cap_changes.specs.Fits.{change_fits, patch_fits};
+ghost use Rattle.cap_codec.specs.Reading.{Gives};
+ghost use Rattle.cap_codec.specs.BlobReading as blob;
+ghost use Rattle.cap_codec.specs.BlobReading.{change_at, patch_at};
+
+use crate::fault::BlobFault;
+use crate::lent::take_byte;
+use crate::record::{take_new_record, take_record};
+use crate::rule::Rule;
+use crate::write::{DELETE, INSERT, UPDATE};
+use cap_changes::{Change, Patch};
+use cap_row::Schema;
+use cap_value::{AllocHandle, Fault};
+
+/// Whether the byte begins a change.
+pub fn is_operation(op: u8) -> bool
+    ensures { result ≡ blob.is_operation op }
+{
+    matches!(op, INSERT | UPDATE | DELETE)
+}
+
+/// A change of a changeset, behind its operation byte.
+#[tactic(auto, unfolding(crate::specs::BlobReading::change_at))]
+pub fn take_change<'a, A: AllocHandle>(
+    alloc: A,
+    total: usize,
+    schema: &Schema<A>,
+    op: u8,
+    bytes: &'a [u8],
+) -> Result<(Change<A>, &'a [u8]), Fault<BlobFault>>
+    ensures gives { Gives (λ x. (x.0, x.1.now)) result (change_at total schema.now op bytes.now) }
+    ensures behind { IfOk result (λ x. length x.1.now ≤ length bytes.now) }
+    ensures fits { IfOk result (λ x. IsTrue (change_fits schema.now x.0)) }
+{
+    let (mark, rest) = take_byte(total, bytes)?;
+    let indirect = mark != 0;
+    let flags = schema.flags();
+    match op {
+        INSERT => {
+            let (new, rest) = take_record(alloc, total, Rule::Full, flags, rest)?;
+            Ok((Change::Insert { indirect, new }, rest))
+        }
+        UPDATE => {
+            let (old, rest) = take_record(alloc, total, Rule::Keyed, flags, rest)?;
+            let (new, rest) = take_new_record(alloc, total, flags, old.fields(), rest)?;
+            Ok((Change::Update { indirect, old, new }, rest))
+        }
+        _ => {
+            let (old, rest) = take_record(alloc, total, Rule::Full, flags, rest)?;
+            Ok((Change::Delete { indirect, old }, rest))
+        }
+    }
+}
+
+/// A change of a patchset, behind its operation byte.
+#[tactic(auto, unfolding(crate::specs::BlobReading::patch_at))]
+pub fn take_patch<'a, A: AllocHandle>(
+    alloc: A,
+    total: usize,
+    schema: &Schema<A>,
+    op: u8,
+    bytes: &'a [u8],
+) -> Result<(Patch<A>, &'a [u8]), Fault<BlobFault>>
+    ensures gives { Gives (λ x. (x.0, x.1.now)) result (patch_at total schema.now op bytes.now) }
+    ensures behind { IfOk result (λ x. length x.1.now ≤ length bytes.now) }
+    ensures fits { IfOk result (λ x. IsTrue (patch_fits schema.now x.0)) }
+{
+    let (mark, rest) = take_byte(total, bytes)?;
+    let indirect = mark != 0;
+    let flags = schema.flags();
+    match op {
+        INSERT => {
+            let (new, rest) = take_record(alloc, total, Rule::Full, flags, rest)?;
+            Ok((Patch::Insert { indirect, new }, rest))
+        }
+        UPDATE => {
+            let (new, rest) = take_record(alloc, total, Rule::Keyed, flags, rest)?;
+            Ok((Patch::Update { indirect, new }, rest))
+        }
+        _ => {
+            let (key, rest) = take_record(alloc, total, Rule::KeyAlone, flags, rest)?;
+            Ok((Patch::Delete { indirect, key }, rest))
+        }
+    }
+}

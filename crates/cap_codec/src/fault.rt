@@ -1,0 +1,77 @@
+//! Why bytes are no blob.
+
+ghost use Rattle.std.specs.Prelude.{◌≡◌};
+
+use cap_value::Fault;
+use std::error::Error;
+use std::fmt;
+
+/// What is wrong with bytes that are no changeset and no patchset. Its text is its number and name; the
+/// numbers never change.
+#[derive(Clone, Copy, Debug, PartialEq, Eq, Drop)]
+pub enum FaultKind {
+    /// The blob ends inside a group's header or inside a change.
+    Truncated,
+    /// The first byte is no kind of group, the column count is 0 or above 2,000, or no column is in the key.
+    BadHeader,
+    /// A number is not in its shortest spelling, or longer than five bytes.
+    BadVarint,
+    /// A table's name is empty, longer than 255 bytes, or not UTF-8.
+    BadName,
+    /// After a header or a change comes a byte that begins neither a change nor a group.
+    BadOp,
+    /// A field's type byte has no meaning, or its length is above 1,000,000,000.
+    BadField,
+    /// A field is a REAL.
+    Real,
+    /// A text is not UTF-8.
+    BadText,
+    /// A field is defined where it must not be, undefined where it must not be, or a key field is NULL.
+    BadRecord,
+    /// A changeset's group follows a patchset's, or the other way round.
+    Mixed,
+}
+
+impl fmt::Display for FaultKind {
+    fn fmt<W: fmt::Write>(&self, f: &mut fmt::Formatter<W>) -> fmt::Result {
+        f.write_str(match self {
+            FaultKind::Truncated => "D1 Truncated",
+            FaultKind::BadHeader => "D2 BadHeader",
+            FaultKind::BadVarint => "D3 BadVarint",
+            FaultKind::BadName => "D4 BadName",
+            FaultKind::BadOp => "D5 BadOp",
+            FaultKind::BadField => "D6 BadField",
+            FaultKind::Real => "D7 Real",
+            FaultKind::BadText => "D8 BadText",
+            FaultKind::BadRecord => "D9 BadRecord",
+            FaultKind::Mixed => "D10 Mixed",
+        })
+    }
+}
+
+/// The first part of a blob, from left to right, that cannot be read.
+#[derive(Clone, Copy, Debug, PartialEq, Eq, Drop)]
+pub struct BlobFault {
+    /// The place of a byte, counted from 0: where the part begins, or the blob's length where it ends too early.
+    pub at: usize,
+    /// What is wrong there.
+    pub kind: FaultKind,
+}
+
+impl fmt::Display for BlobFault {
+    fn fmt<W: fmt::Write>(&self, f: &mut fmt::Formatter<W>) -> fmt::Result {
+        write!(f, "{} at {}", self.kind, self.at)
+    }
+}
+
+impl Error for BlobFault {}
+
+impl From<BlobFault> for Fault<BlobFault> {
+    ghost use Rattle.cap_value.specs.declared.memory.Fault.TheVariants.{Refused};
+
+    ghost from_gives = { λ fault refused. refused ≡ Refused fault };
+
+    fn from(fault: BlobFault) -> Fault<BlobFault> {
+        Fault::Refused(fault)
+    }
+}

@@ -1,0 +1,108 @@
+//! The header of a group.
+
+ghost use Rattle.std.specs.Prelude.{◌≡◌, ◌<◌, ◌≤◌, ◌+◌, ℕ, Bool, List, Option, length, take, position, IfSome, IfOk, IsTrue};
+ghost use Rattle.cap_value.specs.Bytes.{is_name};
+ghost use Rattle.std.specs.List.{list_any};
+ghost use Rattle.cap_codec.specs.Reading.{place, Reads, Gives};
+ghost use Rattle.cap_codec.specs.HeaderReading.{is_zero, is_set, count_at, flags_at, name_at, header_at, header_of};
+
+use crate::fault::{BlobFault, FaultKind};
+use crate::lent::{place_of, take_bytes, take_varint, text_in};
+use cap_row::{COLUMNS_MAX, Schema};
+use cap_value::{AllocHandle, Fault, NAME_MAX, Name};
+
+/// A header as it stands in a blob: a byte a column, zero where it is not in the key, and the table's name.
+#[derive(Clone, Copy)]
+pub struct LentHeader<'a> {
+    pub flags: &'a [u8],
+    pub table: &'a str,
+}
+
+#[tactic(auto, unfolding(crate::specs::HeaderReading::count_at))]
+fn take_count(total: usize, bytes: &[u8]) -> Result<(usize, &[u8]), BlobFault>
+    ensures reads { Reads (λ x. (x.0, x.1.now)) result (count_at total bytes.now) }
+    ensures behind { IfOk result (λ x. length x.1.now ≤ length bytes.now) }
+    ensures within { IfOk result (λ x. (1 ≤ x.0) × (x.0 ≤ COLUMNS_MAX)) }
+{
+    let (count, rest) = take_varint(total, bytes)?;
+    if count == 0 || count > COLUMNS_MAX {
+        return Err(BlobFault {
+            at: place_of(total, bytes),
+            kind: FaultKind::BadHeader,
+        });
+    }
+    Ok((count, rest))
+}
+
+fn has_key(flags: &[u8]) -> bool
+    ensures { result ≡ list_any is_set flags.now }
+{
+    flags.iter().any(|flag| *flag != 0)
+}
+
+#[tactic(auto, unfolding(crate::specs::HeaderReading::flags_at))]
+fn take_flags(total: usize, count: usize, bytes: &[u8]) -> Result<(&[u8], &[u8]), BlobFault>
+    ensures reads { Reads (λ x. (x.0.now, x.1.now)) result (flags_at total count bytes.now) }
+    ensures behind { IfOk result (λ x. length x.1.now ≤ length bytes.now) }
+    ensures count { IfOk result (λ x. length x.0.now ≡ count) }
+    ensures keyed { IfOk result (λ x. IsTrue (list_any is_set x.0.now)) }
+{
+    let (flags, rest) = take_bytes(total, count, bytes)?;
+    if !has_key(flags) {
+        return Err(BlobFault {
+            at: place_of(total, bytes),
+            kind: FaultKind::BadHeader,
+        });
+    }
+    Ok((flags, rest))
+}
+
+/// The place of the first zero byte, where it stands among the first 256.
+fn name_len(bytes: &[u8]) -> Option<usize>
+    ensures first { result ≡ position is_zero (take 256 bytes.now) }
+    ensures within { IfSome result (λ len. (len < length bytes.now) × (len ≤ NAME_MAX)) }
+{
+    bytes.iter().take(NAME_MAX + 1).position(|byte| *byte == 0)
+}
+
+#[tactic(auto, unfolding(crate::specs::HeaderReading::name_at))]
+fn take_name(total: usize, bytes: &[u8]) -> Result<(&str, &[u8]), BlobFault>
+    ensures reads { Reads (λ x. (x.0.now, x.1.now)) result (name_at total bytes.now) }
+    ensures behind { IfOk result (λ x. length x.1.now ≤ length bytes.now) }
+    ensures name { IfOk result (λ x. IsTrue (is_name x.0.now)) }
+{
+    let Some(len) = name_len(bytes) else {
+        if bytes.len() <= NAME_MAX {
+            return Err(BlobFault {
+                at: total,
+                kind: FaultKind::Truncated,
+            });
+        }
+        return Err(BlobFault {
+            at: place_of(total, bytes),
+            kind: FaultKind::BadName,
+        });
+    };
+    match text_in(&bytes[..len]) {
+        Some(name) if len > 0 => Ok((name, &bytes[len + 1..])),
+        _ => Err(BlobFault {
+            at: place_of(total, bytes),
+            kind: FaultKind::BadName,
+        }),
+    }
+}
+
+/// A header behind its kind byte.
+#[tactic(auto, unfolding(crate::specs::HeaderReading::header_at))]
+pub fn take_header(total: usize, bytes: &[u8]) -> Result<(LentHeader<'_>, &[u8]), BlobFault>
+    ensures reads { Reads (λ x. (header_of x.0, x.1.now)) result (header_at total bytes.now) }
+    ensures behind { IfOk result (λ x. length x.1.now ≤ length bytes.now) }
+    ensures columns { IfOk result (λ x. (1 ≤ length x.0.flags.now) × (length x.0.flags.now ≤ COLUMNS_MAX)) }
+    ensures keyed { IfOk result (λ x. IsTrue (list_any is_set x.0.flags.now)) }
+    ensures name { IfOk result (λ x. IsTrue (is_name x.0.table.now)) }
+{
+    let (count, rest) = take_count(total, bytes)?;
+    let (flags, rest) = take_flags(total, count, rest)?;
+    let (table, rest) = take_name(total, rest)?;
+    Ok((LentHeader { flags, table }, rest))
+}

@@ -1,0 +1,97 @@
+//! Bytes as changesets and patchsets.
+
+ghost use Rattle.std.specs.Prelude.{◌≡◌, length};
+ghost use Rattle.cap_value.specs.Memory.{AnswersUnlessMemory};
+ghost use Rattle.cap_codec.specs.Reading.{Gives};
+ghost use Rattle.cap_codec.specs.BlobReading as blob;
+ghost use Rattle.cap_codec.specs.BlobReading.{group_at, patch_group_at, groups_at, blob_at};
+
+use crate::fault::{BlobFault, FaultKind};
+use crate::group::{take_group, take_patch_group};
+use crate::lent::place_of;
+use crate::write::{CHANGESET, PATCHSET};
+use cap_changes::{ChangeList, PatchList};
+use cap_value::{AllocHandle, Fault};
+
+/// What is in a blob.
+#[derive(Drop)]
+pub enum Blob<A: AllocHandle> {
+    /// A changeset, or no bytes at all.
+    Changes(ChangeList<A>),
+    /// A patchset.
+    Patches(PatchList<A>),
+}
+
+/// The fault of a byte that neither goes on with a group nor begins one of the blob's kind.
+fn wrong_kind(kind: u8, at: usize) -> BlobFault
+    ensures { result ≡ blob.wrong_kind kind at }
+{
+    if kind == CHANGESET || kind == PATCHSET {
+        BlobFault {
+            at,
+            kind: FaultKind::Mixed,
+        }
+    } else {
+        BlobFault {
+            at,
+            kind: FaultKind::BadOp,
+        }
+    }
+}
+
+fn take_groups<A: AllocHandle>(
+    alloc: A,
+    total: usize,
+    bytes: &[u8],
+) -> Result<ChangeList<A>, Fault<BlobFault>>
+    ensures { Gives (λ list. list) result (groups_at group_at 0x54 (length bytes.now) total bytes.now) }
+{
+    let mut list = ChangeList::new(alloc);
+    let mut rest = bytes;
+    while let [kind, behind @ ..] = rest {
+        if *kind != CHANGESET {
+            return Err(Fault::Refused(wrong_kind(*kind, place_of(total, rest))));
+        }
+        let (group, after) = take_group(alloc, total, behind)?;
+        list.push(group)?;
+        rest = after;
+    }
+    Ok(list)
+}
+
+fn take_patch_groups<A: AllocHandle>(
+    alloc: A,
+    total: usize,
+    bytes: &[u8],
+) -> Result<PatchList<A>, Fault<BlobFault>>
+    ensures { Gives (λ list. list) result (groups_at patch_group_at 0x50 (length bytes.now) total bytes.now) }
+{
+    let mut list = PatchList::new(alloc);
+    let mut rest = bytes;
+    while let [kind, behind @ ..] = rest {
+        if *kind != PATCHSET {
+            return Err(Fault::Refused(wrong_kind(*kind, place_of(total, rest))));
+        }
+        let (group, after) = take_patch_group(alloc, total, behind)?;
+        list.push(group)?;
+        rest = after;
+    }
+    Ok(list)
+}
+
+/// What is in these bytes, all of them: a changeset or a patchset, of this program or of another. Refused
+/// with the first fault from left to right where they are no blob.
+#[tactic(auto, unfolding(crate::specs::BlobReading::blob_at))]
+pub fn read_blob<A: AllocHandle>(alloc: A, bytes: &[u8]) -> Result<Blob<A>, Fault<BlobFault>>
+    ensures { AnswersUnlessMemory result (blob_at bytes.now) }
+{
+    match bytes {
+        [] => Ok(Blob::Changes(ChangeList::new(alloc))),
+        [CHANGESET, ..] => Ok(Blob::Changes(take_groups(alloc, bytes.len(), bytes)?)),
+        [PATCHSET, ..] => Ok(Blob::Patches(take_patch_groups(alloc, bytes.len(), bytes)?)),
+        _ => Err(Fault::Refused(BlobFault {
+            at: 0,
+            kind: FaultKind::BadHeader,
+        })),
+    }
+}

@@ -1,0 +1,7 @@
+pub mod GroupLemmas
+pub mod HistoryLemmas
+pub mod LawLemmas
+pub mod NextLemmas
+pub mod PrepareLemmas
+pub mod RecordsLemmas
+pub mod SoundLemmas

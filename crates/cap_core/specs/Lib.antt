@@ -1,0 +1,10 @@
+pub mod Answer
+pub mod Assigned
+pub mod Database
+pub mod Grouped
+pub mod History
+pub mod Operation
+pub mod Session
+pub mod Sound
+pub mod Table
+pub mod Transition

@@ -1,0 +1,165 @@
+ghost use Rattle.std.specs.Prelude.{◌≡◌, [], ◌∷◌, ◌++◌, Some, IfOk, IfSome, IsTrue};
+ghost use Rattle.std.specs.Option.{option_copied, option_map, ForSome};
+ghost use Rattle.cap_row.specs.Schema.{has_key};
+ghost use Rattle.cap_changes.specs.Fits.{change_fits};
+ghost use Rattle.cap_codec.specs.Changeset.{list_bytes};
+ghost use Rattle.cap_core.specs.Session.{captured, table_changes, change_now};
+ghost use Rattle.cap_core.specs.Sound.{session_stands, records_stand, image_stands};
+ghost use Rattle.cap_core.specs.Grouped.{IsGroupOf, changes_in};
+
+use crate::Recorded;
+use crate::session::{Records, Session};
+use crate::step::Database;
+use crate::table::Table;
+use cap_changes::{Change, ChangeList, Group, change_between};
+use cap_codec::write_changes;
+use cap_row::{Key, Schema};
+use cap_value::{AllocHandle, Name, OutOfMemory};
+use std::marker::Model;
+
+/// The changes of a session at one moment.
+#[derive(Drop)]
+pub struct Capture<A: AllocHandle> {
+    changes: ChangeList<A>,
+}
+
+impl<A: AllocHandle> Model for Capture<A> {
+    ghost use Rattle.std.specs.Prelude.{List};
+    ghost use Rattle.cap_changes.specs.Group.{TableChanges};
+
+    ghost Value = { List (TableChanges A) };
+
+    ghost view = { λ c. c.changes };
+}
+
+impl<A: AllocHandle> Capture<A> {
+    pub(crate) fn new(changes: ChangeList<A>) -> Self
+        ensures { result ≡ changes }
+    {
+        Capture { changes }
+    }
+
+    /// The bytes of the changeset (The Session Extension, "sqlite3session_changeset").
+    pub fn changeset(&self, alloc: A) -> Result<Vec<u8, A>, OutOfMemory>
+        ensures { IfOk result (λ bytes. bytes.items ≡ list_bytes self.now) }
+    {
+        write_changes(alloc, &self.changes)
+    }
+
+    /// The changes, table by table in the order in which the tables were attached, and in a table in the
+    /// order of the keys.
+    pub fn changes(&self) -> &ChangeList<A>
+        ensures { result.now ≡ self.now }
+    {
+        &self.changes
+    }
+}
+
+/// The changes of a session, from the first images that it keeps to the rows now.
+pub(crate) fn changes_of<A: AllocHandle>(
+    alloc: A,
+    session: &Session<A>,
+    main: &Database<A>,
+) -> Result<ChangeList<A>, OutOfMemory>
+    requires { IsTrue (session_stands main.now session.now) }
+    ensures { IfOk result (λ list. list ≡ captured main.now session.now) }
+{
+    changes_of_tables(alloc, session.tables(), main)
+}
+
+fn changes_of_tables<A: AllocHandle>(
+    alloc: A,
+    tables: &[(Name<A>, Records<A>)],
+    main: &Database<A>,
+) -> Result<ChangeList<A>, OutOfMemory>
+    requires { IsTrue (session_stands main.now tables.now) }
+    ensures { IfOk result (λ list. list ≡ captured main.now tables.now) }
+{
+    let mut list = ChangeList::new(alloc);
+    for table in tables {
+        if let Some(group) = changes_of_table(alloc, table, main.get(&table.0))? {
+            list.push(group)?;
+        }
+    }
+    Ok(list)
+}
+
+// The changes of an attached table, none where there is no change.
+fn changes_of_table<A: AllocHandle>(
+    alloc: A,
+    attached: &(Name<A>, Records<A>),
+    table: Option<&Table<A>>,
+) -> Result<Option<Group<A>>, OutOfMemory>
+    requires { IsTrue (records_stand (option_map (λ t. t.schema) (option_copied table)) attached.now.1) }
+    ensures { IfOk result (λ group. group ≡ table_changes attached.now (option_copied table.entry)) }
+{
+    match table {
+        Some(table) => group_of(alloc, &attached.0, &attached.1, table),
+        None => Ok(None),
+    }
+}
+
+fn group_of<A: AllocHandle>(
+    alloc: A,
+    name: &Name<A>,
+    records: &Records<A>,
+    table: &Table<A>,
+) -> Result<Option<Group<A>>, OutOfMemory>
+    requires { IsTrue (records_stand (Some table.now.schema) records.now) }
+    ensures { IfOk result (λ group. group ≡ table_changes (name.now, records.now) (Some table.now)) }
+{
+    let mut group = None;
+    for (key, recorded) in records {
+        if let Some(change) = change_now(alloc, table, key, recorded)? {
+            group = Some(with_change(alloc, name, table.schema(), group, change)?);
+        }
+    }
+    Ok(group)
+}
+
+// The change of one touched key.
+fn change_now<A: AllocHandle>(
+    alloc: A,
+    table: &Table<A>,
+    key: &Key<A>,
+    recorded: &Recorded<A>,
+) -> Result<Option<Change<A>>, OutOfMemory>
+    requires { IsTrue (image_stands (Some table.now.schema) key.now recorded.now.image) }
+    ensures change { IfOk result (λ change. change ≡ change_now table.now (key.now, recorded.now)) }
+    ensures fits { IfOk result (λ change. IfSome change (λ made. IsTrue (change_fits table.now.schema made))) }
+    ensures keyed { IfOk result (λ change. IfSome change (λ _. IsTrue (has_key table.now.schema))) }
+{
+    change_between(
+        alloc,
+        table.schema(),
+        recorded.indirect,
+        recorded.image.as_ref(),
+        table.get(key),
+    )
+}
+
+// The group with one more change, or a group of this change.
+fn with_change<A: AllocHandle>(
+    alloc: A,
+    name: &Name<A>,
+    schema: &Schema<A>,
+    group: Option<Group<A>>,
+    change: Change<A>,
+) -> Result<Group<A>, OutOfMemory>
+    requires keyed { IsTrue (has_key schema.now) }
+    requires fits { IsTrue (change_fits schema.now change) }
+    requires same { ForSome group (IsGroupOf name.now schema.now) }
+    ensures { IfOk result (λ g. g ≡ record { table = name.now; schema = schema.now; changes = changes_in group ++ change ∷ [] }) }
+{
+    match group {
+        Some(mut group) => {
+            group.push(change)?;
+            Ok(group)
+        }
+        None => {
+            let mut group = Group::new(alloc, name.copy()?, schema.copy()?);
+            group.push(change)?;
+            Ok(group)
+        }
+    }
+}

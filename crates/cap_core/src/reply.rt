@@ -1,0 +1,25 @@
+use crate::Capture;
+use cap_value::{AllocHandle, Refusal};
+
+/// What the server answers to a command.
+#[derive(Drop)]
+pub enum Reply<A: AllocHandle> {
+    /// The command was carried out, and has nothing to tell.
+    Done,
+    /// The command changed the tables.
+    Written {
+        /// The version that it made.
+        version: u64,
+    },
+    /// The session with this number was made.
+    Session(u64),
+    /// The session's changes.
+    Capture(Capture<A>),
+    /// The rules refuse the command, which has changed nothing.
+    Refused {
+        /// The place of the operation that is refused, counted from 0, where it is one of a transaction's.
+        at: Option<u64>,
+        /// Why.
+        why: Refusal,
+    },
+}

@@ -1,0 +1,4 @@
+pub mod Fields
+pub mod Key
+pub mod Row
+pub mod Schema

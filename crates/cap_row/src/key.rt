@@ -1,0 +1,205 @@
+ghost use Rattle.std.specs.Prelude.{◌≡◌, ◌≤◌, ◌<◌, ◌↔◌, List, ℕ, length, IfOk, IfSome, IsTrue, slice_get};
+ghost use Rattle.std.specs.Option.{option_copied};
+ghost use Rattle.cap_value.specs.Value.{IsValue};
+ghost use Rattle.cap_row.specs.Key.{key_from, key_fields, key_of, fields_cmp, is_key};
+
+use crate::{Row, Schema};
+use cap_value::{AllocHandle, OutOfMemory, Value};
+use smallvec::SmallVec;
+use std::cmp::Ordering;
+use std::fmt::{self, Debug, Formatter, Write};
+use std::marker::Model;
+use std::sync::Arc;
+
+// Two values fit inline, so that most keys are one allocation.
+type Values<A> = SmallVec<Value<A>, 2, A>;
+
+/// A primary key: the values of a row's key columns, in column order, none of them NULL. Copies share the values.
+pub struct Key<A: AllocHandle> {
+    fields: Arc<Values<A>, A>,
+}
+
+impl<A: AllocHandle> Model for Key<A> {
+    ghost use Rattle.cap_row.specs.Fields.{Fields};
+    ghost use Rattle.cap_row.specs.Key.{is_key};
+    ghost use Rattle.std.specs.Prelude.{IsTrue};
+    ghost use Rattle.std.specs.Arc.{arc_value};
+
+    ghost Value = { Fields A };
+
+    ghost view = { λ k. (arc_value k.fields).items };
+
+    ghost invariant = { λ k. IsTrue (is_key (arc_value k.fields).items) };
+}
+
+impl<A: AllocHandle> Drop for Key<A> {
+    fn drop(self) {
+        let Key { fields: _ } = self;
+    }
+}
+
+impl<A: AllocHandle> Key<A> {
+    /// The key of these values, or none where there is no value, or a NULL among them.
+    pub fn new(alloc: A, fields: Vec<Value<A>, A>) -> Result<Option<Self>, OutOfMemory>
+        ensures { IfOk result (λ key. key ≡ key_from fields.items) }
+    {
+        let mut values = SmallVec::new(alloc);
+        values.extend(fields)?;
+        Key::of_values(alloc, values)
+    }
+
+    fn of_values(alloc: A, values: Values<A>) -> Result<Option<Self>, OutOfMemory>
+        ensures { IfOk result (λ key. key ≡ key_from values.items) }
+    {
+        if !is_key(values.as_slice()) {
+            return Ok(None);
+        }
+        match Arc::new(alloc, values) {
+            Ok(fields) => Ok(Some(Key { fields })),
+            Err(_) => Err(OutOfMemory),
+        }
+    }
+
+    /// The values, in column order.
+    pub fn fields(&self) -> &[Value<A>]
+        ensures fields { result.now ≡ self.now }
+        ensures key { IsTrue (is_key self.now) }
+    {
+        self.fields.as_slice()
+    }
+
+    /// The value in a place of the key, counted from 0, or none past its end.
+    pub fn get(&self, place: usize) -> Option<&Value<A>>
+        ensures value { option_copied result ≡ slice_get self.now place }
+        ensures fits { IfSome result (λ value. IsValue value.now) }
+    {
+        let value = self.fields().get(place)?;
+        value.keeps_limits();
+        Some(value)
+    }
+
+    /// How many values there are.
+    pub fn width(&self) -> usize
+        ensures { result ≡ length self.now }
+    {
+        self.fields().len()
+    }
+
+    /// The order of keys: value by value, and a key before what extends it.
+    pub fn order(&self, other: &Self) -> Ordering
+        ensures order { result ≡ fields_cmp self.now other.now }
+        ensures equal { (result ≡ Ordering.Equal) ↔ (self.now ≡ other.now) }
+    {
+        self.fields().cmp(other.fields())
+    }
+
+    /// Whether both are the same key.
+    pub fn same(&self, other: &Self) -> bool
+        ensures { IsTrue result ↔ (self.now ≡ other.now) }
+    {
+        self.fields() == other.fields()
+    }
+
+    /// The same key, which shares its values.
+    pub fn copy(&self) -> Result<Self, OutOfMemory>
+        ensures { IfOk result (λ copy. copy ≡ self.now) }
+    {
+        Ok(Key {
+            fields: Arc::try_clone(&self.fields)?,
+        })
+    }
+}
+
+fn is_key<A: AllocHandle>(values: &[Value<A>]) -> bool
+    ensures { result ≡ is_key values.now }
+{
+    !values.is_empty() && !values.iter().any(|value| value.is_null())
+}
+
+/// The primary key of a row: the values of the schema's key columns. None where no column is a key column,
+/// or a key column's value is NULL.
+pub fn key_of<A: AllocHandle>(
+    alloc: A,
+    schema: &Schema<A>,
+    row: &Row<A>,
+) -> Result<Option<Key<A>>, OutOfMemory>
+    requires { length schema.now ≡ length row.now }
+    ensures { IfOk result (λ key. key ≡ key_of schema.now row.now) }
+{
+    Key::of_values(alloc, key_values(alloc, schema.flags(), row.fields())?)
+}
+
+fn key_values<A: AllocHandle>(
+    alloc: A,
+    flags: &[bool],
+    fields: &[Value<A>],
+) -> Result<Values<A>, OutOfMemory>
+    requires { length flags.now ≡ length fields.now }
+    ensures { IfOk result (λ values. values.items ≡ key_fields flags.now fields.now) }
+{
+    let mut values = SmallVec::new(alloc);
+    for (flag, field) in flags.iter().zip(fields) {
+        if *flag {
+            values.push(field.copy()?)?;
+        }
+    }
+    Ok(values)
+}
+
+impl<A: AllocHandle> PartialEq for Key<A> {
+    ghost use Rattle.std.specs.Cmp.{eq_by_cmp_equiv, partial_equiv_from_equiv};
+    ghost use Rattle.cap_row.specs.Key.{fields_eq, fields_cmp_total};
+
+    ghost eq = { fields_eq };
+
+    ghost laws = { partial_equiv_from_equiv (eq_by_cmp_equiv fields_cmp_total) };
+
+    fn eq(&self, other: &Self) -> bool {
+        self.order(other).is_eq()
+    }
+}
+
+impl<A: AllocHandle> Eq for Key<A> {
+    ghost use Rattle.std.specs.Cmp.{eq_by_cmp_equiv};
+    ghost use Rattle.cap_row.specs.Key.{fields_cmp_total};
+
+    ghost laws = { eq_by_cmp_equiv fields_cmp_total };
+}
+
+impl<A: AllocHandle> PartialOrd for Key<A> {
+    ghost use Rattle.std.proofs.Common.{refl};
+    ghost use Rattle.std.specs.Cmp.{partial_order_from_agreeing_total};
+    ghost use Rattle.std.specs.Ordering.{as_partial_cmp};
+    ghost use Rattle.cap_row.specs.Key.{fields_cmp, fields_cmp_total};
+
+    ghost partial_cmp = { as_partial_cmp fields_cmp };
+
+    ghost laws = { partial_order_from_agreeing_total fields_cmp fields_cmp_total (λ x y. refl) (λ x y. refl) };
+
+    fn partial_cmp(&self, other: &Self) -> Option<Ordering> {
+        Some(self.order(other))
+    }
+}
+
+impl<A: AllocHandle> Ord for Key<A> {
+    ghost use Rattle.std.proofs.Common.{refl};
+    ghost use Rattle.cap_row.specs.Key.{fields_cmp, fields_cmp_total};
+
+    ghost cmp = { fields_cmp };
+
+    ghost total = { fields_cmp_total };
+
+    ghost matches_partial_cmp = { λ x y. refl };
+
+    ghost matches_eq = { λ x y. refl };
+
+    fn cmp(&self, other: &Self) -> Ordering {
+        self.order(other)
+    }
+}
+
+impl<A: AllocHandle> Debug for Key<A> {
+    fn fmt<W: Write>(&self, f: &mut Formatter<W>) -> fmt::Result {
+        f.debug_tuple("Key").field(&self.fields()).finish()
+    }
+}

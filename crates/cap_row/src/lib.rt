@@ -1,0 +1,12 @@
+//! Schemas, rows and primary keys.
+#![tactic(auto)]
+
+mod key;
+mod row;
+mod schema;
+#[cfg(test)]
+mod tests;
+
+pub use key::{Key, key_of};
+pub use row::{Row, are_columns};
+pub use schema::{COLUMNS_MAX, Schema};

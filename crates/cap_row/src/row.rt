@@ -1,0 +1,143 @@
+ghost use Rattle.std.specs.Prelude.{◌≡◌, ◌≤◌, ◌<◌, ◌↔◌, List, ℕ, length, map, IfOk, OnOk, IfSome, IsTrue, slice_get};
+ghost use Rattle.std.specs.Option.{option_copied};
+ghost use Rattle.cap_value.specs.Memory.{AnswersUnlessMemory};
+ghost use Rattle.cap_value.specs.Value.{IsValue};
+ghost use Rattle.cap_row.specs.Row.{are_columns, columns_of, row_with, with_fields};
+
+use crate::{COLUMNS_MAX, Schema};
+use cap_value::{AllocHandle, Fault, OutOfMemory, Refusal, Value};
+use std::fmt::{self, Debug, Formatter, Write};
+use std::marker::Model;
+use std::sync::ArcSlice;
+
+/// A row: one value a column, in column order. Copies share the values.
+#[derive(Drop)]
+pub struct Row<A: AllocHandle> {
+    fields: ArcSlice<Value<A>, A>,
+}
+
+impl<A: AllocHandle> Model for Row<A> {
+    ghost use Rattle.std.specs.Arc.{arc_slice_items};
+    ghost use Rattle.cap_row.specs.Fields.{Fields};
+
+    ghost Value = { Fields A };
+
+    ghost view = { λ r. arc_slice_items r.fields };
+}
+
+impl<A: AllocHandle> Row<A> {
+    /// The row of these values.
+    pub fn new(fields: Vec<Value<A>, A>) -> Result<Self, OutOfMemory>
+        ensures { IfOk result (λ row. row ≡ fields.items) }
+    {
+        Ok(Row {
+            fields: ArcSlice::from_vec(fields)?,
+        })
+    }
+
+    /// The values, one a column.
+    pub fn fields(&self) -> &[Value<A>]
+        ensures { result.now ≡ self.now }
+    {
+        self.fields.as_slice()
+    }
+
+    /// The value in a column, counted from 0, or none outside the row.
+    pub fn get(&self, column: usize) -> Option<&Value<A>>
+        ensures value { option_copied result ≡ slice_get self.now column }
+        ensures fits { IfSome result (λ value. IsValue value.now) }
+    {
+        let value = self.fields().get(column)?;
+        value.keeps_limits();
+        Some(value)
+    }
+
+    /// How many values there are.
+    pub fn width(&self) -> usize
+        ensures { result ≡ length self.now }
+    {
+        self.fields.len()
+    }
+
+    /// The row with just these fields set, each a column, counted from 0, and its new value. The other
+    /// values are shared. Refused with `BadColumn` where a column is outside the table, or named twice.
+    pub fn with_fields(
+        &self,
+        alloc: A,
+        schema: &Schema<A>,
+        fields: &[(usize, Value<A>)],
+    ) -> Result<Self, Fault<Refusal>>
+        requires { length schema.now ≡ length self.now }
+        ensures row { AnswersUnlessMemory result (with_fields schema.now self.now fields.now) }
+        ensures width { IfOk result (λ row. length row ≡ length self.now) }
+    {
+        if !are_columns(schema.width(), fields) {
+            return Err(Fault::Refused(Refusal::BadColumn));
+        }
+        let mut values = copies(alloc, self.fields())?;
+        set(&mut values, fields)?;
+        Ok(Row::new(values)?)
+    }
+
+    /// Whether both have the same values.
+    pub fn same(&self, other: &Self) -> bool
+        ensures { IsTrue result ↔ (self.now ≡ other.now) }
+    {
+        self.fields() == other.fields()
+    }
+
+    /// The same row, which shares its values.
+    pub fn copy(&self) -> Result<Self, OutOfMemory>
+        ensures { IfOk result (λ copy. copy ≡ self.now) }
+    {
+        Ok(Row {
+            fields: self.fields.clone()?,
+        })
+    }
+}
+
+impl<A: AllocHandle> Debug for Row<A> {
+    fn fmt<W: Write>(&self, f: &mut Formatter<W>) -> fmt::Result {
+        f.debug_tuple("Row").field(&self.fields()).finish()
+    }
+}
+
+/// Whether an update may set these fields of a table with so many columns: each is one of them, counted from 0,
+/// and none is named twice.
+pub fn are_columns<A: AllocHandle>(width: usize, fields: &[(usize, Value<A>)]) -> bool
+    requires { width ≤ COLUMNS_MAX }
+    ensures { result ≡ are_columns width (columns_of fields.now) }
+{
+    let mut named = [false; COLUMNS_MAX];
+    for (column, _) in fields {
+        if *column >= width || named[*column] {
+            return false;
+        }
+        named[*column] = true;
+    }
+    true
+}
+
+fn copies<A: AllocHandle>(alloc: A, values: &[Value<A>]) -> Result<Vec<Value<A>, A>, OutOfMemory>
+    ensures { IfOk result (λ copies. copies.items ≡ values.now) }
+{
+    let mut copies = Vec::with_capacity(alloc, values.len())?;
+    for value in values {
+        copies.push(value.copy()?)?;
+    }
+    Ok(copies)
+}
+
+fn set<A: AllocHandle>(
+    values: &mut [Value<A>],
+    fields: &[(usize, Value<A>)],
+) -> Result<(), OutOfMemory>
+    requires few { length values.old ≤ COLUMNS_MAX }
+    requires columns { IsTrue (are_columns (length values.old) (columns_of fields.now)) }
+    ensures { OnOk result (values.new ≡ row_with fields.now values.old) }
+{
+    for (column, value) in fields {
+        values[*column] = value.copy()?;
+    }
+    Ok(())
+}

@@ -1,0 +1,56 @@
+use crate::script::ScriptFault;
+use cap_core::CallFault;
+use cap_value::Fault;
+use thiserror::Error;
+
+/// Why a run ended before its workload did.
+#[derive(Clone, Copy, Debug, PartialEq, Eq, Drop, Error)]
+pub enum RunFault {
+    /// The text is refused. Nothing was run.
+    #[error(transparent)]
+    Script(ScriptFault),
+    /// The bytes are no text. Nothing was run.
+    #[error("not UTF-8")]
+    NotUtf8,
+    /// A command has no reply. The commands before it were run and their replies printed, and the fault after them.
+    #[error(transparent)]
+    Call(CallFault),
+    /// A read failed, or the reader had not ended after 2^40 reads. Nothing was run.
+    #[error("a read failed")]
+    Read,
+    /// A write failed. What was written is a beginning of the output.
+    #[error("a write failed")]
+    Write,
+    /// There was no memory for the text or its commands. Nothing was run.
+    #[error("no memory for the workload")]
+    Memory,
+}
+
+impl RunFault {
+    ghost use Rattle.std.specs.Prelude.{◌≡◌};
+    ghost use Rattle.cap_run.specs.RunFault.{exit_status};
+
+    /// The exit status of the program: 1 where the input is refused, and 3 otherwise.
+    pub fn status(&self) -> u8
+        ensures { result ≡ exit_status self.now }
+    {
+        match self {
+            RunFault::Script(_) | RunFault::NotUtf8 => 1,
+            RunFault::Call(_) | RunFault::Read | RunFault::Write | RunFault::Memory => 3,
+        }
+    }
+}
+
+impl From<Fault<ScriptFault>> for RunFault {
+    ghost use Rattle.std.specs.Prelude.{◌≡◌};
+    ghost use Rattle.cap_run.specs.RunFault.{text_fault};
+
+    ghost from_gives = { λ fault ended. ended ≡ text_fault fault };
+
+    fn from(fault: Fault<ScriptFault>) -> RunFault {
+        match fault {
+            Fault::Refused(fault) => RunFault::Script(fault),
+            Fault::OutOfMemory => RunFault::Memory,
+        }
+    }
+}

@@ -1,0 +1,314 @@
+-- Entries in order, around one of them: what a look-up, a put and a take do on its side of it.
+use Rattle.std.proofs.Common.{◌≡◌, ℕ, ◌+◌, ◌≤◌, suc, Bool, true, false, cond, List, [], ◌∷◌, ◌++◌, length, ◌<◌, length-append, refl, sym, ap, ◌∙◌, subst, arith}
+use Rattle.std.specs.Prelude.{Option, Some, None}
+use Rattle.std.specs.declared.cmp.Ordering.{Ordering}
+use Rattle.std.specs.declared.cmp.Ordering.TheVariants.{Less, Equal, Greater}
+use Rattle.std.specs.Ordering.{is_eq, is_le, is_gt, eq_by_cmp, match_ordering, ordering_reverse}
+use Rattle.std.specs.Cmp.{IsTotalOrder, eq_by_cmp_equiv, alike_right, Equal-is}
+use Rattle.std.specs.Option.{is_some, option_copied}
+use Rattle.std.specs.Borrow.{Bor}
+use Rattle.std.proofs.lemmas.Map.{lookup-remove_entry}
+use Rattle.std.proofs.lemmas.Map.Keys.{IsDistinct-from_sorted}
+use Rattle.std.specs.List.{All, AllByRecursion, filter}
+use Rattle.std.proofs.lemmas.Map.Entries.{lookup_from_place}
+use Rattle.std.specs.List.Sorted.{IsStrictlySortedBy}
+use Rattle.std.proofs.lemmas.Option.{slice_get-get_or}
+use Rattle.std.specs.Map.{keys_of, lookup, remove_entry}
+use Rattle.std.specs.BTreeMap.{is_at}
+use Rattle.std.specs.BTreeMap.Range.{entries_below, entries_from}
+use Rattle.cap_tree.specs.Tree.{IsOrdered, get, put_entry, take_entry, Updates}
+
+-- the other way round
+reversed : {K : Type 0} {cmp : K → K → Ordering} → IsTotalOrder cmp → (x y : K) (r : Ordering) → cmp x y ≡ r → cmp y x ≡ ordering_reverse r
+reversed o x y r h = o.antisymm y x ∙ ap ordering_reverse h
+
+-- the tests of q by k and of k by q agree
+same_test : {K : Type 0} {cmp : K → K → Ordering} → IsTotalOrder cmp → (q k : K) → is_eq (cmp q k) ≡ is_eq (cmp k q)
+same_test o q k = (eq_by_cmp_equiv o).symm q k
+
+-- a key that is equal to e is not equal to one that is above it
+apart : {K : Type 0} {cmp : K → K → Ordering} → IsTotalOrder cmp → (q k e : K) → cmp k e ≡ Greater → is_eq (cmp q e) ≡ true → is_eq (cmp k q) ≡ false
+apart {cmp = cmp} o q k e h t = ap is_eq (alike_right o q e k ((Equal-is (cmp q e)).0 t)) ∙ ap is_eq h
+
+-- what a reference leads to is there just where the reference is
+pub is_some-option_copied : {X : Type 0} (r : Option (Bor X)) → is_some (option_copied r) ≡ is_some r
+is_some-option_copied None = refl
+is_some-option_copied (Some x) = refl
+
+-- no keys are in order
+pub sorted_nil : {K : Type 0} (cmp : K → K → Ordering) → IsStrictlySortedBy cmp []
+unfolding IsStrictlySortedBy
+sorted_nil cmp = tt
+
+-- where a test chooses twice
+cond_twice : {X : Type 0} (b : Bool) (x y z : X) → cond b x z ≡ cond b x (cond b y z)
+cond_twice true x y z = refl
+cond_twice false x y z = refl
+
+module _ {K V : Type 0} (cmp : K → K → Ordering) where
+  -- each key of the entries compares so to k
+  abbrev pub Each : Ordering → K → List (K × V) → Type 0
+  Each answer k es = AllByRecursion (λ y. cmp k y ≡ answer) (keys_of es)
+
+  -- ---- k is above the entries in front
+
+  pub put_entry-past : (k : K) (v : V) (front back : List (K × V)) → Each Greater k front → put_entry cmp (front ++ back) k v ≡ front ++ put_entry cmp back k v
+  put_entry-past k v [] back h = refl
+  put_entry-past k v (e ∷ es) back h = rw h.0 (ap (λ t. e ∷ t) (put_entry-past k v es back h.1))
+
+  pub get-past : (k : K) (front back : List (K × V)) → Each Greater k front → get cmp (front ++ back) k ≡ get cmp back k
+  get-past k [] back h = refl
+  get-past k (e ∷ es) back h = rw h.0 (get-past k es back h.1)
+
+  pub take_entry-past : (k : K) (front back : List (K × V)) → Each Greater k front → take_entry cmp (front ++ back) k ≡ front ++ take_entry cmp back k
+  take_entry-past k [] back h = refl
+  take_entry-past k (e ∷ es) back h = rw h.0 (ap (λ t. e ∷ t) (take_entry-past k es back h.1))
+
+  pub entries_from-past : (k : K) (front back : List (K × V)) → Each Greater k front → entries_from (cmp k) (front ++ back) ≡ entries_from (cmp k) back
+  entries_from-past k [] back h = refl
+  entries_from-past k (e ∷ es) back h = rw h.0 (entries_from-past k es back h.1)
+
+  -- ---- k is below the entries behind
+
+  pub put_entry-before : (k : K) (v : V) (front : List (K × V)) (e : K × V) (back : List (K × V)) → cmp k e.0 ≡ Less → put_entry cmp (front ++ e ∷ back) k v ≡ put_entry cmp front k v ++ e ∷ back
+  put_entry-before k v [] e back h = rw h
+  put_entry-before k v (x ∷ xs) e back h =
+      elim (cmp k x.0) as (λ r. match_ordering r ((k, v) ∷ x ∷ (xs ++ e ∷ back)) ((k, v) ∷ (xs ++ e ∷ back)) (x ∷ put_entry cmp (xs ++ e ∷ back) k v) ≡ match_ordering r ((k, v) ∷ x ∷ xs) ((k, v) ∷ xs) (x ∷ put_entry cmp xs k v) ++ e ∷ back) [
+        | Less ↦ refl
+        | Equal ↦ refl
+        | Greater ↦ ap (λ t. x ∷ t) (put_entry-before k v xs e back h)
+      ]
+
+  get-below : (k : K) (es : List (K × V)) → Each Less k es → get cmp es k ≡ None
+  get-below k [] h = refl
+  get-below k (e ∷ es) h = rw h.0 (get-below k es h.1)
+
+  pub get-before : (k : K) (front back : List (K × V)) → Each Less k back → get cmp (front ++ back) k ≡ get cmp front k
+  get-before k [] back h = get-below k back h
+  get-before k (e ∷ es) back h = ap (λ t. cond (is_at (cmp k) e.0) (Some e.1) t) (get-before k es back h)
+
+  take_entry-below : (k : K) (es : List (K × V)) → Each Less k es → take_entry cmp es k ≡ es
+  take_entry-below k [] h = refl
+  take_entry-below k (e ∷ es) h = rw h.0 (ap (λ t. e ∷ t) (take_entry-below k es h.1))
+
+  pub take_entry-before : (k : K) (front back : List (K × V)) → Each Less k back → take_entry cmp (front ++ back) k ≡ take_entry cmp front k ++ back
+  take_entry-before k [] back h = take_entry-below k back h
+  take_entry-before k (e ∷ es) back h =
+      elim (is_at (cmp k) e.0) as (λ b. cond b (es ++ back) (e ∷ take_entry cmp (es ++ back) k) ≡ cond b es (e ∷ take_entry cmp es k) ++ back) [
+        | true ↦ refl
+        | false ↦ ap (λ t. e ∷ t) (take_entry-before k es back h)
+      ]
+
+  entries_from-below : (k : K) (es : List (K × V)) → Each Less k es → entries_from (cmp k) es ≡ es
+  entries_from-below k [] h = refl
+  entries_from-below k (e ∷ es) h = rw h.0 (ap (λ t. e ∷ t) (entries_from-below k es h.1))
+
+  pub entries_from-before : (k : K) (front back : List (K × V)) → Each Less k back → entries_from (cmp k) (front ++ back) ≡ entries_from (cmp k) front ++ back
+  entries_from-before k [] back h = entries_from-below k back h
+  entries_from-before k (e ∷ es) back h =
+      elim (is_le (cmp k e.0)) as (λ b. cond b (e ∷ entries_from (cmp k) (es ++ back)) (entries_from (cmp k) (es ++ back)) ≡ cond b (e ∷ entries_from (cmp k) es) (entries_from (cmp k) es) ++ back) [
+        | true ↦ ap (λ t. e ∷ t) (entries_from-before k es back h)
+        | false ↦ entries_from-before k es back h
+      ]
+
+  -- ---- parts of entries in order
+
+  -- either side of an entry is shorter than the whole
+  pub sides_shorter : (whole front : List (K × V)) (e : K × V) (back : List (K × V)) → whole ≡ front ++ e ∷ back → (length front < length whole) × (length back < length whole)
+  sides_shorter whole front e back is = rw is (omega (arith, length-append front (e ∷ back)))
+
+  each_front : (P : K → Type 0) (front back : List (K × V)) → AllByRecursion P (keys_of (front ++ back)) → AllByRecursion P (keys_of front)
+  each_front P [] back h = tt
+  each_front P (e ∷ es) back h = (h.0, each_front P es back h.1)
+
+  each_middle : (P : K → Type 0) (front : List (K × V)) (e : K × V) (back : List (K × V)) → AllByRecursion P (keys_of (front ++ e ∷ back)) → P e.0
+  each_middle P [] e back h = h.0
+  each_middle P (x ∷ xs) e back h = each_middle P xs e back h.1
+
+  pub ordered_front : (front back : List (K × V)) → IsOrdered cmp (front ++ back) → IsOrdered cmp front
+  unfolding IsStrictlySortedBy
+  ordered_front [] back s = tt
+  ordered_front (e ∷ es) back s = (each_front (λ y. cmp e.0 y ≡ Less) es back s.0, ordered_front es back s.1)
+
+  pub ordered_back : (front : List (K × V)) (e : K × V) (back : List (K × V)) → IsOrdered cmp (front ++ e ∷ back) → IsOrdered cmp back
+  unfolding IsStrictlySortedBy
+  ordered_back [] e back s = s.1
+  ordered_back (x ∷ xs) e back s = ordered_back xs e back s.1
+
+  below_middle : (front : List (K × V)) (e : K × V) (back : List (K × V)) → IsOrdered cmp (front ++ e ∷ back) → AllByRecursion (λ y. cmp y e.0 ≡ Less) (keys_of front)
+  unfolding IsStrictlySortedBy
+  below_middle [] e back s = tt
+  below_middle (x ∷ xs) e back s = (each_middle (λ y. cmp x.0 y ≡ Less) xs e back s.0, below_middle xs e back s.1)
+
+  above_middle : (front : List (K × V)) (e : K × V) (back : List (K × V)) → IsOrdered cmp (front ++ e ∷ back) → AllByRecursion (λ y. cmp e.0 y ≡ Less) (keys_of back)
+  unfolding IsStrictlySortedBy
+  above_middle [] e back s = s.0
+  above_middle (x ∷ xs) e back s = above_middle xs e back s.1
+
+  each_turn : (P Q : K → Type 0) → ((y : K) → P y → Q y) → (es : List (K × V)) → AllByRecursion P (keys_of es) → AllByRecursion Q (keys_of es)
+  each_turn P Q f [] h = tt
+  each_turn P Q f (e ∷ es) h = (f e.0 h.0, each_turn P Q f es h.1)
+
+  module _ (o : IsTotalOrder cmp) where
+    -- ---- what the answer at one entry says of the entries on its other side
+
+    pub greater_than_front : (k : K) (front : List (K × V)) (e : K × V) (back : List (K × V)) → IsOrdered cmp (front ++ e ∷ back) → cmp k e.0 ≡ Greater → Each Greater k front
+    greater_than_front k front e back s h =
+        each_turn (λ y. cmp y e.0 ≡ Less) (λ y. cmp k y ≡ Greater) (λ y below. reversed o y k Less (o.trans y e.0 k below (reversed o k e.0 Greater h))) front (below_middle front e back s)
+
+    pub equal_past_front : (k : K) (front : List (K × V)) (e : K × V) (back : List (K × V)) → IsOrdered cmp (front ++ e ∷ back) → cmp k e.0 ≡ Equal → Each Greater k front
+    equal_past_front k front e back s h =
+        each_turn (λ y. cmp y e.0 ≡ Less) (λ y. cmp k y ≡ Greater) (λ y below. o.congr k e.0 y h ∙ reversed o y e.0 Less below) front (below_middle front e back s)
+
+    less_than_back : (k : K) (front : List (K × V)) (e : K × V) (back : List (K × V)) → IsOrdered cmp (front ++ e ∷ back) → cmp k e.0 ≡ Less → Each Less k back
+    less_than_back k front e back s h =
+        each_turn (λ y. cmp e.0 y ≡ Less) (λ y. cmp k y ≡ Less) (λ y above. o.trans k e.0 y h above) back (above_middle front e back s)
+
+    equal_before_back : (k : K) (front : List (K × V)) (e : K × V) (back : List (K × V)) → IsOrdered cmp (front ++ e ∷ back) → cmp k e.0 ≡ Equal → Each Less k back
+    equal_before_back k front e back s h =
+        each_turn (λ y. cmp e.0 y ≡ Less) (λ y. cmp k y ≡ Less) (λ y above. o.congr k e.0 y h ∙ above) back (above_middle front e back s)
+
+    -- ---- at a node: the left side, its entry, and the right side
+
+    module _ (k : K) (left : List (K × V)) (e : K × V) (right : List (K × V)) (s : IsOrdered cmp (left ++ e ∷ right)) where
+      pub get-left : cmp k e.0 ≡ Less → get cmp (left ++ e ∷ right) k ≡ get cmp left k
+      get-left h = get-before k left (e ∷ right) (h, less_than_back k left e right s h)
+
+      pub get-here : cmp k e.0 ≡ Equal → get cmp (left ++ e ∷ right) k ≡ Some e.1
+      get-here h = get-past k left (e ∷ right) (equal_past_front k left e right s h) ∙ rw h
+
+      pub get-right : cmp k e.0 ≡ Greater → get cmp (left ++ e ∷ right) k ≡ get cmp right k
+      get-right h = get-past k left (e ∷ right) (greater_than_front k left e right s h) ∙ rw h
+
+      pub put_entry-here : (v : V) → cmp k e.0 ≡ Equal → put_entry cmp (left ++ e ∷ right) k v ≡ left ++ (k, v) ∷ right
+      put_entry-here v h = put_entry-past k v left (e ∷ right) (equal_past_front k left e right s h) ∙ rw h
+
+      pub put_entry-right : (v : V) → cmp k e.0 ≡ Greater → put_entry cmp (left ++ e ∷ right) k v ≡ left ++ e ∷ put_entry cmp right k v
+      put_entry-right v h = put_entry-past k v left (e ∷ right) (greater_than_front k left e right s h) ∙ rw h
+
+      pub take_entry-left : cmp k e.0 ≡ Less → take_entry cmp (left ++ e ∷ right) k ≡ take_entry cmp left k ++ e ∷ right
+      take_entry-left h = take_entry-before k left (e ∷ right) (h, less_than_back k left e right s h)
+
+      pub take_entry-here : cmp k e.0 ≡ Equal → take_entry cmp (left ++ e ∷ right) k ≡ left ++ right
+      take_entry-here h = take_entry-past k left (e ∷ right) (equal_past_front k left e right s h) ∙ rw h
+
+      pub take_entry-right : cmp k e.0 ≡ Greater → take_entry cmp (left ++ e ∷ right) k ≡ left ++ e ∷ take_entry cmp right k
+      take_entry-right h = take_entry-past k left (e ∷ right) (greater_than_front k left e right s h) ∙ rw h
+
+      pub entries_from-left : cmp k e.0 ≡ Less → entries_from (cmp k) (left ++ e ∷ right) ≡ entries_from (cmp k) left ++ e ∷ right
+      entries_from-left h = entries_from-before k left (e ∷ right) (h, less_than_back k left e right s h)
+
+      pub entries_from-here : cmp k e.0 ≡ Equal → entries_from (cmp k) (left ++ e ∷ right) ≡ e ∷ right
+      entries_from-here h = entries_from-past k left (e ∷ right) (equal_past_front k left e right s h) ∙ rw h (ap (λ t. e ∷ t) (entries_from-below k right (equal_before_back k left e right s h)))
+
+      pub entries_from-right : cmp k e.0 ≡ Greater → entries_from (cmp k) (left ++ e ∷ right) ≡ entries_from (cmp k) right
+      entries_from-right h = entries_from-past k left (e ∷ right) (greater_than_front k left e right s h) ∙ rw h
+
+    -- ---- after a put or a take
+
+    each_put : (P : K → Type 0) (k : K) (v : V) (es : List (K × V)) → P k → AllByRecursion P (keys_of es) → AllByRecursion P (keys_of (put_entry cmp es k v))
+    each_put P k v [] p h = (p, tt)
+    each_put P k v (e ∷ es) p h =
+        elim (cmp k e.0) as (λ r. AllByRecursion P (keys_of (match_ordering r ((k, v) ∷ e ∷ es) ((k, v) ∷ es) (e ∷ put_entry cmp es k v)))) [
+          | Less ↦ (p, h)
+          | Equal ↦ (p, h.1)
+          | Greater ↦ (h.0, each_put P k v es p h.1)
+        ]
+
+    pub ordered_put : (k : K) (v : V) (es : List (K × V)) → IsOrdered cmp es → IsOrdered cmp (put_entry cmp es k v)
+    unfolding IsStrictlySortedBy
+    ordered_put k v [] s = (tt, tt)
+    ordered_put k v (e ∷ es) s =
+        elim (cmp k e.0) as (λ r. cmp k e.0 ≡ r → IsStrictlySortedBy cmp (keys_of (match_ordering r ((k, v) ∷ e ∷ es) ((k, v) ∷ es) (e ∷ put_entry cmp es k v)))) [
+          | Less ↦ λ h. ((h, less_than_back k [] e es s h), s)
+          | Equal ↦ λ h. (equal_before_back k [] e es s h, s.1)
+          | Greater ↦ λ h. (each_put (λ y. cmp e.0 y ≡ Less) k v es (reversed o k e.0 Greater h) s.0, ordered_put k v es s.1)
+        ] refl
+
+    each_take : (P : K → Type 0) (k : K) (es : List (K × V)) → AllByRecursion P (keys_of es) → AllByRecursion P (keys_of (take_entry cmp es k))
+    each_take P k [] h = tt
+    each_take P k (e ∷ es) h =
+        elim (is_at (cmp k) e.0) as (λ b. AllByRecursion P (keys_of (cond b es (e ∷ take_entry cmp es k)))) [
+          | true ↦ h.1
+          | false ↦ (h.0, each_take P k es h.1)
+        ]
+
+    pub ordered_take : (k : K) (es : List (K × V)) → IsOrdered cmp es → IsOrdered cmp (take_entry cmp es k)
+    unfolding IsStrictlySortedBy
+    ordered_take k [] s = tt
+    ordered_take k (e ∷ es) s =
+        elim (is_at (cmp k) e.0) as (λ b. IsStrictlySortedBy cmp (keys_of (cond b es (e ∷ take_entry cmp es k)))) [
+          | true ↦ s.1
+          | false ↦ (each_take (λ y. cmp e.0 y ≡ Less) k es s.0, ordered_take k es s.1)
+        ]
+
+    pub length-put_entry : (k : K) (v : V) (es : List (K × V)) → IsOrdered cmp es → length (put_entry cmp es k v) ≡ length es + cond (is_some (get cmp es k)) 0 1
+    unfolding IsStrictlySortedBy
+    length-put_entry k v [] s = refl
+    length-put_entry k v (e ∷ es) s =
+        elim (cmp k e.0) as (λ r. cmp k e.0 ≡ r → length (match_ordering r ((k, v) ∷ e ∷ es) ((k, v) ∷ es) (e ∷ put_entry cmp es k v)) ≡ suc (length es) + cond (is_some (cond (is_eq r) (Some e.1) (get cmp es k))) 0 1) [
+          | Less ↦ λ h. rw (get-below k es (less_than_back k [] e es s h)) (omega arith)
+          | Equal ↦ λ h. omega arith
+          | Greater ↦ λ h. omega (arith, length-put_entry k v es s.1)
+        ] refl
+
+    updates_step : (k q : K) (v w : V) (e : K) (a b : Option V) → cmp k e ≡ Greater → a ≡ cond (is_eq (cmp k q)) (Some v) b → cond (is_eq (cmp q e)) (Some w) a ≡ cond (is_eq (cmp k q)) (Some v) (cond (is_eq (cmp q e)) (Some w) b)
+    updates_step k q v w e a b h same =
+        elim (is_eq (cmp q e)) as (λ t. is_eq (cmp q e) ≡ t → cond t (Some w) a ≡ cond (is_eq (cmp k q)) (Some v) (cond t (Some w) b)) [
+          | true ↦ λ t. rw (apart o q k e h t)
+          | false ↦ λ t. same
+        ] refl
+
+    pub put_entry-Updates : (k : K) (v : V) (es : List (K × V)) → Updates cmp es (put_entry cmp es k v) k (Some v)
+    put_entry-Updates k v [] q = rw (same_test o q k)
+    put_entry-Updates k v (e ∷ es) q =
+        elim (cmp k e.0) as (λ r. cmp k e.0 ≡ r → get cmp (match_ordering r ((k, v) ∷ e ∷ es) ((k, v) ∷ es) (e ∷ put_entry cmp es k v)) q ≡ cond (is_eq (cmp k q)) (Some v) (get cmp (e ∷ es) q)) [
+          | Less ↦ λ h. rw (same_test o q k)
+          | Equal ↦ λ h. rw (← alike_right o k e.0 q h, same_test o q k) (cond_twice (is_eq (cmp k q)) (Some v) (Some e.1) (get cmp es q))
+          | Greater ↦ λ h. updates_step k q v e.1 e.0 _ _ h (put_entry-Updates k v es q)
+        ] refl
+
+    pub take_entry-Updates : (k : K) (es : List (K × V)) → IsOrdered cmp es → Updates cmp es (take_entry cmp es k) k None
+    take_entry-Updates k es s q = lookup-remove_entry (eq_by_cmp_equiv o) (is_at (cmp k)) (λ x y t. ap is_eq (o.congr k x y ((Equal-is (cmp k x)).0 t))) q es (IsDistinct-from_sorted cmp (keys_of es) s)
+
+    -- a look-up finds each entry
+    pub each_found : (es : List (K × V)) → IsOrdered cmp es → All (λ e. get cmp es e.0 ≡ Some e.1) es
+    each_found es s i d below = lookup_from_place (eq_by_cmp_equiv o) es i _ _ (IsDistinct-from_sorted cmp (keys_of es) s) (slice_get-get_or es i d below)
+
+  -- nothing is taken where no key is equal
+  pub take_entry-absent : (k : K) (es : List (K × V)) → get cmp es k ≡ None → take_entry cmp es k ≡ es
+  take_entry-absent k [] h = refl
+  take_entry-absent k (e ∷ es) h = absent_step (is_at (cmp k) e.0) h (take_entry-absent k es)
+    where
+      absent_step : (b : Bool) → cond b (Some e.1) (get cmp es k) ≡ None → (get cmp es k ≡ None → take_entry cmp es k ≡ es) → cond b es (e ∷ take_entry cmp es k) ≡ e ∷ es
+      absent_step true h f = cc
+      absent_step false h f = ap (λ t. e ∷ t) (f h)
+
+  pub length-take_entry : (k : K) (es : List (K × V)) → length (take_entry cmp es k) + cond (is_some (get cmp es k)) 1 0 ≡ length es
+  length-take_entry k [] = refl
+  length-take_entry k (e ∷ es) =
+      elim (is_at (cmp k) e.0) as (λ b. length (cond b es (e ∷ take_entry cmp es k)) + cond (is_some (cond b (Some e.1) (get cmp es k))) 1 0 ≡ suc (length es)) [
+        | true ↦ omega arith
+        | false ↦ omega (arith, length-take_entry k es)
+      ]
+
+  entries_below-none : (k : K) (es : List (K × V)) → Each Less k es → entries_below (cmp k) es ≡ []
+  entries_below-none k [] h = refl
+  entries_below-none k (e ∷ es) h = rw h.0 (entries_below-none k es h.1)
+
+  pub ordered_rest : (front back : List (K × V)) → IsOrdered cmp (front ++ back) → IsOrdered cmp back
+  unfolding IsStrictlySortedBy
+  ordered_rest [] back s = s
+  ordered_rest (e ∷ es) back s = ordered_rest es back s.1
+
+  module _ (o : IsTotalOrder cmp) where
+    -- the entries below a key stand before the others
+    pub parts_at : (k : K) (es : List (K × V)) → IsOrdered cmp es → es ≡ entries_below (cmp k) es ++ entries_from (cmp k) es
+    unfolding IsStrictlySortedBy
+    parts_at k [] s = refl
+    parts_at k (e ∷ es) s =
+        elim (cmp k e.0) as (λ r. cmp k e.0 ≡ r → e ∷ es ≡ cond (is_gt r) (e ∷ entries_below (cmp k) es) (entries_below (cmp k) es) ++ cond (is_le r) (e ∷ entries_from (cmp k) es) (entries_from (cmp k) es)) [
+          | Less ↦ λ h. let later = less_than_back o k [] e es s h in rw (entries_below-none k es later, entries_from-below k es later)
+          | Equal ↦ λ h. let later = equal_before_back o k [] e es s h in rw (entries_below-none k es later, entries_from-below k es later)
+          | Greater ↦ λ h. ap (λ t. e ∷ t) (parts_at k es s.1)
+        ] refl

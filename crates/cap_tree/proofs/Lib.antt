@@ -1,0 +1,3 @@
+mod EntryLemmas
+mod HeightLemmas
+mod PathLemmas

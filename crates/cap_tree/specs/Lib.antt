@@ -1,0 +1,4 @@
+pub mod Balance
+pub mod Branch
+pub mod Tree
+pub mod Path

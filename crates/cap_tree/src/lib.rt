@@ -1,0 +1,20 @@
+//! Persistent balanced trees: maps whose old versions stay readable.
+//!
+//! A [`Tree`] is height balanced. Its nodes are shared through `Arc` and never change, so a change builds anew the
+//! nodes on one way down and shares the rest.
+#![tactic(auto)]
+
+mod branch;
+mod find;
+mod iter;
+mod path;
+mod put;
+mod stack;
+mod take;
+mod tree;
+
+pub use iter::Iter;
+pub use tree::Tree;
+
+#[cfg(test)]
+mod tests;

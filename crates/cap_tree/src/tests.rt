@@ -1,0 +1,85 @@
+use crate::Tree;
+use linked_list_allocator::LocalHeap;
+use std::alloc::{AllocError, Allocator, Global};
+use std::test::Fail;
+
+type Numbers<A> = Tree<u32, u32, A>;
+
+// The numbers from 1 up to `count`, each with ten times itself.
+fn rising<A: Allocator + Copy>(alloc: A, count: u32) -> Result<Numbers<A>, AllocError> {
+    let mut tree = Tree::empty(alloc);
+    for n in 1..=count {
+        tree = tree.put(n, n.wrapping_mul(10))?;
+    }
+    Ok(tree)
+}
+
+// Whether the tree has just those numbers.
+fn is_rising<A: Allocator + Copy>(tree: &Numbers<A>, count: u32) -> bool {
+    tree.len() == count as usize
+        && tree.iter().zip(1..=count).all(|((key, value), n)| *key == n
+            && *value == n.wrapping_mul(10))
+}
+
+#[test]
+fn even_numbers_taken_beside_a_snapshot(rt: HostRuntime) -> Result<(), Fail> {
+    let mut tree = rising(rt.alloc(), 1000)?;
+    let snapshot = tree.snapshot()?;
+    for n in 1..=500u32 {
+        tree = tree.take(&(n * 2))?;
+    }
+    assert_eq!(rt; tree.len(), 500);
+    assert_eq!(rt; tree.seek(&500).next(), Some((&501, &5010)));
+    assert_eq!(rt; tree.seek(&500).len(), 250);
+    assert!(rt; tree.height() <= 27, "height {}", tree.height());
+    assert!(rt; is_rising(&snapshot, 1000));
+    assert!(rt; snapshot.height() <= 30, "height {}", snapshot.height());
+    assert_eq!(rt; tree.first(), Some((&1, &10)));
+    assert_eq!(rt; tree.last(), Some((&999, &9990)));
+    Ok(())
+}
+
+#[test]
+fn each_call_succeeds_with_ample_memory(rt: HostRuntime) -> Result<(), Fail> {
+    let tree: Numbers<Global> = Tree::empty(rt.alloc());
+    assert!(rt; tree.is_empty() && tree.height() == 0);
+    assert_eq!(rt; tree.iter().next(), None);
+    let (tree, replaced) = tree.replace(7, 70)?;
+    assert_eq!(rt; replaced, None);
+    let (next, replaced) = tree.replace(7, 71)?;
+    assert_eq!(rt; replaced, Some(&70));
+    assert_eq!(rt; next.get(&7), Some(&71));
+    let (rest, removed) = next.remove(&7)?;
+    assert_eq!(rt; removed, Some(&71));
+    assert!(rt; rest.is_empty());
+    let (rest, removed) = next.remove(&8)?;
+    assert_eq!(rt; removed, None);
+    assert_eq!(rt; rest.len(), 1);
+    Ok(())
+}
+
+#[test]
+fn each_allocation_refused_in_turn(rt: HostRuntime) -> Result<(), Fail> {
+    let heap = LocalHeap::new(rt.alloc(), 8192)?;
+    let tree = rising(&heap, 20)?;
+    let (mut refused_puts, mut refused_takes) = (0, 0);
+    for free in 0..64usize {
+        // The heap is filled but for a few small blocks.
+        let mut blocks = Vec::new(rt.alloc());
+        while let Ok(block) = Box::new(&heap, [0u64; 2]) {
+            blocks.push(block)?;
+        }
+        blocks.truncate(blocks.len().saturating_sub(free));
+        refused_puts += u32::from(tree.put(21, 210).is_err());
+        refused_takes += u32::from(tree.take(&8).is_err());
+        assert!(rt; is_rising(&tree, 20));
+        drop(blocks);
+        assert!(rt; is_rising(&tree.put(21, 210)?, 21));
+        assert_eq!(rt; tree.take(&8)?.len(), 19);
+    }
+    assert!(rt; 4 < refused_puts && refused_puts < 64, "{refused_puts}");
+    assert!(rt; 4 < refused_takes && refused_takes < 64, "{refused_takes}");
+    drop(tree);
+    assert_eq!(rt; heap.used(), 0);
+    Ok(())
+}

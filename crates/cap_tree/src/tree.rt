@@ -1,0 +1,231 @@
+//! The tree, seen as the list of its entries in the order of their keys.
+ghost use Rattle.std.specs.Prelude.{◌≡◌, ℕ, ◌+◌, ◌-◌, ◌*◌, ◌^◌, ◌<◌, ◌≤◌, [], ◌++◌, length, slice_get, IfNone, IfSome, IsTrue, IfOk, None, Some, is_some, if◌then◌else◌, ◌↔◌};
+ghost use Rattle.std.specs.Option.{option_copied};
+ghost use Rattle.std.specs.List.{All};
+ghost use Rattle.std.specs.BTreeMap.Range.{entries_below, entries_from};
+ghost use Rattle.std.specs.Map.Iter.{ShowsInOrder, ShowsValuesInOrder, deref_pair};
+ghost use Rattle.cap_tree.specs.Tree.{IsOrdered, get, put_entry, take_entry, Updates};
+
+use crate::branch::Branch;
+use crate::find::{find, first, last};
+use crate::iter::Iter;
+use crate::put::put;
+use crate::take::take;
+use std::alloc::{AllocError, Allocator};
+use std::marker::Model;
+use std::sync::Arc;
+
+/// A map whose old versions stay: each change answers a new tree, and leaves the one that it was made from.
+///
+/// A tree and its copies share nodes, so a snapshot costs the same whatever the tree holds, and a change costs
+/// time and memory in proportion to the logarithm of the number of entries. Errors are those of the allocator;
+/// an error leaves every tree as it was.
+///
+/// In a clause a tree is the list of its entries, in the order of the keys. No two keys are equal by `Ord`.
+pub struct Tree<K: Ord, V, A: Allocator> {
+    alloc: A,
+    root: Branch<K, V, A>,
+}
+
+impl<K: Ord, V, A: Allocator> Model for Tree<K, V, A> {
+    ghost use Rattle.std.specs.Prelude.{List};
+    ghost use Rattle.cap_tree.specs.Tree.{IsOrdered};
+
+    ghost Value = { List (K × V) };
+
+    ghost view = { λ t. t.root.0 };
+
+    ghost invariant = { λ t. IsOrdered K.cmp t.root.0 };
+}
+
+// A derived `Drop` would be opened in each caller's loop.
+impl<K: Ord + Drop, V: Drop, A: Allocator> Drop for Tree<K, V, A> {
+    fn drop(self) {
+        let Tree { alloc: _, root: _ } = self;
+    }
+}
+
+impl<K: Ord, V, A: Allocator + Copy> Tree<K, V, A> {
+    /// A tree with no entry, which takes no memory.
+    pub fn empty(alloc: A) -> Self
+        ensures { result ≡ [] }
+    {
+        Tree {
+            alloc,
+            root: Branch::leaf(),
+        }
+    }
+
+    /// The number of entries.
+    pub fn len(&self) -> usize
+        ensures value { result ≡ length self.now }
+        ensures ordered { IsOrdered K.cmp self.now }
+    {
+        self.root.len() as usize
+    }
+
+    /// Whether there is no entry.
+    pub fn is_empty(&self) -> bool
+        ensures { IsTrue result ↔ (self.now ≡ []) }
+    {
+        self.root.len() == 0
+    }
+
+    /// The number of nodes on the longest way down, 0 for the empty tree.
+    ///
+    /// A tree of height `h` has fewer than `2 ^ h` entries, and its height is at most twice the number of binary
+    /// digits of the number of its entries.
+    pub fn height(&self) -> u64
+        ensures room { length self.now < 2 ^ result }
+        ensures low { (digits : ℕ) → length self.now < 2 ^ digits → result ≤ 2 * digits }
+    {
+        u64::from(self.root.height())
+    }
+
+    /// The same tree once more, which shares every node with this one and takes no memory.
+    ///
+    /// `AllocError` where the root has as many owners as can be counted.
+    pub fn snapshot(&self) -> Result<Self, AllocError>
+        ensures { IfOk result (λ t. t ≡ self.now) }
+    {
+        Ok(Tree {
+            alloc: self.alloc,
+            root: self.root.share()?,
+        })
+    }
+
+    /// The value at the key.
+    pub fn get(&self, key: &K) -> Option<&V>
+        ensures { option_copied result ≡ get K.cmp self.now key.now }
+    {
+        find(&self.root, key)
+    }
+
+    /// The entries in the order of their keys. Going over all of them takes time in proportion to their number.
+    pub fn iter(&self) -> Iter<'_, K, V, A>
+        ensures rest { result ≡ self.now }
+        ensures ordered { IsOrdered K.cmp self.now }
+        ensures fits { length self.now < 2 ^ 64 }
+        ensures runs { ShowsInOrder (deref_pair {K = K} {X = V}) }
+        ensures values_run { ShowsValuesInOrder (deref_pair {K = K} {X = V}) }
+        ensures found { All (λ e. get K.cmp self.now e.0 ≡ Some e.1) self.now }
+    {
+        Iter::over(&self.root)
+    }
+
+    /// The entries from the first whose key is not below this one.
+    pub fn seek(&self, key: &K) -> Iter<'_, K, V, A>
+        ensures rest { result ≡ entries_from (K.cmp key.now) self.now }
+        ensures parts { self.now ≡ entries_below (K.cmp key.now) self.now ++ result }
+        ensures ordered { IsOrdered K.cmp result }
+        ensures fits { length result < 2 ^ 64 }
+        ensures runs { ShowsInOrder (deref_pair {K = K} {X = V}) }
+        ensures values_run { ShowsValuesInOrder (deref_pair {K = K} {X = V}) }
+    {
+        // The count shows that the number of entries fits.
+        let _count = self.root.len();
+        Iter::from_key(&self.root, key)
+    }
+
+    /// The entry with the least key.
+    pub fn first(&self) -> Option<(&K, &V)>
+        ensures none { IfNone result (self.now ≡ []) }
+        ensures first { IfSome result (λ p. slice_get self.now 0 ≡ Some (deref_pair p)) }
+    {
+        let node = first(&self.root)?;
+        Some((node.key(), node.value()))
+    }
+
+    /// The entry with the greatest key.
+    pub fn last(&self) -> Option<(&K, &V)>
+        ensures none { IfNone result (self.now ≡ []) }
+        ensures last { IfSome result (λ p. slice_get self.now (length self.now - 1) ≡ Some (deref_pair p)) }
+    {
+        let node = last(&self.root)?;
+        Some((node.key(), node.value()))
+    }
+}
+
+impl<'a, K: Ord, V, A: Allocator + Copy> IntoIterator for &'a Tree<K, V, A> {
+    type Item = (&'a K, &'a V);
+
+    type IntoIter = Iter<'a, K, V, A>;
+
+    ghost into_iter_gives = { λ t r. (r ≡ t.now) × IsOrdered K.cmp t.now × (length t.now < 2 ^ 64) × ShowsInOrder (deref_pair {K = K} {X = V}) × ShowsValuesInOrder (deref_pair {K = K} {X = V}) × All (λ e. get K.cmp t.now e.0 ≡ Some e.1) t.now };
+
+    fn into_iter(self) -> Iter<'a, K, V, A> {
+        self.iter()
+    }
+}
+
+impl<K: Ord + Drop, V: Drop, A: Allocator + Copy> Tree<K, V, A> {
+    /// A tree that has the value at the key, and the value that this tree has there. It searches once.
+    ///
+    /// An entry whose key is equal gives way to the new entry, key and all.
+    pub fn replace(&self, key: K, value: V) -> Result<(Self, Option<&V>), AllocError>
+        ensures entries { IfOk result (λ r. r.0 ≡ put_entry K.cmp self.now key value) }
+        ensures replaced { IfOk result (λ r. option_copied r.1 ≡ get K.cmp self.now key) }
+        ensures updates { IfOk result (λ r. Updates K.cmp self.now r.0 key (Some value)) }
+        ensures len { IfOk result (λ r. length r.0 ≡ length self.now + (if is_some r.1 then 0 else 1)) }
+        ensures ordered { IfOk result (λ r. IsOrdered K.cmp r.0) }
+    {
+        if self.root.len() == u64::MAX {
+            return Err(AllocError);
+        }
+        let pair = Arc::new(self.alloc, (key, value))?;
+        let (root, replaced) = put(&self.root, self.alloc, pair)?;
+        let whole = Tree {
+            alloc: self.alloc,
+            root,
+        };
+        Ok((whole, replaced))
+    }
+
+    /// A tree without the entry at the key, and the value of that entry. It searches once.
+    ///
+    /// Where no key is equal the new tree has the same entries.
+    pub fn remove(&self, key: &K) -> Result<(Self, Option<&V>), AllocError>
+        ensures entries { IfOk result (λ r. r.0 ≡ take_entry K.cmp self.now key.now) }
+        ensures removed { IfOk result (λ r. option_copied r.1 ≡ get K.cmp self.now key.now) }
+        ensures updates { IfOk result (λ r. Updates K.cmp self.now r.0 key.now None) }
+        ensures len { IfOk result (λ r. length r.0 + (if is_some r.1 then 1 else 0) ≡ length self.now) }
+        ensures ordered { IfOk result (λ r. IsOrdered K.cmp r.0) }
+    {
+        // The count shows that the number of entries fits.
+        let _count = self.root.len();
+        match take(&self.root, self.alloc, key)? {
+            None => Ok((self.snapshot()?, None)),
+            Some((root, value)) => {
+                let rest = Tree {
+                    alloc: self.alloc,
+                    root,
+                };
+                Ok((rest, Some(value)))
+            }
+        }
+    }
+
+    /// A tree without the entry at the key, which has the same entries where no key is equal.
+    pub fn take(&self, key: &K) -> Result<Self, AllocError>
+        ensures entries { IfOk result (λ t. t ≡ take_entry K.cmp self.now key.now) }
+        ensures updates { IfOk result (λ t. Updates K.cmp self.now t key.now None) }
+        ensures len { IfOk result (λ t. length t + (if is_some (get K.cmp self.now key.now) then 1 else 0) ≡ length self.now) }
+        ensures ordered { IfOk result (λ t. IsOrdered K.cmp t) }
+    {
+        let (rest, _) = self.remove(key)?;
+        Ok(rest)
+    }
+
+    /// A tree that has the value at the key.
+    ///
+    /// An entry whose key is equal gives way to the new entry, key and all.
+    pub fn put(&self, key: K, value: V) -> Result<Self, AllocError>
+        ensures entries { IfOk result (λ t. t ≡ put_entry K.cmp self.now key value) }
+        ensures updates { IfOk result (λ t. Updates K.cmp self.now t key (Some value)) }
+        ensures len { IfOk result (λ t. length t ≡ length self.now + (if is_some (get K.cmp self.now key) then 0 else 1)) }
+        ensures ordered { IfOk result (λ t. IsOrdered K.cmp t) }
+    {
+        let (whole, _) = self.replace(key, value)?;
+        Ok(whole)
+    }
+}

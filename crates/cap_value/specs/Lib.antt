@@ -1,0 +1,4 @@
+pub mod Bytes
+pub mod Handle
+pub mod Memory
+pub mod Value

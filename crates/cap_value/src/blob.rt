@@ -1,0 +1,76 @@
+ghost use Rattle.std.specs.Prelude.{◌≡◌, ◌≤◌, ℕ, List, length, IfOk};
+ghost use Rattle.cap_value.specs.declared.text.TheConstants.{BYTES_MAX};
+ghost use Rattle.cap_value.specs.Memory.{AnswersUnlessMemory};
+ghost use Rattle.cap_value.specs.Bytes.{AreBytes, within_limit};
+
+use crate::text::BYTES_MAX;
+use crate::{AllocHandle, Fault, OutOfMemory, Refusal};
+use std::fmt::{self, Debug, Formatter, Write};
+use std::marker::Model;
+use std::sync::ArcSlice;
+
+/// A blob of at most `BYTES_MAX` bytes. Copies share the bytes.
+#[derive(Drop)]
+pub struct Blob<A: AllocHandle> {
+    bytes: ArcSlice<u8, A>,
+}
+
+impl<A: AllocHandle> Model for Blob<A> {
+    ghost use Rattle.std.specs.Prelude.{List, ℕ, ◌≤◌, length};
+    ghost use Rattle.std.specs.Arc.{arc_slice_items};
+    ghost use Rattle.cap_value.specs.declared.text.TheConstants.{BYTES_MAX};
+
+    ghost Value = { List ℕ };
+
+    ghost view = { λ b. arc_slice_items b.bytes };
+
+    ghost invariant = { λ b. length (arc_slice_items b.bytes) ≤ BYTES_MAX };
+}
+
+impl<A: AllocHandle> Blob<A> {
+    /// The blob of these bytes. Refused with `TooLong` where they are more than `BYTES_MAX`.
+    pub fn new(alloc: A, bytes: &[u8]) -> Result<Self, Fault<Refusal>>
+        ensures { AnswersUnlessMemory result (within_limit bytes.now) }
+    {
+        if bytes.len() > BYTES_MAX {
+            return Err(Fault::Refused(Refusal::TooLong));
+        }
+        Ok(Blob {
+            bytes: ArcSlice::from_slice(alloc, bytes)?,
+        })
+    }
+
+    /// The bytes, at most `BYTES_MAX` of them.
+    pub fn as_slice(&self) -> &[u8]
+        ensures bytes { result.now ≡ self.now }
+        ensures fits { length self.now ≤ BYTES_MAX }
+        ensures each { AreBytes self.now }
+    {
+        let bytes = self.bytes.as_slice();
+        are_bytes(bytes);
+        bytes
+    }
+
+    /// The same blob, which shares its bytes.
+    pub fn copy(&self) -> Result<Self, OutOfMemory>
+        ensures { IfOk result (λ copy. copy ≡ self.now) }
+    {
+        Ok(Blob {
+            bytes: self.bytes.clone()?,
+        })
+    }
+}
+
+/// Tells a proof, which sees numbers, that each is a byte.
+#[inline]
+pub(crate) fn are_bytes(bytes: &[u8])
+    ensures { AreBytes bytes.now }
+{
+    let _first = bytes.first();
+}
+
+impl<A: AllocHandle> Debug for Blob<A> {
+    fn fmt<W: Write>(&self, f: &mut Formatter<W>) -> fmt::Result {
+        Debug::fmt(&self.as_slice(), f)
+    }
+}

@@ -1,0 +1,18 @@
+//! The values that rows are made of, the names of tables, their orders, and why a call is refused.
+#![tactic(auto)]
+
+mod blob;
+mod memory;
+mod name;
+mod refusal;
+#[cfg(test)]
+mod tests;
+mod text;
+mod value;
+
+pub use blob::Blob;
+pub use memory::{AllocHandle, Fault, OutOfMemory};
+pub use name::{NAME_MAX, Name};
+pub use refusal::Refusal;
+pub use text::{BYTES_MAX, Text};
+pub use value::Value;

@@ -1,0 +1,73 @@
+ghost use Rattle.std.specs.Prelude.{◌≡◌, ◌≤◌, ℕ, List, length, IfOk, IsUtf8};
+ghost use Rattle.cap_value.specs.Memory.{AnswersUnlessMemory};
+ghost use Rattle.cap_value.specs.Bytes.{AreBytes, within_limit};
+
+use crate::blob::are_bytes;
+use crate::{AllocHandle, Fault, OutOfMemory, Refusal};
+use std::cmp::Ordering;
+use std::fmt::{self, Debug, Formatter, Write};
+use std::marker::Model;
+use std::sync::ArcStr;
+
+/// The most bytes that a text or a blob may have: SQLite's default for "Maximum length of a string or
+/// BLOB" (Implementation Limits For SQLite).
+pub const BYTES_MAX: usize = 1_000_000_000;
+
+/// A text of at most `BYTES_MAX` bytes of UTF-8. Copies share the bytes.
+#[derive(Drop)]
+pub struct Text<A: AllocHandle> {
+    text: ArcStr<A>,
+}
+
+impl<A: AllocHandle> Model for Text<A> {
+    ghost use Rattle.std.specs.Prelude.{List, ℕ, ◌≤◌, length};
+    ghost use Rattle.std.specs.Arc.{arc_str_bytes};
+    ghost use Rattle.cap_value.specs.declared.text.TheConstants.{BYTES_MAX};
+
+    ghost Value = { List ℕ };
+
+    ghost view = { λ t. arc_str_bytes t.text };
+
+    ghost invariant = { λ t. length (arc_str_bytes t.text) ≤ BYTES_MAX };
+}
+
+impl<A: AllocHandle> Text<A> {
+    /// The text with these bytes. Refused with `TooLong` where they are more than `BYTES_MAX`.
+    pub fn new(alloc: A, text: &str) -> Result<Self, Fault<Refusal>>
+        ensures { AnswersUnlessMemory result (within_limit text.now) }
+    {
+        if text.len() > BYTES_MAX {
+            return Err(Fault::Refused(Refusal::TooLong));
+        }
+        Ok(Text {
+            text: ArcStr::from_str(alloc, text)?,
+        })
+    }
+
+    /// The text, which is at most `BYTES_MAX` bytes long.
+    pub fn as_str(&self) -> &str
+        ensures bytes { result.now ≡ self.now }
+        ensures fits { length self.now ≤ BYTES_MAX }
+        ensures utf8 { IsUtf8 self.now }
+        ensures each { AreBytes self.now }
+    {
+        let text = self.text.as_str();
+        are_bytes(text.as_bytes());
+        text
+    }
+
+    /// The same text, which shares its bytes.
+    pub fn copy(&self) -> Result<Self, OutOfMemory>
+        ensures { IfOk result (λ copy. copy ≡ self.now) }
+    {
+        Ok(Text {
+            text: self.text.clone()?,
+        })
+    }
+}
+
+impl<A: AllocHandle> Debug for Text<A> {
+    fn fmt<W: Write>(&self, f: &mut Formatter<W>) -> fmt::Result {
+        Debug::fmt(&self.as_str(), f)
+    }
+}
