@@ -289,10 +289,13 @@ fn a_patchset_reads_again(rt: HostRuntime) -> Result<(), Fail> {
     let alloc = rt.alloc();
     let delete: [u8; 17] = [0x50, 2, 1, 0, 0x74, 0, 0x09, 0, 1, 0, 0, 0, 0, 0, 0, 0, 1];
     match read_blob(alloc, &delete) {
-        Ok(Blob::Patches(list)) => {
-            assert_eq!(rt; write_patches(alloc, &list)?.as_slice(), delete.as_slice());
-        }
-        _ => assert!(rt; false),
+        Ok(blob) => match blob {
+            Blob::Patches(list) => {
+                assert_eq!(rt; write_patches(alloc, &list)?.as_slice(), delete.as_slice());
+            }
+            Blob::Changes(_list) => assert!(rt; false),
+        },
+        Err(_fault) => assert!(rt; false),
     }
     Ok(())
 }

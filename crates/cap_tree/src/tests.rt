@@ -62,16 +62,19 @@ fn each_call_succeeds_with_ample_memory(rt: HostRuntime) -> Result<(), Fail> {
 fn each_allocation_refused_in_turn(rt: HostRuntime) -> Result<(), Fail> {
     let heap = LocalHeap::new(rt.alloc(), 8192)?;
     let tree = rising(&heap, 20)?;
-    let (mut refused_puts, mut refused_takes) = (0, 0);
+    let (mut refused_puts, mut refused_takes) = (0u32, 0u32);
     for free in 0..64usize {
         // The heap is filled but for a few small blocks.
         let mut blocks = Vec::new(rt.alloc());
-        while let Ok(block) = Box::new(&heap, [0u64; 2]) {
-            blocks.push(block)?;
+        for _ in 0..1024 {
+            match Box::new(&heap, [0u64; 2]) {
+                Ok(block) => blocks.push(block)?,
+                Err(_) => break,
+            }
         }
         blocks.truncate(blocks.len().saturating_sub(free));
-        refused_puts += u32::from(tree.put(21, 210).is_err());
-        refused_takes += u32::from(tree.take(&8).is_err());
+        refused_puts = refused_puts.saturating_add(u32::from(tree.put(21, 210).is_err()));
+        refused_takes = refused_takes.saturating_add(u32::from(tree.take(&8).is_err()));
         assert!(rt; is_rising(&tree, 20));
         drop(blocks);
         assert!(rt; is_rising(&tree.put(21, 210)?, 21));
