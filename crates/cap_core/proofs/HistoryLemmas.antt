@@ -27,7 +27,7 @@ same_bytes : (x : List ℕ) → bytes_eq x x ≡ true
 same_bytes x = nat_list_eq_equiv.refl x
 
 -- a name is still listed after others are left out
-is_listed-filter : (x y : List ℕ) (names : List (List ℕ)) → bytes_eq x y ≡ false → is_listed x (filter (λ other. not (bytes_eq y other)) names) ≡ is_listed x names
+pub is_listed-filter : (x y : List ℕ) (names : List (List ℕ)) → bytes_eq x y ≡ false → is_listed x (filter (λ other. not (bytes_eq y other)) names) ≡ is_listed x names
 is_listed-filter x y [] apart = refl
 is_listed-filter x y (z ∷ names) apart =
     elim (bytes_eq y z) as (λ b. bytes_eq y z ≡ b → is_listed x (cond (not b) (z ∷ filter (λ other. not (bytes_eq y other)) names) (filter (λ other. not (bytes_eq y other)) names)) ≡ (bytes_eq x z || is_listed x names)) [

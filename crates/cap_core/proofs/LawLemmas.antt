@@ -25,7 +25,7 @@ use Rattle.cap_core.proofs.NextLemmas.{after_refusal}
 use Rattle.cap_core.proofs.RecordsLemmas.{get-find, find-records_of, is_sorted-records_of, recorded_at, records_of-none}
 
 module _ {A : Type 0} where
-  no_records : (name : List ℕ) (table : Option (TableState A)) → table_changes (name, []) table ≡ None
+  pub no_records : (name : List ℕ) (table : Option (TableState A)) → table_changes (name, []) table ≡ None
   no_records name None = refl
   no_records name (Some table) = refl
 

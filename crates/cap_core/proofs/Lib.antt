@@ -1,5 +1,6 @@
 pub mod GroupLemmas
 pub mod HistoryLemmas
+pub mod InsertLemmas
 pub mod LawLemmas
 pub mod NextLemmas
 pub mod PrepareLemmas

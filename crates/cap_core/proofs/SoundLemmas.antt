@@ -115,7 +115,7 @@ module _ {X : Type 0} (test : X → Bool) where
   pub list_all-push : (xs : List X) (v : X) → list_all test xs ≡ true → test v ≡ true → list_all test (xs ++ v ∷ []) ≡ true
   list_all-push xs v all new = list_all-append test xs (v ∷ []) ∙ both (list_all test xs) _ all (both (test v) true new refl)
 
-absent_found : {X : Type 0} (found : Option X) → is_some found ≡ false → found ≡ None
+pub absent_found : {X : Type 0} (found : Option X) → is_some found ≡ false → found ≡ None
 absent_found None e = refl
 absent_found (Some x) e = cc
 
@@ -125,7 +125,7 @@ names_same : IsAntisymmetric bytes_cmp
 names_same = slice_cmp-IsAntisymmetric nat_cmp-IsAntisymmetric
 
 module _ {A : Type 0} where
-  table_of-put : (database : Database A) (name : List ℕ) (table : TableState A) (q : List ℕ) → table_of (put_entry bytes_cmp database name table) q ≡ cond (eq_by_cmp bytes_cmp q name) (Some table) (table_of database q)
+  pub table_of-put : (database : Database A) (name : List ℕ) (table : TableState A) (q : List ℕ) → table_of (put_entry bytes_cmp database name table) q ≡ cond (eq_by_cmp bytes_cmp q name) (Some table) (table_of database q)
   table_of-put database name table q =
       ap (λ es. get bytes_cmp es q) (put_entry-put bytes_cmp names_same database name table)
       ∙ get-find bytes_cmp _ q

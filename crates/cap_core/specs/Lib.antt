@@ -1,6 +1,7 @@
 pub mod Answer
 pub mod Assigned
 pub mod Database
+pub mod FirstInsert
 pub mod Grouped
 pub mod History
 pub mod Operation

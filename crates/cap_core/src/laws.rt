@@ -9,6 +9,7 @@ ghost use Rattle.cap_core.specs.declared.command.Command.{Command};
 ghost use Rattle.cap_core.specs.declared.event.Event.{Event};
 ghost use Rattle.cap_core.specs.declared.recorded.Recorded.{Recorded};
 ghost use Rattle.cap_core.specs.Answer.{answer, state_after};
+ghost use Rattle.cap_core.specs.FirstInsert.{IsFirstInsert, one_insert};
 ghost use Rattle.cap_core.specs.History.{Past, is_accepted, main, session_of, touches};
 ghost use Rattle.cap_core.specs.Session.{Touch, captured, change_now, is_indirect, records_of};
 ghost use Rattle.cap_core.specs.Table.{TableState};
@@ -18,6 +19,11 @@ use cap_value::AllocHandle;
 /// A session that was touched by nothing captures nothing.
 pub fn untouched_captures_nothing<A: AllocHandle>()
     ensures { (past : Past A) (session : ℕ) → ((name : List ℕ) → touches session name past ≡ []) → captured (main past) (session_of past session) ≡ [] }
+{}
+
+/// After an accepted insert of a key that was never there, a capture has just that INSERT.
+pub fn first_insert_is_captured<A: AllocHandle>()
+    ensures { (past : Past A) (event : Event A) (session : ℕ) (name : List ℕ) (table : TableState A) (row : Fields A) → IsFirstInsert past event session name table row → captured (main (event ∷ past)) (session_of (event ∷ past) session) ≡ one_insert name table.schema row ∷ [] }
 {}
 
 /// However often a key is touched it has one record, with the image of its first touch.

@@ -1,1 +1,3 @@
+pub mod Hex
 pub mod RunFault
+pub mod Show

@@ -3,13 +3,15 @@ use Rattle.std.specs.Prelude.{◌≡◌, ◌⊎◌, ℕ}
 use Rattle.cap_value.specs.declared.memory.Fault.{Fault}
 use Rattle.cap_value.specs.declared.memory.Fault.TheVariants.{Refused, OutOfMemory}
 use Rattle.cap_run.specs.declared.fault.RunFault.{RunFault}
-use Rattle.cap_run.specs.declared.fault.RunFault.TheVariants.{Script, NotUtf8, Call, Read, Write, Memory}
+use Rattle.cap_run.specs.declared.fault.RunFault.TheVariants.{Script, NotUtf8, NotHex, Blob, Call, Read, Write, Memory}
 use Rattle.cap_run.specs.declared.script.fault.ScriptFault.{ScriptFault}
 
 -- the exit status: 1 where the input is refused, and 3 where a call, a read or a write failed, or there was no memory
 abbrev pub exit_status : RunFault → ℕ
 exit_status (Script fault) = 1
 exit_status NotUtf8 = 1
+exit_status NotHex = 1
+exit_status (Blob fault) = 1
 exit_status (Call fault) = 3
 exit_status Read = 3
 exit_status Write = 3

@@ -1,9 +1,10 @@
 use crate::script::ScriptFault;
+use cap_codec::BlobFault;
 use cap_core::CallFault;
 use cap_value::Fault;
 use thiserror::Error;
 
-/// Why a run ended before its workload did.
+/// Why a run ended before its workload did, or why a blob was not shown.
 #[derive(Clone, Copy, Debug, PartialEq, Eq, Drop, Error)]
 pub enum RunFault {
     /// The text is refused. Nothing was run.
@@ -12,17 +13,23 @@ pub enum RunFault {
     /// The bytes are no text. Nothing was run.
     #[error("not UTF-8")]
     NotUtf8,
+    /// The text is no hex text. Nothing was shown.
+    #[error("not hex")]
+    NotHex,
+    /// The bytes are no blob. Nothing was shown.
+    #[error("fault {0}")]
+    Blob(BlobFault),
     /// A command has no reply. The commands before it were run and their replies printed, and the fault after them.
     #[error(transparent)]
     Call(CallFault),
-    /// A read failed, or the reader had not ended after 2^40 reads. Nothing was run.
+    /// A read failed, or the reader had not ended after 2^40 reads. Nothing was run or shown.
     #[error("a read failed")]
     Read,
     /// A write failed. What was written is a beginning of the output.
     #[error("a write failed")]
     Write,
-    /// There was no memory for the text or its commands. Nothing was run.
-    #[error("no memory for the workload")]
+    /// There was no memory for the text or what it stands for. Nothing was run or shown.
+    #[error("no memory for the input")]
     Memory,
 }
 
@@ -35,7 +42,7 @@ impl RunFault {
         ensures { result ≡ exit_status self.now }
     {
         match self {
-            RunFault::Script(_) | RunFault::NotUtf8 => 1,
+            RunFault::Script(_) | RunFault::NotUtf8 | RunFault::NotHex | RunFault::Blob(_) => 1,
             RunFault::Call(_) | RunFault::Read | RunFault::Write | RunFault::Memory => 3,
         }
     }

@@ -1,13 +1,18 @@
-//! Runs a workload: reads its text, gives its commands to a server, and prints the replies.
+//! Runs a workload: reads its text, gives its commands to a server, and prints the replies. And shows what is in a
+//! blob.
 #![tactic(auto)]
 
 mod fault;
 mod input;
 mod run;
 mod script;
+mod show;
+#[cfg(test)]
+mod show_tests;
 #[cfg(test)]
 mod tests;
 
 pub use fault::RunFault;
 pub use run::run_core;
 pub use script::ScriptFault;
+pub use show::show_blob;

@@ -1,13 +1,16 @@
-// The text of workloads and of replies. It stands on nothing else of this crate.
+// The text of workloads, of replies and of what is in a blob. It stands on nothing else of this crate.
 
+mod blob;
 mod cursor;
 mod fault;
 mod line;
 mod operation;
 mod reply;
+mod text;
 mod value;
 mod workload;
 
+pub use blob::{write_changeset, write_patchset};
 pub use fault::ScriptFault;
 pub use line::{Line, Show};
 pub use reply::reply_text;

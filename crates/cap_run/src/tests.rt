@@ -206,10 +206,10 @@ fn want_of_memory(rt: HostRuntime) -> Result<(), Fail> {
 
 // Gives three bytes a read, and fails with `kind` when `reads` are done. Goes on after that.
 #[derive(Drop)]
-struct Flaky<'a> {
-    text: &'a [u8],
-    reads: usize,
-    kind: ErrorKind,
+pub struct Flaky<'a> {
+    pub text: &'a [u8],
+    pub reads: usize,
+    pub kind: ErrorKind,
 }
 
 impl<'a> Read for Flaky<'a> {
@@ -254,9 +254,9 @@ fn a_read_that_fails(rt: HostRuntime) -> Result<(), Fail> {
 
 // Takes seven bytes a write, and fails at each write once `writes` are done.
 #[derive(Drop)]
-struct Choppy {
-    held: Vec<u8>,
-    writes: usize,
+pub struct Choppy {
+    pub held: Vec<u8>,
+    pub writes: usize,
 }
 
 impl Write for Choppy {

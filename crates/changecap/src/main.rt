@@ -1,7 +1,8 @@
-//! The program `changecap`: a workload on standard input, its replies on standard output.
+//! The program `changecap`. `run` takes a workload on standard input and prints its replies on standard output, and
+//! `show` a blob as hex text, whose changes it prints.
 #![tactic(auto)]
 
-use cap_run::{RunFault, run_core};
+use cap_run::{RunFault, run_core, show_blob};
 use clap::error::ErrorKind;
 use clap::{Command, Error};
 use std::alloc::{AllocError, Global};
@@ -22,13 +23,17 @@ fn command_line<'a>(alloc: Global) -> Result<Command<'a>, AllocError> {
     let run = Command::new(alloc, "run").about(
         "Run the workload on standard input and print a reply for each command",
     );
+    let show = Command::new(alloc, "show").about(
+        "Print what is in the changeset or patchset on standard input, given as hex text",
+    );
     Command::new(alloc, "changecap")
         .version("0.1.0")
         .about(
             "An in-memory table server that captures changes as the SQLite session extension does",
         )
         .subcommand_required(true)
-        .subcommand(run)
+        .subcommand(run)?
+        .subcommand(show)
 }
 
 /// Prints what the parser of the command line has to say, and answers the exit status.
@@ -44,14 +49,19 @@ fn explain(rt: &(impl Print + Eprint), error: &Error) -> u8 {
 
 /// Runs the workload on standard input, and answers the exit status.
 fn run(rt: &(impl Input + Print + Eprint), alloc: Global) -> u8 {
-    match run_core(alloc, &mut rt.reader(), &mut io::writer(rt)) {
-        Ok(()) => 0,
-        Err(fault) => report(rt, &fault),
-    }
+    report(rt, run_core(alloc, &mut rt.reader(), &mut io::writer(rt)))
+}
+
+/// Shows the blob on standard input, and answers the exit status.
+fn show(rt: &(impl Input + Print + Eprint), alloc: Global) -> u8 {
+    report(rt, show_blob(alloc, &mut rt.reader(), &mut io::writer(rt)))
 }
 
 /// Prints the fault where the input is refused, and answers the exit status.
-fn report(rt: &impl Eprint, fault: &RunFault) -> u8 {
+fn report(rt: &impl Eprint, outcome: Result<(), RunFault>) -> u8 {
+    let Err(fault) = outcome else {
+        return 0;
+    };
     let status = fault.status();
     if status == REFUSED && eprintln!(rt; "{fault}").is_err() {
         return FAILED;
@@ -80,6 +90,7 @@ fn obey(rt: &(impl Input + Print + Eprint + Env + AllocGlobal)) -> Result<u8, Al
     match command_line(alloc)?.try_get_matches_from(words.as_slice()) {
         Ok(matches) => match matches.subcommand_name() {
             Some("run") => Ok(run(rt, alloc)),
+            Some("show") => Ok(show(rt, alloc)),
             _ => Ok(MISUSED),
         },
         Err(error) => Ok(explain(rt, &error)),

@@ -1,0 +1,79 @@
+use super::text::{DefinedText, RecordText, SchemaText};
+use cap_changes::{Change, ChangeList, Patch, PatchList};
+use cap_value::AllocHandle;
+use std::io;
+use std::io::Write;
+
+/// The line of a blob without groups.
+const EMPTY: &str = "empty";
+
+/// Writes a changeset: a line for it, for each group and for each change.
+pub fn write_changeset<A: AllocHandle, W: Write>(
+    list: &ChangeList<A>,
+    output: &mut W,
+) -> io::Result<()> {
+    if list.groups().is_empty() {
+        return writeln!(output, "{EMPTY}");
+    }
+    writeln!(output, "changeset")?;
+    for group in list.groups() {
+        let columns = SchemaText(group.schema());
+        writeln!(output, "group {} {columns}", group.table().as_str())?;
+        for change in group.changes() {
+            write_change(change, output)?;
+        }
+    }
+    Ok(())
+}
+
+/// Writes a patchset: a line for it, for each group and for each change.
+pub fn write_patchset<A: AllocHandle, W: Write>(
+    list: &PatchList<A>,
+    output: &mut W,
+) -> io::Result<()> {
+    if list.groups().is_empty() {
+        return writeln!(output, "{EMPTY}");
+    }
+    writeln!(output, "patchset")?;
+    for group in list.groups() {
+        let columns = SchemaText(group.schema());
+        writeln!(output, "group {} {columns}", group.table().as_str())?;
+        for patch in group.patches() {
+            write_patch(patch, output)?;
+        }
+    }
+    Ok(())
+}
+
+fn mark(indirect: bool) -> &'static str {
+    if indirect { "indirect" } else { "direct" }
+}
+
+fn write_change<A: AllocHandle, W: Write>(change: &Change<A>, output: &mut W) -> io::Result<()> {
+    match change {
+        Change::Insert { indirect, new } => {
+            writeln!(output, "insert {} {}", mark(*indirect), RecordText(new))
+        }
+        Change::Update { indirect, old, new } => {
+            let (old, new) = (RecordText(old), RecordText(new));
+            writeln!(output, "update {} old {old} new {new}", mark(*indirect))
+        }
+        Change::Delete { indirect, old } => {
+            writeln!(output, "delete {} {}", mark(*indirect), RecordText(old))
+        }
+    }
+}
+
+fn write_patch<A: AllocHandle, W: Write>(patch: &Patch<A>, output: &mut W) -> io::Result<()> {
+    match patch {
+        Patch::Insert { indirect, new } => {
+            writeln!(output, "insert {} {}", mark(*indirect), RecordText(new))
+        }
+        Patch::Update { indirect, new } => {
+            writeln!(output, "update {} {}", mark(*indirect), RecordText(new))
+        }
+        Patch::Delete { indirect, key } => {
+            writeln!(output, "delete {} {}", mark(*indirect), DefinedText(key))
+        }
+    }
+}

@@ -1,0 +1,90 @@
+use cap_changes::Record;
+use cap_row::Schema;
+use cap_value::{AllocHandle, Value};
+use std::fmt;
+use std::fmt::{Display, Formatter, Write};
+
+/// A value as text: `null`, decimal digits, a quoted text, or the hex digits of a blob.
+#[derive(Drop)]
+pub struct ValueText<'a, A: AllocHandle>(pub &'a Value<A>);
+
+impl<'a, A: AllocHandle> Display for ValueText<'a, A> {
+    fn fmt<W: Write>(&self, f: &mut Formatter<W>) -> fmt::Result {
+        match self.0 {
+            Value::Null => f.write_str("null"),
+            Value::Int(number) => write!(f, "{number}"),
+            Value::Text(text) => write_quoted(f, text.as_str()),
+            Value::Blob(blob) => write_digits(f, blob.as_slice()),
+        }
+    }
+}
+
+/// A quote in the text stands twice.
+fn write_quoted<W: Write>(f: &mut Formatter<W>, text: &str) -> fmt::Result {
+    f.write_str("'")?;
+    for (place, part) in text.split('\'').enumerate() {
+        if place > 0 {
+            f.write_str("''")?;
+        }
+        f.write_str(part)?;
+    }
+    f.write_str("'")
+}
+
+fn write_digits<W: Write>(f: &mut Formatter<W>, bytes: &[u8]) -> fmt::Result {
+    f.write_str("x'")?;
+    for byte in bytes {
+        write!(f, "{byte:02x}")?;
+    }
+    f.write_str("'")
+}
+
+/// The columns of a table as text: `k` for each column of the primary key, and `v` for each other.
+#[derive(Drop)]
+pub struct SchemaText<'a, A: AllocHandle>(pub &'a Schema<A>);
+
+impl<'a, A: AllocHandle> Display for SchemaText<'a, A> {
+    fn fmt<W: Write>(&self, f: &mut Formatter<W>) -> fmt::Result {
+        for key in self.0.flags() {
+            f.write_str(if *key { "k" } else { "v" })?;
+        }
+        Ok(())
+    }
+}
+
+/// A record as text: its fields between parentheses, with `-` for each that is undefined.
+#[derive(Drop)]
+pub struct RecordText<'a, A: AllocHandle>(pub &'a Record<A>);
+
+impl<'a, A: AllocHandle> Display for RecordText<'a, A> {
+    fn fmt<W: Write>(&self, f: &mut Formatter<W>) -> fmt::Result {
+        f.write_str("(")?;
+        for (column, field) in self.0.fields().iter().enumerate() {
+            if column > 0 {
+                f.write_str(",")?;
+            }
+            match field {
+                Some(value) => ValueText(value).fmt(f)?,
+                None => f.write_str("-")?,
+            }
+        }
+        f.write_str(")")
+    }
+}
+
+/// The defined fields of a record as text, between parentheses.
+#[derive(Drop)]
+pub struct DefinedText<'a, A: AllocHandle>(pub &'a Record<A>);
+
+impl<'a, A: AllocHandle> Display for DefinedText<'a, A> {
+    fn fmt<W: Write>(&self, f: &mut Formatter<W>) -> fmt::Result {
+        f.write_str("(")?;
+        for (place, value) in self.0.fields().iter().flatten().enumerate() {
+            if place > 0 {
+                f.write_str(",")?;
+            }
+            ValueText(value).fmt(f)?;
+        }
+        f.write_str(")")
+    }
+}

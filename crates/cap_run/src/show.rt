@@ -1,0 +1,74 @@
+ghost use Rattle.std.specs.Prelude.{◌≡◌, ◌⊎◌, Some, IfSome, IfErr, IsErrAnd};
+ghost use Rattle.cap_run.specs.RunFault.{exit_status, IsUnread};
+ghost use Rattle.cap_run.specs.Show.{show_fault};
+
+use crate::RunFault;
+use crate::input::read_whole;
+use crate::script::{write_changeset, write_patchset};
+use cap_codec::{Blob, read_blob};
+use cap_value::{AllocHandle, Fault};
+use hex::FromHexError;
+use std::io::{BufWriter, Read, Write};
+
+/// Writes what is in the blob that the reader gives as hex digits, in either case, with at most one line feed at
+/// their end: a line for the blob, for each group and for each change, or `empty`.
+///
+/// The whole blob is read before anything is written.
+pub fn show_blob<A: AllocHandle, R: Read, W: Write>(
+    alloc: A,
+    reader: &mut R,
+    writer: &mut W,
+) -> Result<(), RunFault>
+    // What is no hex text, or no blob, is refused with its fault, where it is known what the reader gives.
+    ensures refused { IfSome (R.remaining reader.old) (λ given. IfSome (show_fault A given)
+        (λ fault. IsErrAnd result (λ f. (f ≡ fault) ⊎ IsUnread f))) }
+    ensures just { IfSome (R.remaining reader.old) (λ given. IfErr result (λ fault. exit_status fault ≡ 1 → show_fault A given ≡ Some fault)) }
+    // Nothing is written where the input is refused.
+    ensures silent { IfErr result (λ fault. exit_status fault ≡ 1 → writer.new ≡ writer.old) }
+{
+    let blob = take_blob(alloc, reader)?;
+    write_blob(alloc, &blob, writer)
+}
+
+/// The blob that the reader gives.
+fn take_blob<A: AllocHandle, R: Read>(alloc: A, reader: &mut R) -> Result<Blob<A>, RunFault>
+    ensures refused { IfSome (R.remaining reader.old) (λ given. IfSome (show_fault A given)
+        (λ fault. IsErrAnd result (λ f. (f ≡ fault) ⊎ IsUnread f))) }
+    ensures just { IfSome (R.remaining reader.old) (λ given. IfErr result (λ fault. exit_status fault ≡ 1 → show_fault A given ≡ Some fault)) }
+{
+    let text = read_whole(alloc, reader)?;
+    blob_of(alloc, text.as_slice())
+}
+
+/// The blob whose hex digits these are.
+fn blob_of<A: AllocHandle>(alloc: A, text: &[u8]) -> Result<Blob<A>, RunFault>
+    ensures refused { IfSome (show_fault A text.now) (λ fault. IsErrAnd result (λ f. (f ≡ fault) ⊎ IsUnread f)) }
+    ensures just { IfErr result (λ fault. exit_status fault ≡ 1 → show_fault A text.now ≡ Some fault) }
+{
+    let digits = text.strip_suffix(b"\n").unwrap_or(text);
+    let bytes = hex::decode(alloc, digits).map_err(|error| match error {
+        FromHexError::OutOfMemory => RunFault::Memory,
+        _ => RunFault::NotHex,
+    })?;
+    read_blob(alloc, bytes.as_slice()).map_err(|fault| match fault {
+        Fault::Refused(fault) => RunFault::Blob(fault),
+        Fault::OutOfMemory => RunFault::Memory,
+    })
+}
+
+/// Writes what is in the blob, through a buffer.
+fn write_blob<A: AllocHandle, W: Write>(
+    alloc: A,
+    blob: &Blob<A>,
+    writer: &mut W,
+) -> Result<(), RunFault>
+    ensures { IfErr result (λ fault. exit_status fault ≡ 3) }
+{
+    let mut output = BufWriter::new(alloc, writer).map_err(|_| RunFault::Memory)?;
+    let written = match blob {
+        Blob::Changes(changes) => write_changeset(changes, &mut output),
+        Blob::Patches(patches) => write_patchset(patches, &mut output),
+    };
+    written.map_err(|_| RunFault::Write)?;
+    output.flush().map_err(|_| RunFault::Write)
+}
