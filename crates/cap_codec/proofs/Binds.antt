@@ -1,5 +1,5 @@
 -- What a step, a test and a choice gave, by what came of them.
-use Rattle.std.proofs.Common.{◌≡◌, ℕ, Bool, true, false, cond, Result, Ok, Err, refl, inl, inr, ◌⊎◌}
+use Rattle.std.proofs.Common.{◌≡◌, Bool, true, false, cond, Result, Ok, Err, refl, inl, inr, ◌⊎◌}
 use Rattle.cap_codec.specs.declared.fault.BlobFault.{BlobFault}
 use Rattle.cap_codec.specs.Reading.{◌>>=◌}
 
@@ -28,3 +28,9 @@ done x = Ok x
 
 pub ok_is : {A : Type 0} (x y : A) → done x ≡ done y → x ≡ y
 ok_is x y e = cc
+
+abbrev failed : {A : Type 0} → BlobFault → Result A BlobFault
+failed f = Err f
+
+pub err_is : {A : Type 0} (f g : BlobFault) → failed {A = A} f ≡ failed g → f ≡ g
+err_is f g e = cc

@@ -1,8 +1,8 @@
 -- A record that was read has just the fields that were asked for, so that its change fits the schema.
-use Rattle.std.proofs.Common.{◌≡◌, ℕ, suc, ◌≤◌, Bool, true, false, cond, not, ◌&&◌, ◌==◌, nat_lt, List, [], ◌∷◌, length, map, Option, Some, None, is_some, is_none, Result, Ok, Err, refl, sym, ap, ◌∙◌, inl, inr, arith}
+use Rattle.std.proofs.Common.{◌≡◌, ℕ, suc, Bool, true, false, not, ◌==◌, nat_lt, List, [], ◌∷◌, length, Option, Some, None, is_none, Ok, refl, sym, ap, ◌∙◌, inl, inr, arith}
 use Rattle.std.specs.List.{zip}
 use Rattle.std.specs.Cmp.Lexicographic.{pointwise, as_long}
-use Rattle.std.proofs.lemmas.Bool.{and_parts, and_from, not-false, eqb-true, eqb-false, ltb-false, eq-eqb, ne_eqb}
+use Rattle.std.proofs.lemmas.Bool.{and_parts, and_from, not-false, eqb-true, eqb-false, ltb-false, eq-eqb}
 use Rattle.cap_value.specs.declared.value.Value.{Value}
 use Rattle.cap_value.specs.declared.value.Value.TheVariants.{Null, Int, Text, Blob}
 use Rattle.cap_value.specs.Value.{is_null}
@@ -12,9 +12,7 @@ use Rattle.cap_codec.specs.declared.demand.Demand.{Demand}
 use Rattle.cap_codec.specs.declared.demand.Demand.TheVariants as asks
 use Rattle.cap_codec.specs.declared.rule.Rule.{Rule}
 use Rattle.cap_codec.specs.declared.rule.Rule.TheVariants as rules
-use Rattle.cap_codec.specs.declared.fault.BlobFault.{BlobFault}
-use Rattle.cap_codec.specs.declared.fault.FaultKind.TheVariants.{Real, BadField, BadRecord}
-use Rattle.cap_codec.specs.Reading.{◌>>=◌, fault, place, byte_at}
+use Rattle.cap_codec.specs.Reading.{◌>>=◌, place, byte_at}
 use Rattle.cap_codec.specs.FieldReading.{allows, number_at, text_at, sized_at, content_at, typed_at, field_at}
 use Rattle.cap_codec.specs.Demands.{demand_of, demands, new_demand, new_demands}
 use Rattle.cap_codec.specs.RecordReading.{record_at}
@@ -170,3 +168,38 @@ module _ {A : Type 0} where
       let h = record_meets total (demands rules.Keyed flags) bytes old e in
       let n = record_meets total (new_demands flags old.0) old.1 new f in
       and_from (length old.0 == length new.0) _ (eq-eqb (length old.0) (length new.0) (new_is_long flags old.0 new.0 h n)) (pairs_fit flags old.0 new.0 h n)
+
+  -- ---- and a change that fits the schema has just those fields
+
+  pub meets_full : (flags : List Bool) (fields : RecordFields A) → is_full flags fields ≡ true → pointwise meets (demands rules.Full flags) fields ≡ true
+  meets_full flags fields full = by_column rules.Full is_full_field full_is flags fields ∙ full
+
+  pub meets_patch : (flags : List Bool) (fields : RecordFields A) → is_patch flags fields ≡ true → pointwise meets (demands rules.Keyed flags) fields ≡ true
+  meets_patch flags fields patch = by_column rules.Keyed is_patch_field patch_is flags fields ∙ patch
+
+  pub meets_key : (flags : List Bool) (fields : RecordFields A) → is_key flags fields ≡ true → pointwise meets (demands rules.KeyAlone flags) fields ≡ true
+  meets_key flags fields key = by_column rules.KeyAlone is_key_field key_is flags fields ∙ key
+
+  pair_meets : (key : Bool) (old new : Option (Value A)) → is_update_field key old new ≡ true → (meets (demand_of rules.Keyed key) old ≡ true) × (meets (new_demand (key, old)) new ≡ true)
+  pair_meets true old new fits = and_parts (is_full_field true old) (is_none new) fits
+  pair_meets false None new fits = (refl, fits)
+  pair_meets false (Some value) None fits = absurd cc
+  pair_meets false (Some value) (Some other) fits = (refl, refl)
+
+  pairs_meet : (flags : List Bool) (old new : RecordFields A) → length old ≡ length new → are_update_fields flags (zip old new) ≡ true
+      → (pointwise meets (demands rules.Keyed flags) old ≡ true) × (pointwise meets (new_demands flags old) new ≡ true)
+  pairs_meet [] [] [] same fit = (refl, refl)
+  pairs_meet flags [] (w ∷ new) same fit = absurd (omega arith)
+  pairs_meet flags (o ∷ old) [] same fit = absurd (omega arith)
+  pairs_meet [] (o ∷ old) (w ∷ new) same fit = absurd cc
+  pairs_meet (key ∷ flags) [] [] same fit = absurd cc
+  pairs_meet (key ∷ flags) (o ∷ old) (w ∷ new) same fit =
+      let parts = and_parts (is_update_field key o w) (are_update_fields flags (zip old new)) fit in
+      let one = pair_meets key o w parts.0 in
+      let others = pairs_meet flags old new (omega arith) parts.1 in
+      (and_from (meets (demand_of rules.Keyed key) o) (pointwise meets (demands rules.Keyed flags) old) one.0 others.0, and_from (meets (new_demand (key, o)) w) (pointwise meets (new_demands flags old) new) one.1 others.1)
+
+  pub meets_update : (flags : List Bool) (old new : RecordFields A) → is_update flags old new ≡ true → (pointwise meets (demands rules.Keyed flags) old ≡ true) × (pointwise meets (new_demands flags old) new ≡ true)
+  meets_update flags old new fits =
+      let parts = and_parts (length old == length new) (are_update_fields flags (zip old new)) fits in
+      pairs_meet flags old new (eqb-true (length old) (length new) parts.0) parts.1

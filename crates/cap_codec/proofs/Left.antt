@@ -1,5 +1,5 @@
 -- Reading the changes and the groups of a blob, as the loops do: what was read, and what is left.
-use Rattle.std.proofs.Common.{◌≡◌, ℕ, suc, ◌-◌, ◌<◌, ◌≤◌, ◌==◌, Bool, true, false, List, [], ◌∷◌, ◌++◌, length, take, drop, get_or, Result, Ok, Err, refl, sym, ap, subst, ◌∙◌, append_assoc, arith}
+use Rattle.std.proofs.Common.{◌≡◌, ℕ, ◌-◌, ◌<◌, ◌≤◌, ◌==◌, true, false, List, [], ◌∷◌, ◌++◌, length, take, drop, get_or, Result, Ok, Err, refl, sym, ap, subst, ◌∙◌, append_assoc, arith}
 use Rattle.std.proofs.lemmas.List.{append-nil, take_all}
 use Rattle.cap_changes.specs.declared.change.Change.{Change}
 use Rattle.cap_changes.specs.declared.patch.Patch.{Patch}
@@ -16,7 +16,7 @@ use Rattle.cap_codec.proofs.Loops.{ChangesFrom, change_goes_on, change_fails, re
 abbrev pub behind_of : List ℕ → List ℕ
 behind_of rest = take (length rest - 1) (drop 1 rest)
 
-behind-is : (op : ℕ) (bs : List ℕ) → behind_of (op ∷ bs) ≡ bs
+pub behind-is : (op : ℕ) (bs : List ℕ) → behind_of (op ∷ bs) ≡ bs
 behind-is op bs = take_all (length (op ∷ bs) - 1) bs (omega arith)
 
 -- where a step that failed makes all fail

@@ -3,3 +3,10 @@ pub mod Loops
 pub mod Left
 pub mod FitLemmas
 pub mod HeaderLemmas
+pub mod FieldAgain
+pub mod ChangeAgain
+pub mod BlobAgain
+pub mod Steady
+pub mod Looking
+pub mod LookingSteps
+pub mod StreamLemmas

@@ -14,7 +14,7 @@ use Rattle.cap_codec.specs.declared.rule.Rule.TheVariants as rules
 use Rattle.cap_codec.specs.Reading.{◌>>=◌, fault, place, byte_at}
 use Rattle.cap_codec.specs.Demands.{demands, new_demands}
 use Rattle.cap_codec.specs.RecordReading.{record_at}
-use Rattle.cap_codec.specs.HeaderReading.{Header, is_set, header_at}
+use Rattle.cap_codec.specs.HeaderReading.{is_set, header_at}
 
 -- INSERT, UPDATE or DELETE
 abbrev pub is_operation : ℕ → Bool

@@ -1,5 +1,5 @@
 -- Reading the fields of a record.
-use Rattle.std.specs.Prelude.{ℕ, ℤ, ◌≤◌, Bool, true, false, not, List, [], ◌∷◌, length, take, drop, Option, Some, None, Result, Ok, Err, nat_lt, ◌==◌, ◌&&◌, if◌then◌else◌}
+use Rattle.std.specs.Prelude.{ℕ, ℤ, ◌≤◌, Bool, true, not, List, length, Option, Some, None, Result, Ok, nat_lt, ◌==◌, ◌&&◌, if◌then◌else◌}
 use Rattle.std.specs.Int.{w64, from_be_bytes, cast_signed}
 use Rattle.std.specs.Str.{is_utf8}
 use Rattle.cap_value.specs.declared.text.TheConstants.{BYTES_MAX}

@@ -8,3 +8,6 @@ pub mod HeaderReading
 pub mod Demands
 pub mod RecordReading
 pub mod BlobReading
+pub mod Writable
+pub mod Pieces
+pub mod Stream

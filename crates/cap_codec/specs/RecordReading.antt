@@ -1,6 +1,5 @@
 -- Reading the records of a change.
-use Rattle.std.specs.Prelude.{ℕ, List, [], ◌∷◌, ◌++◌, Result, Ok, Err}
-use Rattle.cap_value.specs.declared.value.Value.{Value}
+use Rattle.std.specs.Prelude.{ℕ, List, [], ◌∷◌, Result, Ok}
 use Rattle.cap_changes.specs.Record.{RecordFields}
 use Rattle.cap_codec.specs.declared.demand.Demand.{Demand}
 use Rattle.cap_codec.specs.declared.fault.BlobFault.{BlobFault}

@@ -33,7 +33,7 @@ fn set_flags<A: AllocHandle>(alloc: A, flags: &[u8]) -> Result<Vec<bool, A>, Out
     flags.iter().map(|flag| *flag != 0).collect(alloc)
 }
 
-fn own_schema<A: AllocHandle>(alloc: A, flags: &[u8]) -> Result<Schema<A>, Fault<BlobFault>>
+pub fn own_schema<A: AllocHandle>(alloc: A, flags: &[u8]) -> Result<Schema<A>, Fault<BlobFault>>
     requires some { 1 ≤ length flags.now }
     requires fits { length flags.now ≤ COLUMNS_MAX }
     requires keyed { IsTrue (list_any is_set flags.now) }

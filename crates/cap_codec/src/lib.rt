@@ -3,20 +3,29 @@
 #![tactic(auto)]
 
 mod change;
+mod decoder;
 mod demand;
 mod fault;
 mod field;
 mod group;
 mod header;
+mod laws;
 mod lent;
 mod read;
 mod record;
 mod rule;
+mod scan;
+mod stream;
 mod varint;
 mod write;
 
+pub use decoder::Decoder;
 pub use fault::{BlobFault, FaultKind};
+pub use laws::{
+    a_fault_lasts, no_two_have_the_same_bytes, one_reading_or_one_fault, written_is_read_again,
+};
 pub use read::{Blob, read_blob};
+pub use stream::{ReadFault, WriteFault, read_from, write_changes_to, write_patches_to};
 pub use write::{write_changes, write_patches};
 
 #[cfg(test)]

@@ -23,7 +23,7 @@ pub enum Blob<A: AllocHandle> {
 }
 
 /// The fault of a byte that neither goes on with a group nor begins one of the blob's kind.
-fn wrong_kind(kind: u8, at: usize) -> BlobFault
+pub fn wrong_kind(kind: u8, at: usize) -> BlobFault
     ensures { result ≡ blob.wrong_kind kind at }
 {
     if kind == CHANGESET || kind == PATCHSET {

@@ -1,5 +1,4 @@
-use Rattle.std.proofs.Common.{ap, sym, ◌∙◌}
-use Rattle.std.proofs.Common.{Ok}
+use Rattle.std.proofs.Common.{◌∙◌}
 use Rattle.cap_codec.proofs.HeaderLemmas.{key_is_set, schema_is}
 use Rattle.cap_codec.proofs.group.own_schema.Goals as goal
 

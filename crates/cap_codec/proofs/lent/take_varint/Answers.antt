@@ -1,4 +1,4 @@
-use Rattle.std.proofs.Common.{◌^◌, ◌≤◌, refl, arith, rules}
+use Rattle.std.proofs.Common.{◌^◌, ◌≤◌, arith, rules}
 use Rattle.std.proofs.Math.Nat.{pow-le-pow_right}
 use Rattle.cap_codec.proofs.lent.take_varint.Goals as goal
 

@@ -1,6 +1,5 @@
-use Rattle.std.proofs.Common.{◌≡◌, ◌∷◌, ◌+◌, ◌<◌, length, drop, arith, refl}
+use Rattle.std.proofs.Common.{arith}
 use Rattle.std.proofs.lemmas.Result.{err_from_is_err_and}
-use Rattle.cap_codec.specs.Demands.{new_demands}
 use Rattle.cap_codec.proofs.Loops.{field_goes_on, field_fails, record_is_done, new_demands-cons, new_demands-past}
 use Rattle.cap_codec.proofs.record.take_new_record.Goals as goal
 

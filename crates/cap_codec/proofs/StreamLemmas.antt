@@ -1,0 +1,44 @@
+-- What was read of a reader's bytes, and what was written of a list's.
+use Rattle.std.proofs.Common.{◌≡◌, ℕ, List, [], ◌++◌, take, drop, Option, Some, None, IfSome, Ok, Err, sym, ap, ◌∙◌, append_assoc, append-nil, take-append-drop}
+use Rattle.std.specs.Io.KnownBytes.{Consumes, Appends, IsAtEnd}
+use Rattle.std.proofs.KnownBytes.{Appends-trans}
+use Rattle.cap_value.specs.Memory.{AnswersUnlessMemory}
+use Rattle.cap_value.specs.declared.memory.Fault.{Fault}
+use Rattle.cap_value.specs.declared.memory.Fault.TheVariants.{Refused, OutOfMemory}
+use Rattle.cap_codec.specs.declared.fault.BlobFault.{BlobFault}
+use Rattle.cap_codec.specs.declared.read.Blob.{Blob}
+use Rattle.cap_codec.specs.BlobReading.{blob_at}
+use Rattle.cap_codec.specs.Pieces.{lasting}
+use Rattle.cap_codec.specs.Stream.{IsBlobOf, read_fault}
+use Rattle.cap_codec.proofs.Looking.{err_lasts, fault_of_lasting}
+
+-- a write took some more of the bytes
+pub writes_more : (a b c : Option (List ℕ)) (bytes rest : List ℕ) (count : ℕ) → ((front : List ℕ) × (bytes ≡ front ++ rest) × Appends a b front) → Appends b c (take count rest)
+    → (front : List ℕ) × (bytes ≡ front ++ drop count rest) × Appends a c front
+writes_more a b c bytes rest count (front, parts, before) taken = (
+  front ++ take count rest,
+  parts ∙ ap (λ (r : List ℕ). front ++ r) (sym (take-append-drop count rest)) ∙ sym (append_assoc front (take count rest) (drop count rest)),
+  Appends-trans a b c front (take count rest) before taken,
+)
+
+module _ (A : Type 0) where
+  -- the last read gave nothing
+  pub reads_whole : (a b c : Option (List ℕ)) (fed piece : List ℕ) (n : ℕ) (x : Blob A) → Consumes a b fed → Consumes b c (take n piece) → n ≡ 0 → IsAtEnd c → blob_at fed ≡ Ok x → IfSome a (λ given. blob_at given ≡ Ok x)
+  reads_whole None b c fed piece n x p q none end read = tt
+  reads_whole (Some xs) None c fed piece n x p q none end read = absurd p
+  reads_whole (Some xs) (Some ys) None fed piece n x p q none end read = absurd q
+  reads_whole (Some xs) (Some ys) (Some zs) fed piece n x p q none end read =
+      let nothing : ys ≡ [] = q ∙ ap (λ (k : ℕ). take k piece ++ zs) none ∙ end in
+      let all : xs ≡ fed = p ∙ ap (λ (r : List ℕ). fed ++ r) nothing ∙ append-nil fed in
+      ap blob_at all ∙ read
+
+  -- the last piece showed a fault
+  pub reads_fault : (a b c : Option (List ℕ)) (fed piece : List ℕ) (n : ℕ) (e : Fault BlobFault) → Consumes a b fed → Consumes b c (take n piece)
+      → AnswersUnlessMemory {X = Unit {0}} {E = BlobFault} (Err e) (lasting (blob_at {A = A} (fed ++ take n piece))) → IfSome a (λ given. IsBlobOf {X = Blob A} (Err (read_fault e)) (blob_at given))
+  reads_fault None b c fed piece n e p q answers = tt
+  reads_fault (Some xs) b c fed piece n OutOfMemory p q answers = tt
+  reads_fault (Some xs) None c fed piece n (Refused f) p q answers = absurd p
+  reads_fault (Some xs) (Some ys) None fed piece n (Refused f) p q answers = absurd q
+  reads_fault (Some xs) (Some ys) (Some zs) fed piece n (Refused f) p q answers =
+      let all : xs ≡ (fed ++ take n piece) ++ zs = p ∙ ap (λ (r : List ℕ). fed ++ r) q ∙ sym (append_assoc fed (take n piece) zs) in
+      ap blob_at all ∙ (fault_of_lasting (blob_at {A = A} ((fed ++ take n piece) ++ zs)) f (err_lasts A (fed ++ take n piece) zs f answers)).0

@@ -1,0 +1,102 @@
+-- Blobs that come in pieces: what is known of a blob by its front.
+use Rattle.std.specs.Prelude.{◌≡◌, ℕ, ◌≤◌, Bool, true, false, List, ◌++◌, length, drop, Option, Some, None, Result, Ok, Err, IfSome, ◌==◌, if◌then◌else◌}
+use Rattle.cap_value.specs.declared.memory.Fault.{Fault}
+use Rattle.cap_value.specs.declared.memory.Fault.TheVariants.{Refused, OutOfMemory}
+use Rattle.cap_codec.specs.declared.fault.BlobFault.{BlobFault}
+use Rattle.cap_codec.specs.declared.fault.FaultKind.{FaultKind}
+use Rattle.cap_codec.specs.declared.fault.FaultKind.TheVariants.{Truncated}
+use Rattle.cap_codec.specs.declared.scan.Kind.{Kind}
+use Rattle.cap_codec.specs.declared.scan.Kind.TheVariants as kinds
+use Rattle.cap_codec.specs.declared.scan.Place.{Place}
+use Rattle.cap_codec.specs.Reading.{◌>>=◌}
+use Rattle.cap_codec.specs.HeaderReading.{header_at}
+use Rattle.cap_codec.specs.BlobReading.{is_operation, wrong_kind, change_at, patch_at, changes_at, group_at, patch_group_at, groups_at, blob_at}
+
+-- the blob ends too early, which more bytes may mend
+abbrev pub is_cut : FaultKind → Bool
+is_cut Truncated = true
+is_cut kind = false
+
+abbrev pub may_mend : Fault BlobFault → Bool
+may_mend (Refused fault) = is_cut fault.kind
+may_mend OutOfMemory = false
+
+-- the fault that no more bytes mend
+abbrev pub lasting : {X : Type 0} → Result X BlobFault → Result (Unit {0}) BlobFault
+lasting (Ok x) = Ok tt
+lasting (Err fault) = if is_cut fault.kind then Ok tt else Err fault
+
+-- what the rest of a blob gives where a part of it gave this
+abbrev pub outcome : {X : Type 0} → Result X BlobFault → Option BlobFault
+outcome (Ok x) = None
+outcome (Err fault) = Some fault
+
+-- the first byte of a group of this kind
+abbrev pub kind_byte : Kind → ℕ
+kind_byte kinds.Changes = 0x54
+kind_byte kinds.Patches = 0x50
+
+-- the columns that a header names
+abbrev pub columns_at : ℕ → List ℕ → Result (List Bool × List ℕ) BlobFault
+columns_at total bytes = header_at total bytes >>= (λ header. Ok (header.0.flags, header.1))
+
+module _ {X G : Type 0} (one_at : ℕ → List Bool → ℕ → List ℕ → Result (X × List ℕ) BlobFault) (group_at : ℕ → List ℕ → Result (G × List ℕ) BlobFault) (kind : ℕ) where
+  -- the changes that are left of a group, and the groups behind it, have this outcome
+  abbrev pub GoesOn : ℕ → List Bool → List ℕ → Option BlobFault → Type 0
+  GoesOn total flags rest answer = (m n : ℕ) × (length rest ≤ m) × (length rest ≤ n)
+      × (outcome (changes_at one_at m total flags rest >>= (λ changes. groups_at group_at kind n total changes.1)) ≡ answer)
+
+module _ (A : Type 0) where
+  abbrev pub GoesOnAs : Kind → ℕ → List Bool → List ℕ → Option BlobFault → Type 0
+  GoesOnAs kinds.Changes total flags rest answer = GoesOn (change_at {A = A}) (group_at {A = A}) 0x54 total flags rest answer
+  GoesOnAs kinds.Patches total flags rest answer = GoesOn (patch_at {A = A}) (patch_group_at {A = A}) 0x50 total flags rest answer
+
+  -- Whatever follows these bytes, the outcome is that of what is left of them in a group of these columns.
+  unfoldable pub Leads : List ℕ → Kind → List Bool → List ℕ → Type 0
+  Leads bytes kind flags rest = (more : List ℕ) → GoesOnAs kind (length (bytes ++ more)) flags (rest ++ more) (outcome (blob_at {A = A} (bytes ++ more)))
+
+  -- what stands behind a change, in a group of these columns
+  abbrev pub past_at : Kind → ℕ → List Bool → ℕ → List ℕ → Result (List Bool × List ℕ) BlobFault
+  past_at kinds.Changes total flags op bytes = change_at {A = A} total flags op bytes >>= (λ change. Ok (flags, change.1))
+  past_at kinds.Patches total flags op bytes = patch_at {A = A} total flags op bytes >>= (λ patch. Ok (flags, patch.1))
+
+  -- The next change or header in a group of these columns, behind its first byte, which stands at `at`: the columns
+  -- from there on, and what stands behind it.
+  abbrev pub part_at : Kind → ℕ → List Bool → ℕ → ℕ → List ℕ → Result (List Bool × List ℕ) BlobFault
+  part_at kind total flags at first bytes =
+      if is_operation first then past_at kind total flags first bytes
+      else (if first == kind_byte kind then columns_at total bytes else Err (wrong_kind first at))
+
+  -- A decoder that answered a fault has it. One that found no memory stays as it was.
+  abbrev pub KeepsFault : Result (Unit {0}) (Fault BlobFault) → List ℕ → List ℕ → Type 0
+  KeepsFault (Ok x) old new = Unit {0}
+  KeepsFault (Err (Refused fault)) old new = lasting (blob_at {A = A} new) ≡ Err fault
+  KeepsFault (Err OutOfMemory) old new = new ≡ old
+
+module _ {A : Type 0} where
+  -- the bytes from there on are still to be looked at
+  abbrev pub IsPlace : List ℕ → Place A → Type 0
+  IsPlace bytes place = (place.at ≤ length bytes) × Leads A bytes place.kind place.schema (drop place.at bytes)
+
+  -- Looking went on to this place, or to the fault that lasts.
+  abbrev pub GoesTo : Result (Place A) (Fault BlobFault) → List ℕ → Type 0
+  GoesTo (Ok place) bytes = (lasting (blob_at {A = A} bytes) ≡ Ok tt) × IsPlace bytes place
+  GoesTo (Err (Refused fault)) bytes = lasting (blob_at {A = A} bytes) ≡ Err fault
+  GoesTo (Err OutOfMemory) bytes = Unit {0}
+
+  -- There is a first place, or no whole header yet, or a fault that lasts.
+  abbrev pub Begins : Result (Option (Place A)) (Fault BlobFault) → List ℕ → Type 0
+  Begins (Ok None) bytes = lasting (blob_at {A = A} bytes) ≡ Ok tt
+  Begins (Ok (Some place)) bytes = IsPlace bytes place
+  Begins (Err (Refused fault)) bytes = lasting (blob_at {A = A} bytes) ≡ Err fault
+  Begins (Err OutOfMemory) bytes = Unit {0}
+
+  abbrev pub Scans : Result (Option (Place A)) (Fault BlobFault) → List ℕ → Type 0
+  Scans (Ok place) bytes = (lasting (blob_at {A = A} bytes) ≡ Ok tt) × IfSome place (IsPlace bytes)
+  Scans (Err (Refused fault)) bytes = lasting (blob_at {A = A} bytes) ≡ Err fault
+  Scans (Err OutOfMemory) bytes = Unit {0}
+
+  -- the bytes of a decoder, how far it looked at them, and the fault that it answered
+  abbrev pub IsLookedAt : List ℕ → Option (Place A) → Option BlobFault → Type 0
+  IsLookedAt bytes place None = (lasting (blob_at {A = A} bytes) ≡ Ok tt) × IfSome place (IsPlace bytes)
+  IsLookedAt bytes place (Some fault) = lasting (blob_at {A = A} bytes) ≡ Err fault

@@ -1,0 +1,84 @@
+-- What can be written, and what it reads as.
+use Rattle.std.specs.Prelude.{ℕ, Bool, true, false, List, [], ◌∷◌, IfSome, IsTrue, IsUtf8, All, filter, ◌≡◌, ◌⊎◌, Result, Ok, Err}
+use Rattle.cap_value.specs.Bytes.{is_name}
+use Rattle.cap_value.specs.Value.{IsValue}
+use Rattle.cap_row.specs.Schema.{is_schema, has_key}
+use Rattle.cap_changes.specs.Record.{RecordFields}
+use Rattle.cap_changes.specs.Group.{TableChanges}
+use Rattle.cap_changes.specs.PatchGroup.{TablePatches}
+use Rattle.cap_changes.specs.Fits.{AllChangesFit, AllPatchesFit}
+use Rattle.cap_changes.specs.declared.change.Change.{Change}
+use Rattle.cap_changes.specs.declared.change.Change.TheVariants as changed
+use Rattle.cap_changes.specs.declared.patch.Patch.{Patch}
+use Rattle.cap_changes.specs.declared.patch.Patch.TheVariants as patched
+use Rattle.cap_codec.specs.declared.fault.BlobFault.{BlobFault}
+use Rattle.cap_codec.specs.declared.read.Blob.{Blob}
+use Rattle.cap_codec.specs.declared.read.Blob.TheVariants.{Changes, Patches}
+use Rattle.cap_codec.specs.Changeset.{list_bytes}
+use Rattle.cap_codec.specs.Patchset.{patch_list_bytes}
+
+-- a table's name and its columns, of which one at least is in the key
+pub record IsTable (table : List ℕ) (schema : List Bool) : Type 0 where
+  pub name : IsTrue (is_name table)
+  pub utf8 : IsUtf8 table
+  pub columns : IsTrue (is_schema schema)
+  pub keyed : IsTrue (has_key schema)
+
+abbrev pub has_some : {X : Type 0} → List X → Bool
+has_some [] = false
+has_some (x ∷ xs) = true
+
+module _ {A : Type 0} where
+  -- each field that is defined is a value
+  abbrev pub AreValues : RecordFields A → Type 0
+  AreValues fields = All (λ field. IfSome field IsValue) fields
+
+  abbrev pub HasValues : Change A → Type 0
+  HasValues (changed.Insert indirect new) = AreValues new
+  HasValues (changed.Update indirect old new) = AreValues old × AreValues new
+  HasValues (changed.Delete indirect old) = AreValues old
+
+  abbrev pub PatchHasValues : Patch A → Type 0
+  PatchHasValues (patched.Insert indirect new) = AreValues new
+  PatchHasValues (patched.Update indirect new) = AreValues new
+  PatchHasValues (patched.Delete indirect key) = AreValues key
+
+  -- a group that a list of changes may hold
+  pub record IsGroup (group : TableChanges A) : Type 0 where
+    pub table : IsTable group.table group.schema
+    pub fit : AllChangesFit group.schema group.changes
+    pub values : All HasValues group.changes
+
+  pub record IsPatchGroup (group : TablePatches A) : Type 0 where
+    pub table : IsTable group.table group.schema
+    pub fit : AllPatchesFit group.schema group.patches
+    pub values : All PatchHasValues group.patches
+
+  abbrev pub IsWritable : Blob A → Type 0
+  IsWritable (Changes groups) = All IsGroup groups
+  IsWritable (Patches groups) = All IsPatchGroup groups
+
+  abbrev pub blob_bytes : Blob A → List ℕ
+  blob_bytes (Changes groups) = list_bytes groups
+  blob_bytes (Patches groups) = patch_list_bytes groups
+
+  -- a patchset without groups has no bytes, as a changeset without groups
+  abbrev pub of_patches : List (TablePatches A) → Blob A
+  of_patches [] = Changes []
+  of_patches (first ∷ others) = Patches (first ∷ others)
+
+  -- without the groups that have no change
+  abbrev pub with_some : Blob A → Blob A
+  with_some (Changes groups) = Changes (filter (λ group. has_some group.changes) groups)
+  with_some (Patches groups) = of_patches (filter (λ group. has_some group.patches) groups)
+
+  -- Reading that gave exactly one blob and no fault, or exactly one fault and no blob.
+  abbrev pub HasOneAnswer : Result (Blob A) BlobFault → Type 0
+  HasOneAnswer read =
+      ((blob : Blob A) × (read ≡ Ok blob) × ((other : Blob A) → read ≡ Ok other → other ≡ blob) × ((fault : BlobFault) → read ≡ Err fault → ⊥))
+      ⊎ ((fault : BlobFault) × (read ≡ Err fault) × ((other : BlobFault) → read ≡ Err other → other ≡ fault) × ((blob : Blob A) → read ≡ Ok blob → ⊥))
+
+  -- nothing of it would be left out
+  abbrev pub HasNoEmptyGroup : Blob A → Type 0
+  HasNoEmptyGroup (Changes groups) = All (λ group. IsTrue (has_some group.changes)) groups
+  HasNoEmptyGroup (Patches groups) = IsTrue (has_some groups) × All (λ group. IsTrue (has_some group.patches)) groups

@@ -1,0 +1,102 @@
+//! Blobs that come in pieces.
+
+ghost use Rattle.std.specs.Prelude.{◌≡◌, ◌++◌, [], IfOk, OnOk};
+ghost use Rattle.cap_value.specs.Memory.{AnswersUnlessMemory};
+ghost use Rattle.cap_codec.specs.BlobReading.{blob_at};
+ghost use Rattle.cap_codec.specs.Pieces.{lasting, KeepsFault};
+
+use crate::fault::BlobFault;
+use crate::read::{Blob, read_blob};
+use crate::scan::{Place, scan};
+use cap_value::{AllocHandle, Fault, OutOfMemory};
+use std::marker::Model;
+
+/// A blob that comes in pieces, of any lengths: it is cut anywhere.
+///
+/// It keeps the bytes, and looks at each change when it is whole. A change that comes in many pieces is looked
+/// at once a piece.
+#[derive(Drop)]
+pub struct Decoder<A: AllocHandle> {
+    alloc: A,
+    /// The bytes so far. None is added behind a fault.
+    bytes: Vec<u8, A>,
+    /// How far the bytes were looked at, from the first header on.
+    place: Option<Place<A>>,
+    /// The fault that was answered.
+    fault: Option<BlobFault>,
+}
+
+impl<A: AllocHandle> Model for Decoder<A> {
+    ghost use Rattle.std.specs.Prelude.{List, ℕ};
+    ghost use Rattle.cap_codec.specs.Pieces.{IsLookedAt};
+
+    ghost Value = { List ℕ };
+
+    ghost view = { λ d. d.bytes.items };
+
+    ghost invariant = { λ d. IsLookedAt d.bytes.items d.place d.fault };
+}
+
+impl<A: AllocHandle> Decoder<A> {
+    /// A decoder without bytes. It takes no memory.
+    #[tactic(auto, unfolding(crate::specs::BlobReading::blob_at))]
+    pub fn new(alloc: A) -> Self
+        ensures { result ≡ [] }
+    {
+        Decoder {
+            alloc,
+            bytes: Vec::new(alloc),
+            place: None,
+            fault: None,
+        }
+    }
+
+    /// Takes the next piece. Refused with the fault of the bytes so far, where they have one that no more bytes
+    /// mend (any but `Truncated`), and from then on with the same. Its place is counted from the first byte ever fed.
+    /// Where there is no memory, the decoder stays as it was.
+    pub fn feed(&mut self, piece: &[u8]) -> Result<(), Fault<BlobFault>>
+        ensures answers { AnswersUnlessMemory result (lasting (blob_at {A = A} (self.old ++ piece.now))) }
+        ensures ok { OnOk result (self.new ≡ self.old ++ piece.now) }
+        ensures err { KeepsFault A result self.old self.new }
+    {
+        if let Some(fault) = self.fault {
+            return Err(Fault::Refused(fault));
+        }
+        let place = copy_place(&self.place)?;
+        let len = self.bytes.len();
+        self.bytes.extend_from_slice(piece)?;
+        match scan(self.alloc, &self.bytes, place) {
+            Ok(place) => {
+                self.place = place;
+                Ok(())
+            }
+            Err(Fault::Refused(fault)) => {
+                self.fault = Some(fault);
+                Err(Fault::Refused(fault))
+            }
+            Err(Fault::OutOfMemory) => {
+                self.bytes.truncate(len);
+                Err(Fault::OutOfMemory)
+            }
+        }
+    }
+
+    /// What is in the bytes, all of them, as `read_blob` answers it.
+    pub fn finish(self) -> Result<Blob<A>, Fault<BlobFault>>
+        ensures { AnswersUnlessMemory result (blob_at self) }
+    {
+        if let Some(fault) = self.fault {
+            return Err(Fault::Refused(fault));
+        }
+        read_blob(self.alloc, &self.bytes)
+    }
+}
+
+fn copy_place<A: AllocHandle>(place: &Option<Place<A>>) -> Result<Option<Place<A>>, OutOfMemory>
+    ensures { IfOk result (λ copy. copy ≡ place.now) }
+{
+    match place {
+        Some(place) => Ok(Some(place.copy()?)),
+        None => Ok(None),
+    }
+}

@@ -1,0 +1,30 @@
+//! Laws of blobs, over the grammar alone. The functions do nothing.
+
+ghost use Rattle.std.specs.Prelude.{◌≡◌, ◌++◌, ℕ, List, Ok, Err};
+ghost use Rattle.cap_codec.specs.declared.read.Blob.{Blob};
+ghost use Rattle.cap_codec.specs.BlobReading.{blob_at};
+ghost use Rattle.cap_codec.specs.declared.fault.BlobFault.{BlobFault};
+ghost use Rattle.cap_codec.specs.Pieces.{lasting};
+ghost use Rattle.cap_codec.specs.Writable.{IsWritable, HasNoEmptyGroup, HasOneAnswer, blob_bytes, with_some};
+
+use cap_value::AllocHandle;
+
+/// Every byte list has exactly one reading or exactly one fault.
+pub fn one_reading_or_one_fault<A: AllocHandle>()
+    ensures { (bytes : List ℕ) → HasOneAnswer (blob_at {A = A} bytes) }
+{}
+
+/// What was written for a list reads as that list, without its groups that have no change.
+pub fn written_is_read_again<A: AllocHandle>()
+    ensures { (blob : Blob A) → IsWritable blob → blob_at (blob_bytes blob) ≡ Ok (with_some blob) }
+{}
+
+/// No two lists of groups with changes have the same bytes, of changesets or of patchsets.
+pub fn no_two_have_the_same_bytes<A: AllocHandle>()
+    ensures { (a b : Blob A) → IsWritable a → IsWritable b → HasNoEmptyGroup a → HasNoEmptyGroup b → blob_bytes a ≡ blob_bytes b → a ≡ b }
+{}
+
+/// A fault other than `Truncated` of a blob's front is the fault of the blob, whatever follows that front.
+pub fn a_fault_lasts<A: AllocHandle>()
+    ensures { (front more : List ℕ) (fault : BlobFault) → lasting (blob_at {A = A} front) ≡ Err fault → lasting (blob_at {A = A} (front ++ more)) ≡ Err fault }
+{}

@@ -1,0 +1,125 @@
+//! Blobs from readers and to writers.
+
+ghost use Rattle.std.specs.Prelude.{◌≡◌, IfSome, IfErr, OnOk, OnErr};
+ghost use Rattle.std.specs.Io.KnownBytes.{Appends};
+ghost use Rattle.cap_codec.specs.BlobReading.{blob_at};
+ghost use Rattle.cap_codec.specs.Changeset.{list_bytes};
+ghost use Rattle.cap_codec.specs.Patchset.{patch_list_bytes};
+ghost use Rattle.cap_codec.specs.Stream.{IsBlobOf, WritesFront, WritesSome};
+
+use crate::decoder::Decoder;
+use crate::fault::BlobFault;
+use crate::read::Blob;
+use crate::write::{write_changes, write_patches};
+use cap_changes::{ChangeList, PatchList};
+use cap_value::{AllocHandle, Fault};
+use std::io::{ErrorKind, Read, Write};
+use thiserror::Error;
+
+/// The most reads that one call makes of its reader.
+const READS_MAX: u64 = 1 << 40;
+
+/// The most bytes of one read.
+const PIECE_LEN: usize = 4096;
+
+/// Why no blob was read.
+#[derive(Clone, Copy, Debug, PartialEq, Eq, Drop, Error)]
+pub enum ReadFault {
+    /// The bytes are no blob.
+    #[error(transparent)]
+    Blob(BlobFault),
+    /// A read failed, or the reader had not ended after 2^40 reads.
+    #[error("a read failed")]
+    Read,
+    /// There was no memory.
+    #[error("no memory for the blob")]
+    Memory,
+}
+
+impl From<Fault<BlobFault>> for ReadFault {
+    ghost use Rattle.std.specs.Prelude.{◌≡◌};
+    ghost use Rattle.cap_codec.specs.Stream.{read_fault};
+
+    ghost from_gives = { λ fault answered. answered ≡ read_fault fault };
+
+    fn from(fault: Fault<BlobFault>) -> ReadFault {
+        match fault {
+            Fault::Refused(fault) => ReadFault::Blob(fault),
+            Fault::OutOfMemory => ReadFault::Memory,
+        }
+    }
+}
+
+/// Why a list was not written, or not all of it.
+#[derive(Clone, Copy, Debug, PartialEq, Eq, Drop, Error)]
+pub enum WriteFault {
+    /// A write answered an error, or took no byte. What was written is a beginning of the bytes.
+    #[error("a write failed")]
+    Write,
+    /// There was no memory. Nothing was written.
+    #[error("no memory for the bytes")]
+    Memory,
+}
+
+/// What is in the bytes that the reader gives, read in pieces of at most 4,096 bytes: to the end, or to the piece
+/// that shows a fault, and then the rest is left unread. A read that was interrupted is tried again.
+pub fn read_from<A: AllocHandle, R: Read>(alloc: A, reader: &mut R) -> Result<Blob<A>, ReadFault>
+    ensures { IfSome (R.remaining reader.old) (λ given. IsBlobOf result (blob_at given)) }
+{
+    let mut piece = [0u8; PIECE_LEN];
+    let mut decoder = Decoder::new(alloc);
+    for _ in 0..READS_MAX {
+        let count = match reader.read(&mut piece) {
+            Ok(count) => count,
+            Err(error) if error.kind() == ErrorKind::Interrupted => continue,
+            Err(_) => return Err(ReadFault::Read),
+        };
+        if count == 0 {
+            return Ok(decoder.finish()?);
+        }
+        decoder.feed(&piece[..count])?;
+    }
+    Err(ReadFault::Read)
+}
+
+/// Writes the bytes, all of them, as often as the writer takes some.
+fn write_whole<W: Write>(writer: &mut W, bytes: &[u8]) -> Result<(), WriteFault>
+    ensures ok { OnOk result (Appends (W.contents writer.old) (W.contents writer.new) bytes.now) }
+    ensures err { OnErr result (WritesSome (W.contents writer.old) (W.contents writer.new) bytes.now) }
+    ensures only { IfErr result (λ fault. fault ≡ WriteFault.Write) }
+{
+    let mut rest = bytes;
+    while !rest.is_empty() {
+        match writer.write(rest) {
+            Ok(0) | Err(_) => return Err(WriteFault::Write),
+            Ok(count) => rest = &rest[count..],
+        }
+    }
+    Ok(())
+}
+
+/// Writes the bytes of a changeset, as `write_changes` gives them.
+pub fn write_changes_to<A: AllocHandle, W: Write>(
+    alloc: A,
+    writer: &mut W,
+    list: &ChangeList<A>,
+) -> Result<(), WriteFault>
+    ensures ok { OnOk result (Appends (W.contents writer.old) (W.contents writer.new) (list_bytes list.now)) }
+    ensures err { IfErr result (λ fault. WritesFront fault (W.contents writer.old) (W.contents writer.new) (list_bytes list.now)) }
+{
+    let bytes = write_changes(alloc, list).map_err(|_| WriteFault::Memory)?;
+    write_whole(writer, bytes.as_slice())
+}
+
+/// Writes the bytes of a patchset, as `write_patches` gives them.
+pub fn write_patches_to<A: AllocHandle, W: Write>(
+    alloc: A,
+    writer: &mut W,
+    list: &PatchList<A>,
+) -> Result<(), WriteFault>
+    ensures ok { OnOk result (Appends (W.contents writer.old) (W.contents writer.new) (patch_list_bytes list.now)) }
+    ensures err { IfErr result (λ fault. WritesFront fault (W.contents writer.old) (W.contents writer.new) (patch_list_bytes list.now)) }
+{
+    let bytes = write_patches(alloc, list).map_err(|_| WriteFault::Memory)?;
+    write_whole(writer, bytes.as_slice())
+}
