@@ -1,0 +1,10 @@
+pub mod FaultLemmas
+pub mod FirstLemmas
+pub mod LevelLemmas
+pub mod PrintLaw
+pub mod PrintedLemmas
+pub mod RunLemmas
+pub mod SoundLemmas
+pub mod SpelledLemmas
+pub mod TokenLemmas
+pub mod UniqueLemmas

@@ -1,0 +1,5 @@
+use Rattle.cap_filter.proofs.FirstLemmas.{no_opening}
+use Rattle.cap_filter.proofs.reading.read_opening.Goals as goal
+
+pub returns-in_default : goal.returns-in_default
+returns-in_default c = no_opening c.next_token-read.result.left _ c.next_token-read.result.rest.now c.next_token-read.result.token c.next_token-read.ensures c.in_default.not-Opening

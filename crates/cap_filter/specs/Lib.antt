@@ -1,0 +1,10 @@
+pub mod Accepts
+pub mod Faults
+pub mod Grammar
+pub mod Limits
+pub mod Plain
+pub mod Printed
+pub mod Read
+pub mod Reading
+pub mod Rule
+pub mod Tokens

@@ -1,0 +1,44 @@
+//! Laws of the texts of filters.
+ghost use Rattle.std.specs.Prelude.{◌≡◌, ℕ, List, Ok, Err, IsTrue};
+ghost use Rattle.cap_filter.specs.Faults.{IsUnfitAt, IsPastLimits};
+ghost use Rattle.cap_filter.specs.Grammar.{Spells};
+ghost use Rattle.cap_filter.specs.Limits.{is_within_limits};
+ghost use Rattle.cap_filter.specs.Printed.{printed};
+ghost use Rattle.cap_filter.specs.Reading.{filter_of};
+ghost use Rattle.cap_filter.specs.Rule.{Rule};
+
+use cap_value::Refusal;
+
+/// What a text spells within the limits is read from it.
+pub fn spelled_is_read()
+    ensures { (text : List ℕ) (r : Rule) → Spells text r → IsTrue (is_within_limits r) →
+        filter_of text ≡ Ok r }
+{}
+
+/// What is read from a text is spelled by it.
+pub fn read_is_spelled()
+    ensures { (text : List ℕ) (r : Rule) → filter_of text ≡ Ok r → Spells text r }
+{}
+
+/// A text spells at most one filter.
+pub fn one_filter()
+    ensures { (text : List ℕ) (r s : Rule) → Spells text r → Spells text s → r ≡ s }
+{}
+
+/// What `print` writes spells its filter.
+pub fn printed_is_spelled()
+    ensures { (r : Rule) → Spells (printed r) r }
+{}
+
+/// A text is refused with `BadFilter` at the first token that does not fit: what stands before it begins a
+/// filter's text, and with it no filter's text begins so.
+pub fn unfit_place()
+    ensures { (text : List ℕ) (at : ℕ) → filter_of text ≡ Err (Refusal.BadFilter at) →
+        IsUnfitAt text at }
+{}
+
+/// A text is refused with `TooDeep` where it begins as a filter's text, and every filter that begins so
+/// passes a limit.
+pub fn too_deep_text()
+    ensures { (text : List ℕ) → filter_of text ≡ Err Refusal.TooDeep → IsPastLimits text }
+{}

@@ -1,0 +1,18 @@
+//! Filters on the names of tables: as a set, and as text.
+#![tactic(auto)]
+
+mod filter;
+mod laws;
+mod reading;
+mod table_filter;
+#[cfg(test)]
+mod tests;
+mod token;
+mod word;
+
+pub use filter::{DEPTH_MAX, Filter, NODES_MAX};
+pub use laws::{
+    one_filter, printed_is_spelled, read_is_spelled, spelled_is_read, too_deep_text, unfit_place,
+};
+pub use table_filter::TableFilter;
+pub use word::Word;
