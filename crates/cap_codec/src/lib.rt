@@ -29,4 +29,6 @@ pub use stream::{ReadFault, WriteFault, read_from, write_changes_to, write_patch
 pub use write::{write_changes, write_patches};
 
 #[cfg(test)]
+mod stream_tests;
+#[cfg(test)]
 mod tests;

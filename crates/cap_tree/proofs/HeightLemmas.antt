@@ -1,7 +1,7 @@
 -- How many pairs a node holds, and how high it is.
 use Rattle.std.proofs.Common.{◌≡◌, ℕ, zero, suc, ◌+◌, ◌*◌, ◌^◌, ◌<◌, ◌≤◌, max, refl, add-one, arith, lit<}
 use Rattle.std.proofs.Math.Nat.{pow-le-pow_right, pow-suc}
-use Rattle.cap_tree.specs.Balance.{DifferByAtMost, HasRoomFor, IsLowFor, IsFork}
+use Rattle.cap_tree.specs.Balance.{DifferByAtMost, HasRoomFor, IsLowFor, IsLowestFor, IsFork}
 
 -- a power of two is within a greater one
 grows : (i j : ℕ) → i ≤ j → 2 ^ i ≤ 2 ^ j
@@ -38,3 +38,20 @@ fork_is left right high low room_left room_right low_left low_right balanced fit
       low = is_low;
       capped = is_low 64 fits;
     }
+
+-- ---- two sides, the right one as large as the left or larger by one, each as low as it can be
+
+pub halves_balanced : (left right high low : ℕ) → HasRoomFor high left → HasRoomFor low right → IsLowestFor high left → IsLowestFor low right → left ≤ right → right ≤ left + 1 → DifferByAtMost 1 high low
+halves_balanced left right high low room_left room_right low_left low_right not_less one_more =
+    let l : high ≤ low = low_left low (omega arith) in
+    let e = doubled high in
+    let r : low ≤ high + 1 = low_right (high + 1) (omega arith) in
+    (omega arith, r)
+
+pub halves_lowest : (left right high low : ℕ) → IsLowestFor high left → IsLowestFor low right → left ≤ right → right ≤ left + 1 → IsLowestFor (max high low + 1) (left + right + 1)
+halves_lowest left right high low low_left low_right not_less one_more zero h = omega arith
+halves_lowest left right high low low_left low_right not_less one_more (suc k) h =
+    let fits : left + right + 1 < 2 ^ k * 2 = rw (pow-suc 2 k) at h in
+    let l = low_left k (omega arith) in
+    let r = low_right k (omega arith) in
+    omega arith

@@ -13,6 +13,10 @@ HasRoomFor height count = count < 2 ^ height
 abbrev pub IsLowFor : ℕ → ℕ → Type 0
 IsLowFor height count = (digits : ℕ) → count < 2 ^ digits → height ≤ 2 * digits
 
+-- the height is at most the number of binary digits of the count: no tree of so many pairs is lower
+abbrev pub IsLowestFor : ℕ → ℕ → Type 0
+IsLowestFor height count = (digits : ℕ) → count < 2 ^ digits → height ≤ digits
+
 -- the height after two sides of these heights, which differ by at most two, are joined
 pub record IsHeightOfJoin (left right height : ℕ) : Type 0 where
   pub not_lower : max left right ≤ height

@@ -5,6 +5,7 @@
 #![tactic(auto)]
 
 mod branch;
+mod build;
 mod find;
 mod iter;
 mod path;

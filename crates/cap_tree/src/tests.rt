@@ -59,6 +59,23 @@ fn each_call_succeeds_with_ample_memory(rt: HostRuntime) -> Result<(), Fail> {
 }
 
 #[test]
+fn a_tree_of_a_sorted_list(rt: HostRuntime) -> Result<(), Fail> {
+    for count in [0u32, 1, 2, 3, 100, 1000] {
+        let entries: Vec<(u32, u32)> = (1..=count)
+            .map(|n| (n, n.wrapping_mul(10)))
+            .collect(rt.alloc())?;
+        let Some(tree) = Tree::from_sorted(rt.alloc(), entries)? else {
+            return Err(Fail::from("a rising list is refused"));
+        };
+        assert!(rt; is_rising(&tree, count));
+        assert_eq!(rt; tree.height(), u64::from(u32::BITS - count.leading_zeros()));
+    }
+    let twice = vec![in rt.alloc(); (1, 10), (2, 20), (2, 30)]?;
+    assert!(rt; Tree::from_sorted(rt.alloc(), twice)?.is_none());
+    Ok(())
+}
+
+#[test]
 fn each_allocation_refused_in_turn(rt: HostRuntime) -> Result<(), Fail> {
     let heap = LocalHeap::new(rt.alloc(), 8192)?;
     let tree = rising(&heap, 20)?;

@@ -1,5 +1,5 @@
 //! The tree, seen as the list of its entries in the order of their keys.
-ghost use Rattle.std.specs.Prelude.{◌≡◌, ℕ, ◌+◌, ◌-◌, ◌*◌, ◌^◌, ◌<◌, ◌≤◌, [], ◌++◌, length, slice_get, IfNone, IfSome, IsTrue, IfOk, None, Some, is_some, if◌then◌else◌, ◌↔◌};
+ghost use Rattle.std.specs.Prelude.{◌≡◌, ℕ, ◌+◌, ◌-◌, ◌*◌, ◌^◌, ◌<◌, ◌≤◌, [], ◌++◌, length, slice_get, IfNone, IfSome, IsTrue, IsSome, IfOk, None, Some, is_some, if◌then◌else◌, ◌↔◌};
 ghost use Rattle.std.specs.Option.{option_copied};
 ghost use Rattle.std.specs.List.{All};
 ghost use Rattle.std.specs.BTreeMap.Range.{entries_below, entries_from};
@@ -7,6 +7,7 @@ ghost use Rattle.std.specs.Map.Iter.{ShowsInOrder, ShowsValuesInOrder, deref_pai
 ghost use Rattle.cap_tree.specs.Tree.{IsOrdered, get, put_entry, take_entry, Updates};
 
 use crate::branch::Branch;
+use crate::build::{build, is_ordered};
 use crate::find::{find, first, last};
 use crate::iter::Iter;
 use crate::put::put;
@@ -227,5 +228,20 @@ impl<K: Ord + Drop, V: Drop, A: Allocator + Copy> Tree<K, V, A> {
     {
         let (whole, _) = self.replace(key, value)?;
         Ok(whole)
+    }
+
+    /// The tree of a list of entries, or none where some key is not below the one that follows it. It takes time in
+    /// proportion to the number of entries.
+    pub fn from_sorted(alloc: A, entries: Vec<(K, V), A>) -> Result<Option<Self>, AllocError>
+        ensures entries { IfOk result (λ o. IfSome o (λ t. t ≡ entries.items)) }
+        ensures ordered { IfOk result (λ o. IsSome o ↔ IsOrdered K.cmp entries.items) }
+    {
+        if !is_ordered(entries.as_slice()) {
+            return Ok(None);
+        }
+        let mut entries = entries;
+        let count = entries.len();
+        let root = build(alloc, &mut entries, count)?;
+        Ok(Some(Tree { alloc, root }))
     }
 }

@@ -1,0 +1,47 @@
+//! Keys to put, in three orders.
+
+use std::alloc::{AllocError, Global};
+use std::fmt;
+use std::fmt::{Display, Formatter};
+
+/// The order in which keys are put.
+#[derive(Clone, Copy)]
+pub(crate) enum Order {
+    Rising,
+    Falling,
+    Scrambled,
+}
+
+impl Display for Order {
+    fn fmt<W: fmt::Write>(&self, f: &mut Formatter<W>) -> fmt::Result {
+        f.write_str(match self {
+            Order::Rising => "rising",
+            Order::Falling => "falling",
+            Order::Scrambled => "scrambled",
+        })
+    }
+}
+
+/// So many distinct keys in the order in which they are to be put.
+pub(crate) fn keys(alloc: Global, order: Order, count: u32) -> Result<Vec<u64>, AllocError> {
+    let numbers = (0..count).map(u64::from);
+    match order {
+        Order::Rising => numbers.collect(alloc),
+        Order::Falling => numbers.rev().collect(alloc),
+        Order::Scrambled => numbers.map(scrambled).collect(alloc),
+    }
+}
+
+// Neighbours lie far apart. Each step can be undone, so distinct numbers stay distinct.
+fn scrambled(number: u64) -> u64 {
+    let mixed = number.wrapping_mul(0x9e37_79b9_7f4a_7c15);
+    let mixed = (mixed ^ (mixed >> 30)).wrapping_mul(0xbf58_476d_1ce4_e5b9);
+    let mixed = (mixed ^ (mixed >> 27)).wrapping_mul(0x94d0_49bb_1331_11eb);
+    mixed ^ (mixed >> 31)
+}
+
+/// The value that is put at a key.
+#[inline]
+pub(crate) fn value_of(key: u64) -> u64 {
+    key.wrapping_mul(2)
+}

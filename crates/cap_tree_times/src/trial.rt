@@ -1,0 +1,152 @@
+//! One number of keys in one order.
+
+use crate::clock::{Stopwatch, Times};
+use crate::keys::{Order, keys};
+use crate::table::{Map, Numbers, Table};
+use cap_tree::Tree;
+use std::alloc::Global;
+use std::io;
+use std::time::CpuClock;
+
+// How many keys are put in all for one line of times: few keys are put several times over.
+const PUTS: u32 = 200_000;
+
+// How often a tree is copied for one time.
+const COPIES: u32 = 1000;
+
+// What the calls of one table took, and what they answered.
+#[derive(Clone, Copy)]
+struct Trial {
+    times: Times,
+    digest: u64,
+    // Each key led to its value, and no entry was left in the end.
+    is_right: bool,
+}
+
+// What a tree alone can do: its times in nanoseconds, for all keys and for one copy.
+#[derive(Clone, Copy)]
+struct Extras {
+    from_sorted: u128,
+    copy: u128,
+    // Both trees hold the entries of the digest.
+    is_right: bool,
+}
+
+// Puts, reads, goes over and takes the keys.
+fn try_table<T: Table<Global>>(
+    rt: &(impl CpuClock + AllocGlobal),
+    keys: &[u64],
+) -> io::Result<Trial> {
+    let watch = Stopwatch::start(rt)?;
+    let table = T::grown(rt.alloc(), keys)?;
+    let put = watch.read(rt)?;
+    let watch = Stopwatch::start(rt)?;
+    let found = table.found(keys);
+    let get = watch.read(rt)?;
+    let watch = Stopwatch::start(rt)?;
+    let digest = table.digest();
+    let iterate = watch.read(rt)?;
+    let watch = Stopwatch::start(rt)?;
+    let left = table.left_after(keys)?;
+    let take = watch.read(rt)?;
+    Ok(Trial {
+        times: Times {
+            put,
+            get,
+            iterate,
+            take,
+        },
+        digest,
+        is_right: found == keys.len() && left == 0,
+    })
+}
+
+// Makes a tree of a tree's list of entries, and copies the first.
+fn try_extras(rt: &(impl CpuClock + AllocGlobal), keys: &[u64], digest: u64) -> io::Result<Extras> {
+    let tree = Numbers::grown(rt.alloc(), keys)?;
+    let entries: Vec<(u64, u64)> = tree
+        .iter()
+        .map(|(key, value)| (*key, *value))
+        .collect(rt.alloc())?;
+    let watch = Stopwatch::start(rt)?;
+    let whole = Tree::from_sorted(rt.alloc(), entries)?;
+    let from_sorted = watch.read(rt)?;
+    let is_right = tree.digest() == digest && whole.is_some_and(|other| other.digest() == digest);
+    let watch = Stopwatch::start(rt)?;
+    for _ in 0..COPIES {
+        drop(tree.snapshot()?);
+    }
+    Ok(Extras {
+        from_sorted,
+        copy: watch.read(rt)? / u128::from(COPIES),
+        is_right,
+    })
+}
+
+// One kind of call: the nanoseconds for one key in the tree, and how many times those in the map that is.
+fn print_ratio(
+    rt: &impl Eprint,
+    call: &str,
+    of_tree: u128,
+    of_map: u128,
+    calls: u128,
+) -> io::Result<()> {
+    let each = of_tree / calls.max(1);
+    let hundredths = of_tree.saturating_mul(100) / of_map.max(1);
+    let (whole, part) = (hundredths / 100, hundredths % 100);
+    eprint!(rt; "  {call} {each} ns, {whole}.{part:02} times")
+}
+
+// The times of so many calls of each kind.
+fn print_times(
+    rt: &impl Eprint,
+    of_tree: &Times,
+    of_map: &Times,
+    extras: &Extras,
+    calls: u128,
+) -> io::Result<()> {
+    print_ratio(rt, "put", of_tree.put, of_map.put, calls)?;
+    print_ratio(rt, "from_sorted", extras.from_sorted, of_map.put, calls)?;
+    print_ratio(rt, "get", of_tree.get, of_map.get, calls)?;
+    print_ratio(rt, "iterate", of_tree.iterate, of_map.iterate, calls)?;
+    print_ratio(rt, "take", of_tree.take, of_map.take, calls)?;
+    let copy = extras.copy;
+    eprintln!(rt; "  copy {copy} ns")
+}
+
+/// Tries both tables with the keys, says whether they agree, and how long their calls took.
+pub(crate) fn try_order(
+    rt: &(impl Print + Eprint + CpuClock + AllocGlobal),
+    order: Order,
+    count: u32,
+) -> io::Result<()> {
+    let keys = keys(rt.alloc(), order, count)?;
+    let rounds = (PUTS / count.max(1)).max(1);
+    let (mut of_tree, mut of_map) = (Times::none(), Times::none());
+    let mut extras = Extras {
+        from_sorted: 0,
+        copy: 0,
+        is_right: true,
+    };
+    for _ in 0..rounds {
+        let in_tree = try_table::<Numbers<Global>>(rt, keys.as_slice())?;
+        let in_map = try_table::<Map<Global>>(rt, keys.as_slice())?;
+        of_tree = of_tree.and(in_tree.times);
+        of_map = of_map.and(in_map.times);
+        let more = try_extras(rt, keys.as_slice(), in_map.digest)?;
+        extras = Extras {
+            from_sorted: extras.from_sorted.saturating_add(more.from_sorted),
+            copy: more.copy,
+            is_right: extras.is_right
+                && more.is_right
+                && in_tree.is_right
+                && in_map.is_right
+                && in_tree.digest == in_map.digest,
+        };
+    }
+    let outcome = if extras.is_right { "agree" } else { "differ" };
+    println!(rt; "{count} keys {order}: the trees and the map {outcome}")?;
+    eprint!(rt; "{count} {order}:")?;
+    let calls = u128::from(count) * u128::from(rounds);
+    print_times(rt, &of_tree, &of_map, &extras, calls)
+}
