@@ -10,3 +10,4 @@ pub mod Steady
 pub mod Looking
 pub mod LookingSteps
 pub mod StreamLemmas
+pub mod WritableLemmas

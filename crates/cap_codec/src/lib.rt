@@ -17,6 +17,7 @@ mod rule;
 mod scan;
 mod stream;
 mod varint;
+mod writable;
 mod write;
 
 pub use decoder::Decoder;
@@ -26,6 +27,7 @@ pub use laws::{
 };
 pub use read::{Blob, read_blob};
 pub use stream::{ReadFault, WriteFault, read_from, write_changes_to, write_patches_to};
+pub use writable::{changes_are_writable, patches_are_writable};
 pub use write::{write_changes, write_patches};
 
 #[cfg(test)]
