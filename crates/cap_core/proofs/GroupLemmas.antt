@@ -1,5 +1,5 @@
 -- Groups of changes while they are made.
-use Rattle.std.proofs.Common.{◌≡◌, ℕ, Bool, Option, Some, List, [], ◌∷◌, ◌++◌, ap, sym, ◌∙◌}
+use Rattle.std.proofs.Common.{◌≡◌, ℕ, Bool, Option, Some, List, [], ◌∷◌, ◌++◌, sym, ◌∙◌}
 use Rattle.cap_changes.specs.declared.change.Change.{Change}
 use Rattle.cap_changes.specs.Group.{TableChanges}
 use Rattle.cap_core.specs.Grouped.{IsGroupOf, changes_in}

@@ -1,25 +1,20 @@
 -- What one more event makes of what a history leaves.
 use Rattle.std.proofs.lemmas.List.{append-nil}
 use Rattle.std.proofs.lemmas.List.Elements.{filter-append}
-use Rattle.std.proofs.Common.{◌≡◌, ℕ, suc, ◌+◌, ◌-◌, ◌<◌, ◌≤◌, Bool, true, false, cond, Option, Some, None, Result, Ok, Err, List, [], ◌∷◌, ◌++◌, ◌&&◌, ◌||◌, not, map, length, refl, sym, ap, ap₂, subst, ◌∙◌, arith, nat_eq}
-use Rattle.std.specs.Prelude.{filter, fold, is_some, slice_get, slice_set, reverse}
+use Rattle.std.proofs.Common.{◌≡◌, ℕ, Bool, true, false, cond, List, [], ◌∷◌, ◌++◌, ◌&&◌, ◌||◌, not, map, refl, sym, ap, ap₂, subst, ◌∙◌}
+use Rattle.std.specs.Prelude.{filter, fold}
 use Rattle.std.specs.List.{list_any, range_with_len}
 use Rattle.std.proofs.Math.Bool.{or-true}
 use Rattle.std.specs.Cmp.Lexicographic.{nat_list_eq_equiv}
 use Rattle.cap_value.specs.Bytes.{bytes_eq}
 use Rattle.cap_row.specs.Fields.{Fields}
 use Rattle.cap_core.specs.declared.event.Event.{Event}
-use Rattle.cap_core.specs.declared.command.Command.{Command}
-use Rattle.cap_core.specs.declared.command.Command.TheVariants as command
-use Rattle.cap_core.specs.declared.reply.Reply.{Reply}
-use Rattle.cap_core.specs.Answer.{State, state_after, IsLegalPast, answer, session_numbered}
 use Rattle.cap_core.specs.Database.{Database, row_at}
-use Rattle.cap_core.specs.History.{Past, is_accepted, main, version, sessions_made, sessions, session_of, makes_session, names_attached, name_attached, attach_list, attached_by, touched_by, touches, touches_on, touch_of, changes_by}
+use Rattle.cap_core.specs.History.{Past, is_accepted, main, session_of, names_attached, attach_list, attached_by, touched_by, touches, touches_on, touch_of, changes_by}
 use Rattle.cap_core.specs.declared.row_change.RowChange.{RowChange}
-use Rattle.cap_core.specs.Operation.{Stepped}
-use Rattle.cap_core.specs.Session.{SessionState, Records, Touch, is_listed, first_of_each, records_of}
-use Rattle.cap_core.specs.Transition.{attach, note, note_with, note_change, note_changes, next}
-use Rattle.cap_core.proofs.RecordsLemmas.{records_of-append, records_of-none}
+use Rattle.cap_core.specs.Session.{Records, Touch, is_listed, first_of_each, records_of}
+use Rattle.cap_core.specs.Transition.{note, note_with, note_changes}
+use Rattle.cap_core.proofs.RecordsLemmas.{records_of-append}
 
 -- ---- names
 

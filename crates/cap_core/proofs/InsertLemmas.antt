@@ -1,31 +1,28 @@
 -- What a session captures after the insert that it sees first.
-use Rattle.std.proofs.Common.{◌≡◌, ℕ, Bool, true, false, cond, Option, Some, None, Result, Ok, Err, List, [], ◌∷◌, ◌++◌, ◌&&◌, ◌||◌, not, map, length, refl, sym, ap, ap₂, subst, ◌∙◌}
+use Rattle.std.proofs.Common.{◌≡◌, ℕ, true, false, cond, Option, Some, None, Result, Ok, Err, List, [], ◌∷◌, ◌++◌, ◌&&◌, ◌||◌, not, map, length, refl, sym, ap, ap₂, subst, ◌∙◌}
 use Rattle.std.specs.Prelude.{filter, is_some, option_and_then, ◌==◌}
 use Rattle.std.specs.List.{filter_map, cons_option}
-use Rattle.std.specs.Ordering.{eq_by_cmp, is_eq}
+use Rattle.std.specs.Ordering.{is_eq}
 use Rattle.std.specs.Cmp.{tied_itself}
 use Rattle.std.specs.Cmp.Lexicographic.{bytes_decides, nat_list_eq_equiv}
 use Rattle.std.specs.FinMap.Entries.{find, find-put}
 use Rattle.std.proofs.lemmas.Cmp.{nat_list_cmp_total}
-use Rattle.cap_value.specs.Bytes.{bytes_cmp, bytes_eq}
+use Rattle.cap_value.specs.Bytes.{bytes_eq}
 use Rattle.cap_value.specs.declared.refusal.Refusal.{Refusal}
-use Rattle.cap_value.specs.declared.refusal.Refusal.TheVariants.{Duplicate, IdsSpent, WrongWidth}
+use Rattle.cap_value.specs.declared.refusal.Refusal.TheVariants.{Duplicate, WrongWidth}
 use Rattle.cap_row.specs.Fields.{Fields}
 use Rattle.cap_row.specs.Key.{fields_cmp, fields_cmp_total, key_of}
 use Rattle.cap_changes.specs.Change.{change_of, full_record}
 use Rattle.cap_changes.specs.Group.{TableChanges}
 use Rattle.cap_changes.specs.declared.change.Change.TheVariants.{Insert as Inserted}
 use Rattle.cap_tree.specs.Tree.{get, put_entry}
-use Rattle.cap_core.specs.declared.command.Command.{Command}
-use Rattle.cap_core.specs.declared.command.Command.TheVariants as command
 use Rattle.cap_core.specs.declared.event.Event.{Event}
 use Rattle.cap_core.specs.declared.operation.Operation.TheVariants.{Insert}
-use Rattle.cap_core.specs.declared.recorded.Recorded.{Recorded}
 use Rattle.cap_core.specs.declared.row_change.RowChange.{RowChange}
 use Rattle.cap_core.specs.Answer.{answer, commit_reply, State, state_after}
 use Rattle.cap_core.specs.Database.{Database, row_at, table_of, with_row}
 use Rattle.cap_core.specs.FirstInsert.{IsFirstInsert, one_insert}
-use Rattle.cap_core.specs.History.{Past, after, attach_list, attached_by, changes_by, committed, is_accepted, main, name_attached, names_attached, session_of, stepped_changes, touch_of, touches, touches_on}
+use Rattle.cap_core.specs.History.{Past, after, attach_list, changes_by, committed, is_accepted, main, name_attached, names_attached, session_of, stepped_changes, touch_of, touches, touches_on}
 use Rattle.cap_core.specs.Operation.{Stepped, insert_keyed, insert_row, step}
 use Rattle.cap_core.specs.Session.{Records, Touch, captured, change_now, first_of_each, group_of, is_listed, records_of, table_changes}
 use Rattle.cap_core.specs.Table.{TableState}

@@ -1,9 +1,8 @@
 -- Laws of histories, sessions and captures.
-use Rattle.std.proofs.Common.{◌≡◌, ℕ, Bool, true, false, cond, Option, Some, None, List, [], ◌∷◌, map, refl, sym, ap, subst, ◌∙◌, T, IsTrue}
+use Rattle.std.proofs.Common.{◌≡◌, ℕ, Bool, true, false, cond, Option, Some, None, List, [], ◌∷◌, map, refl, sym, ap, ◌∙◌, T, IsTrue}
 use Rattle.std.specs.Option.{option_map}
-use Rattle.std.specs.List.{filter_map, cons_option}
+use Rattle.std.specs.List.{cons_option}
 use Rattle.std.specs.Ordering.{is_eq}
-use Rattle.std.specs.FinMap.Entries.{is_sorted}
 use Rattle.cap_row.specs.Fields.{Fields}
 use Rattle.cap_row.specs.Key.{fields_cmp, fields_cmp-Equal}
 use Rattle.cap_changes.specs.Change.{change_of, old_field, new_field}
@@ -22,7 +21,7 @@ use Rattle.cap_core.specs.Session.{Records, Touch, captured, table_changes, chan
 use Rattle.cap_core.specs.Table.{TableState}
 use Rattle.cap_core.specs.Transition.{one_more}
 use Rattle.cap_core.proofs.NextLemmas.{after_refusal}
-use Rattle.cap_core.proofs.RecordsLemmas.{get-find, find-records_of, is_sorted-records_of, recorded_at, records_of-none}
+use Rattle.cap_core.proofs.RecordsLemmas.{get-find, find-records_of, recorded_at, records_of-none}
 
 module _ {A : Type 0} where
   pub no_records : (name : List ℕ) (table : Option (TableState A)) → table_changes (name, []) table ≡ None

@@ -1,10 +1,9 @@
 -- The state after one more event is what its command makes of the state before.
-use Rattle.std.proofs.lemmas.List.{append-nil, map-append, reverse-append, length-reverse}
+use Rattle.std.proofs.lemmas.List.{map-append, reverse-append, length-reverse}
 use Rattle.std.proofs.lemmas.List.FromFn.{length-map-range_with_len}
-use Rattle.std.proofs.Common.{◌≡◌, ℕ, suc, zero, ◌+◌, ◌-◌, ◌<◌, ◌≤◌, Bool, true, false, cond, Option, Some, None, Result, Ok, Err, List, [], ◌∷◌, ◌++◌, ◌&&◌, ◌||◌, not, map, length, refl, sym, ap, ap₂, subst, ◌∙◌, arith, nat_eq, nat_lt, nat_le, add-one, add-zero}
+use Rattle.std.proofs.Common.{◌≡◌, ℕ, suc, zero, ◌+◌, ◌<◌, ◌≤◌, Bool, true, false, cond, Some, None, Ok, Err, List, [], ◌∷◌, ◌++◌, ◌&&◌, ◌||◌, map, length, refl, sym, ap, ap₂, subst, ◌∙◌, arith, nat_eq, nat_le, add-one, add-zero}
 use Rattle.std.specs.Prelude.{is_some, slice_get, slice_set, reverse}
 use Rattle.std.specs.List.{range_with_len}
-use Rattle.cap_value.specs.declared.refusal.Refusal.{Refusal}
 use Rattle.cap_core.specs.declared.event.Event.{Event}
 use Rattle.cap_core.specs.declared.command.Command.{Command}
 use Rattle.cap_core.specs.declared.command.Command.TheVariants as command
@@ -15,15 +14,15 @@ use Rattle.cap_value.specs.declared.refusal.Refusal.TheVariants.{TableExists, To
 use Rattle.cap_core.specs.declared.limits.TheConstants.{TABLES_MAX, SESSIONS_MAX}
 use Rattle.cap_core.specs.Answer.{event_by, state, reply_of, IsLegal, State, state_after, IsLegalPast, answer, session_numbered, create_reply, commit_reply, session_reply, attach_reply, capture_reply, refused}
 use Rattle.cap_core.specs.Database.{table_of}
-use Rattle.cap_core.specs.History.{Past, after, committed, stepped_changes, is_write, is_accepted, makes_session, changes_by, touches_on, main, version, sessions_made, sessions, session_of, names_attached, name_attached, attach_list, attached_by, touches, touched_by}
-use Rattle.cap_core.specs.Operation.{Stepped, step}
+use Rattle.cap_core.specs.History.{Past, after, committed, stepped_changes, is_write, is_accepted, makes_session, changes_by, touches_on, main, version, sessions_made, sessions, session_of, names_attached, name_attached, attach_list, attached_by, touches}
+use Rattle.cap_core.specs.Operation.{step}
 use Rattle.cap_core.specs.Session.{SessionState, Touch, captured, first_of_each, is_listed, records_of}
 use Rattle.cap_row.specs.Fields.{Fields}
 use Rattle.cap_value.specs.Bytes.{bytes_eq}
 use Rattle.std.proofs.lemmas.Bool.Decides.{nat_tests}
 use Rattle.std.proofs.lemmas.List.Folds.{list_any-append}
 use Rattle.cap_core.specs.Transition.{attach, next, created, after_create, after_commit, after_new_session, after_attach, one_more, note_changes}
-use Rattle.cap_core.proofs.HistoryLemmas.{IsQuiet, sessions-quiet, session_of-quiet, session_of-changes, attach_list-quiet, touches-quiet, first_of_each-push, is_listed-first_of_each, either_none, map-map, is_listed-map}
+use Rattle.cap_core.proofs.HistoryLemmas.{IsQuiet, sessions-quiet, session_of-quiet, session_of-changes, touches-quiet, first_of_each-push, is_listed-first_of_each, either_none, map-map, is_listed-map}
 use Rattle.cap_core.proofs.RecordsLemmas.{records_of-none}
 
 -- ---- numbered lists

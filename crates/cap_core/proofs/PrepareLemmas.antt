@@ -1,5 +1,5 @@
 -- What one more event makes of a history, said of results and of lists of commands.
-use Rattle.std.proofs.Common.{◌≡◌, ℕ, suc, zero, Result, Ok, Err, List, [], ◌∷◌, ◌++◌, length, refl, sym, ap, subst, ◌∙◌, IfOk, arith}
+use Rattle.std.proofs.Common.{◌≡◌, ℕ, suc, Result, Ok, Err, List, [], ◌∷◌, ◌++◌, length, refl, sym, ap, subst, ◌∙◌, IfOk, arith}
 use Rattle.cap_core.specs.declared.command.Command.{Command}
 use Rattle.cap_core.specs.declared.event.Event.{Event}
 use Rattle.cap_core.specs.declared.reply.Reply.{Reply}

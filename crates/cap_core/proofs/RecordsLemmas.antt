@@ -6,15 +6,17 @@ use Rattle.std.proofs.Math.Bool.{and-true}
 use Rattle.std.proofs.lemmas.List.Folds.{list_all-append}
 use Rattle.std.proofs.lemmas.List.Elements.{filter-append}
 use Rattle.std.specs.Option.{option_map}
-use Rattle.std.specs.List.{list_all}
-use Rattle.std.specs.Ordering.{eq_by_cmp, match_ordering, is_lt}
+use Rattle.std.specs.List.{list_all, AllByRecursion}
+use Rattle.std.specs.List.Sorted.{IsStrictlySortedBy}
+use Rattle.std.specs.Map.{keys_of}
+use Rattle.std.specs.Ordering.{eq_by_cmp, match_ordering, is_lt, is_eq}
 use Rattle.std.specs.Cmp.{IsTotalOrder, Equal-is}
 use Rattle.std.specs.FinMap as map_of
 use Rattle.std.specs.FinMap.{IsAntisymmetric}
 use Rattle.std.specs.FinMap.Entries.{find, put, by_order, below_all, is_sorted, is_sorted-put, find-put, same_entries}
 use Rattle.cap_row.specs.Fields.{Fields}
 use Rattle.cap_row.specs.Key.{fields_cmp, fields_cmp_total, fields_cmp-Equal}
-use Rattle.cap_tree.specs.Tree.{get, put_entry}
+use Rattle.cap_tree.specs.Tree.{IsOrdered, get, put_entry}
 use Rattle.cap_core.specs.declared.recorded.Recorded.{Recorded}
 use Rattle.cap_core.specs.Session.{Records, Touch, is_indirect, records_of}
 use Rattle.cap_core.specs.Transition.{note, noted}
@@ -41,6 +43,23 @@ module _ {K X : Type 0} (R : K → K → Ordering) where
         | true ↦ refl
         | false ↦ find-push q k v es
       ]
+
+module _ {K V : Type 0} (R : K → K → Ordering) (o : IsTotalOrder R) where
+  -- a key below the first one is not found
+  get-below_first : (k e : K) → R k e ≡ Less → (es : List (K × V)) → AllByRecursion (λ y. R e y ≡ Less) (keys_of es) → get R es k ≡ None
+  get-below_first k e less [] h = refl
+  get-below_first k e less (x ∷ xs) h = ap (λ r. cond (is_eq r) (Some x.1) (get R xs k)) (o.trans k e x.0 less h.0) ∙ get-below_first k e less xs h.1
+
+  -- an entry that is there is put without a change
+  pub put_entry-there : IsAntisymmetric R → (es : List (K × V)) (k : K) (v : V) → IsOrdered R es → get R es k ≡ Some v → put_entry R es k v ≡ es
+  unfolding IsStrictlySortedBy
+  put_entry-there same [] k v s is = absurd cc
+  put_entry-there same (e ∷ es) k v s is =
+      elim (R k e.0) as (λ r. R k e.0 ≡ r → cond (is_eq r) (Some e.1) (get R es k) ≡ Some v → match_ordering r ((k, v) ∷ e ∷ es) ((k, v) ∷ es) (e ∷ put_entry R es k v) ≡ e ∷ es) [
+        | Less ↦ λ p found. let none : get R es k ≡ None = get-below_first k e.0 p es s.0 in absurd cc
+        | Equal ↦ λ p found. let value : v ≡ e.1 = cc in ap₂ (λ a b. (a, b) ∷ es) (same k e.0 p) value
+        | Greater ↦ λ p found. ap (λ x. e ∷ x) (put_entry-there same es k v s.1 found)
+      ] refl is
 
 pub tied : {K : Type 0} (R : K → K → Ordering) (x y : K) → IsAntisymmetric R → eq_by_cmp R x y ≡ true → x ≡ y
 tied R x y same t = same x y ((Equal-is (R x y)).0 t)
@@ -135,6 +154,15 @@ module _ {A : Type 0} where
             (recorded_at-key (find fields_cmp q touches) (is_indirect touches q) touch (is_indirect-none touches q))
         | false ↦ λ t. recorded_at-other (find fields_cmp q touches) (is_indirect touches q)
       ] refl
+
+  -- a direct record stays as it is
+  pub note-direct : (records : Records A) (key : Fields A) (recorded : Recorded A) (image : Option (Fields A)) → IsOrdered fields_cmp records → get fields_cmp records key ≡ Some recorded → recorded.indirect ≡ false
+      → note records (key, record { image = image; indirect = false }) ≡ records
+  note-direct records key recorded image ordered is direct =
+      let mark : (recorded.indirect && false) ≡ recorded.indirect = ap (λ b. b && false) direct ∙ sym direct in
+      let kept : noted (get fields_cmp records key) (record { image = image; indirect = false }) ≡ recorded =
+      ap (λ found. noted found (record { image = image; indirect = false })) is ∙ ap (λ b. record { image = recorded.image; indirect = b }) mark in
+      ap (put_entry fields_cmp records key) kept ∙ put_entry-there fields_cmp fields_cmp_total fields_same records key recorded ordered is
 
   -- one more touch is noted
   pub records_of-push : (touches : List (Fields A × Touch A)) (touch : Fields A × Touch A) → records_of (touches ++ touch ∷ []) ≡ note (records_of touches) touch

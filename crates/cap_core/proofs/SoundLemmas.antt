@@ -1,12 +1,11 @@
 -- Rows that stand under their own keys, after a put and where one is found.
-use Rattle.std.proofs.Common.{◌≡◌, ℕ, zero, suc, ◌+◌, ◌<◌, ◌≤◌, Bool, true, false, cond, Option, Some, None, List, [], ◌∷◌, ◌&&◌, ◌||◌, ◌++◌, map, length, refl, sym, ap, ap₂, subst, ◌∙◌, arith, not, Ordering, Less, Equal, Greater, IsTrue, Bor, Result, Ok, Err, get_or, take, drop, drop-cons, add-one, nat_eq}
-use Rattle.std.specs.Prelude.{slice_index_or, option_and_then, IfSome, IfOk, IsSome, nat_le, fold, is_some, slice_get, slice_set}
+use Rattle.std.proofs.Common.{◌≡◌, ℕ, zero, suc, ◌+◌, ◌<◌, Bool, true, false, cond, Option, Some, None, List, [], ◌∷◌, ◌&&◌, ◌||◌, ◌++◌, map, length, refl, sym, ap, ap₂, subst, ◌∙◌, arith, not, Ordering, Less, Equal, Greater, IsTrue, Bor, Result, Ok, Err, get_or, take, drop, drop-cons, add-one, nat_eq}
+use Rattle.std.specs.Prelude.{slice_index_or, option_and_then, IfSome, IfOk, nat_le, is_some, slice_get, slice_set}
 use Rattle.std.specs.Option.{option_copied, option_map}
 use Rattle.std.specs.List.{list_all, list_any, enumerate_from}
 use Rattle.std.specs.Ordering.{eq_by_cmp, match_ordering}
 use Rattle.std.specs.FinMap.{IsAntisymmetric, nat_cmp-IsAntisymmetric, slice_cmp-IsAntisymmetric}
-use Rattle.std.specs.FinMap.Entries.{find, find-put}
-use Rattle.std.specs.Cmp.{IsTotalOrder}
+use Rattle.std.specs.FinMap.Entries.{find-put}
 use Rattle.std.specs.Cmp.Lexicographic.{bytes_decides}
 use Rattle.std.proofs.lemmas.Cmp.{nat_list_cmp_total}
 use Rattle.std.proofs.lemmas.List.Folds.{list_all-append}
@@ -16,7 +15,7 @@ use Rattle.std.specs.Map.{remove_entry}
 use Rattle.std.specs.BTreeMap.{is_at}
 use Rattle.cap_tree.specs.Tree.{get, put_entry, take_entry}
 use Rattle.cap_value.specs.Bytes.{bytes_cmp, bytes_eq}
-use Rattle.cap_row.specs.Key.{key_of, key_from, key_fields, fields_eq, fields_cmp-Equal}
+use Rattle.cap_row.specs.Key.{key_of, key_from, key_fields, fields_cmp-Equal}
 use Rattle.cap_value.specs.Value.{is_null}
 use Rattle.cap_changes.specs.Change.{IsKeyedRow, change_of}
 use Rattle.cap_changes.specs.declared.change.Change.{Change}

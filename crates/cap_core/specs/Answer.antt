@@ -1,5 +1,5 @@
 -- The state that a history leaves, the reply to a command after it, and which histories are legal.
-use Rattle.std.specs.Prelude.{◌≡◌, ℕ, zero, suc, Bool, true, false, Option, Some, None, Result, Ok, Err, List, [], ◌∷◌, ◌+◌, ◌-◌, length, reverse, is_some, slice_get, nat_le, nat_lt, if◌then◌else◌}
+use Rattle.std.specs.Prelude.{◌≡◌, ℕ, zero, suc, Option, Some, None, Result, Ok, Err, List, [], ◌∷◌, ◌+◌, length, reverse, is_some, slice_get, nat_le, if◌then◌else◌}
 use Rattle.cap_value.specs.declared.refusal.Refusal.{Refusal}
 use Rattle.cap_value.specs.declared.refusal.Refusal.TheVariants.{TableExists, TooMany, NoSession}
 use Rattle.cap_core.specs.declared.limits.TheConstants.{TABLES_MAX, SESSIONS_MAX}

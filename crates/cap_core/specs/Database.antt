@@ -1,5 +1,5 @@
 -- A database: its tables by name, in the order of the names.
-use Rattle.std.specs.Prelude.{ℕ, Option, Some, None, List, option_and_then}
+use Rattle.std.specs.Prelude.{ℕ, Option, List, option_and_then}
 use Rattle.cap_value.specs.Bytes.{bytes_cmp}
 use Rattle.cap_row.specs.Fields.{Fields}
 use Rattle.cap_row.specs.Key.{fields_cmp}

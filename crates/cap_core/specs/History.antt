@@ -1,5 +1,5 @@
 -- What a history leaves: read off all its events.
-use Rattle.std.specs.Prelude.{ℕ, Bool, true, false, Option, Some, None, Result, Ok, Err, List, [], ◌∷◌, ◌++◌, ◌+◌, map, filter, length, ◌&&◌, nat_eq, if◌then◌else◌}
+use Rattle.std.specs.Prelude.{ℕ, Bool, true, false, Result, Ok, Err, List, [], ◌∷◌, ◌++◌, ◌+◌, map, filter, ◌&&◌, nat_eq, if◌then◌else◌}
 use Rattle.std.specs.List.{range_with_len}
 use Rattle.cap_value.specs.Bytes.{bytes_cmp, bytes_eq}
 use Rattle.cap_value.specs.declared.refusal.Refusal.{Refusal}
@@ -13,8 +13,7 @@ use Rattle.cap_core.specs.declared.reply.Reply.TheVariants as reply
 use Rattle.cap_core.specs.Database.{Database, row_at}
 use Rattle.cap_core.specs.declared.row_change.RowChange.{RowChange}
 use Rattle.cap_core.specs.Operation.{Stepped, step}
-use Rattle.cap_core.specs.Session.{SessionState, Records, Touch, is_listed, records_of, first_of_each}
-use Rattle.cap_core.specs.Table.{TableState}
+use Rattle.cap_core.specs.Session.{SessionState, Touch, is_listed, records_of, first_of_each}
 
 -- the events so far, the newest first
 abbrev pub Past : Type 0 → Type 0

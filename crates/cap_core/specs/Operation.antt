@@ -1,5 +1,5 @@
 -- One operation: what it leaves and which rows it changed, or the first refusal that applies.
-use Rattle.std.specs.Prelude.{◌≡◌, ℕ, Bool, Option, Some, None, Result, Ok, Err, List, [], ◌∷◌, length, is_some, ◌==◌, ◌&&◌, if◌then◌else◌}
+use Rattle.std.specs.Prelude.{ℕ, Option, Some, None, Result, Ok, Err, List, [], ◌∷◌, length, is_some, ◌==◌, if◌then◌else◌}
 use Rattle.std.specs.Option.{option_map}
 use Rattle.cap_value.specs.declared.refusal.Refusal.{Refusal}
 use Rattle.cap_value.specs.declared.refusal.Refusal.TheVariants.{WrongWidth, BadColumn, Duplicate, NoRow, IdsSpent, NoTable}

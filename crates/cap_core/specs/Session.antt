@@ -1,8 +1,6 @@
 -- A session: the tables attached to it, and what it keeps of the rows that were touched.
-use Rattle.std.specs.Prelude.{ℕ, Bool, true, false, Option, Some, None, List, [], ◌∷◌, ◌++◌, map, filter, not, ◌&&◌, if◌then◌else◌, is_some, length, ◌==◌}
-use Rattle.std.specs.Option.{option_map}
+use Rattle.std.specs.Prelude.{ℕ, Bool, Option, Some, None, List, [], ◌∷◌, map, filter, not, if◌then◌else◌, length, ◌==◌}
 use Rattle.std.specs.List.{list_any, list_all, filter_map}
-use Rattle.std.specs.Map.{keys_of}
 use Rattle.std.specs.Ordering.{eq_by_cmp}
 use Rattle.std.specs.FinMap as map_of
 use Rattle.cap_value.specs.Bytes.{bytes_eq}

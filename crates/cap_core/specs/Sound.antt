@@ -4,7 +4,6 @@ use Rattle.std.specs.List.{list_all}
 use Rattle.std.specs.Option.{option_map}
 use Rattle.cap_row.specs.Fields.{Fields}
 use Rattle.cap_row.specs.Key.{key_of, fields_eq}
-use Rattle.cap_core.specs.declared.recorded.Recorded.{Recorded}
 use Rattle.cap_core.specs.Database.{Database, table_of, row_at}
 use Rattle.cap_core.specs.declared.row_change.RowChange.{RowChange}
 use Rattle.cap_core.specs.Operation.{Stepped}

@@ -11,7 +11,6 @@ use Rattle.cap_core.specs.declared.command.Command.TheVariants as command
 use Rattle.cap_core.specs.declared.recorded.Recorded.{Recorded}
 use Rattle.cap_core.specs.Answer.{State, session_numbered}
 use Rattle.cap_core.specs.Database.{Database, table_of, row_at}
-use Rattle.cap_core.specs.History.{after}
 use Rattle.cap_core.specs.declared.row_change.RowChange.{RowChange}
 use Rattle.cap_core.specs.Operation.{Stepped, step}
 use Rattle.cap_core.specs.Session.{Records, SessionState, Touch}

@@ -4,7 +4,8 @@ ghost use Rattle.std.specs.List.{list_any};
 ghost use Rattle.std.specs.Arc.{arc_slice_items};
 ghost use Rattle.cap_value.specs.Bytes.{bytes_eq};
 ghost use Rattle.cap_core.specs.Session.{SessionState};
-ghost use Rattle.cap_core.specs.Transition.{attach, note_with, note_changes, noted};
+ghost use Rattle.cap_core.specs.Transition.{attach, note, note_with, note_change, note_changes, noted};
+ghost use Rattle.cap_core.specs.Database.{row_at};
 
 use crate::step::{Database, row_at};
 use crate::{Recorded, RowChange};
@@ -77,16 +78,16 @@ impl<A: AllocHandle> Session<A> {
         })
     }
 
-    /// Notes a change to a row, where its table is attached. The image is the row before the commit, or its absence.
+    /// Notes a change to a row, where its table is attached. These are the tables before the commit.
     pub(crate) fn note(
         &self,
         alloc: A,
-        image: Option<&Row<A>>,
+        before: &Database<A>,
         change: &RowChange<A>,
     ) -> Result<Self, OutOfMemory>
-        ensures { IfOk result (λ s. s ≡ map (note_with change.now (option_copied image.entry)) self.now) }
+        ensures { IfOk result (λ s. s ≡ note_change before.now self.now change.now) }
     {
-        let tables = noted_tables(alloc, self.tables(), image, change)?;
+        let tables = noted_tables(alloc, self.tables(), before, change)?;
         Ok(Session {
             tables: ArcSlice::from_vec(tables)?,
         })
@@ -118,26 +119,26 @@ fn copied_table<A: AllocHandle>(
 fn noted_tables<A: AllocHandle>(
     alloc: A,
     tables: &[(Name<A>, Records<A>)],
-    image: Option<&Row<A>>,
+    before: &Database<A>,
     change: &RowChange<A>,
 ) -> Result<Vec<(Name<A>, Records<A>), A>, OutOfMemory>
-    ensures { IfOk result (λ v. v.items ≡ map (note_with change.now (option_copied image.entry)) tables.now) }
+    ensures { IfOk result (λ v. v.items ≡ note_change before.now tables.now change.now) }
 {
     let mut noted = Vec::with_capacity(alloc, tables.len())?;
     for table in tables {
-        noted.push(noted_table(table, image, change)?)?;
+        noted.push(noted_table(table, before, change)?)?;
     }
     Ok(noted)
 }
 
 fn noted_table<A: AllocHandle>(
     table: &(Name<A>, Records<A>),
-    image: Option<&Row<A>>,
+    before: &Database<A>,
     change: &RowChange<A>,
 ) -> Result<(Name<A>, Records<A>), OutOfMemory>
-    ensures { IfOk result (λ t. t ≡ note_with change.now (option_copied image.entry) table.now) }
+    ensures { IfOk result (λ t. t ≡ note_with change.now (row_at before.now change.now.table change.now.key) table.now) }
 {
-    let records = noted_records(&table.0, &table.1, image, change)?;
+    let records = noted_records(&table.0, &table.1, before, change)?;
     Ok((table.0.copy()?, records))
 }
 
@@ -145,15 +146,35 @@ fn noted_table<A: AllocHandle>(
 fn noted_records<A: AllocHandle>(
     name: &Name<A>,
     records: &Records<A>,
-    image: Option<&Row<A>>,
+    before: &Database<A>,
     change: &RowChange<A>,
 ) -> Result<Records<A>, OutOfMemory>
-    ensures { IfOk result (λ r. r ≡ (note_with change.now (option_copied image.entry) (name.now, records.now)).1) }
+    ensures { IfOk result (λ r. r ≡ (note_with change.now (row_at before.now change.now.table change.now.key) (name.now, records.now)).1) }
 {
     if *name != change.table {
         return records.snapshot();
     }
-    let recorded = recorded_after(records.get(&change.key), image)?;
+    noted_key(records, before, change)
+}
+
+// The records after a direct touch of a key. A direct record stays as it is, so nothing is written anew.
+fn noted_key<A: AllocHandle>(
+    records: &Records<A>,
+    before: &Database<A>,
+    change: &RowChange<A>,
+) -> Result<Records<A>, OutOfMemory>
+    ensures { IfOk result (λ r. r ≡ note records.now (change.now.key, record { image = row_at before.now change.now.table change.now.key; indirect = false })) }
+{
+    // The count shows that the records are in order.
+    let _count = records.len();
+    let found = records.get(&change.key);
+    if let Some(recorded) = found {
+        if !recorded.indirect {
+            return records.snapshot();
+        }
+    }
+    let image = row_at(before, &change.table, &change.key);
+    let recorded = recorded_after(found, image)?;
     records.put(change.key.copy()?, recorded)
 }
 
@@ -204,7 +225,7 @@ fn noted_session<A: AllocHandle>(
 {
     let mut noted = session.copy()?;
     for change in changes {
-        noted = noted.note(alloc, row_at(before, &change.table, &change.key), change)?;
+        noted = noted.note(alloc, before, change)?;
     }
     Ok(noted)
 }

@@ -1,6 +1,6 @@
-use Rattle.std.proofs.Common.{◌≡◌, ◌+◌, ◌<◌, ◌≤◌, length, take, [], ◌∷◌, ◌++◌, arith, sym, ap, ap₂, subst, ◌∙◌, length-append}
+use Rattle.std.proofs.Common.{◌≡◌, length, take, [], ◌∷◌, arith, sym, ap, ◌∙◌, length-append}
 use Rattle.std.proofs.lemmas.List.{length-take-le}
-use Rattle.cap_core.specs.Answer.{IsLegal, state, history_of}
+use Rattle.cap_core.specs.Answer.{history_of}
 use Rattle.cap_core.proofs.NextLemmas.{IsLegal-none}
 use Rattle.cap_core.proofs.PrepareLemmas.{run-push, events-run}
 use Rattle.cap_core.proofs.SoundLemmas.{take-item}
