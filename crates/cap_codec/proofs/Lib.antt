@@ -7,6 +7,7 @@ pub mod FieldAgain
 pub mod ChangeAgain
 pub mod BlobAgain
 pub mod Steady
+pub mod FieldSteps
 pub mod Looking
 pub mod LookingSteps
 pub mod StreamLemmas

@@ -1,12 +1,14 @@
--- Looking at the front of a blob: each part that is whole leads on, whatever follows.
+-- Looking at the front of a blob: each part and each field that is whole leads on, whatever follows.
 use Rattle.std.proofs.Common.{◌≡◌, ℕ, zero, suc, ◌+◌, ◌≤◌, Bool, true, false, cond, ◌==◌, List, [], ◌∷◌, ◌++◌, length, drop, Option, Some, None, Result, Ok, Err, refl, sym, ap, subst, ◌∙◌, inl, inr, ◌⊎◌, arith, append_assoc, append-nil, length-append, drop_at, eq-eqb, eqb-true}
 use Rattle.std.proofs.lemmas.Bool.{cases_Bool}
 use Rattle.cap_codec.specs.declared.fault.BlobFault.{BlobFault}
 use Rattle.cap_codec.specs.declared.read.Blob.TheVariants.{Changes, Patches}
-use Rattle.cap_codec.specs.declared.scan.Kind.{Kind}
-use Rattle.cap_codec.specs.declared.scan.Kind.TheVariants as kinds
+use Rattle.cap_codec.specs.declared.kind.Kind.{Kind}
+use Rattle.cap_codec.specs.declared.kind.Kind.TheVariants as kinds
+use Rattle.cap_codec.specs.declared.within.Within.{Within}
+use Rattle.cap_codec.specs.ChangeLeft.{tail_at, past_at, IsEntered}
 use Rattle.cap_codec.specs.HeaderReading.{Header, header_at}
-use Rattle.cap_codec.specs.Pieces.{is_cut, lasting, outcome, columns_at, kind_byte, GoesOn, GoesOnAs, Leads, part_at}
+use Rattle.cap_codec.specs.Pieces.{is_cut, lasting, outcome, columns_at, kind_byte, GoesOn, GoesOnAs, Leads}
 use Rattle.cap_codec.specs.Reading.{◌>>=◌, place}
 use Rattle.cap_codec.specs.BlobReading.{is_operation, wrong_kind, change_at, patch_at, changes_at, group_at, patch_group_at, groups_at, blob_at}
 use Rattle.cap_codec.proofs.Binds.{bind_ok, chosen, ok_is, err_is}
@@ -34,23 +36,48 @@ module _ {X G : Type 0} (one_at : ℕ → List Bool → ℕ → List ℕ → Res
   one_less x n total (Ok others) = refl
   one_less x n total (Err f) = refl
 
-  -- a change that was read
-  change_passes : (total : ℕ) (flags : List Bool) (op : ℕ) (bytes after : List ℕ) (x : X) (answer : Option BlobFault) → is_operation op ≡ true → one_at total flags op bytes ≡ Ok (x, after) → length after ≤ length bytes
-      → GoesOn one_at group_at kind total flags (op ∷ bytes) answer → GoesOn one_at group_at kind total flags after answer
+  abbrev Inside : ℕ → List Bool → List ℕ → Result (List ℕ) BlobFault → Option BlobFault → Type 0
+  Inside total flags rest tail answer = GoesOn one_at group_at kind total flags rest tail answer
+
+  abbrev Between : ℕ → List Bool → List ℕ → Option BlobFault → Type 0
+  Between total flags rest answer = GoesOn one_at group_at kind total flags rest (Ok rest) answer
+
+  moves : (total : ℕ) (flags : List Bool) (rest after : List ℕ) (tail tail' : Result (List ℕ) BlobFault) (answer : Option BlobFault) → tail ≡ tail' → length after ≤ length rest
+      → Inside total flags rest tail answer → Inside total flags after tail' answer
+  moves total flags rest after tail tail' answer same shorter (m, n, le, le2, e) =
+      (m, n, omega arith, omega arith, subst (λ (t : Result (List ℕ) BlobFault). outcome (t >>= (λ behind. left m n total flags behind)) ≡ answer) same e)
+
+  fails : (total : ℕ) (flags : List Bool) (rest : List ℕ) (tail : Result (List ℕ) BlobFault) (f : BlobFault) (answer : Option BlobFault) → tail ≡ Err f → Inside total flags rest tail answer → answer ≡ Some f
+  fails total flags rest tail f answer failed (m, n, le, le2, e) =
+      let one : outcome (tail >>= (λ behind. left m n total flags behind)) ≡ Some f = rw failed refl in sym e ∙ one
+
+  behind_change : (m n total : ℕ) (flags : List Bool) (read : Result (X × List ℕ) BlobFault)
+      → outcome ((read >>= (λ change. changes_at one_at m total flags change.1 >>= with_first change.0)) >>= (λ changes. groups_at group_at kind n total changes.1))
+      ≡ outcome ((read >>= (λ x. Ok x.1)) >>= (λ behind. left m n total flags behind))
+  behind_change m n total flags (Ok x) = one_less x.0 n total (changes_at one_at m total flags x.1)
+  behind_change m n total flags (Err f) = refl
+
+  -- into a change
+  enters : (total : ℕ) (flags : List Bool) (op : ℕ) (bytes : List ℕ) (answer : Option BlobFault) → is_operation op ≡ true
+      → Between total flags (op ∷ bytes) answer → Inside total flags bytes (one_at total flags op bytes >>= (λ x. Ok x.1)) answer
   unfolding changes_at
-  change_passes total flags op bytes after x answer operation read shorter (zero, n, le, le2, e) = absurd (omega arith)
-  change_passes total flags op bytes after x answer operation read shorter (suc m, n, le, le2, e) =
-      let one : outcome (left (suc m) n total flags (op ∷ bytes)) ≡ outcome (left m n total flags after) = rw (operation, read) (one_less x n total (changes_at one_at m total flags after)) in
+  enters total flags op bytes answer operation (zero, n, le, le2, e) = absurd (omega arith)
+  enters total flags op bytes answer operation (suc m, n, le, le2, e) =
+      let one : outcome (left (suc m) n total flags (op ∷ bytes)) ≡ outcome ((one_at total flags op bytes >>= (λ x. Ok x.1)) >>= (λ behind. left m n total flags behind)) = rw operation (behind_change m n total flags (one_at total flags op bytes)) in
       (m, n, omega arith, omega arith, sym one ∙ e)
 
-  change_stops : (total : ℕ) (flags : List Bool) (op : ℕ) (bytes : List ℕ) (f : BlobFault) (answer : Option BlobFault) → is_operation op ≡ true → one_at total flags op bytes ≡ Err f
-      → GoesOn one_at group_at kind total flags (op ∷ bytes) answer → answer ≡ Some f
-  unfolding changes_at
-  change_stops total flags op bytes f answer operation read (zero, n, le, le2, e) = absurd (omega arith)
-  change_stops total flags op bytes f answer operation read (suc m, n, le, le2, e) =
-      let one : outcome (left (suc m) n total flags (op ∷ bytes)) ≡ Some f = rw (operation, read) refl in sym e ∙ one
+  -- a change that was read
+  change_passes : (total : ℕ) (flags : List Bool) (op : ℕ) (bytes after : List ℕ) (x : X) (answer : Option BlobFault) → is_operation op ≡ true → one_at total flags op bytes ≡ Ok (x, after) → length after ≤ length bytes
+      → Between total flags (op ∷ bytes) answer → Between total flags after answer
+  change_passes total flags op bytes after x answer operation read shorter goes_on =
+      moves total flags bytes after (one_at total flags op bytes >>= (λ x. Ok x.1)) (Ok after) answer (rw read refl) shorter (enters total flags op bytes answer operation goes_on)
 
-  nothing_left : (total : ℕ) (flags : List Bool) (answer : Option BlobFault) → GoesOn one_at group_at kind total flags [] answer → answer ≡ None
+  change_stops : (total : ℕ) (flags : List Bool) (op : ℕ) (bytes : List ℕ) (f : BlobFault) (answer : Option BlobFault) → is_operation op ≡ true → one_at total flags op bytes ≡ Err f
+      → Between total flags (op ∷ bytes) answer → answer ≡ Some f
+  change_stops total flags op bytes f answer operation read goes_on =
+      fails total flags bytes (one_at total flags op bytes >>= (λ x. Ok x.1)) f answer (rw read refl) (enters total flags op bytes answer operation goes_on)
+
+  nothing_left : (total : ℕ) (flags : List Bool) (answer : Option BlobFault) → Between total flags [] answer → answer ≡ None
   unfolding changes_at groups_at
   nothing_left total flags answer (zero, zero, le, le2, e) = sym e
   nothing_left total flags answer (zero, suc n, le, le2, e) = sym e
@@ -59,7 +86,7 @@ module _ {X G : Type 0} (one_at : ℕ → List Bool → ℕ → List ℕ → Res
 
   -- a byte that begins no change ends the group
   group_ends : (total : ℕ) (flags : List Bool) (byte : ℕ) (bytes : List ℕ) (answer : Option BlobFault) → is_operation byte ≡ false
-      → GoesOn one_at group_at kind total flags (byte ∷ bytes) answer → (n : ℕ) × (length bytes ≤ n) × (outcome (groups_at group_at kind (suc n) total (byte ∷ bytes)) ≡ answer)
+      → Between total flags (byte ∷ bytes) answer → (n : ℕ) × (length bytes ≤ n) × (outcome (groups_at group_at kind (suc n) total (byte ∷ bytes)) ≡ answer)
   unfolding changes_at
   group_ends total flags byte bytes answer other (zero, n, le, le2, e) = absurd (omega arith)
   group_ends total flags byte bytes answer other (suc m, zero, le, le2, e) = absurd (omega arith)
@@ -68,7 +95,7 @@ module _ {X G : Type 0} (one_at : ℕ → List Bool → ℕ → List ℕ → Res
       (n, omega arith, sym one ∙ e)
 
   other_kind : (total : ℕ) (flags : List Bool) (byte : ℕ) (bytes : List ℕ) (answer : Option BlobFault) → is_operation byte ≡ false → (byte == kind) ≡ false
-      → GoesOn one_at group_at kind total flags (byte ∷ bytes) answer → answer ≡ Some (wrong_kind byte (place total (byte ∷ bytes)))
+      → Between total flags (byte ∷ bytes) answer → answer ≡ Some (wrong_kind byte (place total (byte ∷ bytes)))
   unfolding groups_at
   other_kind total flags byte bytes answer other wrong goes_on =
       let (n, le, e) = group_ends total flags byte bytes answer other goes_on in
@@ -92,7 +119,7 @@ module _ {X G : Type 0} (one_at : ℕ → List Bool → ℕ → List ℕ → Res
 
   -- a header that was read opens a group
   header_passes : IsGroupReading → (total : ℕ) (flags : List Bool) (bytes after : List ℕ) (header : Header) (answer : Option BlobFault) → is_operation kind ≡ false → header_at total bytes ≡ Ok (header, after) → length after ≤ length bytes
-      → GoesOn one_at group_at kind total flags (kind ∷ bytes) answer → GoesOn one_at group_at kind total header.flags after answer
+      → Between total flags (kind ∷ bytes) answer → Between total header.flags after answer
   unfolding groups_at
   header_passes (make, is) total flags bytes after header answer other read shorter goes_on =
       let (n, le, e) = group_ends total flags kind bytes answer other goes_on in
@@ -102,7 +129,7 @@ module _ {X G : Type 0} (one_at : ℕ → List Bool → ℕ → List ℕ → Res
       (length after, n, omega arith, omega arith, sym one ∙ e)
 
   header_stops : IsGroupReading → (total : ℕ) (flags : List Bool) (bytes : List ℕ) (f : BlobFault) (answer : Option BlobFault) → is_operation kind ≡ false → header_at total bytes ≡ Err f
-      → GoesOn one_at group_at kind total flags (kind ∷ bytes) answer → answer ≡ Some f
+      → Between total flags (kind ∷ bytes) answer → answer ≡ Some f
   unfolding groups_at
   header_stops (make, is) total flags bytes f answer other read goes_on =
       let (n, le, e) = group_ends total flags kind bytes answer other goes_on in
@@ -116,33 +143,33 @@ module _ {X G : Type 0} (one_at : ℕ → List Bool → ℕ → List ℕ → Res
       (cond (first == kind) (columns_at total bytes) (Err (wrong_kind first at)))
 
   part_passes : IsGroupReading → is_operation kind ≡ false → (total : ℕ) (flags columns : List Bool) (at first : ℕ) (bytes after : List ℕ) (answer : Option BlobFault)
-      → part total flags at first bytes ≡ Ok (columns, after) → length after ≤ length bytes → GoesOn one_at group_at kind total flags (first ∷ bytes) answer → GoesOn one_at group_at kind total columns after answer
+      → part total flags at first bytes ≡ Ok (columns, after) → length after ≤ length bytes → Between total flags (first ∷ bytes) answer → Between total columns after answer
   part_passes reading other total flags columns at first bytes after answer e shorter goes_on = elim (chosen (is_operation first) _ _ _ e) [
     | inl (operation, h) ↦
         let b = bind_ok (one_at total flags first bytes) (λ x. Ok (flags, x.1)) (columns, after) h in
         let same : (flags, b.0.1) ≡ (columns, after) = ok_is (flags, b.0.1) (columns, after) b.2 in
         let shorter' : length b.0.1 ≤ length bytes = subst (λ (p : List Bool × List ℕ). length p.1 ≤ length bytes) (sym same) shorter in
-        subst (λ (p : List Bool × List ℕ). GoesOn one_at group_at kind total p.0 p.1 answer) same (change_passes total flags first bytes b.0.1 b.0.0 answer operation b.1 shorter' goes_on)
+        subst (λ (p : List Bool × List ℕ). Between total p.0 p.1 answer) same (change_passes total flags first bytes b.0.1 b.0.0 answer operation b.1 shorter' goes_on)
     | inr (no_operation, h) ↦ elim (chosen (first == kind) _ _ _ h) [
       | inl (same_kind, read) ↦
           let a = bind_ok (header_at total bytes) (λ header. Ok (header.0.flags, header.1)) (columns, after) read in
           let same : (a.0.0.flags, a.0.1) ≡ (columns, after) = ok_is (a.0.0.flags, a.0.1) (columns, after) a.2 in
           let shorter' : length a.0.1 ≤ length bytes = subst (λ (p : List Bool × List ℕ). length p.1 ≤ length bytes) (sym same) shorter in
-          let opens : GoesOn one_at group_at kind total flags (kind ∷ bytes) answer = subst (λ (byte : ℕ). GoesOn one_at group_at kind total flags (byte ∷ bytes) answer) (eqb-true first kind same_kind) goes_on in
-          subst (λ (p : List Bool × List ℕ). GoesOn one_at group_at kind total p.0 p.1 answer) same (header_passes reading total flags bytes a.0.1 a.0.0 answer other a.1 shorter' opens)
+          let opens : Between total flags (kind ∷ bytes) answer = subst (λ (byte : ℕ). Between total flags (byte ∷ bytes) answer) (eqb-true first kind same_kind) goes_on in
+          subst (λ (p : List Bool × List ℕ). Between total p.0 p.1 answer) same (header_passes reading total flags bytes a.0.1 a.0.0 answer other a.1 shorter' opens)
       | inr (other_kind', bad) ↦ absurd cc
     ]
   ]
 
   part_stops : IsGroupReading → is_operation kind ≡ false → (total : ℕ) (flags : List Bool) (first : ℕ) (bytes : List ℕ) (f : BlobFault) (answer : Option BlobFault)
-      → part total flags (place total (first ∷ bytes)) first bytes ≡ Err f → GoesOn one_at group_at kind total flags (first ∷ bytes) answer → answer ≡ Some f
+      → part total flags (place total (first ∷ bytes)) first bytes ≡ Err f → Between total flags (first ∷ bytes) answer → answer ≡ Some f
   part_stops reading other total flags first bytes f answer e goes_on = elim (chosen (is_operation first) _ _ _ e) [
     | inl (operation, h) ↦
         let read = bind_err (one_at total flags first bytes) (λ x. (flags, x.1)) f h in
         change_stops total flags first bytes f answer operation read goes_on
     | inr (no_operation, h) ↦ elim (chosen (first == kind) _ _ _ h) [
       | inl (same_kind, read) ↦
-          let opens : GoesOn one_at group_at kind total flags (kind ∷ bytes) answer = subst (λ (byte : ℕ). GoesOn one_at group_at kind total flags (byte ∷ bytes) answer) (eqb-true first kind same_kind) goes_on in
+          let opens : Between total flags (kind ∷ bytes) answer = subst (λ (byte : ℕ). Between total flags (byte ∷ bytes) answer) (eqb-true first kind same_kind) goes_on in
           header_stops reading total flags bytes f answer other (bind_err (header_at total bytes) (λ header. (header.0.flags, header.1)) f read) opens
       | inr (wrong, bad) ↦ other_kind total flags first bytes answer no_operation wrong goes_on ∙ ap (λ (g : BlobFault). Some g) (err_is {A = List Bool × List ℕ} (wrong_kind first (place total (first ∷ bytes))) f bad)
     ]
@@ -208,25 +235,31 @@ module _ (A : Type 0) where
   unfolding patch_group_at
   patches_reading = (λ header patches. record { table = header.table; schema = header.flags; patches = patches }, λ total bytes. refl)
 
+  -- The next change or header in a group of these columns, behind its first byte, which stands at `at`: the columns
+  -- from there on, and what stands behind it.
+  abbrev pub part_at : Kind → ℕ → List Bool → ℕ → ℕ → List ℕ → Result (List Bool × List ℕ) BlobFault
+  part_at kinds.Changes total flags at first bytes = part (change_at {A = A}) (group_at {A = A}) 0x54 total flags at first bytes
+  part_at kinds.Patches total flags at first bytes = part (patch_at {A = A}) (patch_group_at {A = A}) 0x50 total flags at first bytes
+
   passes : (kind : Kind) (total : ℕ) (flags columns : List Bool) (at first : ℕ) (bytes after : List ℕ) (answer : Option BlobFault)
-      → part_at A kind total flags at first bytes ≡ Ok (columns, after) → length after ≤ length bytes → GoesOnAs A kind total flags (first ∷ bytes) answer → GoesOnAs A kind total columns after answer
+      → part_at kind total flags at first bytes ≡ Ok (columns, after) → length after ≤ length bytes → GoesOnAs A kind total flags None (first ∷ bytes) answer → GoesOnAs A kind total columns None after answer
   passes kinds.Changes total flags columns at first bytes after answer e shorter goes_on = part_passes change_at group_at 0x54 changes_reading refl total flags columns at first bytes after answer e shorter goes_on
   passes kinds.Patches total flags columns at first bytes after answer e shorter goes_on = part_passes patch_at patch_group_at 0x50 patches_reading refl total flags columns at first bytes after answer e shorter goes_on
 
   stops : (kind : Kind) (total : ℕ) (flags : List Bool) (first : ℕ) (bytes : List ℕ) (f : BlobFault) (answer : Option BlobFault)
-      → part_at A kind total flags (place total (first ∷ bytes)) first bytes ≡ Err f → GoesOnAs A kind total flags (first ∷ bytes) answer → answer ≡ Some f
+      → part_at kind total flags (place total (first ∷ bytes)) first bytes ≡ Err f → GoesOnAs A kind total flags None (first ∷ bytes) answer → answer ≡ Some f
   stops kinds.Changes total flags first bytes f answer e goes_on = part_stops change_at group_at 0x54 changes_reading refl total flags first bytes f answer e goes_on
   stops kinds.Patches total flags first bytes f answer e goes_on = part_stops patch_at patch_group_at 0x50 patches_reading refl total flags first bytes f answer e goes_on
 
-  steady : (kind : Kind) (total : ℕ) (flags : List Bool) (at first : ℕ) (bytes more : List ℕ) → Stays bytes more (part_at A kind total flags at first bytes) (part_at A kind (total + length more) flags at first (bytes ++ more))
+  steady : (kind : Kind) (total : ℕ) (flags : List Bool) (at first : ℕ) (bytes more : List ℕ) → Stays bytes more (part_at kind total flags at first bytes) (part_at kind (total + length more) flags at first (bytes ++ more))
   steady kinds.Changes total flags at first bytes more = part_stays (change_at {A = A}) (group_at {A = A}) 0x54 (change_stays A) total flags at first bytes more
   steady kinds.Patches total flags at first bytes more = part_stays (patch_at {A = A}) (patch_group_at {A = A}) 0x50 (patch_stays A) total flags at first bytes more
 
-  ends : (kind : Kind) (total : ℕ) (flags : List Bool) (answer : Option BlobFault) → GoesOnAs A kind total flags [] answer → answer ≡ None
+  ends : (kind : Kind) (total : ℕ) (flags : List Bool) (answer : Option BlobFault) → GoesOnAs A kind total flags None [] answer → answer ≡ None
   ends kinds.Changes total flags answer goes_on = nothing_left change_at group_at 0x54 total flags answer goes_on
   ends kinds.Patches total flags answer goes_on = nothing_left patch_at patch_group_at 0x50 total flags answer goes_on
 
-  begins : (kind : Kind) (bytes : List ℕ) → GoesOnAs A kind (length (kind_byte kind ∷ bytes)) [] (kind_byte kind ∷ bytes) (outcome (blob_at {A = A} (kind_byte kind ∷ bytes)))
+  begins : (kind : Kind) (bytes : List ℕ) → GoesOnAs A kind (length (kind_byte kind ∷ bytes)) [] None (kind_byte kind ∷ bytes) (outcome (blob_at {A = A} (kind_byte kind ∷ bytes)))
   unfolding changes_at blob_at
   begins kinds.Changes bytes =
       (length (0x54 ∷ bytes), length (0x54 ∷ bytes), omega arith, omega arith, sym (wrapped (groups_at group_at 0x54 (length (0x54 ∷ bytes)) (length (0x54 ∷ bytes)) (0x54 ∷ bytes)) Changes))
@@ -235,67 +268,107 @@ module _ (A : Type 0) where
 
   -- ---- what leads on
 
-  now : (bytes : List ℕ) (kind : Kind) (flags : List Bool) (rest : List ℕ) → Leads A bytes kind flags rest → GoesOnAs A kind (length bytes) flags rest (outcome (blob_at {A = A} bytes))
+  now : (bytes : List ℕ) (kind : Kind) (flags : List Bool) (within : Option (Within A)) (rest : List ℕ) → Leads A bytes kind flags within rest → GoesOnAs A kind (length bytes) flags within rest (outcome (blob_at {A = A} bytes))
   unfolding Leads
-  now bytes kind flags rest leads =
-      subst (λ (all : List ℕ). GoesOnAs A kind (length all) flags rest (outcome (blob_at {A = A} all))) (append-nil bytes)
-      (subst (λ (left : List ℕ). GoesOnAs A kind (length (bytes ++ [])) flags left (outcome (blob_at {A = A} (bytes ++ [])))) (append-nil rest) (leads []))
+  now bytes kind flags within rest leads =
+      subst (λ (all : List ℕ). GoesOnAs A kind (length all) flags within rest (outcome (blob_at {A = A} all))) (append-nil bytes)
+      (subst (λ (left : List ℕ). GoesOnAs A kind (length (bytes ++ [])) flags within left (outcome (blob_at {A = A} (bytes ++ [])))) (append-nil rest) (leads []))
 
-  part_of : (bytes : List ℕ) (kind : Kind) (flags columns : List Bool) (at first : ℕ) (behind after : List ℕ) → part_at A kind (length bytes) flags at first behind ≡ Ok (columns, after)
-      → (more : List ℕ) → (part_at A kind (length bytes + length more) flags at first (behind ++ more) ≡ Ok (columns, after ++ more)) × IsBehind after behind
+  part_of : (bytes : List ℕ) (kind : Kind) (flags columns : List Bool) (at first : ℕ) (behind after : List ℕ) → part_at kind (length bytes) flags at first behind ≡ Ok (columns, after)
+      → (more : List ℕ) → (part_at kind (length bytes + length more) flags at first (behind ++ more) ≡ Ok (columns, after ++ more)) × IsBehind after behind
   part_of bytes kind flags columns at first behind after e more =
-      subst (λ (read : Result (List Bool × List ℕ) BlobFault). Stays behind more read (part_at A kind (length bytes + length more) flags at first (behind ++ more))) e (steady kind (length bytes) flags at first behind more)
+      subst (λ (read : Result (List Bool × List ℕ) BlobFault). Stays behind more read (part_at kind (length bytes + length more) flags at first (behind ++ more))) e (steady kind (length bytes) flags at first behind more)
 
-  leads_on : (bytes : List ℕ) (kind : Kind) (flags columns : List Bool) (at first : ℕ) (behind after : List ℕ) → part_at A kind (length bytes) flags at first behind ≡ Ok (columns, after)
-      → Leads A bytes kind flags (first ∷ behind) → (more : List ℕ) → GoesOnAs A kind (length (bytes ++ more)) columns (after ++ more) (outcome (blob_at {A = A} (bytes ++ more)))
+  leads_on : (bytes : List ℕ) (kind : Kind) (flags columns : List Bool) (at first : ℕ) (behind after : List ℕ) → part_at kind (length bytes) flags at first behind ≡ Ok (columns, after)
+      → Leads A bytes kind flags None (first ∷ behind) → (more : List ℕ) → GoesOnAs A kind (length (bytes ++ more)) columns None (after ++ more) (outcome (blob_at {A = A} (bytes ++ more)))
   unfolding Leads
   leads_on bytes kind flags columns at first behind after e leads more =
       let one = part_of bytes kind flags columns at first behind after e more in
       let same : length (bytes ++ more) ≡ length bytes + length more = length-append bytes more in
-      let read : part_at A kind (length (bytes ++ more)) flags at first (behind ++ more) ≡ Ok (columns, after ++ more) = rw same one.0 in
+      let read : part_at kind (length (bytes ++ more)) flags at first (behind ++ more) ≡ Ok (columns, after ++ more) = rw same one.0 in
       let shorter : length (after ++ more) ≤ length (behind ++ more) = omega (arith, no_longer after behind one.1, length-append after more, length-append behind more) in
       passes kind (length (bytes ++ more)) flags columns at first (behind ++ more) (after ++ more) (outcome (blob_at {A = A} (bytes ++ more))) read shorter (leads more)
 
-  pub part_leads : (bytes : List ℕ) (kind : Kind) (flags columns : List Bool) (at first : ℕ) (behind after : List ℕ) → part_at A kind (length bytes) flags at first behind ≡ Ok (columns, after)
-      → Leads A bytes kind flags (first ∷ behind) → Leads A bytes kind columns after × IsBehind after behind
+  pub part_leads : (bytes : List ℕ) (kind : Kind) (flags columns : List Bool) (at first : ℕ) (behind after : List ℕ) → part_at kind (length bytes) flags at first behind ≡ Ok (columns, after)
+      → Leads A bytes kind flags None (first ∷ behind) → Leads A bytes kind columns None after × IsBehind after behind
   unfolding Leads
   part_leads bytes kind flags columns at first behind after e leads =
       (leads_on bytes kind flags columns at first behind after e leads, (part_of bytes kind flags columns at first behind after e []).1)
 
-  pub part_faults : (bytes : List ℕ) (kind : Kind) (flags : List Bool) (first : ℕ) (behind : List ℕ) (f : BlobFault) → part_at A kind (length bytes) flags (place (length bytes) (first ∷ behind)) first behind ≡ Err f
-      → Leads A bytes kind flags (first ∷ behind) → outcome (blob_at {A = A} bytes) ≡ Some f
-  part_faults bytes kind flags first behind f e leads = stops kind (length bytes) flags first behind f (outcome (blob_at {A = A} bytes)) e (now bytes kind flags (first ∷ behind) leads)
+  pub part_faults : (bytes : List ℕ) (kind : Kind) (flags : List Bool) (first : ℕ) (behind : List ℕ) (f : BlobFault) → part_at kind (length bytes) flags (place (length bytes) (first ∷ behind)) first behind ≡ Err f
+      → Leads A bytes kind flags None (first ∷ behind) → outcome (blob_at {A = A} bytes) ≡ Some f
+  part_faults bytes kind flags first behind f e leads = stops kind (length bytes) flags first behind f (outcome (blob_at {A = A} bytes)) e (now bytes kind flags None (first ∷ behind) leads)
 
-  pub all_passed : (bytes : List ℕ) (kind : Kind) (flags : List Bool) → Leads A bytes kind flags [] → outcome (blob_at {A = A} bytes) ≡ None
-  all_passed bytes kind flags leads = ends kind (length bytes) flags (outcome (blob_at {A = A} bytes)) (now bytes kind flags [] leads)
+  pub all_passed : (bytes : List ℕ) (kind : Kind) (flags : List Bool) → Leads A bytes kind flags None [] → outcome (blob_at {A = A} bytes) ≡ None
+  all_passed bytes kind flags leads = ends kind (length bytes) flags (outcome (blob_at {A = A} bytes)) (now bytes kind flags None [] leads)
 
-  pub first_leads : (kind : Kind) (bytes : List ℕ) → Leads A (kind_byte kind ∷ bytes) kind [] (kind_byte kind ∷ bytes)
+  pub first_leads : (kind : Kind) (bytes : List ℕ) → Leads A (kind_byte kind ∷ bytes) kind [] None (kind_byte kind ∷ bytes)
   unfolding Leads
   first_leads kind bytes = λ more. begins kind (bytes ++ more)
 
-  pub leads_longer : (bytes piece : List ℕ) (kind : Kind) (flags : List Bool) (rest : List ℕ) → Leads A bytes kind flags rest → Leads A (bytes ++ piece) kind flags (rest ++ piece)
+  pub leads_longer : (bytes piece : List ℕ) (kind : Kind) (flags : List Bool) (within : Option (Within A)) (rest : List ℕ) → Leads A bytes kind flags within rest → Leads A (bytes ++ piece) kind flags within (rest ++ piece)
   unfolding Leads
-  leads_longer bytes piece kind flags rest leads = λ more.
-      subst (λ (all : List ℕ). GoesOnAs A kind (length all) flags ((rest ++ piece) ++ more) (outcome (blob_at {A = A} all))) (sym (append_assoc bytes piece more))
-      (subst (λ (left : List ℕ). GoesOnAs A kind (length (bytes ++ (piece ++ more))) flags left (outcome (blob_at {A = A} (bytes ++ (piece ++ more))))) (sym (append_assoc rest piece more)) (leads (piece ++ more)))
+  leads_longer bytes piece kind flags within rest leads = λ more.
+      subst (λ (all : List ℕ). GoesOnAs A kind (length all) flags within ((rest ++ piece) ++ more) (outcome (blob_at {A = A} all))) (sym (append_assoc bytes piece more))
+      (subst (λ (left : List ℕ). GoesOnAs A kind (length (bytes ++ (piece ++ more))) flags within left (outcome (blob_at {A = A} (bytes ++ (piece ++ more))))) (sym (append_assoc rest piece more)) (leads (piece ++ more)))
+
+  -- ---- inside a change
+
+  moves_as : (kind : Kind) (total : ℕ) (flags : List Bool) (within within' : Option (Within A)) (rest after : List ℕ) (answer : Option BlobFault)
+      → tail_at within total flags rest ≡ tail_at within' total flags after → length after ≤ length rest → GoesOnAs A kind total flags within rest answer → GoesOnAs A kind total flags within' after answer
+  moves_as kinds.Changes total flags within within' rest after answer same shorter goes_on = moves change_at group_at 0x54 total flags rest after (tail_at within total flags rest) (tail_at within' total flags after) answer same shorter goes_on
+  moves_as kinds.Patches total flags within within' rest after answer same shorter goes_on = moves patch_at patch_group_at 0x50 total flags rest after (tail_at within total flags rest) (tail_at within' total flags after) answer same shorter goes_on
+
+  fails_as : (kind : Kind) (total : ℕ) (flags : List Bool) (within : Option (Within A)) (rest : List ℕ) (f : BlobFault) (answer : Option BlobFault)
+      → tail_at within total flags rest ≡ Err f → GoesOnAs A kind total flags within rest answer → answer ≡ Some f
+  fails_as kinds.Changes total flags within rest f answer failed goes_on = fails change_at group_at 0x54 total flags rest (tail_at within total flags rest) f answer failed goes_on
+  fails_as kinds.Patches total flags within rest f answer failed goes_on = fails patch_at patch_group_at 0x50 total flags rest (tail_at within total flags rest) f answer failed goes_on
+
+  enters_as : (kind : Kind) (total : ℕ) (flags : List Bool) (within : Within A) (op mark : ℕ) (bytes : List ℕ) (answer : Option BlobFault) → is_operation op ≡ true → IsEntered A kind op within
+      → GoesOnAs A kind total flags None (op ∷ mark ∷ bytes) answer → GoesOnAs A kind total flags (Some within) bytes answer
+  enters_as kinds.Changes total flags within op mark bytes answer operation entered goes_on =
+      moves change_at group_at 0x54 total flags (mark ∷ bytes) bytes (past_at A kinds.Changes total flags op (mark ∷ bytes)) (tail_at (Some within) total flags bytes) answer (sym (entered total flags mark bytes)) (omega arith)
+      (enters change_at group_at 0x54 total flags op (mark ∷ bytes) answer operation goes_on)
+  enters_as kinds.Patches total flags within op mark bytes answer operation entered goes_on =
+      moves patch_at patch_group_at 0x50 total flags (mark ∷ bytes) bytes (past_at A kinds.Patches total flags op (mark ∷ bytes)) (tail_at (Some within) total flags bytes) answer (sym (entered total flags mark bytes)) (omega arith)
+      (enters patch_at patch_group_at 0x50 total flags op (mark ∷ bytes) answer operation goes_on)
+
+  pub leads_move : (bytes : List ℕ) (kind : Kind) (flags : List Bool) (within within' : Option (Within A)) (rest after : List ℕ)
+      → ((more : List ℕ) → tail_at within (length bytes + length more) flags (rest ++ more) ≡ tail_at within' (length bytes + length more) flags (after ++ more)) → length after ≤ length rest
+      → Leads A bytes kind flags within rest → Leads A bytes kind flags within' after
+  unfolding Leads
+  leads_move bytes kind flags within within' rest after same shorter leads = λ more.
+      moves_as kind (length (bytes ++ more)) flags within within' (rest ++ more) (after ++ more) (outcome (blob_at {A = A} (bytes ++ more)))
+      (subst (λ (total : ℕ). tail_at within total flags (rest ++ more) ≡ tail_at within' total flags (after ++ more)) (sym (length-append bytes more)) (same more))
+      (omega (arith, length-append rest more, length-append after more)) (leads more)
+
+  pub leads_fault : (bytes : List ℕ) (kind : Kind) (flags : List Bool) (within : Option (Within A)) (rest : List ℕ) (f : BlobFault) → tail_at within (length bytes) flags rest ≡ Err f
+      → Leads A bytes kind flags within rest → outcome (blob_at {A = A} bytes) ≡ Some f
+  leads_fault bytes kind flags within rest f failed leads = fails_as kind (length bytes) flags within rest f (outcome (blob_at {A = A} bytes)) failed (now bytes kind flags within rest leads)
+
+  pub leads_into : (bytes : List ℕ) (kind : Kind) (flags : List Bool) (within : Within A) (op mark : ℕ) (inside : List ℕ) → is_operation op ≡ true → IsEntered A kind op within
+      → Leads A bytes kind flags None (op ∷ mark ∷ inside) → Leads A bytes kind flags (Some within) inside
+  unfolding Leads
+  leads_into bytes kind flags within op mark inside operation entered leads = λ more.
+      enters_as kind (length (bytes ++ more)) flags within op mark (inside ++ more) (outcome (blob_at {A = A} (bytes ++ more))) operation entered (leads more)
 
   -- ---- a fault that lasts
 
-  lasts : (kind : Kind) (most : ℕ) (bytes : List ℕ) (flags : List Bool) (rest : List ℕ) (f : BlobFault) → length rest ≤ most → Leads A bytes kind flags rest
+  lasts : (kind : Kind) (most : ℕ) (bytes : List ℕ) (flags : List Bool) (rest : List ℕ) (f : BlobFault) → length rest ≤ most → Leads A bytes kind flags None rest
       → outcome (blob_at {A = A} bytes) ≡ Some f → is_cut f.kind ≡ false → (more : List ℕ) → outcome (blob_at {A = A} (bytes ++ more)) ≡ Some f
   unfolding Leads
   lasts kind most bytes flags [] f le leads faults lasting more = absurd (let none = all_passed bytes kind flags leads in cc)
   lasts kind zero bytes flags (first ∷ behind) f le leads faults lasting more = absurd (omega arith)
   lasts kind (suc most) bytes flags (first ∷ behind) f le leads faults lasting more =
-      elim (either (part_at A kind (length bytes) flags (place (length bytes) (first ∷ behind)) first behind)) [
+      elim (either (part_at kind (length bytes) flags (place (length bytes) (first ∷ behind)) first behind)) [
         | inl (x, e) ↦
             let on = part_leads bytes kind flags x.0 (place (length bytes) (first ∷ behind)) first behind x.1 e leads in
             lasts kind most bytes x.0 x.1 f (omega (arith, no_longer x.1 behind on.1)) on.0 faults lasting more
         | inr (g, e) ↦
             let same : g ≡ f = fault_is g f (sym (part_faults bytes kind flags first behind g e leads) ∙ faults) in
             let at = place (length bytes) (first ∷ behind) in
-            let stay = subst (λ (read : Result (List Bool × List ℕ) BlobFault). Stays behind more read (part_at A kind (length bytes + length more) flags at first (behind ++ more))) (e ∙ ap (λ (d : BlobFault). Err d) same) (steady kind (length bytes) flags at first behind more) in
-            let later : part_at A kind (length (bytes ++ more)) flags (place (length (bytes ++ more)) (first ∷ (behind ++ more))) first (behind ++ more) ≡ Err f =
+            let stay = subst (λ (read : Result (List Bool × List ℕ) BlobFault). Stays behind more read (part_at kind (length bytes + length more) flags at first (behind ++ more))) (e ∙ ap (λ (d : BlobFault). Err d) same) (steady kind (length bytes) flags at first behind more) in
+            let later : part_at kind (length (bytes ++ more)) flags (place (length (bytes ++ more)) (first ∷ (behind ++ more))) first (behind ++ more) ≡ Err f =
             rw (length-append bytes more, same_place (length bytes) (first ∷ behind) more) (stay lasting) in
             stops kind (length (bytes ++ more)) flags first (behind ++ more) f (outcome (blob_at {A = A} (bytes ++ more))) later (leads more)
       ]

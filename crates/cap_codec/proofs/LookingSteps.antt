@@ -1,89 +1,186 @@
 -- Looking at the front of a blob, as the loop does: `rest` is what is left to look at.
-use Rattle.std.proofs.Common.{◌≡◌, ℕ, ◌<◌, ◌≤◌, Bool, true, false, List, [], ◌∷◌, ◌++◌, length, drop, get_or, Option, Some, None, IfSome, Ok, Err, length-append, refl, sym, ap, subst, ◌∙◌, arith}
+use Rattle.std.proofs.Common.{◌≡◌, ℕ, suc, ◌+◌, ◌<◌, ◌≤◌, ◌==◌, Bool, true, false, List, [], ◌∷◌, ◌++◌, length, take, drop, get_or, Option, Some, None, IfSome, Result, Ok, Err, length-append, length-drop, take-append-drop, refl, sym, ap, subst, ◌∙◌, inl, inr, arith}
+use Rattle.std.proofs.lemmas.Bool.{cases_Bool}
 use Rattle.std.proofs.lemmas.List.{drop-append-le}
 use Rattle.cap_value.specs.declared.memory.Fault.{Fault}
 use Rattle.cap_value.specs.declared.memory.Fault.TheVariants.{Refused, OutOfMemory}
+use Rattle.cap_value.specs.declared.value.Value.{Value}
+use Rattle.cap_codec.specs.declared.demand.Demand.{Demand}
 use Rattle.cap_codec.specs.declared.fault.BlobFault.{BlobFault}
-use Rattle.cap_codec.specs.declared.scan.Kind.{Kind}
-use Rattle.cap_codec.specs.declared.scan.Kind.TheVariants as kinds
+use Rattle.cap_codec.specs.declared.fault.FaultKind.TheVariants.{Truncated}
+use Rattle.cap_codec.specs.declared.kind.Kind.{Kind}
+use Rattle.cap_codec.specs.declared.kind.Kind.TheVariants as kinds
 use Rattle.cap_codec.specs.declared.scan.Place.{Place}
-use Rattle.cap_codec.specs.Pieces.{may_mend, lasting, outcome, columns_at, kind_byte, Leads, part_at, IsPlace, GoesTo, Begins, IsLookedAt}
-use Rattle.cap_codec.specs.Reading.{Fails, place}
-use Rattle.cap_codec.specs.BlobReading.{blob_at}
+use Rattle.cap_codec.specs.declared.within.Within.{Within}
+use Rattle.cap_codec.specs.ChangeLeft.{next_demand, IsPast, IsEntered}
+use Rattle.cap_codec.specs.Pieces.{is_cut, may_mend, lasting, outcome, columns_at, kind_byte, Leads, IsPlace, Steps, Begins, IsLookedAt}
+use Rattle.cap_codec.specs.Reading.{Fails, fault, place}
+use Rattle.cap_codec.specs.FieldReading.{field_at}
+use Rattle.cap_codec.specs.BlobReading.{is_operation, is_kind, wrong_kind, change_at, patch_at, blob_at}
+use Rattle.cap_codec.proofs.FieldSteps.{field_passes, field_stops, fields_end}
 use Rattle.cap_codec.proofs.Left.{behind_of, behind-is}
-use Rattle.cap_codec.proofs.Steady.{IsBehind, further}
-use Rattle.cap_codec.proofs.Looking.{part_leads, part_faults, all_passed, first_leads, leads_longer, fault_is, lasts_none, lasts_cut, lasts_fault, place_is}
+use Rattle.cap_codec.proofs.Steady.{IsBehind, Stays, further, no_longer, field_stays}
+use Rattle.cap_codec.proofs.Looking.{part_at, part_leads, part_faults, all_passed, first_leads, leads_longer, leads_move, leads_fault, leads_into, fault_is, lasts_none, lasts_cut, lasts_fault, place_is}
+
+-- no byte that is wrong is a cut
+wrong_lasts : (first at : ℕ) → is_cut (wrong_kind first at).kind ≡ false
+wrong_lasts first at = elim (cases_Bool (is_kind first)) [ inl e ↦ rw e refl | inr e ↦ rw e refl ]
 
 module _ (A : Type 0) where
-  -- what the loop keeps
-  pub record IsLeft (bytes : List ℕ) (kind : Kind) (flags : List Bool) (rest : List ℕ) : Type 0 where
-    pub leads : Leads A bytes kind flags rest
+  -- what is left to look at, in a change or between two
+  pub record IsLeft (bytes : List ℕ) (kind : Kind) (flags : List Bool) (within : Option (Within A)) (rest : List ℕ) : Type 0 where
+    pub leads : Leads A bytes kind flags within rest
     pub behind : IsBehind rest bytes
 
-  pub goes_on : (bytes : List ℕ) (kind : Kind) (flags columns : List Bool) (rest after : List ℕ) → 1 ≤ length rest
-      → part_at A kind (length bytes) flags (place (length bytes) rest) (get_or rest 0 0) (behind_of rest) ≡ Ok (columns, after)
-      → IsLeft bytes kind flags rest → IsLeft bytes kind columns after
-  goes_on bytes kind flags columns [] after some read left = absurd (omega arith)
-  goes_on bytes kind flags columns (first ∷ behind) after some read left =
-      let read' = subst (λ (b : List ℕ). part_at A kind (length bytes) flags (place (length bytes) (first ∷ behind)) first b ≡ Ok (columns, after)) (behind-is first behind) read in
-      let on = part_leads A bytes kind flags columns (place (length bytes) (first ∷ behind)) first behind after read' left.leads in
-      record { leads = on.0; behind = further after (first ∷ behind) bytes (further after behind (first ∷ behind) on.1 (first ∷ [], refl)) left.behind }
-
-  faults : (bytes : List ℕ) (kind : Kind) (flags : List Bool) (rest : List ℕ) (f : BlobFault) → 1 ≤ length rest
-      → part_at A kind (length bytes) flags (place (length bytes) rest) (get_or rest 0 0) (behind_of rest) ≡ Err f → IsLeft bytes kind flags rest → outcome (blob_at {A = A} bytes) ≡ Some f
-  faults bytes kind flags [] f some read left = absurd (omega arith)
-  faults bytes kind flags (first ∷ behind) f some read left =
-      part_faults A bytes kind flags first behind f (subst (λ (b : List ℕ). part_at A kind (length bytes) flags (place (length bytes) (first ∷ behind)) first b ≡ Err f) (behind-is first behind) read) left.leads
-
-  -- the loop is left where it stands
-  pub here : (bytes : List ℕ) (kind : Kind) (flags : List Bool) (rest : List ℕ) → IsLeft bytes kind flags rest
-      → IsPlace {A = A} bytes (record { kind = kind; schema = flags; at = place (length bytes) rest })
-  here bytes kind flags rest left =
+  -- looking stops where it stands
+  pub here : (bytes : List ℕ) (kind : Kind) (flags : List Bool) (within : Option (Within A)) (rest : List ℕ) → IsLeft bytes kind flags within rest
+      → IsPlace {A = A} bytes (record { kind = kind; schema = flags; within = within; at = place (length bytes) rest })
+  here bytes kind flags within rest left =
       let is = place_is bytes rest left.behind in
-      (is.0, subst (λ (r : List ℕ). Leads A bytes kind flags r) (sym is.1) left.leads)
+      (is.0, subst (λ (r : List ℕ). Leads A bytes kind flags within r) (sym is.1) left.leads)
 
-  pub at_end : (bytes : List ℕ) (kind : Kind) (flags : List Bool) (rest : List ℕ) → length rest < 1 → IsLeft bytes kind flags rest → lasting (blob_at {A = A} bytes) ≡ Ok tt
-  at_end bytes kind flags [] none left = lasts_none (blob_at {A = A} bytes) (all_passed A bytes kind flags left.leads)
-  at_end bytes kind flags (first ∷ behind) none left = absurd (omega arith)
+  -- and begins where it stopped
+  pub there : (bytes : List ℕ) (place : Place A) → IsPlace bytes place → IsLeft bytes place.kind place.schema place.within (drop place.at bytes)
+  there bytes place is = record { leads = is.1; behind = (take place.at bytes, take-append-drop place.at bytes) }
 
-  pub at_cut : (bytes : List ℕ) (kind : Kind) (flags : List Bool) (rest : List ℕ) (e : Fault BlobFault) → 1 ≤ length rest → may_mend e ≡ true
-      → Fails e (part_at A kind (length bytes) flags (place (length bytes) rest) (get_or rest 0 0) (behind_of rest)) → IsLeft bytes kind flags rest → lasting (blob_at {A = A} bytes) ≡ Ok tt
-  at_cut bytes kind flags rest (Refused f) some cut read left = lasts_cut (blob_at {A = A} bytes) f (faults bytes kind flags rest f some read left) cut
-  at_cut bytes kind flags rest OutOfMemory some cut read left = absurd cc
+  -- ---- the fields of a change
 
-  pub at_fault : (bytes : List ℕ) (kind : Kind) (flags : List Bool) (rest : List ℕ) (e : Fault BlobFault) → 1 ≤ length rest → may_mend e ≡ false
-      → Fails e (part_at A kind (length bytes) flags (place (length bytes) rest) (get_or rest 0 0) (behind_of rest)) → IsLeft bytes kind flags rest → GoesTo {A = A} (Err e) bytes
-  at_fault bytes kind flags rest (Refused f) some whole read left = lasts_fault (blob_at {A = A} bytes) f (faults bytes kind flags rest f some read left) whole
-  at_fault bytes kind flags rest OutOfMemory some whole read left = tt
+  pub left_passes : (bytes : List ℕ) (kind : Kind) (flags : List Bool) (old new : Within A) (demand : Demand) (field : Option (Value A)) (rest after : List ℕ) → next_demand old flags ≡ Some demand
+      → field_at (length bytes) demand rest ≡ Ok (field, after) → IsPast flags field old new → IsLeft bytes kind flags (Some old) rest → IsLeft bytes kind flags (Some new) after
+  left_passes bytes kind flags old new demand field rest after next read past left =
+      let steady : (more : List ℕ) → (field_at (length bytes + length more) demand (rest ++ more) ≡ Ok (field, after ++ more)) × IsBehind after rest = λ more.
+      subst (λ (r : Result (Option (Value A) × List ℕ) BlobFault). Stays rest more r (field_at (length bytes + length more) demand (rest ++ more))) read (field_stays A (length bytes) demand rest more) in
+      let behind = (steady []).1 in
+      record {
+        leads = leads_move A bytes kind flags (Some old) (Some new) rest after (λ more. field_passes A old new (length bytes + length more) flags demand (rest ++ more) (after ++ more) field next (steady more).0 past) (no_longer after rest behind) left.leads;
+        behind = further after rest bytes behind left.behind;
+      }
+
+  left_stops : (bytes : List ℕ) (kind : Kind) (flags : List Bool) (within : Within A) (demand : Demand) (rest : List ℕ) (f : BlobFault) → next_demand within flags ≡ Some demand
+      → field_at {A = A} (length bytes) demand rest ≡ Err f → IsLeft bytes kind flags (Some within) rest → outcome (blob_at {A = A} bytes) ≡ Some f
+  left_stops bytes kind flags within demand rest f next read left = leads_fault A bytes kind flags (Some within) rest f (field_stops A within (length bytes) flags demand rest f next read) left.leads
+
+  pub field_cut : (bytes : List ℕ) (kind : Kind) (flags : List Bool) (within : Within A) (demand : Demand) (rest : List ℕ) (f : BlobFault) → next_demand within flags ≡ Some demand
+      → field_at {A = A} (length bytes) demand rest ≡ Err f → is_cut f.kind ≡ true → IsLeft bytes kind flags (Some within) rest → lasting (blob_at {A = A} bytes) ≡ Ok tt
+  field_cut bytes kind flags within demand rest f next read cut left = lasts_cut (blob_at {A = A} bytes) f (left_stops bytes kind flags within demand rest f next read left) cut
+
+  pub field_fault : (bytes : List ℕ) (kind : Kind) (flags : List Bool) (within : Within A) (demand : Demand) (rest : List ℕ) (f : BlobFault) → next_demand within flags ≡ Some demand
+      → field_at {A = A} (length bytes) demand rest ≡ Err f → is_cut f.kind ≡ false → IsLeft bytes kind flags (Some within) rest → lasting (blob_at {A = A} bytes) ≡ Err f
+  field_fault bytes kind flags within demand rest f next read whole left = lasts_fault (blob_at {A = A} bytes) f (left_stops bytes kind flags within demand rest f next read left) whole
+
+  pub change_ends : (bytes : List ℕ) (kind : Kind) (flags : List Bool) (within : Within A) (rest : List ℕ) → next_demand within flags ≡ None → IsLeft bytes kind flags (Some within) rest → IsLeft bytes kind flags None rest
+  change_ends bytes kind flags within rest next left = record {
+    leads = leads_move A bytes kind flags (Some within) None rest rest (λ more. fields_end A within (length bytes + length more) flags (rest ++ more) next) (omega arith) left.leads;
+    behind = left.behind;
+  }
+
+  -- ---- the next change or header
+
+  between : (bytes rest : List ℕ) (from : Place A) → IsPlace bytes from → from.within ≡ None → drop from.at bytes ≡ rest → IsLeft bytes from.kind from.schema None rest
+  between bytes rest from is none parts =
+      subst (λ (r : List ℕ). IsLeft bytes from.kind from.schema None r) parts (subst (λ (w : Option (Within A)). IsLeft bytes from.kind from.schema w (drop from.at bytes)) none (there bytes from is))
+
+  -- how far a place stands in front of what follows it
+  ahead : (bytes behind rest : List ℕ) (at first : ℕ) → at ≤ length bytes → drop at bytes ≡ first ∷ behind → length rest ≤ length behind → at < place (length bytes) rest
+  ahead bytes behind rest at first le parts shorter =
+      let long : length (drop at bytes) ≡ suc (length behind) = ap (λ (r : List ℕ). length r) parts in
+      omega (arith, length-drop at bytes)
+
+  header_part : (kind : Kind) (total : ℕ) (flags : List Bool) (at : ℕ) (bytes : List ℕ) → part_at A kind total flags at (kind_byte kind) bytes ≡ columns_at total bytes
+  header_part kinds.Changes total flags at bytes = refl
+  header_part kinds.Patches total flags at bytes = refl
+
+  header_left : (bytes : List ℕ) (kind : Kind) (flags columns : List Bool) (behind rest : List ℕ) → columns_at (length bytes) behind ≡ Ok (columns, rest)
+      → IsLeft bytes kind flags None (kind_byte kind ∷ behind) → IsLeft bytes kind columns None rest × (length rest ≤ length behind)
+  header_left bytes kind flags columns behind rest read left =
+      let on = part_leads A bytes kind flags columns 0 (kind_byte kind) behind rest (header_part kind (length bytes) flags 0 behind ∙ read) left.leads in
+      (record { leads = on.0; behind = further rest (kind_byte kind ∷ behind) bytes (further rest behind (kind_byte kind ∷ behind) on.1 (kind_byte kind ∷ [], refl)) left.behind }, no_longer rest behind on.1)
+
+  header_faults : (bytes : List ℕ) (kind : Kind) (flags : List Bool) (behind : List ℕ) (f : BlobFault) → columns_at (length bytes) behind ≡ Err f
+      → IsLeft bytes kind flags None (kind_byte kind ∷ behind) → outcome (blob_at {A = A} bytes) ≡ Some f
+  header_faults bytes kind flags behind f read left =
+      part_faults A bytes kind flags (kind_byte kind) behind f (header_part kind (length bytes) flags (place (length bytes) (kind_byte kind ∷ behind)) behind ∙ read) left.leads
+
+  header_cut : (bytes : List ℕ) (kind : Kind) (flags : List Bool) (behind : List ℕ) (e : Fault BlobFault) → may_mend e ≡ true → Fails e (columns_at (length bytes) behind)
+      → IsLeft bytes kind flags None (kind_byte kind ∷ behind) → lasting (blob_at {A = A} bytes) ≡ Ok tt
+  header_cut bytes kind flags behind (Refused f) cut read left = lasts_cut (blob_at {A = A} bytes) f (header_faults bytes kind flags behind f read left) cut
+  header_cut bytes kind flags behind OutOfMemory cut read left = absurd cc
+
+  pub over_header : (bytes behind : List ℕ) (from : Place A) (columns : List Bool) (rest : List ℕ) → IsPlace bytes from → from.within ≡ None → drop from.at bytes ≡ kind_byte from.kind ∷ behind
+      → columns_at (length bytes) behind ≡ Ok (columns, rest) → IsPlace {A = A} bytes (record { kind = from.kind; schema = columns; within = None; at = place (length bytes) rest }) × (from.at < place (length bytes) rest)
+  over_header bytes behind from columns rest is none parts read =
+      let left = header_left bytes from.kind from.schema columns behind rest read (between bytes (kind_byte from.kind ∷ behind) from is none parts) in
+      (here bytes from.kind columns None rest left.0, ahead bytes behind rest from.at (kind_byte from.kind) is.0 parts left.1)
+
+  pub cut_header : (bytes behind : List ℕ) (from : Place A) (e : Fault BlobFault) → IsPlace bytes from → from.within ≡ None → drop from.at bytes ≡ kind_byte from.kind ∷ behind
+      → may_mend e ≡ true → Fails e (columns_at (length bytes) behind) → lasting (blob_at {A = A} bytes) ≡ Ok tt
+  cut_header bytes behind from e is none parts cut read = header_cut bytes from.kind from.schema behind e cut read (between bytes (kind_byte from.kind ∷ behind) from is none parts)
+
+  pub fault_header : (bytes behind : List ℕ) (from : Place A) (e : Fault BlobFault) → IsPlace bytes from → from.within ≡ None → drop from.at bytes ≡ kind_byte from.kind ∷ behind
+      → may_mend e ≡ false → Fails e (columns_at (length bytes) behind) → Steps {A = A} (Err e) bytes from.at
+  fault_header bytes behind from (Refused f) is none parts whole read = lasts_fault (blob_at {A = A} bytes) f (header_faults bytes from.kind from.schema behind f read (between bytes (kind_byte from.kind ∷ behind) from is none parts)) whole
+  fault_header bytes behind from OutOfMemory is none parts whole read = tt
+
+  pub into_change : (bytes behind : List ℕ) (from : Place A) (within : Within A) (op : ℕ) → IsPlace bytes from → from.within ≡ None → is_operation op ≡ true → drop from.at bytes ≡ op ∷ behind → 1 ≤ length behind
+      → IsEntered A from.kind op within → IsPlace {A = A} bytes (record { kind = from.kind; schema = from.schema; within = Some within; at = place (length bytes) (behind_of behind) }) × (from.at < place (length bytes) (behind_of behind))
+  into_change bytes [] from within op is none operation parts some entered = absurd (omega arith)
+  into_change bytes (mark ∷ inside) from within op is none operation parts some entered =
+      let left = between bytes (op ∷ mark ∷ inside) from is none parts in
+      let left' : IsLeft bytes from.kind from.schema (Some within) inside = record { leads = leads_into A bytes from.kind from.schema within op mark inside operation entered left.leads; behind = further inside (op ∷ mark ∷ inside) bytes (op ∷ mark ∷ [], refl) left.behind } in
+      rw (behind-is mark inside) (here bytes from.kind from.schema (Some within) inside left', ahead bytes (mark ∷ inside) inside from.at op is.0 parts (omega arith))
+
+  op_alone : (kind : Kind) (total : ℕ) (flags : List Bool) (at op : ℕ) → is_operation op ≡ true → part_at A kind total flags at op [] ≡ fault Truncated total
+  unfolding change_at patch_at
+  op_alone kinds.Changes total flags at op operation = rw operation refl
+  op_alone kinds.Patches total flags at op operation = rw operation refl
+
+  pub cut_change : (bytes behind : List ℕ) (from : Place A) (op : ℕ) → IsPlace bytes from → from.within ≡ None → is_operation op ≡ true → drop from.at bytes ≡ op ∷ behind → length behind < 1 → lasting (blob_at {A = A} bytes) ≡ Ok tt
+  cut_change bytes (mark ∷ inside) from op is none operation parts cut = absurd (omega arith)
+  cut_change bytes [] from op is none operation parts cut =
+      lasts_cut (blob_at {A = A} bytes) (record { at = length bytes; kind = Truncated })
+      (part_faults A bytes from.kind from.schema op [] (record { at = length bytes; kind = Truncated }) (op_alone from.kind (length bytes) from.schema (place (length bytes) (op ∷ [])) op operation) (between bytes (op ∷ []) from is none parts).leads) refl
+
+  wrong_part : (kind : Kind) (total : ℕ) (flags : List Bool) (at first : ℕ) (bytes : List ℕ) → is_operation first ≡ false → (first == kind_byte kind) ≡ false → part_at A kind total flags at first bytes ≡ Err (wrong_kind first at)
+  wrong_part kinds.Changes total flags at first bytes other wrong = rw (other, wrong) refl
+  wrong_part kinds.Patches total flags at first bytes other wrong = rw (other, wrong) refl
+
+  wrong_first : (bytes rest : List ℕ) (from : Place A) → IsPlace bytes from → from.within ≡ None → drop from.at bytes ≡ rest → 1 ≤ length rest → is_operation (get_or rest 0 0) ≡ false
+      → (get_or rest 0 0 == kind_byte from.kind) ≡ false → lasting (blob_at {A = A} bytes) ≡ Err (wrong_kind (get_or rest 0 0) from.at)
+  wrong_first bytes [] from is none parts some other wrong = absurd (omega arith)
+  wrong_first bytes (first ∷ behind) from is none parts some other wrong =
+      let long : length (drop from.at bytes) ≡ suc (length behind) = ap (λ (r : List ℕ). length r) parts in
+      let at : place (length bytes) (first ∷ behind) ≡ from.at = omega (arith, is.0, length-drop from.at bytes) in
+      let faults = part_faults A bytes from.kind from.schema first behind (wrong_kind first from.at)
+      (subst (λ (p : ℕ). part_at A from.kind (length bytes) from.schema p first behind ≡ Err (wrong_kind first from.at)) (sym at) (wrong_part from.kind (length bytes) from.schema from.at first behind other wrong))
+      (between bytes (first ∷ behind) from is none parts).leads in
+      lasts_fault (blob_at {A = A} bytes) (wrong_kind first from.at) faults (wrong_lasts first from.at)
+
+  pub wrong_byte : (bytes : List ℕ) (from : Place A) → IsPlace bytes from → from.within ≡ None → 1 ≤ length (drop from.at bytes) → is_operation (get_or (drop from.at bytes) 0 0) ≡ false
+      → (get_or (drop from.at bytes) 0 0 == kind_byte from.kind) ≡ false → lasting (blob_at {A = A} bytes) ≡ Err (wrong_kind (get_or (drop from.at bytes) 0 0) from.at)
+  wrong_byte bytes from is none some other wrong = wrong_first bytes (drop from.at bytes) from is none refl some other wrong
+
+  end_of : (bytes rest : List ℕ) (from : Place A) → IsPlace bytes from → from.within ≡ None → drop from.at bytes ≡ rest → length rest < 1 → lasting (blob_at {A = A} bytes) ≡ Ok tt
+  end_of bytes [] from is none parts all = lasts_none (blob_at {A = A} bytes) (all_passed A bytes from.kind from.schema (between bytes [] from is none parts).leads)
+  end_of bytes (first ∷ behind) from is none parts all = absurd (omega arith)
+
+  pub at_end : (bytes : List ℕ) (from : Place A) → IsPlace bytes from → from.within ≡ None → length (drop from.at bytes) < 1 → lasting (blob_at {A = A} bytes) ≡ Ok tt
+  at_end bytes from is none all = end_of bytes (drop from.at bytes) from is none refl all
 
   -- ---- the first header
 
-  first_part : (kind : Kind) (total at : ℕ) (bytes : List ℕ) → part_at A kind total [] at (kind_byte kind) bytes ≡ columns_at total bytes
-  first_part kinds.Changes total at bytes = refl
-  first_part kinds.Patches total at bytes = refl
+  first_left : (kind : Kind) (bytes behind : List ℕ) → bytes ≡ kind_byte kind ∷ behind → IsLeft bytes kind [] None (kind_byte kind ∷ behind)
+  first_left kind bytes behind parts =
+      subst (λ (b : List ℕ). IsLeft b kind [] None (kind_byte kind ∷ behind)) (sym parts) (record { leads = first_leads A kind behind; behind = ([], refl) })
 
   pub first_place_is : (kind : Kind) (bytes behind : List ℕ) (columns : List Bool) (rest : List ℕ) → bytes ≡ kind_byte kind ∷ behind → columns_at (length bytes) behind ≡ Ok (columns, rest)
-      → IsPlace {A = A} bytes (record { kind = kind; schema = columns; at = place (length bytes) rest })
-  first_place_is kind bytes behind columns rest parts read =
-      let all = kind_byte kind ∷ behind in
-      let read' : columns_at (length all) behind ≡ Ok (columns, rest) = subst (λ (b : List ℕ). columns_at (length b) behind ≡ Ok (columns, rest)) parts read in
-      let on = part_leads A all kind [] columns 0 (kind_byte kind) behind rest (first_part kind (length all) 0 behind ∙ read') (first_leads A kind behind) in
-      subst (λ (b : List ℕ). IsPlace {A = A} b (record { kind = kind; schema = columns; at = place (length b) rest })) (sym parts)
-      (here all kind columns rest (record { leads = on.0; behind = further rest behind all on.1 (kind_byte kind ∷ [], refl) }))
-
-  first_faults : (kind : Kind) (bytes behind : List ℕ) (f : BlobFault) → bytes ≡ kind_byte kind ∷ behind → columns_at (length bytes) behind ≡ Err f → outcome (blob_at {A = A} bytes) ≡ Some f
-  first_faults kind bytes behind f parts read =
-      let all = kind_byte kind ∷ behind in
-      let read' : columns_at (length all) behind ≡ Err f = subst (λ (b : List ℕ). columns_at (length b) behind ≡ Err f) parts read in
-      subst (λ (b : List ℕ). outcome (blob_at {A = A} b) ≡ Some f) (sym parts)
-      (part_faults A all kind [] (kind_byte kind) behind f (first_part kind (length all) (place (length all) all) behind ∙ read') (first_leads A kind behind))
+      → IsPlace {A = A} bytes (record { kind = kind; schema = columns; within = None; at = place (length bytes) rest })
+  first_place_is kind bytes behind columns rest parts read = here bytes kind columns None rest (header_left bytes kind [] columns behind rest read (first_left kind bytes behind parts)).0
 
   pub first_cut : (kind : Kind) (bytes behind : List ℕ) (e : Fault BlobFault) → bytes ≡ kind_byte kind ∷ behind → may_mend e ≡ true → Fails e (columns_at (length bytes) behind) → lasting (blob_at {A = A} bytes) ≡ Ok tt
-  first_cut kind bytes behind (Refused f) parts cut read = lasts_cut (blob_at {A = A} bytes) f (first_faults kind bytes behind f parts read) cut
-  first_cut kind bytes behind OutOfMemory parts cut read = absurd cc
+  first_cut kind bytes behind e parts cut read = header_cut bytes kind [] behind e cut read (first_left kind bytes behind parts)
 
   pub first_fault : (kind : Kind) (bytes behind : List ℕ) (e : Fault BlobFault) → bytes ≡ kind_byte kind ∷ behind → may_mend e ≡ false → Fails e (columns_at (length bytes) behind) → Begins {A = A} (Err e) bytes
-  first_fault kind bytes behind (Refused f) parts whole read = lasts_fault (blob_at {A = A} bytes) f (first_faults kind bytes behind f parts read) whole
+  first_fault kind bytes behind (Refused f) parts whole read = lasts_fault (blob_at {A = A} bytes) f (header_faults bytes kind [] behind f read (first_left kind bytes behind parts)) whole
   first_fault kind bytes behind OutOfMemory parts whole read = tt
 
   -- ---- more bytes
@@ -91,7 +188,7 @@ module _ (A : Type 0) where
   place_longer : (bytes piece : List ℕ) (place : Place A) → IsPlace bytes place → IsPlace (bytes ++ piece) place
   place_longer bytes piece place is = (
     omega (arith, is.0, length-append bytes piece),
-    subst (λ (rest : List ℕ). Leads A (bytes ++ piece) place.kind place.schema rest) (sym (drop-append-le place.at bytes piece is.0)) (leads_longer A bytes piece place.kind place.schema (drop place.at bytes) is.1),
+    subst (λ (rest : List ℕ). Leads A (bytes ++ piece) place.kind place.schema place.within rest) (sym (drop-append-le place.at bytes piece is.0)) (leads_longer A bytes piece place.kind place.schema place.within (drop place.at bytes) is.1),
   )
 
   pub places_longer : (bytes piece all : List ℕ) (place : Option (Place A)) → all ≡ bytes ++ piece → IfSome place (IsPlace bytes) → IfSome place (IsPlace all)
@@ -104,6 +201,6 @@ module _ (A : Type 0) where
   looked_fault bytes all place None f same is looked = absurd cc
   looked_fault bytes all place (Some g) f same is looked = subst (λ (b : List ℕ). lasting (blob_at {A = A} b) ≡ Err f) same (looked ∙ ap (λ (d : BlobFault). Err d) (fault_is g f is))
 
-  pub looked_place : (bytes piece all : List ℕ) (place copy : Option (Place A)) (fault : Option BlobFault) → fault ≡ None → copy ≡ place → all ≡ bytes ++ piece → IsLookedAt bytes place fault → IfSome copy (IsPlace all)
-  looked_place bytes piece all place copy None none same parts looked = subst (λ (p : Option (Place A)). IfSome p (IsPlace all)) (sym same) (places_longer bytes piece all place parts looked.1)
-  looked_place bytes piece all place copy (Some f) none same parts looked = absurd cc
+  pub looked_place : (bytes piece all : List ℕ) (place taken : Option (Place A)) (fault : Option BlobFault) → fault ≡ None → taken ≡ place → all ≡ bytes ++ piece → IsLookedAt bytes place fault → IfSome taken (IsPlace all)
+  looked_place bytes piece all place taken None none same parts looked = subst (λ (p : Option (Place A)). IfSome p (IsPlace all)) (sym same) (places_longer bytes piece all place parts looked.1)
+  looked_place bytes piece all place taken (Some f) none same parts looked = absurd cc

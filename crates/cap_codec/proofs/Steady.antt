@@ -122,7 +122,7 @@ module _ (A : Type 0) where
   present_stays total demand bytes more =
       rw (same_place total bytes more) (stays_then bytes more (byte_at total bytes) (byte_at (total + length more) (bytes ++ more)) _ _ (byte_stays total bytes more) (λ kind. typed_stays total (place total bytes) demand kind.0 kind.1 more))
 
-  field_stays : (total : ℕ) (demand : Demand) (bytes more : List ℕ) → Stays bytes more (field_at {A = A} total demand bytes) (field_at (total + length more) demand (bytes ++ more))
+  pub field_stays : (total : ℕ) (demand : Demand) (bytes more : List ℕ) → Stays bytes more (field_at {A = A} total demand bytes) (field_at (total + length more) demand (bytes ++ more))
   unfolding field_at
   field_stays total asks.Omitted bytes more = (refl, ([], refl))
   field_stays total asks.Key bytes more = present_stays total asks.Key bytes more

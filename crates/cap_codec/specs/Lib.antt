@@ -8,6 +8,7 @@ pub mod HeaderReading
 pub mod Demands
 pub mod RecordReading
 pub mod BlobReading
+pub mod ChangeLeft
 pub mod Writable
 pub mod Pieces
 pub mod Stream

@@ -1,16 +1,20 @@
 -- Blobs that come in pieces: what is known of a blob by its front.
-use Rattle.std.specs.Prelude.{◌≡◌, ℕ, ◌≤◌, Bool, true, false, List, ◌++◌, length, drop, Option, Some, None, Result, Ok, Err, IfSome, ◌==◌, if◌then◌else◌}
+use Rattle.std.specs.Prelude.{◌≡◌, ℕ, ◌<◌, ◌≤◌, Bool, true, false, List, ◌++◌, length, drop, Option, Some, None, Result, Ok, Err, IfSome, if◌then◌else◌}
 use Rattle.cap_value.specs.declared.memory.Fault.{Fault}
 use Rattle.cap_value.specs.declared.memory.Fault.TheVariants.{Refused, OutOfMemory}
 use Rattle.cap_codec.specs.declared.fault.BlobFault.{BlobFault}
 use Rattle.cap_codec.specs.declared.fault.FaultKind.{FaultKind}
 use Rattle.cap_codec.specs.declared.fault.FaultKind.TheVariants.{Truncated}
-use Rattle.cap_codec.specs.declared.scan.Kind.{Kind}
-use Rattle.cap_codec.specs.declared.scan.Kind.TheVariants as kinds
+use Rattle.cap_codec.specs.declared.kind.Kind.{Kind}
+use Rattle.cap_codec.specs.declared.kind.Kind.TheVariants as kinds
 use Rattle.cap_codec.specs.declared.scan.Place.{Place}
+use Rattle.cap_codec.specs.declared.scan.Step.{Step}
+use Rattle.cap_codec.specs.declared.scan.Step.TheVariants.{On, Cut}
+use Rattle.cap_codec.specs.declared.within.Within.{Within}
 use Rattle.cap_codec.specs.Reading.{◌>>=◌}
 use Rattle.cap_codec.specs.HeaderReading.{header_at}
-use Rattle.cap_codec.specs.BlobReading.{is_operation, wrong_kind, change_at, patch_at, changes_at, group_at, patch_group_at, groups_at, blob_at}
+use Rattle.cap_codec.specs.BlobReading.{change_at, patch_at, changes_at, group_at, patch_group_at, groups_at, blob_at}
+use Rattle.cap_codec.specs.ChangeLeft.{tail_at}
 
 -- the blob ends too early, which more bytes may mend
 abbrev pub is_cut : FaultKind → Bool
@@ -41,31 +45,21 @@ abbrev pub columns_at : ℕ → List ℕ → Result (List Bool × List ℕ) Blob
 columns_at total bytes = header_at total bytes >>= (λ header. Ok (header.0.flags, header.1))
 
 module _ {X G : Type 0} (one_at : ℕ → List Bool → ℕ → List ℕ → Result (X × List ℕ) BlobFault) (group_at : ℕ → List ℕ → Result (G × List ℕ) BlobFault) (kind : ℕ) where
-  -- the changes that are left of a group, and the groups behind it, have this outcome
-  abbrev pub GoesOn : ℕ → List Bool → List ℕ → Option BlobFault → Type 0
-  GoesOn total flags rest answer = (m n : ℕ) × (length rest ≤ m) × (length rest ≤ n)
-      × (outcome (changes_at one_at m total flags rest >>= (λ changes. groups_at group_at kind n total changes.1)) ≡ answer)
+  -- What is left of a change, of the changes of its group behind it, and the groups behind them, have this outcome.
+  -- `tail` is what stands behind the change.
+  abbrev pub GoesOn : ℕ → List Bool → List ℕ → Result (List ℕ) BlobFault → Option BlobFault → Type 0
+  GoesOn total flags rest tail answer = (m n : ℕ) × (length rest ≤ m) × (length rest ≤ n)
+      × (outcome (tail >>= (λ after. changes_at one_at m total flags after >>= (λ changes. groups_at group_at kind n total changes.1))) ≡ answer)
 
 module _ (A : Type 0) where
-  abbrev pub GoesOnAs : Kind → ℕ → List Bool → List ℕ → Option BlobFault → Type 0
-  GoesOnAs kinds.Changes total flags rest answer = GoesOn (change_at {A = A}) (group_at {A = A}) 0x54 total flags rest answer
-  GoesOnAs kinds.Patches total flags rest answer = GoesOn (patch_at {A = A}) (patch_group_at {A = A}) 0x50 total flags rest answer
+  abbrev pub GoesOnAs : Kind → ℕ → List Bool → Option (Within A) → List ℕ → Option BlobFault → Type 0
+  GoesOnAs kinds.Changes total flags within rest answer = GoesOn (change_at {A = A}) (group_at {A = A}) 0x54 total flags rest (tail_at within total flags rest) answer
+  GoesOnAs kinds.Patches total flags within rest answer = GoesOn (patch_at {A = A}) (patch_group_at {A = A}) 0x50 total flags rest (tail_at within total flags rest) answer
 
-  -- Whatever follows these bytes, the outcome is that of what is left of them in a group of these columns.
-  unfoldable pub Leads : List ℕ → Kind → List Bool → List ℕ → Type 0
-  Leads bytes kind flags rest = (more : List ℕ) → GoesOnAs kind (length (bytes ++ more)) flags (rest ++ more) (outcome (blob_at {A = A} (bytes ++ more)))
-
-  -- what stands behind a change, in a group of these columns
-  abbrev pub past_at : Kind → ℕ → List Bool → ℕ → List ℕ → Result (List Bool × List ℕ) BlobFault
-  past_at kinds.Changes total flags op bytes = change_at {A = A} total flags op bytes >>= (λ change. Ok (flags, change.1))
-  past_at kinds.Patches total flags op bytes = patch_at {A = A} total flags op bytes >>= (λ patch. Ok (flags, patch.1))
-
-  -- The next change or header in a group of these columns, behind its first byte, which stands at `at`: the columns
-  -- from there on, and what stands behind it.
-  abbrev pub part_at : Kind → ℕ → List Bool → ℕ → ℕ → List ℕ → Result (List Bool × List ℕ) BlobFault
-  part_at kind total flags at first bytes =
-      if is_operation first then past_at kind total flags first bytes
-      else (if first == kind_byte kind then columns_at total bytes else Err (wrong_kind first at))
+  -- Whatever follows these bytes, the outcome is that of what is left of them, in a group of these columns and in
+  -- a change or between two.
+  unfoldable pub Leads : List ℕ → Kind → List Bool → Option (Within A) → List ℕ → Type 0
+  Leads bytes kind flags within rest = (more : List ℕ) → GoesOnAs kind (length (bytes ++ more)) flags within (rest ++ more) (outcome (blob_at {A = A} (bytes ++ more)))
 
   -- A decoder that answered a fault has it. One that found no memory stays as it was.
   abbrev pub KeepsFault : Result (Unit {0}) (Fault BlobFault) → List ℕ → List ℕ → Type 0
@@ -76,7 +70,20 @@ module _ (A : Type 0) where
 module _ {A : Type 0} where
   -- the bytes from there on are still to be looked at
   abbrev pub IsPlace : List ℕ → Place A → Type 0
-  IsPlace bytes place = (place.at ≤ length bytes) × Leads A bytes place.kind place.schema (drop place.at bytes)
+  IsPlace bytes place = (place.at ≤ length bytes) × Leads A bytes place.kind place.schema place.within (drop place.at bytes)
+
+  -- Looking went on over the fields of a change, up to its end or to where it is cut.
+  abbrev pub Passes : Result (Place A) (Fault BlobFault) → List ℕ → ℕ → Type 0
+  Passes (Ok place) bytes at = IsPlace bytes place × (at ≤ place.at) × IfSome place.within (λ within. lasting (blob_at {A = A} bytes) ≡ Ok tt)
+  Passes (Err (Refused fault)) bytes at = lasting (blob_at {A = A} bytes) ≡ Err fault
+  Passes (Err OutOfMemory) bytes at = Unit {0}
+
+  -- Looking went on into a change or over a header, where the bytes are not cut before.
+  abbrev pub Steps : Result (Step A) (Fault BlobFault) → List ℕ → ℕ → Type 0
+  Steps (Ok (On place)) bytes at = IsPlace bytes place × (at < place.at)
+  Steps (Ok (Cut place)) bytes at = (lasting (blob_at {A = A} bytes) ≡ Ok tt) × IsPlace bytes place
+  Steps (Err (Refused fault)) bytes at = lasting (blob_at {A = A} bytes) ≡ Err fault
+  Steps (Err OutOfMemory) bytes at = Unit {0}
 
   -- Looking went on to this place, or to the fault that lasts.
   abbrev pub GoesTo : Result (Place A) (Fault BlobFault) → List ℕ → Type 0

@@ -1,6 +1,6 @@
 //! Blobs that come in pieces.
 
-ghost use Rattle.std.specs.Prelude.{◌≡◌, ◌++◌, [], IfOk, OnOk};
+ghost use Rattle.std.specs.Prelude.{◌≡◌, ◌++◌, [], OnOk};
 ghost use Rattle.cap_value.specs.Memory.{AnswersUnlessMemory};
 ghost use Rattle.cap_codec.specs.BlobReading.{blob_at};
 ghost use Rattle.cap_codec.specs.Pieces.{lasting, KeepsFault};
@@ -8,19 +8,21 @@ ghost use Rattle.cap_codec.specs.Pieces.{lasting, KeepsFault};
 use crate::fault::BlobFault;
 use crate::read::{Blob, read_blob};
 use crate::scan::{Place, scan};
-use cap_value::{AllocHandle, Fault, OutOfMemory};
+use cap_value::{AllocHandle, Fault};
 use std::marker::Model;
 
 /// A blob that comes in pieces, of any lengths: it is cut anywhere.
 ///
-/// It keeps the bytes, and looks at each change when it is whole. A change that comes in many pieces is looked
-/// at once a piece.
+/// It keeps the bytes. `feed` looks at each field of a change once, when it is whole, and copies none; `finish` reads
+/// all bytes once more. What is cut is looked at again with the next piece: of a field its first bytes alone, and a
+/// header, which has at most some 2,300 bytes, from its start.
 #[derive(Drop)]
 pub struct Decoder<A: AllocHandle> {
     alloc: A,
     /// The bytes so far. None is added behind a fault.
     bytes: Vec<u8, A>,
-    /// How far the bytes were looked at, from the first header on.
+    /// How far the bytes were looked at, from the first header on. `None` also after a want of memory: the next piece
+    /// is then looked at together with all bytes before it.
     place: Option<Place<A>>,
     /// The fault that was answered.
     fault: Option<BlobFault>,
@@ -62,9 +64,9 @@ impl<A: AllocHandle> Decoder<A> {
         if let Some(fault) = self.fault {
             return Err(Fault::Refused(fault));
         }
-        let place = copy_place(&self.place)?;
         let len = self.bytes.len();
         self.bytes.extend_from_slice(piece)?;
+        let place = self.place.take();
         match scan(self.alloc, &self.bytes, place) {
             Ok(place) => {
                 self.place = place;
@@ -89,14 +91,5 @@ impl<A: AllocHandle> Decoder<A> {
             return Err(Fault::Refused(fault));
         }
         read_blob(self.alloc, &self.bytes)
-    }
-}
-
-fn copy_place<A: AllocHandle>(place: &Option<Place<A>>) -> Result<Option<Place<A>>, OutOfMemory>
-    ensures { IfOk result (λ copy. copy ≡ place.now) }
-{
-    match place {
-        Some(place) => Ok(Some(place.copy()?)),
-        None => Ok(None),
     }
 }

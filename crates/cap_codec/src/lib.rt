@@ -9,6 +9,7 @@ mod fault;
 mod field;
 mod group;
 mod header;
+mod kind;
 mod laws;
 mod lent;
 mod read;
@@ -17,6 +18,7 @@ mod rule;
 mod scan;
 mod stream;
 mod varint;
+mod within;
 mod writable;
 mod write;
 

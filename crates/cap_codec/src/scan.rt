@@ -1,60 +1,44 @@
-//! Looking at the front of a blob: how far it is whole, and whether it has a fault that no more bytes mend.
+//! Looking at the front of a blob, field by field: how far it is whole, and whether it has a fault that no more bytes
+//! mend.
 
-ghost use Rattle.std.specs.Prelude.{◌≡◌, ◌≤◌, ◌∷◌, length, IfOk, IfSome};
+ghost use Rattle.std.specs.Prelude.{◌≡◌, ◌≤◌, ◌∷◌, true, length, drop, None, Ok, IfOk, IfSome};
 ghost use Rattle.cap_codec.specs.Reading.{Gives};
-ghost use Rattle.cap_codec.specs.Pieces.{columns_at, kind_byte, past_at, part_at, may_mend, lasting, IsPlace, GoesTo, Begins, Scans};
+ghost use Rattle.cap_codec.specs.BlobReading as blob;
+ghost use Rattle.cap_codec.specs.Pieces.{columns_at, kind_byte, may_mend, IsPlace, Passes, Steps, GoesTo, Begins, Scans};
 
-use crate::change::{is_operation, take_change, take_patch};
+use crate::change::is_operation;
 use crate::fault::{BlobFault, FaultKind};
 use crate::group::own_schema;
 use crate::header::take_header;
-use crate::lent::place_of;
+use crate::kind::Kind;
+use crate::lent::{place_of, take_field};
 use crate::read::wrong_kind;
+use crate::within::Within;
 use crate::write::{CHANGESET, PATCHSET};
 use cap_row::Schema;
-use cap_value::{AllocHandle, Fault, OutOfMemory};
+use cap_value::{AllocHandle, Fault};
 
-/// The kinds of groups.
-#[derive(Clone, Copy)]
-pub enum Kind {
-    /// Of a changeset.
-    Changes,
-    /// Of a patchset.
-    Patches,
-}
-
-impl Kind {
-    fn byte(self) -> u8
-        ensures { result ≡ kind_byte self }
-    {
-        match self {
-            Kind::Changes => CHANGESET,
-            Kind::Patches => PATCHSET,
-        }
-    }
-}
-
-/// A place in a blob up to which its changes and headers are whole and without a fault.
+/// A place in a blob up to which its headers and the fields of its changes are whole and without a fault: between two
+/// changes, or inside one behind any of its fields.
 #[derive(Drop)]
 pub struct Place<A: AllocHandle> {
     /// The kind of the blob's groups.
     kind: Kind,
     /// The columns of the group in which it stands.
     schema: Schema<A>,
+    /// How far it stands inside a change. `None` between two.
+    within: Option<Within<A>>,
     /// How many bytes were looked at.
     at: usize,
 }
 
-impl<A: AllocHandle> Place<A> {
-    pub fn copy(&self) -> Result<Self, OutOfMemory>
-        ensures { IfOk result (λ copy. copy ≡ self.now) }
-    {
-        Ok(Place {
-            kind: self.kind,
-            schema: self.schema.copy()?,
-            at: self.at,
-        })
-    }
+/// How far one step went on from a place between two changes.
+#[derive(Drop)]
+enum Step<A: AllocHandle> {
+    /// Behind a header, or into a change.
+    On(Place<A>),
+    /// Not at all: the bytes end before either.
+    Cut(Place<A>),
 }
 
 /// Whether more bytes may mend the fault: the blob ends too early.
@@ -80,50 +64,113 @@ fn past_header<A: AllocHandle>(
     Ok((own_schema(alloc, header.flags)?, rest))
 }
 
-/// The columns of the group, and what stands behind a change of it, of which the operation byte was read.
-fn past_change<'a, A: AllocHandle>(
-    alloc: A,
-    total: usize,
-    kind: Kind,
-    schema: &Schema<A>,
-    op: u8,
-    bytes: &'a [u8],
-) -> Result<(Schema<A>, &'a [u8]), Fault<BlobFault>>
-    ensures gives { Gives (λ x. (x.0, x.1.now)) result (past_at A kind total schema.now op bytes.now) }
-    ensures behind { IfOk result (λ x. length x.1.now ≤ length bytes.now) }
+/// Goes on over the fields of the change in which the place stands, as far as they are whole.
+fn past_fields<A: AllocHandle>(bytes: &[u8], place: Place<A>) -> Result<Place<A>, Fault<BlobFault>>
+    requires { IsPlace bytes.now place }
+    ensures { Passes result bytes.now place.at }
 {
-    match kind {
-        Kind::Changes => {
-            let (_, rest) = take_change(alloc, total, schema, op, bytes)?;
-            Ok((schema.copy()?, rest))
+    let total = bytes.len();
+    let mut place = place;
+    let Some(mut inside) = place.within.take() else {
+        return Ok(place);
+    };
+    let mut rest = &bytes[place.at..];
+    while let Some(demand) = inside.demand(place.schema.flags()) {
+        match take_field::<A>(total, demand, rest) {
+            Ok((field, after)) => {
+                inside.pass(place.schema.flags(), field)?;
+                rest = after;
+            }
+            Err(fault) => {
+                let fault = Fault::Refused(fault);
+                if !is_cut(&fault) {
+                    return Err(fault);
+                }
+                place.within = Some(inside);
+                break;
+            }
         }
-        Kind::Patches => {
-            let (_, rest) = take_patch(alloc, total, schema, op, bytes)?;
-            Ok((schema.copy()?, rest))
+    }
+    place.at = place_of(total, rest);
+    Ok(place)
+}
+
+/// Goes on into a change of which the operation byte was read, where its mark is there too.
+fn into_change<A: AllocHandle>(
+    alloc: A,
+    bytes: &[u8],
+    place: Place<A>,
+    op: u8,
+    behind: &[u8],
+) -> Step<A>
+    requires is { IsPlace bytes.now place }
+    requires between { place.within ≡ None }
+    requires operation { blob.is_operation op ≡ true }
+    requires parts { drop place.at bytes.now ≡ op ∷ behind.now }
+    ensures { Steps (Ok result) bytes.now place.at }
+{
+    match behind {
+        [] => Step::Cut(place),
+        [_, inside @ ..] => Step::On(Place {
+            kind: place.kind,
+            schema: place.schema,
+            within: Some(Within::new(alloc, place.kind, op)),
+            at: place_of(bytes.len(), inside),
+        }),
+    }
+}
+
+/// Goes on over a header of which the kind byte was read, where it is whole.
+fn over_header<A: AllocHandle>(
+    alloc: A,
+    bytes: &[u8],
+    place: Place<A>,
+    behind: &[u8],
+) -> Result<Step<A>, Fault<BlobFault>>
+    requires is { IsPlace bytes.now place }
+    requires between { place.within ≡ None }
+    requires parts { drop place.at bytes.now ≡ kind_byte place.kind ∷ behind.now }
+    ensures { Steps result bytes.now place.at }
+{
+    match past_header(alloc, bytes.len(), behind) {
+        Ok((schema, rest)) => Ok(Step::On(Place {
+            kind: place.kind,
+            schema,
+            within: None,
+            at: place_of(bytes.len(), rest),
+        })),
+        Err(fault) => {
+            if is_cut(&fault) {
+                return Ok(Step::Cut(place));
+            }
+            Err(fault)
         }
     }
 }
 
-/// The columns behind the next change or header, and what stands behind it. Its first byte was read, at `at`.
-fn past_part<'a, A: AllocHandle>(
+/// Goes on into the next change, or over the next header.
+fn next_place<A: AllocHandle>(
     alloc: A,
-    total: usize,
-    kind: Kind,
-    schema: &Schema<A>,
-    at: usize,
-    first: u8,
-    bytes: &'a [u8],
-) -> Result<(Schema<A>, &'a [u8]), Fault<BlobFault>>
-    ensures gives { Gives (λ x. (x.0, x.1.now)) result (part_at A kind total schema.now at first bytes.now) }
-    ensures behind { IfOk result (λ x. length x.1.now ≤ length bytes.now) }
+    bytes: &[u8],
+    place: Place<A>,
+) -> Result<Step<A>, Fault<BlobFault>>
+    requires is { IsPlace bytes.now place }
+    requires between { place.within ≡ None }
+    ensures { Steps result bytes.now place.at }
 {
-    if is_operation(first) {
-        return past_change(alloc, total, kind, schema, first, bytes);
+    let rest = &bytes[place.at..];
+    match rest {
+        [] => Ok(Step::Cut(place)),
+        [first, behind @ ..] => {
+            if is_operation(*first) {
+                return Ok(into_change(alloc, bytes, place, *first, behind));
+            }
+            if *first != place.kind.byte() {
+                return Err(Fault::Refused(wrong_kind(*first, place.at)));
+            }
+            over_header(alloc, bytes, place, behind)
+        }
     }
-    if first != kind.byte() {
-        return Err(Fault::Refused(wrong_kind(first, at)));
-    }
-    past_header(alloc, total, bytes)
 }
 
 /// Goes on from a place over what is whole of these bytes.
@@ -135,37 +182,14 @@ fn scan_from<A: AllocHandle>(
     requires { IsPlace bytes.now place }
     ensures { GoesTo result bytes.now }
 {
-    let total = bytes.len();
-    let kind = place.kind;
-    let mut schema = place.schema;
-    let mut rest = &bytes[place.at..];
-    while let [first, behind @ ..] = rest {
-        match past_part(
-            alloc,
-            total,
-            kind,
-            &schema,
-            place_of(total, rest),
-            *first,
-            behind,
-        ) {
-            Ok((columns, after)) => {
-                schema = columns;
-                rest = after;
-            }
-            Err(fault) => {
-                if is_cut(&fault) {
-                    break;
-                }
-                return Err(fault);
-            }
+    let mut place = past_fields(bytes, place)?;
+    while place.within.is_none() {
+        match next_place(alloc, bytes, place)? {
+            Step::On(next) => place = past_fields(bytes, next)?,
+            Step::Cut(last) => return Ok(last),
         }
     }
-    Ok(Place {
-        kind,
-        schema,
-        at: place_of(total, rest),
-    })
+    Ok(place)
 }
 
 /// The place behind the first header, where that is whole.
@@ -198,6 +222,7 @@ fn place_behind<A: AllocHandle>(
         Ok((schema, rest)) => Ok(Some(Place {
             kind,
             schema,
+            within: None,
             at: place_of(bytes.len(), rest),
         })),
         Err(fault) => {

@@ -1,3 +1,5 @@
+ghost use Rattle.std.specs.Prelude.{◌≤◌};
+
 use super::*;
 use cap_changes::PatchList;
 use cap_value::Fault;
@@ -16,6 +18,18 @@ const INSERT: [u8; 20] = [
 /// The patchset that updates that row to (1, 'y').
 const UPDATE_PATCH: [u8; 20] = [
     0x50, 2, 1, 0, 0x74, 0, 0x17, 0, 1, 0, 0, 0, 0, 0, 0, 0, 1, 3, 1, 0x79,
+];
+
+/// The changeset that inserts that row, updates it to (1, 'y') and deletes it.
+const CHANGES: [u8; 52] = [
+    0x54, 2, 1, 0, 0x74, 0, 0x12, 0, 1, 0, 0, 0, 0, 0, 0, 0, 1, 3, 1, 0x78, 0x17, 0, 1, 0, 0, 0, 0,
+    0, 0, 0, 1, 3, 1, 0x78, 0, 3, 1, 0x79, 0x09, 0, 1, 0, 0, 0, 0, 0, 0, 0, 1, 3, 1, 0x79,
+];
+
+/// The patchset that updates that row to (1, 'y') and deletes it.
+const PATCHES: [u8; 31] = [
+    0x50, 2, 1, 0, 0x74, 0, 0x17, 0, 1, 0, 0, 0, 0, 0, 0, 0, 1, 3, 1, 0x79, 0x09, 0, 1, 0, 0, 0, 0,
+    0, 0, 0, 1,
 ];
 
 fn is_insert(alloc: Global, blob: &Blob<Global>) -> Result<bool, Fail> {
@@ -44,6 +58,61 @@ fn byte_by_byte(rt: HostRuntime) -> Result<(), Fail> {
         decoder.feed(&[byte])?;
     }
     assert!(rt; is_insert(rt.alloc(), &decoder.finish()?)?);
+    Ok(())
+}
+
+// Whether these bytes, in pieces of this length, are read as what is written as the same bytes.
+fn reads_in_pieces(alloc: Global, bytes: &[u8], len: usize) -> Result<bool, Fail>
+    requires { 1 ≤ len }
+{
+    let mut decoder = Decoder::new(alloc);
+    for piece in bytes.chunks(len) {
+        decoder.feed(piece)?;
+    }
+    let written = match decoder.finish()? {
+        Blob::Changes(list) => write_changes(alloc, &list)?,
+        Blob::Patches(list) => write_patches(alloc, &list)?,
+    };
+    Ok(written.as_slice() == bytes)
+}
+
+#[test]
+fn pieces_of_every_length(rt: HostRuntime) -> Result<(), Fail> {
+    for len in 1..=CHANGES.len() {
+        assert!(rt; reads_in_pieces(rt.alloc(), &CHANGES, len)?);
+        assert!(rt; reads_in_pieces(rt.alloc(), &PATCHES, len)?);
+    }
+    Ok(())
+}
+
+// 2,000 blobs of 1,000 bytes in one change. It would not end in time if the change were looked at with each piece.
+#[test]
+fn a_long_change_in_short_pieces(rt: HostRuntime) -> Result<(), Fail> {
+    let mut bytes = Vec::new(rt.alloc());
+    bytes.extend_from_slice(&[0x54, 0x8f, 0x50, 1])?;
+    bytes.extend_from_slice(&[0; 1999])?;
+    bytes.extend_from_slice(&[0x74, 0, 0x12, 0])?;
+    for _column in 0..2000_usize {
+        bytes.extend_from_slice(&[4, 0x87, 0x68])?;
+        bytes.extend_from_slice(&[7; 1000])?;
+    }
+    assert!(rt; reads_in_pieces(rt.alloc(), &bytes, 7)?);
+    Ok(())
+}
+
+#[test]
+fn a_fault_inside_a_change(rt: HostRuntime) -> Result<(), Fail> {
+    let mut decoder = Decoder::new(rt.alloc());
+    for byte in CHANGES.get(..35).ok_or("short")? {
+        assert!(rt; decoder.feed(&[*byte]) == Ok(()));
+    }
+    // The old record of the UPDATE has that field, and its new record does not.
+    let fault = Err(Fault::Refused(BlobFault {
+        at: 35,
+        kind: FaultKind::BadRecord,
+    }));
+    assert!(rt; decoder.feed(&[0]) == fault);
+    assert!(rt; decoder.feed(&[3]) == fault);
     Ok(())
 }
 

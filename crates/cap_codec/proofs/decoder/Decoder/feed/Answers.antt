@@ -10,5 +10,5 @@ returns-in-Some-clause-answers g c =
 
 pub scan-requires : goal.scan-requires
 scan-requires g c =
-    looked_place g.row.A.Denot c.self.inside.bytes.items c.args.piece.now c.deref.result.now c.self.inside.place c.in_ok-place.place c.self.inside.fault
-    c.in_default.is c.in_ok-place.ensures (c.deref.ensures.value ∙ c.in_ok-extend_from_slice.ensures.items) c.self.invariant
+    looked_place g.row.A.Denot c.self.inside.bytes.items c.args.piece.now c.deref.result.now c.self.inside.place c.take-place.result c.self.inside.fault
+    c.in_default.is c.take-place.ensures.value (c.deref.ensures.value ∙ c.in_ok-extend_from_slice.ensures.items) c.self.invariant

@@ -1,0 +1,27 @@
+//! The kinds of groups.
+
+ghost use Rattle.std.specs.Prelude.{◌≡◌};
+ghost use Rattle.cap_codec.specs.Pieces.{kind_byte};
+
+use crate::write::{CHANGESET, PATCHSET};
+
+/// Whether groups are of a changeset or of a patchset.
+#[derive(Clone, Copy)]
+pub enum Kind {
+    /// Of a changeset.
+    Changes,
+    /// Of a patchset.
+    Patches,
+}
+
+impl Kind {
+    /// The byte that begins a group of this kind.
+    pub fn byte(self) -> u8
+        ensures { result ≡ kind_byte self }
+    {
+        match self {
+            Kind::Changes => CHANGESET,
+            Kind::Patches => PATCHSET,
+        }
+    }
+}
