@@ -70,7 +70,8 @@ pub fn take_record<'a, A: AllocHandle>(
     ensures gives { Gives (λ x. (x.0, x.1.now)) result (record_at total (demands rule flags.now) bytes.now) }
     ensures behind { IfOk result (λ x. length x.1.now ≤ length bytes.now) }
 {
-    let mut fields = Vec::new(alloc);
+    // No more than there are bytes, so that a header alone takes no memory.
+    let mut fields = Vec::with_capacity(alloc, flags.len().min(bytes.len()))?;
     let mut rest = bytes;
     for key in flags {
         let (field, after) = take_field::<A>(total, rule.demand(*key), rest)?;
@@ -92,7 +93,7 @@ pub fn take_new_record<'a, A: AllocHandle>(
     ensures gives { Gives (λ x. (x.0, x.1.now)) result (record_at total (new_demands flags.now old.now) bytes.now) }
     ensures behind { IfOk result (λ x. length x.1.now ≤ length bytes.now) }
 {
-    let mut fields = Vec::new(alloc);
+    let mut fields = Vec::with_capacity(alloc, flags.len().min(bytes.len()))?;
     let mut rest = bytes;
     for (column, key) in flags.iter().enumerate() {
         let (field, after) = take_field::<A>(total, demand_beside(*key, &old[column]), rest)?;

@@ -5,7 +5,7 @@ use Rattle.cap_codec.proofs.record.take_new_record.Goals as goal
 
 pub returns-in_err-field-clause-gives : goal.returns-in_err-field-clause-gives
 returns-in_err-field-clause-gives g c =
-    let p = err_from_is_err_and c.from_residual.result c.from_residual.ensures.1 in
+    let p = err_from_is_err_and c.from_residual-in_err-field.result c.from_residual-in_err-field.ensures.1 in
     rw (p.1, p.2) (field_fails c.loop-column.fields.items c.args.total c.demand_beside.result _ _ c.loop-column.rest.now c.in_err-field.field-0.0 _ (new_demands-cons c.args.flags.now c.args.old.now c.loop-column.column c.demand_beside.result c.index-old-column.result c.loop-column-test.true (omega arith) c.index-old-column.is c.demand_beside.ensures) c.in_err-field.ensures.reads c.loop-column.invariant.read)
 
 pub loop-column-preserved : goal.loop-column-preserved

@@ -5,7 +5,7 @@ use Rattle.cap_codec.proofs.record.take_record.Goals as goal
 
 pub returns-in_err-field-clause-gives : goal.returns-in_err-field-clause-gives
 returns-in_err-field-clause-gives g c =
-    let p = err_from_is_err_and c.from_residual.result c.from_residual.ensures.1 in
+    let p = err_from_is_err_and c.from_residual-in_err-field.result c.from_residual-in_err-field.ensures.1 in
     rw (p.1, p.2) (field_fails c.loop-key.fields.items c.args.total c.demand.result _ _ c.loop-key.rest.now c.in_err-field.field-0.0 _ (demands-cons c.args.rule c.args.flags.now c.loop-key.key-index c.demand.result c.loop-key-test.true c.demand.ensures) c.in_err-field.ensures.reads c.loop-key.invariant.read)
 
 pub loop-key-preserved : goal.loop-key-preserved
