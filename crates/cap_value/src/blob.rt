@@ -4,7 +4,7 @@ ghost use Rattle.cap_value.specs.Memory.{AnswersUnlessMemory};
 ghost use Rattle.cap_value.specs.Bytes.{AreBytes, within_limit};
 
 use crate::text::BYTES_MAX;
-use crate::{AllocHandle, Fault, OutOfMemory, Refusal};
+use crate::{AllocHandle, Exact, Fault, OutOfMemory, Refusal};
 use std::fmt::{self, Debug, Formatter, Write};
 use std::marker::Model;
 use std::sync::ArcSlice;
@@ -73,4 +73,19 @@ impl<A: AllocHandle> Debug for Blob<A> {
     fn fmt<W: Write>(&self, f: &mut Formatter<W>) -> fmt::Result {
         Debug::fmt(&self.as_slice(), f)
     }
+}
+
+/// The same blob, which shares its bytes.
+impl<A: AllocHandle> Clone for Blob<A> {
+    ghost use Rattle.std.specs.Prelude.{◌≡◌};
+
+    ghost is_clone = { λ blob clone. clone ≡ blob };
+
+    fn clone(&self) -> Result<Self, OutOfMemory> {
+        self.copy()
+    }
+}
+
+impl<A: AllocHandle> Exact for Blob<A> {
+    ghost exact = { λ blob clone same. same };
 }

@@ -2,6 +2,7 @@
 #![tactic(auto)]
 
 mod blob;
+mod exact;
 mod memory;
 mod name;
 mod refusal;
@@ -11,6 +12,7 @@ mod text;
 mod value;
 
 pub use blob::Blob;
+pub use exact::Exact;
 pub use memory::{AllocHandle, Fault, OutOfMemory};
 pub use name::{NAME_MAX, Name};
 pub use refusal::Refusal;

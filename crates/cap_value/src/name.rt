@@ -3,7 +3,7 @@ ghost use Rattle.cap_value.specs.Memory.{AnswersUnlessMemory};
 ghost use Rattle.cap_value.specs.Bytes.{AreBytes, name_of, is_name, bytes_cmp, bytes_eq};
 
 use crate::blob::are_bytes;
-use crate::{AllocHandle, Fault, OutOfMemory, Refusal};
+use crate::{AllocHandle, Exact, Fault, OutOfMemory, Refusal};
 use std::cmp::Ordering;
 use std::fmt::{self, Debug, Formatter, Write};
 use std::hash::{Hash, Hasher};
@@ -160,4 +160,19 @@ impl<A: AllocHandle> Debug for Name<A> {
     fn fmt<W: Write>(&self, f: &mut Formatter<W>) -> fmt::Result {
         Debug::fmt(&self.as_str(), f)
     }
+}
+
+/// The same name, which shares its bytes.
+impl<A: AllocHandle> Clone for Name<A> {
+    ghost use Rattle.std.specs.Prelude.{◌≡◌};
+
+    ghost is_clone = { λ name clone. clone ≡ name };
+
+    fn clone(&self) -> Result<Self, OutOfMemory> {
+        self.copy()
+    }
+}
+
+impl<A: AllocHandle> Exact for Name<A> {
+    ghost exact = { λ name clone same. same };
 }

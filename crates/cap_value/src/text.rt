@@ -3,7 +3,7 @@ ghost use Rattle.cap_value.specs.Memory.{AnswersUnlessMemory};
 ghost use Rattle.cap_value.specs.Bytes.{AreBytes, within_limit};
 
 use crate::blob::are_bytes;
-use crate::{AllocHandle, Fault, OutOfMemory, Refusal};
+use crate::{AllocHandle, Exact, Fault, OutOfMemory, Refusal};
 use std::cmp::Ordering;
 use std::fmt::{self, Debug, Formatter, Write};
 use std::marker::Model;
@@ -70,4 +70,19 @@ impl<A: AllocHandle> Debug for Text<A> {
     fn fmt<W: Write>(&self, f: &mut Formatter<W>) -> fmt::Result {
         Debug::fmt(&self.as_str(), f)
     }
+}
+
+/// The same text, which shares its bytes.
+impl<A: AllocHandle> Clone for Text<A> {
+    ghost use Rattle.std.specs.Prelude.{◌≡◌};
+
+    ghost is_clone = { λ text clone. clone ≡ text };
+
+    fn clone(&self) -> Result<Self, OutOfMemory> {
+        self.copy()
+    }
+}
+
+impl<A: AllocHandle> Exact for Text<A> {
+    ghost exact = { λ text clone same. same };
 }

@@ -1,7 +1,7 @@
 ghost use Rattle.std.specs.Prelude.{◌≡◌, ◌↔◌, List, ℕ, IfOk, IsTrue};
 ghost use Rattle.cap_value.specs.Memory.{AnswersUnlessMemory};
 
-use crate::{AllocHandle, Blob, Fault, OutOfMemory, Refusal, Text};
+use crate::{AllocHandle, Blob, Exact, Fault, OutOfMemory, Refusal, Text};
 use std::cmp::Ordering;
 
 /// A value of a row: SQLite's storage classes without REAL (Datatypes In SQLite, "Storage Classes and Datatypes").
@@ -168,4 +168,19 @@ impl<A: AllocHandle> Default for Value<A> {
     fn default() -> Self {
         Value::Null
     }
+}
+
+/// The same value, which shares its bytes.
+impl<A: AllocHandle> Clone for Value<A> {
+    ghost use Rattle.std.specs.Prelude.{◌≡◌};
+
+    ghost is_clone = { λ value clone. clone ≡ value };
+
+    fn clone(&self) -> Result<Self, OutOfMemory> {
+        self.copy()
+    }
+}
+
+impl<A: AllocHandle> Exact for Value<A> {
+    ghost exact = { λ value clone same. same };
 }
