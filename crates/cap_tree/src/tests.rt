@@ -3,10 +3,10 @@ use linked_list_allocator::LocalHeap;
 use std::alloc::{AllocError, Allocator, Global};
 use std::test::Fail;
 
-type Numbers<A> = Tree<u32, u32, A>;
+type Numbers<A> = Tree<u64, u64, A>;
 
 // The numbers from 1 up to `count`, each with ten times itself.
-fn rising<A: Allocator + Copy>(alloc: A, count: u32) -> Result<Numbers<A>, AllocError> {
+fn rising<A: Allocator + Copy>(alloc: A, count: u64) -> Result<Numbers<A>, AllocError> {
     let mut tree = Tree::empty(alloc);
     for n in 1..=count {
         tree = tree.put(n, n.wrapping_mul(10))?;
@@ -15,7 +15,7 @@ fn rising<A: Allocator + Copy>(alloc: A, count: u32) -> Result<Numbers<A>, Alloc
 }
 
 // Whether the tree has just those numbers.
-fn is_rising<A: Allocator + Copy>(tree: &Numbers<A>, count: u32) -> bool {
+fn is_rising<A: Allocator + Copy>(tree: &Numbers<A>, count: u64) -> bool {
     tree.len() == count as usize
         && tree.iter().zip(1..=count).all(|((key, value), n)| *key == n
             && *value == n.wrapping_mul(10))
@@ -25,7 +25,7 @@ fn is_rising<A: Allocator + Copy>(tree: &Numbers<A>, count: u32) -> bool {
 fn even_numbers_taken_beside_a_snapshot(rt: HostRuntime) -> Result<(), Fail> {
     let mut tree = rising(rt.alloc(), 1000)?;
     let snapshot = tree.snapshot()?;
-    for n in 1..=500u32 {
+    for n in 1..=500u64 {
         tree = tree.take(&(n * 2))?;
     }
     assert_eq!(rt; tree.len(), 500);
@@ -44,31 +44,27 @@ fn each_call_succeeds_with_ample_memory(rt: HostRuntime) -> Result<(), Fail> {
     let tree: Numbers<Global> = Tree::empty(rt.alloc());
     assert!(rt; tree.is_empty() && tree.height() == 0);
     assert_eq!(rt; tree.iter().next(), None);
-    let (tree, replaced) = tree.replace(7, 70)?;
-    assert_eq!(rt; replaced, None);
-    let (next, replaced) = tree.replace(7, 71)?;
-    assert_eq!(rt; replaced, Some(&70));
-    assert_eq!(rt; next.get(&7), Some(&71));
-    let (rest, removed) = next.remove(&7)?;
-    assert_eq!(rt; removed, Some(&71));
-    assert!(rt; rest.is_empty());
-    let (rest, removed) = next.remove(&8)?;
-    assert_eq!(rt; removed, None);
-    assert_eq!(rt; rest.len(), 1);
+    let mut tree = tree.put(7, 70)?;
+    assert_eq!(rt; tree.insert(7, 71)?, Some(70));
+    assert_eq!(rt; tree.insert(8, 80)?, None);
+    assert_eq!(rt; tree.get(&7), Some(&71));
+    assert_eq!(rt; tree.remove(&7)?, Some(71));
+    assert_eq!(rt; tree.remove(&7)?, None);
+    assert_eq!(rt; tree.len(), 1);
     Ok(())
 }
 
 #[test]
 fn a_tree_of_a_sorted_list(rt: HostRuntime) -> Result<(), Fail> {
-    for count in [0u32, 1, 2, 3, 100, 1000] {
-        let entries: Vec<(u32, u32)> = (1..=count)
+    for count in [0u64, 1, 2, 3, 100, 1000] {
+        let entries: Vec<(u64, u64)> = (1..=count)
             .map(|n| (n, n.wrapping_mul(10)))
             .collect(rt.alloc())?;
         let Some(tree) = Tree::from_sorted(rt.alloc(), entries)? else {
             return Err(Fail::from("a rising list is refused"));
         };
         assert!(rt; is_rising(&tree, count));
-        assert_eq!(rt; tree.height(), u64::from(u32::BITS - count.leading_zeros()));
+        assert_eq!(rt; tree.height(), u64::from(u64::BITS - count.leading_zeros()));
     }
     let twice = vec![in rt.alloc(); (1, 10), (2, 20), (2, 30)]?;
     assert!(rt; Tree::from_sorted(rt.alloc(), twice)?.is_none());

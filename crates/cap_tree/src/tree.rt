@@ -1,5 +1,5 @@
 //! The tree, seen as the list of its entries in the order of their keys.
-ghost use Rattle.std.specs.Prelude.{◌≡◌, ℕ, ◌+◌, ◌-◌, ◌*◌, ◌^◌, ◌<◌, ◌≤◌, [], ◌++◌, length, slice_get, IfNone, IfSome, IsTrue, IsSome, IfOk, None, Some, is_some, if◌then◌else◌, ◌↔◌};
+ghost use Rattle.std.specs.Prelude.{◌≡◌, ℕ, ◌+◌, ◌-◌, ◌*◌, ◌^◌, ◌<◌, ◌≤◌, [], ◌++◌, length, slice_get, IfNone, IfSome, IsTrue, IsSome, IfOk, OnOk, OnErr, None, Some, is_some, if◌then◌else◌, ◌↔◌};
 ghost use Rattle.std.specs.Option.{option_copied};
 ghost use Rattle.std.specs.List.{All};
 ghost use Rattle.std.specs.BTreeMap.Range.{entries_below, entries_from};
@@ -12,6 +12,7 @@ use crate::find::{find, first, last};
 use crate::iter::Iter;
 use crate::put::put;
 use crate::take::take;
+use cap_value::{AllocHandle, Exact, OutOfMemory};
 use std::alloc::{AllocError, Allocator};
 use std::marker::Model;
 use std::sync::Arc;
@@ -160,10 +161,8 @@ impl<'a, K: Ord, V, A: Allocator + Copy> IntoIterator for &'a Tree<K, V, A> {
 }
 
 impl<K: Ord + Drop, V: Drop, A: Allocator + Copy> Tree<K, V, A> {
-    /// A tree that has the value at the key, and the value that this tree has there. It searches once.
-    ///
-    /// An entry whose key is equal gives way to the new entry, key and all.
-    pub fn replace(&self, key: K, value: V) -> Result<(Self, Option<&V>), AllocError>
+    // A tree that has the value at the key, and the value that this tree has there. It searches once.
+    fn put_shared(&self, key: K, value: V) -> Result<(Self, Option<&V>), AllocError>
         ensures entries { IfOk result (λ r. r.0 ≡ put_entry K.cmp self.now key value) }
         ensures replaced { IfOk result (λ r. option_copied r.1 ≡ get K.cmp self.now key) }
         ensures updates { IfOk result (λ r. Updates K.cmp self.now r.0 key (Some value)) }
@@ -182,10 +181,8 @@ impl<K: Ord + Drop, V: Drop, A: Allocator + Copy> Tree<K, V, A> {
         Ok((whole, replaced))
     }
 
-    /// A tree without the entry at the key, and the value of that entry. It searches once.
-    ///
-    /// Where no key is equal the new tree has the same entries.
-    pub fn remove(&self, key: &K) -> Result<(Self, Option<&V>), AllocError>
+    // A tree without the entry at the key, and the value of that entry. It searches once.
+    fn take_shared(&self, key: &K) -> Result<(Self, Option<&V>), AllocError>
         ensures entries { IfOk result (λ r. r.0 ≡ take_entry K.cmp self.now key.now) }
         ensures removed { IfOk result (λ r. option_copied r.1 ≡ get K.cmp self.now key.now) }
         ensures updates { IfOk result (λ r. Updates K.cmp self.now r.0 key.now None) }
@@ -213,7 +210,7 @@ impl<K: Ord + Drop, V: Drop, A: Allocator + Copy> Tree<K, V, A> {
         ensures len { IfOk result (λ t. length t + (if is_some (get K.cmp self.now key.now) then 1 else 0) ≡ length self.now) }
         ensures ordered { IfOk result (λ t. IsOrdered K.cmp t) }
     {
-        let (rest, _) = self.remove(key)?;
+        let (rest, _) = self.take_shared(key)?;
         Ok(rest)
     }
 
@@ -226,7 +223,7 @@ impl<K: Ord + Drop, V: Drop, A: Allocator + Copy> Tree<K, V, A> {
         ensures len { IfOk result (λ t. length t ≡ length self.now + (if is_some (get K.cmp self.now key) then 0 else 1)) }
         ensures ordered { IfOk result (λ t. IsOrdered K.cmp t) }
     {
-        let (whole, _) = self.replace(key, value)?;
+        let (whole, _) = self.put_shared(key, value)?;
         Ok(whole)
     }
 
@@ -243,5 +240,51 @@ impl<K: Ord + Drop, V: Drop, A: Allocator + Copy> Tree<K, V, A> {
         let count = entries.len();
         let root = build(alloc, &mut entries, count)?;
         Ok(Some(Tree { alloc, root }))
+    }
+}
+
+impl<K: Ord + Drop, V: Exact + Drop, A: AllocHandle> Tree<K, V, A> {
+    /// Puts the value at the key, and answers the value that was there. It searches once.
+    ///
+    /// An entry whose key is equal gives way to the new entry, key and all. `OutOfMemory` leaves the tree as it was.
+    pub fn insert(&mut self, key: K, value: V) -> Result<Option<V>, OutOfMemory>
+        ensures err { OnErr result (self.new ≡ self.old) }
+        ensures ok { OnOk result (self.new ≡ put_entry K.cmp self.old key value) }
+        ensures replaced { IfOk result (λ o. o ≡ get K.cmp self.old key) }
+        ensures updates { OnOk result (Updates K.cmp self.old self.new key (Some value)) }
+        ensures len { IfOk result (λ o. length self.new ≡ length self.old + (if is_some o then 0 else 1)) }
+        ensures ordered { OnOk result (IsOrdered K.cmp self.new) }
+    {
+        let (whole, replaced) = self.put_shared(key, value)?;
+        let replaced = copy_of(replaced)?;
+        *self = whole;
+        Ok(replaced)
+    }
+
+    /// Takes the entry at the key out, if there is one, and answers its value. It searches once.
+    ///
+    /// `OutOfMemory` leaves the tree as it was.
+    pub fn remove(&mut self, key: &K) -> Result<Option<V>, OutOfMemory>
+        ensures err { OnErr result (self.new ≡ self.old) }
+        ensures ok { OnOk result (self.new ≡ take_entry K.cmp self.old key.now) }
+        ensures removed { IfOk result (λ o. o ≡ get K.cmp self.old key.now) }
+        ensures updates { OnOk result (Updates K.cmp self.old self.new key.now None) }
+        ensures len { IfOk result (λ o. length self.new + (if is_some o then 1 else 0) ≡ length self.old) }
+        ensures ordered { OnOk result (IsOrdered K.cmp self.new) }
+    {
+        let (rest, removed) = self.take_shared(key)?;
+        let removed = copy_of(removed)?;
+        *self = rest;
+        Ok(removed)
+    }
+}
+
+// The value, once more.
+fn copy_of<V: Exact>(value: Option<&V>) -> Result<Option<V>, OutOfMemory>
+    ensures { IfOk result (λ copy. copy ≡ option_copied value.entry) }
+{
+    match value {
+        None => Ok(None),
+        Some(value) => Ok(Some(value.clone()?)),
     }
 }

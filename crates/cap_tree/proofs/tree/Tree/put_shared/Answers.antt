@@ -2,7 +2,7 @@ use Rattle.std.proofs.Common.{◌≡◌, ◌+◌, length, cond, ap, sym, ◌∙�
 use Rattle.std.specs.Option.{is_some, option_copied}
 use Rattle.cap_tree.specs.Tree.{IsOrdered}
 use Rattle.cap_tree.proofs.EntryLemmas.{ordered_put, put_entry-Updates, length-put_entry, is_some-option_copied}
-use Rattle.cap_tree.proofs.tree.Tree.replace.Goals as goal
+use Rattle.cap_tree.proofs.tree.Tree.put_shared.Goals as goal
 
 pub invariant_of-whole : goal.invariant_of-whole
 invariant_of-whole g c = rw c.in_ok-root.ensures.pairs (ordered_put g.K.Ord.cmp g.met.K.Ord.total _ _ _ c.self.invariant)

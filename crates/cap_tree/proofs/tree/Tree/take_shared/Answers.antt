@@ -2,7 +2,7 @@ use Rattle.std.proofs.Common.{◌≡◌, ◌+◌, length, cond, ap, sym, subst, 
 use Rattle.std.specs.Option.{is_some}
 use Rattle.cap_tree.specs.Tree.{IsOrdered, Updates, take_entry}
 use Rattle.cap_tree.proofs.EntryLemmas.{ordered_take, take_entry-Updates, take_entry-absent, length-take_entry}
-use Rattle.cap_tree.proofs.tree.Tree.remove.Goals as goal
+use Rattle.cap_tree.proofs.tree.Tree.take_shared.Goals as goal
 
 pub invariant_of-rest : goal.invariant_of-rest
 invariant_of-rest g c =
