@@ -6,7 +6,8 @@ use Rattle.std.specs.declared.cmp.Ordering.{Ordering}
 use Rattle.std.specs.declared.cmp.Ordering.TheVariants.{Equal}
 use Rattle.std.specs.Ordering.{is_eq}
 use Rattle.std.specs.FinMap.{slice_cmp-IsAntisymmetric}
-use Rattle.std.specs.Cmp.{IsTotalOrder, tied_itself}
+use Rattle.std.specs.Bool.{Decides}
+use Rattle.std.specs.Cmp.{IsTotalOrder, Equal-is, tied_itself}
 use Rattle.std.specs.Cmp.Lexicographic.{slice_cmp, lists_total}
 use Rattle.cap_value.specs.Value.{value_cmp, value_cmp_total, value_cmp-IsAntisymmetric, is_null}
 use Rattle.cap_row.specs.Fields.{Fields}
@@ -43,3 +44,7 @@ module _ {A : Type 0} where
   -- the order tells different keys apart
   pub fields_cmp-Equal : (a b : Fields A) → (fields_cmp a b ≡ Equal) ↔ (a ≡ b)
   fields_cmp-Equal a b = (slice_cmp-IsAntisymmetric value_cmp-IsAntisymmetric a b, λ e. subst (λ c. fields_cmp a c ≡ Equal) e (tied_itself fields_cmp_total a))
+
+  pub fields_eq_decides : (a b : Fields A) → Decides (fields_eq a b) (a ≡ b)
+  fields_eq_decides a b =
+      (λ e. (fields_cmp-Equal a b).0 ((Equal-is (fields_cmp a b)).0 e), λ e. (Equal-is (fields_cmp a b)).1 ((fields_cmp-Equal a b).1 e))

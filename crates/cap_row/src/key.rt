@@ -4,7 +4,7 @@ ghost use Rattle.cap_value.specs.Value.{IsValue};
 ghost use Rattle.cap_row.specs.Key.{key_from, key_fields, key_of, fields_cmp, is_key};
 
 use crate::{Row, Schema};
-use cap_value::{AllocHandle, OutOfMemory, Value};
+use cap_value::{AllocHandle, Exact, OutOfMemory, Value};
 use smallvec::SmallVec;
 use std::cmp::Ordering;
 use std::fmt::{self, Debug, Formatter, Write};
@@ -202,4 +202,19 @@ impl<A: AllocHandle> Debug for Key<A> {
     fn fmt<W: Write>(&self, f: &mut Formatter<W>) -> fmt::Result {
         f.debug_tuple("Key").field(&self.fields()).finish()
     }
+}
+
+/// The same key, which shares its values.
+impl<A: AllocHandle> Clone for Key<A> {
+    ghost use Rattle.std.specs.Prelude.{◌≡◌};
+
+    ghost is_clone = { λ key clone. clone ≡ key };
+
+    fn clone(&self) -> Result<Self, OutOfMemory> {
+        self.copy()
+    }
+}
+
+impl<A: AllocHandle> Exact for Key<A> {
+    ghost exact = { λ key clone same. same };
 }

@@ -5,7 +5,7 @@ ghost use Rattle.cap_value.specs.Value.{IsValue};
 ghost use Rattle.cap_row.specs.Row.{are_columns, columns_of, row_with, with_fields};
 
 use crate::{COLUMNS_MAX, Schema};
-use cap_value::{AllocHandle, Fault, OutOfMemory, Refusal, Value};
+use cap_value::{AllocHandle, Exact, Fault, OutOfMemory, Refusal, Value};
 use std::fmt::{self, Debug, Formatter, Write};
 use std::marker::Model;
 use std::sync::ArcSlice;
@@ -83,7 +83,7 @@ impl<A: AllocHandle> Row<A> {
     pub fn same(&self, other: &Self) -> bool
         ensures { IsTrue result ↔ (self.now ≡ other.now) }
     {
-        self.fields() == other.fields()
+        self == other
     }
 
     /// The same row, which shares its values.
@@ -140,4 +140,40 @@ fn set<A: AllocHandle>(
         values[*column] = value.copy()?;
     }
     Ok(())
+}
+
+/// The same row, which shares its values.
+impl<A: AllocHandle> Clone for Row<A> {
+    ghost use Rattle.std.specs.Prelude.{◌≡◌};
+
+    ghost is_clone = { λ row clone. clone ≡ row };
+
+    fn clone(&self) -> Result<Self, OutOfMemory> {
+        self.copy()
+    }
+}
+
+impl<A: AllocHandle> Exact for Row<A> {
+    ghost exact = { λ row clone same. same };
+}
+
+/// Value by value.
+impl<A: AllocHandle> PartialEq for Row<A> {
+    ghost use Rattle.std.specs.Cmp.{eq_by_cmp_equiv, partial_equiv_from_equiv};
+    ghost use Rattle.cap_row.specs.Key.{fields_eq, fields_cmp_total};
+
+    ghost eq = { fields_eq };
+
+    ghost laws = { partial_equiv_from_equiv (eq_by_cmp_equiv fields_cmp_total) };
+
+    fn eq(&self, other: &Self) -> bool {
+        self.fields().cmp(other.fields()).is_eq()
+    }
+}
+
+impl<A: AllocHandle> Eq for Row<A> {
+    ghost use Rattle.std.specs.Cmp.{eq_by_cmp_equiv};
+    ghost use Rattle.cap_row.specs.Key.{fields_cmp_total};
+
+    ghost laws = { eq_by_cmp_equiv fields_cmp_total };
 }

@@ -3,7 +3,7 @@ ghost use Rattle.std.specs.List.{list_any};
 ghost use Rattle.cap_value.specs.Memory.{AnswersUnlessMemory};
 ghost use Rattle.cap_row.specs.Schema.{schema_of, has_key};
 
-use cap_value::{AllocHandle, Fault, OutOfMemory, Refusal};
+use cap_value::{AllocHandle, Exact, Fault, OutOfMemory, Refusal};
 use std::fmt::{self, Debug, Formatter, Write};
 use std::marker::Model;
 use std::sync::ArcSlice;
@@ -80,7 +80,7 @@ impl<A: AllocHandle> Schema<A> {
     pub fn same(&self, other: &Self) -> bool
         ensures { IsTrue result ↔ (self.now ≡ other.now) }
     {
-        self.flags() == other.flags()
+        self == other
     }
 
     /// The same schema, which shares its flags.
@@ -97,4 +97,41 @@ impl<A: AllocHandle> Debug for Schema<A> {
     fn fmt<W: Write>(&self, f: &mut Formatter<W>) -> fmt::Result {
         f.debug_tuple("Schema").field(&self.flags()).finish()
     }
+}
+
+/// The same schema, which shares its flags.
+impl<A: AllocHandle> Clone for Schema<A> {
+    ghost use Rattle.std.specs.Prelude.{◌≡◌};
+
+    ghost is_clone = { λ schema clone. clone ≡ schema };
+
+    fn clone(&self) -> Result<Self, OutOfMemory> {
+        self.copy()
+    }
+}
+
+impl<A: AllocHandle> Exact for Schema<A> {
+    ghost exact = { λ schema clone same. same };
+}
+
+/// Column by column.
+impl<A: AllocHandle> PartialEq for Schema<A> {
+    ghost use Rattle.std.specs.Cmp.{bool_eq_equiv, partial_equiv_from_equiv};
+    ghost use Rattle.std.specs.Cmp.Lexicographic.{lists_equiv};
+    ghost use Rattle.cap_row.specs.Schema.{flags_eq};
+
+    ghost eq = { flags_eq };
+
+    ghost laws = { partial_equiv_from_equiv (lists_equiv bool_eq_equiv) };
+
+    fn eq(&self, other: &Self) -> bool {
+        self.flags() == other.flags()
+    }
+}
+
+impl<A: AllocHandle> Eq for Schema<A> {
+    ghost use Rattle.std.specs.Cmp.{bool_eq_equiv};
+    ghost use Rattle.std.specs.Cmp.Lexicographic.{lists_equiv};
+
+    ghost laws = { lists_equiv bool_eq_equiv };
 }
