@@ -9,32 +9,48 @@ use smallvec::SmallVec;
 use std::cmp::Ordering;
 use std::fmt::{self, Debug, Formatter, Write};
 use std::marker::Model;
+use std::slice;
 use std::sync::Arc;
 
-// Two values fit inline, so that most keys are one allocation.
-type Values<A> = SmallVec<Value<A>, 2, A>;
+// Two values fit inline, so that most keys of several columns are one allocation.
+type Several<A> = SmallVec<Value<A>, 2, A>;
 
 /// A primary key: the values of a row's key columns, in column order, none of them NULL. Copies share the values.
 pub struct Key<A: AllocHandle> {
-    fields: Arc<Values<A>, A>,
+    values: Values<A>,
+}
+
+// One value takes no memory of its own.
+pub(crate) enum Values<A: AllocHandle> {
+    One(Value<A>),
+    Many(Arc<Several<A>, A>),
 }
 
 impl<A: AllocHandle> Model for Key<A> {
     ghost use Rattle.cap_row.specs.Fields.{Fields};
     ghost use Rattle.cap_row.specs.Key.{is_key};
+    ghost use Rattle.cap_row.specs.Values.{values_of};
     ghost use Rattle.std.specs.Prelude.{IsTrue};
-    ghost use Rattle.std.specs.Arc.{arc_value};
 
     ghost Value = { Fields A };
 
-    ghost view = { λ k. (arc_value k.fields).items };
+    ghost view = { λ k. values_of k.values };
 
-    ghost invariant = { λ k. IsTrue (is_key (arc_value k.fields).items) };
+    ghost invariant = { λ k. IsTrue (is_key (values_of k.values)) };
+}
+
+impl<A: AllocHandle> Drop for Values<A> {
+    fn drop(self) {
+        match self {
+            Values::One(_) => {}
+            Values::Many(_) => {}
+        }
+    }
 }
 
 impl<A: AllocHandle> Drop for Key<A> {
     fn drop(self) {
-        let Key { fields: _ } = self;
+        let Key { values: _ } = self;
     }
 }
 
@@ -48,15 +64,33 @@ impl<A: AllocHandle> Key<A> {
         Key::of_values(alloc, values)
     }
 
-    fn of_values(alloc: A, values: Values<A>) -> Result<Option<Self>, OutOfMemory>
+    fn of_values(alloc: A, values: Several<A>) -> Result<Option<Self>, OutOfMemory>
         ensures { IfOk result (λ key. key ≡ key_from values.items) }
     {
         if !is_key(values.as_slice()) {
             return Ok(None);
         }
+        if values.len() == 1 {
+            return Ok(Some(Key::of_value(values)));
+        }
         match Arc::new(alloc, values) {
-            Ok(fields) => Ok(Some(Key { fields })),
+            Ok(values) => Ok(Some(Key {
+                values: Values::Many(values),
+            })),
             Err(_) => Err(OutOfMemory),
+        }
+    }
+
+    fn of_value(mut values: Several<A>) -> Self
+        requires one { length values.items ≡ 1 }
+        requires key { IsTrue (is_key values.items) }
+        ensures { result ≡ values.items }
+    {
+        let Some(only) = values.pop() else {
+            unreachable!()
+        };
+        Key {
+            values: Values::One(only),
         }
     }
 
@@ -65,7 +99,10 @@ impl<A: AllocHandle> Key<A> {
         ensures fields { result.now ≡ self.now }
         ensures key { IsTrue (is_key self.now) }
     {
-        self.fields.as_slice()
+        match &self.values {
+            Values::One(value) => slice::from_ref(value),
+            Values::Many(values) => values.as_slice(),
+        }
     }
 
     /// The value in a place of the key, counted from 0, or none past its end.
@@ -90,23 +127,28 @@ impl<A: AllocHandle> Key<A> {
         ensures order { result ≡ fields_cmp self.now other.now }
         ensures equal { (result ≡ Ordering.Equal) ↔ (self.now ≡ other.now) }
     {
-        self.fields().cmp(other.fields())
+        match (&self.values, &other.values) {
+            (Values::One(value), Values::One(against)) => value.order(against),
+            _ => self.fields().cmp(other.fields()),
+        }
     }
 
     /// Whether both are the same key.
     pub fn same(&self, other: &Self) -> bool
         ensures { IsTrue result ↔ (self.now ≡ other.now) }
     {
-        self.fields() == other.fields()
+        self == other
     }
 
     /// The same key, which shares its values.
     pub fn copy(&self) -> Result<Self, OutOfMemory>
         ensures { IfOk result (λ copy. copy ≡ self.now) }
     {
-        Ok(Key {
-            fields: Arc::try_clone(&self.fields)?,
-        })
+        let values = match &self.values {
+            Values::One(value) => Values::One(value.copy()?),
+            Values::Many(values) => Values::Many(Arc::try_clone(values)?),
+        };
+        Ok(Key { values })
     }
 }
 
@@ -133,7 +175,7 @@ fn key_values<A: AllocHandle>(
     alloc: A,
     flags: &[bool],
     fields: &[Value<A>],
-) -> Result<Values<A>, OutOfMemory>
+) -> Result<Several<A>, OutOfMemory>
     requires { length flags.now ≡ length fields.now }
     ensures { IfOk result (λ values. values.items ≡ key_fields flags.now fields.now) }
 {

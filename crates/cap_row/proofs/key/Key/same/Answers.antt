@@ -1,6 +1,5 @@
-use Rattle.std.proofs.lemmas.Slice.Eq.{slice_eq-Decides}
-use Rattle.cap_value.specs.Value.{value_eq_decides}
+use Rattle.cap_row.specs.Key.{fields_eq_decides}
 use Rattle.cap_row.proofs.key.Key.same.Goals as goal
 
 pub returns : goal.returns
-returns g c = rw (← c.fields.ensures.fields, ← c.fields-2.ensures.fields) (slice_eq-Decides value_eq_decides _ _ _ c.eq.ensures)
+returns g c = rw c.eq.ensures (fields_eq_decides c.args.self.now c.args.other.now)
