@@ -15,11 +15,11 @@ run:
 build:
 	cd crates/changecap && rt run -- run < stdin
 
-# Every proof from nothing, every must-fail edit, every test, and then the examples through the optimised program.
-# The last line counts them all.
+# Every proof from nothing, every must-fail edit, every test, and then the examples through the optimised program. What
+# each crate cost stands before the last line, which counts them all.
 test:
 	@log=$$(mktemp) && trap 'rm -f "$$log"' EXIT && \
-	rt ci 2>&1 | tee "$$log" && proofs=$$(tail -n 1 "$$log") && \
+	.ci/gate 2>&1 | tee "$$log" && proofs=$$(tail -n 1 "$$log") && \
 	examples/check $(PROGRAM) | tee "$$log" && examples=$$(tail -n 1 "$$log") && \
 	printf '%s\n%s\n' "$$proofs" "$$examples" | awk ' \
 	    /^[0-9]+ passed, [0-9]+ failed$$/ { parts++; passed += $$1; failed += $$3 } \

@@ -1,4 +1,5 @@
-ghost use Rattle.std.specs.Prelude.{◌≡◌, ◌≤◌, ◌<◌, ◌↔◌, List, ℕ, length, map, IfOk, OnOk, IfSome, IsTrue, slice_get};
+ghost use Rattle.std.specs.Prelude.{◌≡◌, ◌≤◌, ◌<◌, ◌↔◌, List, ℕ, length, map, IfOk, OnOk, IfSome, IsTrue, nat_eq, slice_get};
+ghost use Rattle.std.specs.List.{list_any};
 ghost use Rattle.std.specs.Option.{option_copied};
 ghost use Rattle.cap_value.specs.Memory.{AnswersUnlessMemory};
 ghost use Rattle.cap_value.specs.Value.{IsValue};
@@ -6,23 +7,32 @@ ghost use Rattle.cap_row.specs.Row.{are_columns, columns_of, row_with, with_fiel
 
 use crate::{COLUMNS_MAX, Schema};
 use cap_value::{AllocHandle, Exact, Fault, OutOfMemory, Refusal, Value};
+use smallvec::SmallVec;
 use std::fmt::{self, Debug, Formatter, Write};
 use std::marker::Model;
-use std::sync::ArcSlice;
+use std::sync::Arc;
+
+// Four values fit inline, so that most rows are one allocation.
+type Values<A> = SmallVec<Value<A>, 4, A>;
 
 /// A row: one value a column, in column order. Copies share the values.
-#[derive(Drop)]
 pub struct Row<A: AllocHandle> {
-    fields: ArcSlice<Value<A>, A>,
+    fields: Arc<Values<A>, A>,
 }
 
 impl<A: AllocHandle> Model for Row<A> {
-    ghost use Rattle.std.specs.Arc.{arc_slice_items};
+    ghost use Rattle.std.specs.Arc.{arc_value};
     ghost use Rattle.cap_row.specs.Fields.{Fields};
 
     ghost Value = { Fields A };
 
-    ghost view = { λ r. arc_slice_items r.fields };
+    ghost view = { λ r. (arc_value r.fields).items };
+}
+
+impl<A: AllocHandle> Drop for Row<A> {
+    fn drop(self) {
+        let Row { fields: _ } = self;
+    }
 }
 
 impl<A: AllocHandle> Row<A> {
@@ -30,9 +40,19 @@ impl<A: AllocHandle> Row<A> {
     pub fn new(fields: Vec<Value<A>, A>) -> Result<Self, OutOfMemory>
         ensures { IfOk result (λ row. row ≡ fields.items) }
     {
-        Ok(Row {
-            fields: ArcSlice::from_vec(fields)?,
-        })
+        let alloc = *fields.allocator();
+        let mut values = SmallVec::new(alloc);
+        values.extend(fields)?;
+        Row::of_values(alloc, values)
+    }
+
+    fn of_values(alloc: A, values: Values<A>) -> Result<Self, OutOfMemory>
+        ensures { IfOk result (λ row. row ≡ values.items) }
+    {
+        match Arc::new(alloc, values) {
+            Ok(fields) => Ok(Row { fields }),
+            Err(_) => Err(OutOfMemory),
+        }
     }
 
     /// The values, one a column.
@@ -56,7 +76,7 @@ impl<A: AllocHandle> Row<A> {
     pub fn width(&self) -> usize
         ensures { result ≡ length self.now }
     {
-        self.fields.len()
+        self.fields().len()
     }
 
     /// The row with just these fields set, each a column, counted from 0, and its new value. The other
@@ -75,8 +95,8 @@ impl<A: AllocHandle> Row<A> {
             return Err(Fault::Refused(Refusal::BadColumn));
         }
         let mut values = copies(alloc, self.fields())?;
-        set(&mut values, fields)?;
-        Ok(Row::new(values)?)
+        set(values.as_mut_slice(), fields)?;
+        Ok(Row::of_values(alloc, values)?)
     }
 
     /// Whether both have the same values.
@@ -91,7 +111,7 @@ impl<A: AllocHandle> Row<A> {
         ensures { IfOk result (λ copy. copy ≡ self.now) }
     {
         Ok(Row {
-            fields: self.fields.clone()?,
+            fields: Arc::try_clone(&self.fields)?,
         })
     }
 }
@@ -102,9 +122,43 @@ impl<A: AllocHandle> Debug for Row<A> {
     }
 }
 
+// Up to so many fields are compared with each other.
+const FEW: usize = 8;
+
 /// Whether an update may set these fields of a table with so many columns: each is one of them, counted from 0,
 /// and none is named twice.
 pub fn are_columns<A: AllocHandle>(width: usize, fields: &[(usize, Value<A>)]) -> bool
+    requires { width ≤ COLUMNS_MAX }
+    ensures { result ≡ are_columns width (columns_of fields.now) }
+{
+    if fields.len() <= FEW {
+        are_few_columns(width, fields)
+    } else {
+        are_many_columns(width, fields)
+    }
+}
+
+fn are_few_columns<A: AllocHandle>(width: usize, fields: &[(usize, Value<A>)]) -> bool
+    ensures { result ≡ are_columns width (columns_of fields.now) }
+{
+    let Some((first, rest)) = fields.split_first() else {
+        return true;
+    };
+    let column = first.0;
+    column < width && !names(rest, column) && are_few_columns(width, rest)
+}
+
+// Whether some field is of the column.
+fn names<A: AllocHandle>(fields: &[(usize, Value<A>)], column: usize) -> bool
+    ensures { result ≡ list_any (nat_eq column) (columns_of fields.now) }
+{
+    let Some((first, rest)) = fields.split_first() else {
+        return false;
+    };
+    column == first.0 || names(rest, column)
+}
+
+fn are_many_columns<A: AllocHandle>(width: usize, fields: &[(usize, Value<A>)]) -> bool
     requires { width ≤ COLUMNS_MAX }
     ensures { result ≡ are_columns width (columns_of fields.now) }
 {
@@ -118,10 +172,10 @@ pub fn are_columns<A: AllocHandle>(width: usize, fields: &[(usize, Value<A>)]) -
     true
 }
 
-fn copies<A: AllocHandle>(alloc: A, values: &[Value<A>]) -> Result<Vec<Value<A>, A>, OutOfMemory>
+fn copies<A: AllocHandle>(alloc: A, values: &[Value<A>]) -> Result<Values<A>, OutOfMemory>
     ensures { IfOk result (λ copies. copies.items ≡ values.now) }
 {
-    let mut copies = Vec::with_capacity(alloc, values.len())?;
+    let mut copies = SmallVec::with_capacity(alloc, values.len())?;
     for value in values {
         copies.push(value.copy()?)?;
     }

@@ -2,7 +2,7 @@ use Rattle.std.proofs.Common.{◌≡◌, ◌<◌, ℕ, true, false, length, take
 use Rattle.std.specs.List.{list_any}
 use Rattle.cap_row.specs.declared.schema.TheConstants.{COLUMNS_MAX}
 use Rattle.cap_row.specs.Row.{are_columns, columns_of}
-use Rattle.cap_row.proofs.row.are_columns.Given as goal
+use Rattle.cap_row.proofs.row.are_many_columns.Given as goal
 
 -- the columns so far are well named, and they are the ones with a flag
 abbrev pub invariant-loop-column : goal.invariant-loop-column

@@ -2,8 +2,8 @@ use Rattle.std.proofs.Common.{◌∙◌, false, sym, inl, inr, refl, arith}
 use Rattle.std.proofs.lemmas.List.{get_or-replicate}
 use Rattle.std.proofs.lemmas.Grind.{common_steps}
 use Rattle.cap_row.proofs.RowLemmas.{are_columns-refused, are_columns-more, named-more}
-use Rattle.cap_row.proofs.row.are_columns.Goals as goal
-use Rattle.cap_row.proofs.row.are_columns.Goals.{then-column-width-via-then-column-width, then-column-width-via-else-column-width+then-named-column}
+use Rattle.cap_row.proofs.row.are_many_columns.Goals as goal
+use Rattle.cap_row.proofs.row.are_many_columns.Goals.{then-column-width-via-then-column-width, then-column-width-via-else-column-width+then-named-column}
 
 pub loop-column-init : goal.loop-column-init
 loop-column-init g c = (refl, refl, λ k lt. get_or-replicate 2000 k false false (omega (arith, lt, c.requires)))
