@@ -2,3 +2,4 @@ pub mod Balance
 pub mod Branch
 pub mod Tree
 pub mod Path
+pub mod Fault

@@ -6,6 +6,7 @@
 
 mod branch;
 mod build;
+mod confirm;
 mod find;
 mod iter;
 mod path;
@@ -14,6 +15,7 @@ mod stack;
 mod take;
 mod tree;
 
+pub use confirm::Confirm;
 pub use iter::Iter;
 pub use tree::Tree;
 

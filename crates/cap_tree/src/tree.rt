@@ -1,9 +1,10 @@
 //! The tree, seen as the list of its entries in the order of their keys.
-ghost use Rattle.std.specs.Prelude.{◌≡◌, ℕ, ◌+◌, ◌-◌, ◌*◌, ◌^◌, ◌<◌, ◌≤◌, [], ◌++◌, length, slice_get, IfNone, IfSome, IsTrue, IsSome, IfOk, OnOk, OnErr, None, Some, is_some, if◌then◌else◌, ◌↔◌};
+ghost use Rattle.std.specs.Prelude.{◌≡◌, ℕ, ◌+◌, ◌-◌, ◌*◌, ◌^◌, ◌<◌, ◌≤◌, [], ◌++◌, length, slice_get, IfNone, IfSome, IsTrue, IsSome, IfOk, IfErr, OnOk, OnErr, Ok, Err, None, Some, is_some, if◌then◌else◌, ◌↔◌};
 ghost use Rattle.std.specs.Option.{option_copied};
 ghost use Rattle.std.specs.List.{All};
 ghost use Rattle.std.specs.BTreeMap.Range.{entries_below, entries_from};
 ghost use Rattle.std.specs.Map.Iter.{ShowsInOrder, ShowsValuesInOrder, deref_pair};
+ghost use Rattle.cap_tree.specs.Fault.{MatchFault};
 ghost use Rattle.cap_tree.specs.Tree.{IsOrdered, get, put_entry, take_entry, Updates};
 
 use crate::branch::Branch;
@@ -12,7 +13,8 @@ use crate::find::{find, first, last};
 use crate::iter::Iter;
 use crate::put::put;
 use crate::take::take;
-use cap_value::{AllocHandle, Exact, OutOfMemory};
+use crate::confirm::{Confirm, ask};
+use cap_value::{AllocHandle, Exact, Fault, OutOfMemory};
 use std::alloc::{AllocError, Allocator};
 use std::marker::Model;
 use std::sync::Arc;
@@ -244,6 +246,54 @@ impl<K: Ord + Drop, V: Drop, A: Allocator + Copy> Tree<K, V, A> {
 }
 
 impl<K: Ord + Drop, V: Exact + Drop, A: AllocHandle> Tree<K, V, A> {
+    /// Puts the value at the key, once the last step of another change is done, and answers the value that was there.
+    ///
+    /// `confirm` is asked once, when all memory has been found. Where it refuses, or there is no memory, the tree is
+    /// as it was.
+    pub fn insert_after<C: Confirm>(
+        &mut self,
+        key: K,
+        value: V,
+        confirm: &mut C,
+    ) -> Result<Option<V>, Fault<C::Refusal>>
+        requires { C.can_confirm confirm.old }
+        ensures confirmed { OnOk result (C.gives confirm.old (Ok tt) confirm.new) }
+        ensures refused { IfErr result (λ fault. MatchFault fault (confirm.new ≡ confirm.old) (λ why. C.gives confirm.old (Err why) confirm.new)) }
+        ensures err { OnErr result (self.new ≡ self.old) }
+        ensures ok { OnOk result (self.new ≡ put_entry K.cmp self.old key value) }
+        ensures replaced { IfOk result (λ o. o ≡ get K.cmp self.old key) }
+    {
+        let (whole, replaced) = self.put_shared(key, value)?;
+        let replaced = copy_of(replaced)?;
+        ask(confirm)?;
+        *self = whole;
+        Ok(replaced)
+    }
+
+    /// Takes the entry at the key out, if there is one, once the last step of another change is done, and answers its
+    /// value.
+    ///
+    /// `confirm` is asked once, when all memory has been found, also where no key is equal. Where it refuses, or there
+    /// is no memory, the tree is as it was.
+    pub fn remove_after<C: Confirm>(
+        &mut self,
+        key: &K,
+        confirm: &mut C,
+    ) -> Result<Option<V>, Fault<C::Refusal>>
+        requires { C.can_confirm confirm.old }
+        ensures confirmed { OnOk result (C.gives confirm.old (Ok tt) confirm.new) }
+        ensures refused { IfErr result (λ fault. MatchFault fault (confirm.new ≡ confirm.old) (λ why. C.gives confirm.old (Err why) confirm.new)) }
+        ensures err { OnErr result (self.new ≡ self.old) }
+        ensures ok { OnOk result (self.new ≡ take_entry K.cmp self.old key.now) }
+        ensures removed { IfOk result (λ o. o ≡ get K.cmp self.old key.now) }
+    {
+        let (rest, removed) = self.take_shared(key)?;
+        let removed = copy_of(removed)?;
+        ask(confirm)?;
+        *self = rest;
+        Ok(removed)
+    }
+
     /// Puts the value at the key, and answers the value that was there. It searches once.
     ///
     /// An entry whose key is equal gives way to the new entry, key and all. `OutOfMemory` leaves the tree as it was.
