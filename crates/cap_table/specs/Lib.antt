@@ -1,0 +1,5 @@
+pub mod Made
+pub mod Operation
+pub mod Scan
+pub mod Sound
+pub mod Table

@@ -1,0 +1,26 @@
+-- What holds of every table: keyed rows stand under their own keys, loose rows under ids that were given.
+use Rattle.std.specs.Prelude.{ℕ, ◌≤◌, ◌^◌, Bool, true, false, Option, Some, None, List, length, is_some, nat_lt, ◌==◌, ◌&&◌, not, IsTrue}
+use Rattle.std.specs.List.{list_all}
+use Rattle.cap_row.specs.Fields.{Fields}
+use Rattle.cap_row.specs.Key.{key_of, fields_eq}
+use Rattle.cap_table.specs.Table.{TableState}
+
+module _ {A : Type 0} where
+  abbrev pub is_key_of : Option (Fields A) → Fields A → Bool
+  is_key_of None key = false
+  is_key_of (Some own) key = fields_eq own key
+
+  -- a row of a table with these columns, under its own key
+  abbrev pub keyed_stands : List Bool → Fields A → Fields A → Bool
+  keyed_stands schema key row = (length row == length schema) && is_key_of (key_of schema row) key
+
+  -- a row of a table with these columns that has no key, under an id below the next one
+  abbrev pub loose_stands : List Bool → ℕ → ℕ → Fields A → Bool
+  loose_stands schema next id row = (length row == length schema) && not (is_some (key_of schema row)) && nat_lt id next
+
+  -- ids start at 1, and the last one that is given is 2 ^ 63 - 1
+  pub record IsTable (table : TableState A) : Type 0 where
+    pub keyed : IsTrue (list_all (λ row. keyed_stands table.schema row.0 row.1) table.keyed)
+    pub loose : IsTrue (list_all (λ row. loose_stands table.schema table.next_id row.0 row.1) table.loose)
+    pub first : 1 ≤ table.next_id
+    pub last : table.next_id ≤ 2 ^ 63

@@ -1,0 +1,15 @@
+//! Tables: rows under their primary keys, and rows without a key under ids.
+#![tactic(auto)]
+
+mod change;
+mod replaced;
+mod row_name;
+mod row_ref;
+mod scan;
+mod table;
+
+pub use replaced::Replaced;
+pub use row_name::RowName;
+pub use row_ref::RowRef;
+pub use scan::Scan;
+pub use table::{IDS_END, Table};

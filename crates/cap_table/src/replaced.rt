@@ -1,0 +1,11 @@
+use cap_row::{Key, Row};
+use cap_value::AllocHandle;
+
+/// What an update tells: the new row's name, and what stood there before.
+#[derive(Drop)]
+pub struct Replaced<A: AllocHandle> {
+    /// The primary key of the new row, or none where it has none.
+    pub key: Option<Key<A>>,
+    /// The old row.
+    pub row: Row<A>,
+}
