@@ -1,4 +1,4 @@
--- The groups that were written are read again.
+-- Groups and blobs are read as what their bytes spell, and what was written for a blob spells it.
 use Rattle.std.proofs.Common.{◌≡◌, ℕ, zero, suc, ◌+◌, ◌<◌, ◌≤◌, ◌⊎◌, inl, inr, Bool, true, false, nat_lt, nat_le, ◌&&◌, List, [], ◌∷◌, ◌++◌, length, take, drop, map, filter, flat_map, position, Some, Result, Ok, Err, IsTrue, IsUtf8, refl, sym, ap, ◌∙◌, append_assoc, arith, length-append, length-take, drop-drop, eq-eqb, take_at, drop_at, le-ltb, lt-ltb, ne_eqb, leb-true}
 use Rattle.std.specs.List.{AllByRecursion, list_any, position_or_len}
 use Rattle.std.proofs.lemmas.Bool.{and_parts, or_parts, not-true}
@@ -7,22 +7,28 @@ use Rattle.std.proofs.lemmas.List.Elements.{recursion_from_All}
 use Rattle.std.proofs.lemmas.Str.{is_utf8-from_IsUtf8}
 use Rattle.cap_value.specs.Bytes.{is_name}
 use Rattle.cap_row.specs.Schema.{has_key}
+use Rattle.cap_changes.specs.Fits.{change_fits, patch_fits}
 use Rattle.cap_changes.specs.Group.{TableChanges}
 use Rattle.cap_changes.specs.PatchGroup.{TablePatches}
 use Rattle.cap_changes.specs.declared.change.Change.{Change}
+use Rattle.cap_changes.specs.declared.change.Change.TheVariants as changed
 use Rattle.cap_changes.specs.declared.patch.Patch.{Patch}
+use Rattle.cap_changes.specs.declared.patch.Patch.TheVariants as patched
 use Rattle.cap_codec.specs.declared.fault.BlobFault.{BlobFault}
 use Rattle.cap_codec.specs.declared.read.Blob.{Blob}
 use Rattle.cap_codec.specs.declared.read.Blob.TheVariants.{Changes, Patches}
 use Rattle.cap_codec.specs.Changeset.{mark, flags_bytes, header_bytes, change_bytes, changes_under, group_bytes, list_bytes}
+use Rattle.cap_codec.specs.Field.{record_bytes, key_bytes}
 use Rattle.cap_codec.specs.HeaderReading.{is_zero, is_set, count_at, flags_at, name_at, header_at}
 use Rattle.cap_codec.specs.Patchset.{patch_bytes, patches_under, patch_group_bytes, patch_list_bytes}
 use Rattle.cap_codec.specs.Varint.{varint_bytes}
-use Rattle.cap_codec.specs.BlobReading.{is_operation, group_at, patch_group_at, groups_at, blob_at}
-use Rattle.cap_codec.specs.Writable.{IsTable, IsGroup, IsPatchGroup, IsWritable, has_some, blob_bytes, of_patches, with_some, HasNoEmptyGroup, HasOneAnswer}
-use Rattle.cap_codec.proofs.Binds.{ok_is, err_is}
+use Rattle.cap_codec.specs.BlobReading.{is_operation, change_at, patch_at, group_at, patch_group_at, groups_at, blob_at}
+use Rattle.cap_codec.specs.Spelling.{SpellsEach, SpellsGroup, SpellsChange, SpellsPatch, SpellsChanges, SpellsPatches, Spells}
+use Rattle.cap_codec.specs.Writable.{IsTable, HasValues, PatchHasValues, IsGroup, IsPatchGroup, IsWritable, has_some, blob_bytes, of_patches, with_some, HasNoEmptyGroup}
+use Rattle.cap_codec.proofs.Binds.{ok_is}
+use Rattle.cap_codec.proofs.HeaderLemmas.{key_is_set}
 use Rattle.cap_codec.proofs.FieldAgain.{varint_again, bytes_again}
-use Rattle.cap_codec.proofs.ChangeAgain.{set_is, NoChange, changes_again, patches_again}
+use Rattle.cap_codec.proofs.ChangeAgain.{NoChange, change_again, patch_again, each_again}
 
 -- ---- headers
 
@@ -53,185 +59,233 @@ count_again : (total count : ℕ) (rest : List ℕ) → 1 ≤ count → count �
 unfolding count_at
 count_again total count rest some fits = rw (varint_again total count rest (omega arith), ne_eqb count 0 (λ e. omega arith), le-ltb 2000 count fits) refl
 
-flags_set : (flags : List Bool) → map is_set (map mark flags) ≡ flags
-flags_set [] = refl
-flags_set (flag ∷ flags) = rw (set_is flag, flags_set flags) refl
-
-any_set : (flags : List Bool) → list_any is_set (map mark flags) ≡ has_key flags
-any_set [] = refl
-any_set (flag ∷ flags) = rw (set_is flag, any_set flags) refl
-
-flags_again : (total : ℕ) (flags : List Bool) (rest : List ℕ) → IsTrue (has_key flags) → flags_at total (length flags) (flags_bytes flags ++ rest) ≡ Ok (flags_bytes flags, rest)
+flags_again : (total : ℕ) (schema : List Bool) (flags rest : List ℕ) → map is_set flags ≡ schema → IsTrue (has_key schema) → flags_at total (length schema) (flags ++ rest) ≡ Ok (flags, rest)
 unfolding flags_at
-flags_again total flags rest keyed = rw (bytes_again total (length flags) (flags_bytes flags) rest (length-map flags mark), any_set flags, keyed) refl
+flags_again total schema flags rest flagged keyed =
+    let len : length flags ≡ length schema = sym (length-map flags is_set) ∙ ap (λ (f : List Bool). length f) flagged in
+    let keyed' : list_any is_set flags ≡ true = sym (key_is_set flags) ∙ ap has_key flagged ∙ keyed in
+    rw (bytes_again total (length schema) flags rest len, keyed') refl
 
--- a header behind its kind byte
-abbrev header_parts : List ℕ → List Bool → List ℕ
-header_parts table schema = varint_bytes (length schema) ++ flags_bytes schema ++ table ++ 0 ∷ []
-
-header_again : (total : ℕ) (table : List ℕ) (schema : List Bool) (rest : List ℕ) → IsTable table schema → header_at total (header_parts table schema ++ rest) ≡ Ok (record { table = table; flags = schema }, rest)
+-- a header behind its kind byte, and more
+header_again : (total : ℕ) (table : List ℕ) (schema : List Bool) (flags rest : List ℕ) → IsTable table schema → map is_set flags ≡ schema
+    → header_at total (varint_bytes (length schema) ++ flags ++ table ++ 0 ∷ rest) ≡ Ok (record { table = table; flags = schema }, rest)
 unfolding header_at
-header_again total table schema rest is =
+header_again total table schema flags rest is flagged =
     let parts = and_parts (nat_le 1 (length schema)) (nat_le (length schema) 2000) is.columns in
-    let regrouped : header_parts table schema ++ rest ≡ varint_bytes (length schema) ++ (flags_bytes schema ++ (table ++ 0 ∷ rest)) =
-    append_assoc (varint_bytes (length schema) ++ flags_bytes schema ++ table) (0 ∷ []) rest
-    ∙ append_assoc (varint_bytes (length schema) ++ flags_bytes schema) table (0 ∷ rest)
-    ∙ append_assoc (varint_bytes (length schema)) (flags_bytes schema) (table ++ 0 ∷ rest) in
+    let regrouped : varint_bytes (length schema) ++ flags ++ table ++ 0 ∷ rest ≡ varint_bytes (length schema) ++ (flags ++ (table ++ 0 ∷ rest)) =
+    append_assoc (varint_bytes (length schema) ++ flags) table (0 ∷ rest) ∙ append_assoc (varint_bytes (length schema)) flags (table ++ 0 ∷ rest) in
     ap (header_at total) regrouped
     ∙ rw (
-      count_again total (length schema) (flags_bytes schema ++ (table ++ 0 ∷ rest)) (leb-true 1 (length schema) parts.0) (leb-true (length schema) 2000 parts.1),
-      flags_again total schema (table ++ 0 ∷ rest) is.keyed,
+      count_again total (length schema) (flags ++ (table ++ 0 ∷ rest)) (leb-true 1 (length schema) parts.0) (leb-true (length schema) 2000 parts.1),
+      flags_again total schema flags (table ++ 0 ∷ rest) flagged is.keyed,
       name_again total table rest is.name is.utf8,
-      flags_set schema,
+      flagged,
     ) refl
 
 -- ---- groups
 
 module _ {A : Type 0} where
-  by_changes : (table : List ℕ) (schema : List Bool) (changes : List (Change A))
-      → ((changes_under (header_bytes 0x54 table schema) changes ≡ []) × (has_some changes ≡ false)) ⊎ ((changes_under (header_bytes 0x54 table schema) changes ≡ 0x54 ∷ (header_parts table schema ++ flat_map change_bytes changes)) × (has_some changes ≡ true))
-  by_changes table schema [] = inl (refl, refl)
-  by_changes table schema (first ∷ others) = inr (refl, refl)
-
-  by_patches : (table : List ℕ) (schema : List Bool) (patches : List (Patch A))
-      → ((patches_under (header_bytes 0x50 table schema) patches ≡ []) × (has_some patches ≡ false)) ⊎ ((patches_under (header_bytes 0x50 table schema) patches ≡ 0x50 ∷ (header_parts table schema ++ flat_map patch_bytes patches)) × (has_some patches ≡ true))
-  by_patches table schema [] = inl (refl, refl)
-  by_patches table schema (first ∷ others) = inr (refl, refl)
-
-  behind_kind : TableChanges A → List ℕ
-  behind_kind group = header_parts group.table group.schema ++ flat_map change_bytes group.changes
-
-  group_again : (total : ℕ) (group : TableChanges A) (rest : List ℕ) → IsGroup group → NoChange rest → group_at total (behind_kind group ++ rest) ≡ Ok (group, rest)
-  unfolding group_at behind_kind
-  group_again total group rest is stops =
-      ap (group_at total) (append_assoc (header_parts group.table group.schema) (flat_map change_bytes group.changes) rest)
+  group_again : (total : ℕ) (group : TableChanges A) (front : List ℕ) → SpellsChanges group front
+      → (behind : List ℕ) × (front ≡ 0x54 ∷ behind) × ((rest : List ℕ) → NoChange rest → group_at total (behind ++ rest) ≡ Ok (group, rest))
+  unfolding group_at
+  group_again total group front is = (varint_bytes (length group.schema) ++ is.flags ++ group.table ++ 0 ∷ is.rest, is.parts, λ rest stops.
+      ap (group_at total) (append_assoc (varint_bytes (length group.schema) ++ is.flags ++ group.table) (0 ∷ is.rest) rest)
       ∙ rw (
-        header_again total group.table group.schema (flat_map change_bytes group.changes ++ rest) is.table,
-        changes_again (length (flat_map change_bytes group.changes ++ rest)) total group.schema group.changes rest (omega arith) is.fit is.values stops,
-      ) refl
+        header_again total group.table group.schema is.flags (is.rest ++ rest) is.named is.flagged,
+        each_again change_at total group.schema (SpellsChange group.schema) (change_again total group.schema) (length (is.rest ++ rest)) group.changes is.rest rest (omega arith) is.each stops,
+      ) refl)
 
-  -- a group without changes has no bytes, and another its kind and these
-  group_parts : (group : TableChanges A) → ((group_bytes group ≡ []) × (has_some group.changes ≡ false)) ⊎ ((group_bytes group ≡ 0x54 ∷ behind_kind group) × (has_some group.changes ≡ true))
-  unfolding behind_kind
-  group_parts group = by_changes group.table group.schema group.changes
-
-  behind_patch_kind : TablePatches A → List ℕ
-  behind_patch_kind group = header_parts group.table group.schema ++ flat_map patch_bytes group.patches
-
-  patch_group_again : (total : ℕ) (group : TablePatches A) (rest : List ℕ) → IsPatchGroup group → NoChange rest → patch_group_at total (behind_patch_kind group ++ rest) ≡ Ok (group, rest)
-  unfolding patch_group_at behind_patch_kind
-  patch_group_again total group rest is stops =
-      ap (patch_group_at total) (append_assoc (header_parts group.table group.schema) (flat_map patch_bytes group.patches) rest)
+  patch_group_again : (total : ℕ) (group : TablePatches A) (front : List ℕ) → SpellsPatches group front
+      → (behind : List ℕ) × (front ≡ 0x50 ∷ behind) × ((rest : List ℕ) → NoChange rest → patch_group_at total (behind ++ rest) ≡ Ok (group, rest))
+  unfolding patch_group_at
+  patch_group_again total group front is = (varint_bytes (length group.schema) ++ is.flags ++ group.table ++ 0 ∷ is.rest, is.parts, λ rest stops.
+      ap (patch_group_at total) (append_assoc (varint_bytes (length group.schema) ++ is.flags ++ group.table) (0 ∷ is.rest) rest)
       ∙ rw (
-        header_again total group.table group.schema (flat_map patch_bytes group.patches ++ rest) is.table,
-        patches_again (length (flat_map patch_bytes group.patches ++ rest)) total group.schema group.patches rest (omega arith) is.fit is.values stops,
-      ) refl
-
-  patch_group_parts : (group : TablePatches A) → ((patch_group_bytes group ≡ []) × (has_some group.patches ≡ false)) ⊎ ((patch_group_bytes group ≡ 0x50 ∷ behind_patch_kind group) × (has_some group.patches ≡ true))
-  unfolding behind_patch_kind
-  patch_group_parts group = by_patches group.table group.schema group.patches
+        header_again total group.table group.schema is.flags (is.rest ++ rest) is.named is.flagged,
+        each_again patch_at total group.schema (SpellsPatch group.schema) (patch_again total group.schema) (length (is.rest ++ rest)) group.patches is.rest rest (omega arith) is.each stops,
+      ) refl)
 
 -- ---- the groups of a blob
 
-module _ {X : Type 0} (one_at : ℕ → List ℕ → Result (X × List ℕ) BlobFault) (kind : ℕ) (bytes behind : X → List ℕ) (has : X → Bool) where
-  -- it has no bytes and is left out, or it is read again behind its kind byte
-  abbrev Again : X → Type 0
-  Again x = ((bytes x ≡ []) × (has x ≡ false)) ⊎ ((bytes x ≡ kind ∷ behind x) × (has x ≡ true) × ((total : ℕ) (rest : List ℕ) → NoChange rest → one_at total (behind x ++ rest) ≡ Ok (x, rest)))
+module _ {X : Type 0} (one_at : ℕ → List ℕ → Result (X × List ℕ) BlobFault) (kind : ℕ) (one : X → List ℕ → Type 0) where
+  -- what spells one is read as that one, where no change follows
+  abbrev IsRead : Type 0
+  IsRead = (total : ℕ) (x : X) (front : List ℕ) → one x front → (behind : List ℕ) × (front ≡ kind ∷ behind) × ((rest : List ℕ) → NoChange rest → one_at total (behind ++ rest) ≡ Ok (x, rest))
 
   -- no bytes, or the kind first
-  abbrev Begins : List ℕ → List X → Type 0
-  Begins all kept = ((all ≡ []) × (kept ≡ [])) ⊎ ((others : List ℕ) × (first : X) × (left : List X) × (all ≡ kind ∷ others) × (kept ≡ first ∷ left))
+  begins : IsRead → (xs : List X) (bytes : List ℕ) → SpellsEach one xs bytes → ((bytes ≡ []) × (xs ≡ [])) ⊎ ((others : List ℕ) × (bytes ≡ kind ∷ others))
+  begins read [] bytes none = inl (none, refl)
+  begins read (x ∷ xs) bytes (front, rest, parts, is, spelled) =
+      let (behind, first, again) = read 0 x front is in inr (behind ++ rest, parts ∙ ap (λ (b : List ℕ). b ++ rest) first)
 
-  begins : (xs : List X) → AllByRecursion Again xs → Begins (flat_map bytes xs) (filter has xs)
-  begins [] again = inl (refl, refl)
-  begins (x ∷ xs) again = elim again.0 [
-    | inl (none, out) ↦ rw (none, out) (begins xs again.1)
-    | inr (some, kept, read) ↦ rw (some, kept) (inr (behind x ++ flat_map bytes xs, x, filter has xs, refl, refl))
-  ]
-
-  no_change : is_operation kind ≡ false → (all : List ℕ) (kept : List X) → Begins all kept → NoChange all
-  no_change other all kept (inl (none, left)) = rw none tt
-  no_change other all kept (inr (others, first, left, parts, is)) = rw parts other
+  no_change : is_operation kind ≡ false → (xs : List X) (bytes : List ℕ) → ((bytes ≡ []) × (xs ≡ [])) ⊎ ((others : List ℕ) × (bytes ≡ kind ∷ others)) → NoChange bytes
+  no_change other xs bytes (inl (none, nothing)) = rw none tt
+  no_change other xs bytes (inr (others, parts)) = rw parts other
 
   end_again : (most total : ℕ) → groups_at one_at kind most total [] ≡ Ok []
   unfolding groups_at
   end_again zero total = refl
   end_again (suc most) total = refl
 
-  next_again : (most total : ℕ) (x : X) (xs : List X) (rest : List ℕ) → one_at total (behind x ++ rest) ≡ Ok (x, rest) → groups_at one_at kind most total rest ≡ Ok xs
-      → groups_at one_at kind (suc most) total (kind ∷ (behind x ++ rest)) ≡ Ok (x ∷ xs)
+  next_again : (most total : ℕ) (x : X) (xs : List X) (behind rest : List ℕ) → one_at total (behind ++ rest) ≡ Ok (x, rest) → groups_at one_at kind most total rest ≡ Ok xs
+      → groups_at one_at kind (suc most) total (kind ∷ (behind ++ rest)) ≡ Ok (x ∷ xs)
   unfolding groups_at
-  next_again most total x xs rest read others = rw (eq-eqb kind kind refl, read, others) refl
+  next_again most total x xs behind rest read others = rw (eq-eqb kind kind refl, read, others) refl
 
-  pub groups_again : is_operation kind ≡ false → (most total : ℕ) (xs : List X) → AllByRecursion Again xs → length (flat_map bytes xs) ≤ most → groups_at one_at kind most total (flat_map bytes xs) ≡ Ok (filter has xs)
-  groups_again other most total [] again le = end_again most total
-  groups_again other zero total (x ∷ xs) again le = elim again.0 [
-    | inl (none, out) ↦ let shorter : length (flat_map bytes xs) ≤ 0 = rw none at le in rw (none, out) (groups_again other zero total xs again.1 shorter)
-    | inr (some, kept, read) ↦ absurd (let long : length ((kind ∷ behind x) ++ flat_map bytes xs) ≤ 0 = rw some at le in omega arith)
-  ]
-  groups_again other (suc most) total (x ∷ xs) again le = elim again.0 [
-    | inl (none, out) ↦ let shorter : length (flat_map bytes xs) ≤ suc most = rw none at le in rw (none, out) (groups_again other (suc most) total xs again.1 shorter)
-    | inr (some, kept, read) ↦
-        let long : length ((kind ∷ behind x) ++ flat_map bytes xs) ≤ suc most = rw some at le in
-        let stops = no_change other (flat_map bytes xs) (filter has xs) (begins xs again.1) in
-        rw (some, kept) (next_again most total x (filter has xs) (flat_map bytes xs) (read total (flat_map bytes xs) stops)
-        (groups_again other most total xs again.1 (omega (arith, long, length-append (behind x) (flat_map bytes xs)))))
-  ]
+  pub groups_again : IsRead → is_operation kind ≡ false → (most total : ℕ) (xs : List X) (bytes : List ℕ) → length bytes ≤ most → SpellsEach one xs bytes → groups_at one_at kind most total bytes ≡ Ok xs
+  groups_again read other most total [] bytes le none = ap (groups_at one_at kind most total) none ∙ end_again most total
+  groups_again read other zero total (x ∷ xs) bytes le (front, rest, parts, is, spelled) =
+      let (behind, first, again) = read total x front is in
+      let same : bytes ≡ kind ∷ (behind ++ rest) = parts ∙ ap (λ (b : List ℕ). b ++ rest) first in
+      absurd (let long : length (kind ∷ (behind ++ rest)) ≤ 0 = rw same at le in omega arith)
+  groups_again read other (suc most) total (x ∷ xs) bytes le (front, rest, parts, is, spelled) =
+      let (behind, first, again) = read total x front is in
+      let same : bytes ≡ kind ∷ (behind ++ rest) = parts ∙ ap (λ (b : List ℕ). b ++ rest) first in
+      let long : length (kind ∷ (behind ++ rest)) ≤ suc most = rw same at le in
+      let stops = no_change other xs rest (begins read xs rest spelled) in
+      ap (groups_at one_at kind (suc most) total) same
+      ∙ next_again most total x xs behind rest (again rest stops) (groups_again read other most total xs rest (omega (arith, long, length-append behind rest)) spelled)
 
 -- ---- blobs
+
+module _ {A : Type 0} where
+  of_changes : (groups : List (TableChanges A)) (bytes : List ℕ) → ((bytes ≡ []) × (groups ≡ [])) ⊎ ((others : List ℕ) × (bytes ≡ 0x54 ∷ others))
+      → groups_at group_at 0x54 (length bytes) (length bytes) bytes ≡ Ok groups → blob_at bytes ≡ Ok (Changes groups)
+  unfolding blob_at
+  of_changes groups bytes (inl (none, nothing)) read = rw (none, nothing) refl
+  of_changes groups bytes (inr (others, parts)) read =
+      let again : groups_at group_at 0x54 (length (0x54 ∷ others)) (length (0x54 ∷ others)) (0x54 ∷ others) ≡ Ok groups = rw parts at read in
+      rw (parts, again) refl
+
+  of_a_patchset : (groups : List (TablePatches A)) (bytes : List ℕ) → ((bytes ≡ []) × (groups ≡ [])) ⊎ ((others : List ℕ) × (bytes ≡ 0x50 ∷ others)) → ((groups ≡ []) → ⊥)
+      → groups_at patch_group_at 0x50 (length bytes) (length bytes) bytes ≡ Ok groups → blob_at bytes ≡ Ok (Patches groups)
+  unfolding blob_at
+  of_a_patchset groups bytes (inl (none, nothing)) some read = absurd (some nothing)
+  of_a_patchset groups bytes (inr (others, parts)) some read =
+      let again : groups_at patch_group_at 0x50 (length (0x50 ∷ others)) (length (0x50 ∷ others)) (0x50 ∷ others) ≡ Ok groups = rw parts at read in
+      rw (parts, again) refl
+
+  -- Bytes that spell a blob are read as that blob.
+  pub blob_again : (blob : Blob A) (bytes : List ℕ) → Spells blob bytes → blob_at bytes ≡ Ok blob
+  blob_again (Changes groups) bytes spelled =
+      of_changes groups bytes (begins group_at 0x54 SpellsChanges group_again groups bytes spelled)
+      (groups_again group_at 0x54 SpellsChanges group_again refl (length bytes) (length bytes) groups bytes (omega arith) spelled)
+  blob_again (Patches groups) bytes (spelled, some) =
+      of_a_patchset groups bytes (begins patch_group_at 0x50 SpellsPatches patch_group_again groups bytes spelled) some
+      (groups_again patch_group_at 0x50 SpellsPatches patch_group_again refl (length bytes) (length bytes) groups bytes (omega arith) spelled)
+
+  pub one_spelled : (bytes : List ℕ) (a b : Blob A) → Spells a bytes → Spells b bytes → a ≡ b
+  one_spelled bytes a b of_a of_b = ok_is a b (sym (blob_again a bytes of_a) ∙ blob_again b bytes of_b)
+
+-- ---- what is written
+
+set_is : (flag : Bool) → is_set (mark flag) ≡ flag
+set_is true = refl
+set_is false = refl
+
+flags_set : (flags : List Bool) → map is_set (map mark flags) ≡ flags
+flags_set [] = refl
+flags_set (flag ∷ flags) = rw (set_is flag, flags_set flags) refl
+
+module _ {X : Type 0} (one : X → List ℕ → Type 0) (bytes : X → List ℕ) where
+  each_written : (xs : List X) → AllByRecursion (λ x. one x (bytes x)) xs → SpellsEach one xs (flat_map bytes xs)
+  each_written [] is = refl
+  each_written (x ∷ xs) is = (bytes x, flat_map bytes xs, refl, is.0, each_written xs is.1)
+
+  -- it has no bytes and is left out, or they spell it
+  abbrev IsWritten : (X → Bool) → X → Type 0
+  IsWritten has x = ((bytes x ≡ []) × (has x ≡ false)) ⊎ ((has x ≡ true) × one x (bytes x))
+
+  some_written : (has : X → Bool) (xs : List X) → AllByRecursion (IsWritten has) xs → SpellsEach one (filter has xs) (flat_map bytes xs)
+  some_written has [] is = refl
+  some_written has (x ∷ xs) is = elim is.0 [
+    | inl (none, out) ↦ rw (none, out) (some_written has xs is.1)
+    | inr (kept, spelled) ↦ rw kept (bytes x, flat_map bytes xs, refl, spelled, some_written has xs is.1)
+  ]
 
 all_kept : {X : Type 0} (has : X → Bool) (xs : List X) → AllByRecursion (λ x. IsTrue (has x)) xs → filter has xs ≡ xs
 all_kept {X = X} has [] each = refl
 all_kept {X = X} has (x ∷ xs) each = rw each.0 (ap (λ (others : List X). x ∷ others) (all_kept has xs each.1))
 
+-- a header that was written, and changes behind it
+under_header : {X : Type 0} (kind : ℕ) (table : List ℕ) (schema : List Bool) (one : X → List ℕ → Type 0) (xs : List X) (bytes : List ℕ) → IsTable table schema → SpellsEach one xs bytes
+    → SpellsGroup kind table schema one xs (header_bytes kind table schema ++ bytes)
+under_header kind table schema one xs bytes is each = record {
+  named = is;
+  flags = flags_bytes schema;
+  flagged = flags_set schema;
+  rest = bytes;
+  parts = ap (λ (b : List ℕ). kind ∷ b) (append_assoc (varint_bytes (length schema) ++ flags_bytes schema ++ table) (0 ∷ []) bytes);
+  each = each;
+}
+
 module _ {A : Type 0} where
-  one_group : (group : TableChanges A) → IsGroup group → Again group_at 0x54 group_bytes behind_kind (λ group. has_some group.changes) group
-  one_group group is = elim (group_parts group) [
-    | inl (none, out) ↦ inl (none, out)
-    | inr (some, kept) ↦ inr (some, kept, λ total rest stops. group_again total group rest is stops)
-  ]
+  change_written : (flags : List Bool) (change : Change A) → IsTrue (change_fits flags change) → HasValues change → SpellsChange flags change (change_bytes change)
+  change_written flags (changed.Insert indirect new) fits values = (fits, values, (mark indirect, set_is indirect, refl))
+  change_written flags (changed.Update indirect old new) fits values = (fits, values, (mark indirect, set_is indirect, refl))
+  change_written flags (changed.Delete indirect old) fits values = (fits, values, (mark indirect, set_is indirect, refl))
 
-  one_patch_group : (group : TablePatches A) → IsPatchGroup group → Again patch_group_at 0x50 patch_group_bytes behind_patch_kind (λ group. has_some group.patches) group
-  one_patch_group group is = elim (patch_group_parts group) [
-    | inl (none, out) ↦ inl (none, out)
-    | inr (some, kept) ↦ inr (some, kept, λ total rest stops. patch_group_again total group rest is stops)
-  ]
+  changes_written : (flags : List Bool) (changes : List (Change A)) → AllByRecursion (λ change. IsTrue (change_fits flags change)) changes → AllByRecursion HasValues changes
+      → AllByRecursion (λ change. SpellsChange flags change (change_bytes change)) changes
+  changes_written flags [] fit values = tt
+  changes_written flags (change ∷ changes) fit values = (change_written flags change fit.0 values.0, changes_written flags changes fit.1 values.1)
 
-  each_group : (groups : List (TableChanges A)) → AllByRecursion IsGroup groups → AllByRecursion (Again group_at 0x54 group_bytes behind_kind (λ group. has_some group.changes)) groups
-  each_group [] is = tt
-  each_group (group ∷ groups) is = (one_group group is.0, each_group groups is.1)
+  patch_written : (flags : List Bool) (patch : Patch A) → IsTrue (patch_fits flags patch) → PatchHasValues patch → SpellsPatch flags patch (patch_bytes patch)
+  patch_written flags (patched.Insert indirect new) fits values = (fits, values, (mark indirect, set_is indirect, refl))
+  patch_written flags (patched.Update indirect new) fits values = (fits, values, (mark indirect, set_is indirect, refl))
+  patch_written flags (patched.Delete indirect key) fits values = (fits, values, (mark indirect, set_is indirect, refl))
 
-  each_patch_group : (groups : List (TablePatches A)) → AllByRecursion IsPatchGroup groups → AllByRecursion (Again patch_group_at 0x50 patch_group_bytes behind_patch_kind (λ group. has_some group.patches)) groups
-  each_patch_group [] is = tt
-  each_patch_group (group ∷ groups) is = (one_patch_group group is.0, each_patch_group groups is.1)
+  patches_written : (flags : List Bool) (patches : List (Patch A)) → AllByRecursion (λ patch. IsTrue (patch_fits flags patch)) patches → AllByRecursion PatchHasValues patches
+      → AllByRecursion (λ patch. SpellsPatch flags patch (patch_bytes patch)) patches
+  patches_written flags [] fit values = tt
+  patches_written flags (patch ∷ patches) fit values = (patch_written flags patch fit.0 values.0, patches_written flags patches fit.1 values.1)
 
-  -- bytes that are none, or of a changeset
-  of_changes : (bytes : List ℕ) (kept : List (TableChanges A)) → Begins group_at 0x54 group_bytes behind_kind (λ group. has_some group.changes) bytes kept
-      → groups_at group_at 0x54 (length bytes) (length bytes) bytes ≡ Ok kept → blob_at bytes ≡ Ok (Changes kept)
-  unfolding blob_at
-  of_changes bytes kept (inl (none, left)) read = rw (none, left) refl
-  of_changes bytes kept (inr (others, first, left, parts, is)) read =
-      let again : groups_at group_at 0x54 (length (0x54 ∷ others)) (length (0x54 ∷ others)) (0x54 ∷ others) ≡ Ok kept = rw parts at read in
-      rw (parts, again) refl
+  by_changes : (table : List ℕ) (schema : List Bool) (changes : List (Change A)) → SpellsGroup 0x54 table schema (SpellsChange schema) changes (header_bytes 0x54 table schema ++ flat_map change_bytes changes)
+      → ((changes_under (header_bytes 0x54 table schema) changes ≡ []) × (has_some changes ≡ false))
+      ⊎ ((has_some changes ≡ true) × SpellsGroup 0x54 table schema (SpellsChange schema) changes (changes_under (header_bytes 0x54 table schema) changes))
+  by_changes table schema [] spelled = inl (refl, refl)
+  by_changes table schema (first ∷ others) spelled = inr (refl, spelled)
 
-  of_a_patchset : (bytes : List ℕ) (kept : List (TablePatches A)) → Begins patch_group_at 0x50 patch_group_bytes behind_patch_kind (λ group. has_some group.patches) bytes kept
-      → groups_at patch_group_at 0x50 (length bytes) (length bytes) bytes ≡ Ok kept → blob_at bytes ≡ Ok (of_patches kept)
-  unfolding blob_at
-  of_a_patchset bytes kept (inl (none, left)) read = rw (none, left) refl
-  of_a_patchset bytes kept (inr (others, first, left, parts, is)) read =
-      let again : groups_at patch_group_at 0x50 (length (0x50 ∷ others)) (length (0x50 ∷ others)) (0x50 ∷ others) ≡ Ok kept = rw parts at read in
-      rw (parts, again, is) refl
+  by_patches : (table : List ℕ) (schema : List Bool) (patches : List (Patch A)) → SpellsGroup 0x50 table schema (SpellsPatch schema) patches (header_bytes 0x50 table schema ++ flat_map patch_bytes patches)
+      → ((patches_under (header_bytes 0x50 table schema) patches ≡ []) × (has_some patches ≡ false))
+      ⊎ ((has_some patches ≡ true) × SpellsGroup 0x50 table schema (SpellsPatch schema) patches (patches_under (header_bytes 0x50 table schema) patches))
+  by_patches table schema [] spelled = inl (refl, refl)
+  by_patches table schema (first ∷ others) spelled = inr (refl, spelled)
+
+  groups_written : (groups : List (TableChanges A)) → AllByRecursion IsGroup groups → AllByRecursion (IsWritten SpellsChanges group_bytes (λ group. has_some group.changes)) groups
+  groups_written [] is = tt
+  groups_written (group ∷ groups) is = (
+    by_changes group.table group.schema group.changes (under_header 0x54 group.table group.schema (SpellsChange group.schema) group.changes (flat_map change_bytes group.changes) is.0.table
+    (each_written (SpellsChange group.schema) change_bytes group.changes
+    (changes_written group.schema group.changes (recursion_from_All (λ change. IsTrue (change_fits group.schema change)) group.changes is.0.fit) (recursion_from_All HasValues group.changes is.0.values)))),
+    groups_written groups is.1,
+  )
+
+  patch_groups_written : (groups : List (TablePatches A)) → AllByRecursion IsPatchGroup groups → AllByRecursion (IsWritten SpellsPatches patch_group_bytes (λ group. has_some group.patches)) groups
+  patch_groups_written [] is = tt
+  patch_groups_written (group ∷ groups) is = (
+    by_patches group.table group.schema group.patches (under_header 0x50 group.table group.schema (SpellsPatch group.schema) group.patches (flat_map patch_bytes group.patches) is.0.table
+    (each_written (SpellsPatch group.schema) patch_bytes group.patches
+    (patches_written group.schema group.patches (recursion_from_All (λ patch. IsTrue (patch_fits group.schema patch)) group.patches is.0.fit) (recursion_from_All PatchHasValues group.patches is.0.values)))),
+    patch_groups_written groups is.1,
+  )
+
+  -- without groups it is a changeset
+  of_spelled : (groups : List (TablePatches A)) (bytes : List ℕ) → SpellsEach SpellsPatches groups bytes → Spells (of_patches groups) bytes
+  of_spelled [] bytes none = none
+  of_spelled (first ∷ others) bytes spelled = (spelled, λ e. cc)
+
+  -- The bytes of a blob spell it, without the groups that have no change.
+  pub written_spelled : (blob : Blob A) → IsWritable blob → Spells (with_some blob) (blob_bytes blob)
+  written_spelled (Changes groups) writable =
+      some_written SpellsChanges group_bytes (λ group. has_some group.changes) groups (groups_written groups (recursion_from_All IsGroup groups writable))
+  written_spelled (Patches groups) writable =
+      of_spelled (filter (λ group. has_some group.patches) groups) (patch_list_bytes groups)
+      (some_written SpellsPatches patch_group_bytes (λ group. has_some group.patches) groups (patch_groups_written groups (recursion_from_All IsPatchGroup groups writable)))
 
   -- What was written for a blob reads as it, without the groups that have no change.
-  pub blob_again : (blob : Blob A) → IsWritable blob → blob_at (blob_bytes blob) ≡ Ok (with_some blob)
-  blob_again (Changes groups) writable =
-      let again = each_group groups (recursion_from_All IsGroup groups writable) in
-      of_changes (list_bytes groups) (filter (λ group. has_some group.changes) groups) (begins group_at 0x54 group_bytes behind_kind (λ group. has_some group.changes) groups again)
-      (groups_again group_at 0x54 group_bytes behind_kind (λ group. has_some group.changes) refl (length (list_bytes groups)) (length (list_bytes groups)) groups again (omega arith))
-  blob_again (Patches groups) writable =
-      let again = each_patch_group groups (recursion_from_All IsPatchGroup groups writable) in
-      of_a_patchset (patch_list_bytes groups) (filter (λ group. has_some group.patches) groups) (begins patch_group_at 0x50 patch_group_bytes behind_patch_kind (λ group. has_some group.patches) groups again)
-      (groups_again patch_group_at 0x50 patch_group_bytes behind_patch_kind (λ group. has_some group.patches) refl (length (patch_list_bytes groups)) (length (patch_list_bytes groups)) groups again (omega arith))
+  pub written_again : (blob : Blob A) → IsWritable blob → blob_at (blob_bytes blob) ≡ Ok (with_some blob)
+  written_again blob writable = blob_again (with_some blob) (blob_bytes blob) (written_spelled blob writable)
 
   -- ---- no two blobs without empty groups have the same bytes
 
@@ -246,12 +300,6 @@ module _ {A : Type 0} where
 
   pub one_blob : (a b : Blob A) → IsWritable a → IsWritable b → HasNoEmptyGroup a → HasNoEmptyGroup b → blob_bytes a ≡ blob_bytes b → a ≡ b
   one_blob a b of_a of_b whole_a whole_b same =
-      let first : blob_at (blob_bytes a) ≡ Ok a = blob_again a of_a ∙ ap (λ (x : Blob A). Ok x) (nothing_left_out a whole_a) in
-      let second : blob_at (blob_bytes b) ≡ Ok b = blob_again b of_b ∙ ap (λ (x : Blob A). Ok x) (nothing_left_out b whole_b) in
+      let first : blob_at (blob_bytes a) ≡ Ok a = written_again a of_a ∙ ap (λ (x : Blob A). Ok x) (nothing_left_out a whole_a) in
+      let second : blob_at (blob_bytes b) ≡ Ok b = written_again b of_b ∙ ap (λ (x : Blob A). Ok x) (nothing_left_out b whole_b) in
       ok_is a b (sym first ∙ ap blob_at same ∙ second)
-
-  -- ---- one answer
-
-  pub one_answer : (read : Result (Blob A) BlobFault) → HasOneAnswer read
-  one_answer (Ok blob) = inl (blob, refl, λ other e. ok_is other blob (sym e), λ fault e. cc)
-  one_answer (Err fault) = inr (fault, refl, λ other e. err_is other fault (sym e), λ blob e. cc)

@@ -1,4 +1,4 @@
--- The changes that were written are read again, whatever follows them that is no change.
+-- Changes are read as what their bytes spell, whatever follows them that is no change.
 use Rattle.std.proofs.Common.{◌≡◌, ℕ, zero, suc, ◌≤◌, Bool, true, false, List, [], ◌∷◌, ◌++◌, length, flat_map, Option, Some, None, IfSome, Result, Ok, IsTrue, All, refl, sym, ap, subst, ◌∙◌, append_assoc, arith, length-append}
 use Rattle.std.specs.List.{AllByRecursion}
 use Rattle.std.specs.Cmp.Lexicographic.{pointwise}
@@ -23,18 +23,15 @@ use Rattle.cap_codec.specs.HeaderReading.{is_set}
 use Rattle.cap_codec.specs.Patchset.{patch_bytes}
 use Rattle.cap_codec.specs.RecordReading.{record_at}
 use Rattle.cap_codec.specs.BlobReading.{is_operation, change_at, patch_at, changes_at}
-use Rattle.cap_codec.specs.Writable.{AreValues, HasValues, PatchHasValues}
+use Rattle.cap_codec.specs.Spelling.{SpellsEach, SpellsChange, SpellsPatch}
+use Rattle.cap_codec.specs.Writable.{AreValues}
 use Rattle.cap_codec.proofs.FitLemmas.{meets, meets_full, meets_patch, meets_key, meets_update}
 use Rattle.cap_codec.proofs.FieldAgain.{asked_bytes, field_again}
-
-pub set_is : (flag : Bool) → is_set (mark flag) ≡ flag
-set_is true = refl
-set_is false = refl
 
 module _ {A : Type 0} where
   -- ---- records
 
-  abbrev asked_record : List Demand → RecordFields A → List ℕ
+  abbrev pub asked_record : List Demand → RecordFields A → List ℕ
   asked_record [] fields = []
   asked_record (demand ∷ demands) [] = []
   asked_record (demand ∷ demands) (field ∷ fields) = asked_bytes demand field ++ asked_record demands fields
@@ -51,7 +48,7 @@ module _ {A : Type 0} where
       ∙ rw (field_again total demand field (asked_record demands fields ++ rest) parts.0 fits.0, fields_again total demands fields rest parts.1 fits.1) refl
 
   -- where no field is left out
-  all_asked : (rule : Rule) → ((key : Bool) (field : Option (Value A)) → asked_bytes (demand_of rule key) field ≡ field_bytes field)
+  pub all_asked : (rule : Rule) → ((key : Bool) (field : Option (Value A)) → asked_bytes (demand_of rule key) field ≡ field_bytes field)
       → (flags : List Bool) (fields : RecordFields A) → pointwise meets (demands rule flags) fields ≡ true → asked_record (demands rule flags) fields ≡ record_bytes fields
   all_asked rule each [] [] met = refl
   all_asked rule each [] (field ∷ fields) met = absurd cc
@@ -60,11 +57,11 @@ module _ {A : Type 0} where
       let parts = and_parts (meets (demand_of rule key) field) (pointwise meets (demands rule flags) fields) met in
       rw (each key field, all_asked rule each flags fields parts.1) refl
 
-  of_full : (key : Bool) (field : Option (Value A)) → asked_bytes (demand_of rules.Full key) field ≡ field_bytes field
+  pub of_full : (key : Bool) (field : Option (Value A)) → asked_bytes (demand_of rules.Full key) field ≡ field_bytes field
   of_full true field = refl
   of_full false field = refl
 
-  of_keyed : (key : Bool) (field : Option (Value A)) → asked_bytes (demand_of rules.Keyed key) field ≡ field_bytes field
+  pub of_keyed : (key : Bool) (field : Option (Value A)) → asked_bytes (demand_of rules.Keyed key) field ≡ field_bytes field
   of_keyed true field = refl
   of_keyed false field = refl
 
@@ -74,7 +71,7 @@ module _ {A : Type 0} where
   of_key false None met = refl
   of_key false (Some value) met = absurd cc
 
-  keys_asked : (flags : List Bool) (fields : RecordFields A) → pointwise meets (demands rules.KeyAlone flags) fields ≡ true → asked_record (demands rules.KeyAlone flags) fields ≡ key_bytes fields
+  pub keys_asked : (flags : List Bool) (fields : RecordFields A) → pointwise meets (demands rules.KeyAlone flags) fields ≡ true → asked_record (demands rules.KeyAlone flags) fields ≡ key_bytes fields
   keys_asked [] [] met = refl
   keys_asked [] (field ∷ fields) met = absurd cc
   keys_asked (key ∷ flags) [] met = refl
@@ -87,7 +84,7 @@ module _ {A : Type 0} where
   of_new false None field = refl
   of_new false (Some value) field = refl
 
-  new_asked : (flags : List Bool) (old new : RecordFields A) → pointwise meets (new_demands flags old) new ≡ true → asked_record (new_demands flags old) new ≡ record_bytes new
+  pub new_asked : (flags : List Bool) (old new : RecordFields A) → pointwise meets (new_demands flags old) new ≡ true → asked_record (new_demands flags old) new ≡ record_bytes new
   new_asked [] old [] met = refl
   new_asked [] old (field ∷ fields) met = absurd cc
   new_asked (key ∷ flags) [] [] met = refl
@@ -124,64 +121,27 @@ module _ {A : Type 0} where
 
   -- ---- changes
 
-  abbrev operation_of : Change A → ℕ
-  operation_of (changed.Insert indirect new) = 0x12
-  operation_of (changed.Update indirect old new) = 0x17
-  operation_of (changed.Delete indirect old) = 0x09
-
-  -- what stands behind the operation byte
-  abbrev behind_operation : Change A → List ℕ
-  behind_operation (changed.Insert indirect new) = mark indirect ∷ record_bytes new
-  behind_operation (changed.Update indirect old new) = mark indirect ∷ (record_bytes old ++ record_bytes new)
-  behind_operation (changed.Delete indirect old) = mark indirect ∷ record_bytes old
-
-  change_parts : (change : Change A) → change_bytes change ≡ operation_of change ∷ behind_operation change
-  change_parts (changed.Insert indirect new) = refl
-  change_parts (changed.Update indirect old new) = refl
-  change_parts (changed.Delete indirect old) = refl
-
-  operates : (change : Change A) → is_operation (operation_of change) ≡ true
-  operates (changed.Insert indirect new) = refl
-  operates (changed.Update indirect old new) = refl
-  operates (changed.Delete indirect old) = refl
-
-  change_again : (total : ℕ) (flags : List Bool) (change : Change A) (rest : List ℕ) → change_fits flags change ≡ true → HasValues change
-      → change_at total flags (operation_of change) (behind_operation change ++ rest) ≡ Ok (change, rest)
+  pub change_again : (total : ℕ) (flags : List Bool) (change : Change A) (front : List ℕ) → SpellsChange flags change front
+      → (op : ℕ) × (behind : List ℕ) × (front ≡ op ∷ behind) × (is_operation op ≡ true) × ((rest : List ℕ) → change_at total flags op (behind ++ rest) ≡ Ok (change, rest))
   unfolding change_at
-  change_again total flags (changed.Insert indirect new) rest fits values = rw (full_again total flags new rest fits values, set_is indirect) refl
-  change_again total flags (changed.Update indirect old new) rest fits values =
+  change_again total flags (changed.Insert indirect new) front (fits, values, (mark, marked, parts)) =
+      (0x12, mark ∷ record_bytes new, parts, refl, λ rest. rw (full_again total flags new rest fits values, marked) refl)
+  change_again total flags (changed.Update indirect old new) front (fits, values, (mark, marked, parts)) =
       let met = meets_update flags old new fits in
-      rw (append_assoc (record_bytes old) (record_bytes new) rest, keyed_again total flags old (record_bytes new ++ rest) met.0 values.0, new_again total flags old new rest met.1 values.1, set_is indirect) refl
-  change_again total flags (changed.Delete indirect old) rest fits values = rw (full_again total flags old rest fits values, set_is indirect) refl
+      (0x17, mark ∷ (record_bytes old ++ record_bytes new), parts, refl, λ rest.
+      rw (append_assoc (record_bytes old) (record_bytes new) rest, keyed_again total flags old (record_bytes new ++ rest) met.0 values.0, new_again total flags old new rest met.1 values.1, marked) refl)
+  change_again total flags (changed.Delete indirect old) front (fits, values, (mark, marked, parts)) =
+      (0x09, mark ∷ record_bytes old, parts, refl, λ rest. rw (full_again total flags old rest fits values, marked) refl)
 
-  -- ---- changes of a patchset
-
-  abbrev patch_operation : Patch A → ℕ
-  patch_operation (patched.Insert indirect new) = 0x12
-  patch_operation (patched.Update indirect new) = 0x17
-  patch_operation (patched.Delete indirect key) = 0x09
-
-  abbrev behind_patch_operation : Patch A → List ℕ
-  behind_patch_operation (patched.Insert indirect new) = mark indirect ∷ record_bytes new
-  behind_patch_operation (patched.Update indirect new) = mark indirect ∷ record_bytes new
-  behind_patch_operation (patched.Delete indirect key) = mark indirect ∷ key_bytes key
-
-  patch_parts : (patch : Patch A) → patch_bytes patch ≡ patch_operation patch ∷ behind_patch_operation patch
-  patch_parts (patched.Insert indirect new) = refl
-  patch_parts (patched.Update indirect new) = refl
-  patch_parts (patched.Delete indirect key) = refl
-
-  patch_operates : (patch : Patch A) → is_operation (patch_operation patch) ≡ true
-  patch_operates (patched.Insert indirect new) = refl
-  patch_operates (patched.Update indirect new) = refl
-  patch_operates (patched.Delete indirect key) = refl
-
-  patch_again : (total : ℕ) (flags : List Bool) (patch : Patch A) (rest : List ℕ) → patch_fits flags patch ≡ true → PatchHasValues patch
-      → patch_at total flags (patch_operation patch) (behind_patch_operation patch ++ rest) ≡ Ok (patch, rest)
+  pub patch_again : (total : ℕ) (flags : List Bool) (patch : Patch A) (front : List ℕ) → SpellsPatch flags patch front
+      → (op : ℕ) × (behind : List ℕ) × (front ≡ op ∷ behind) × (is_operation op ≡ true) × ((rest : List ℕ) → patch_at total flags op (behind ++ rest) ≡ Ok (patch, rest))
   unfolding patch_at
-  patch_again total flags (patched.Insert indirect new) rest fits values = rw (full_again total flags new rest fits values, set_is indirect) refl
-  patch_again total flags (patched.Update indirect new) rest fits values = rw (keyed_again total flags new rest (meets_patch flags new fits) values, set_is indirect) refl
-  patch_again total flags (patched.Delete indirect key) rest fits values = rw (key_again total flags key rest fits values, set_is indirect) refl
+  patch_again total flags (patched.Insert indirect new) front (fits, values, (mark, marked, parts)) =
+      (0x12, mark ∷ record_bytes new, parts, refl, λ rest. rw (full_again total flags new rest fits values, marked) refl)
+  patch_again total flags (patched.Update indirect new) front (fits, values, (mark, marked, parts)) =
+      (0x17, mark ∷ record_bytes new, parts, refl, λ rest. rw (keyed_again total flags new rest (meets_patch flags new fits) values, marked) refl)
+  patch_again total flags (patched.Delete indirect key) front (fits, values, (mark, marked, parts)) =
+      (0x09, mark ∷ key_bytes key, parts, refl, λ rest. rw (key_again total flags key rest fits values, marked) refl)
 
 -- ---- the changes of a group
 
@@ -190,10 +150,10 @@ abbrev pub NoChange : List ℕ → Type 0
 NoChange [] = Unit {0}
 NoChange (byte ∷ bytes) = is_operation byte ≡ false
 
-module _ {X : Type 0} (one_at : ℕ → List Bool → ℕ → List ℕ → Result (X × List ℕ) BlobFault) (total : ℕ) (flags : List Bool) (bytes behind : X → List ℕ) (operation : X → ℕ) where
-  -- each is read again
-  abbrev Again : X → Type 0
-  Again x = (is_operation (operation x) ≡ true) × (bytes x ≡ operation x ∷ behind x) × ((rest : List ℕ) → one_at total flags (operation x) (behind x ++ rest) ≡ Ok (x, rest))
+module _ {X : Type 0} (one_at : ℕ → List Bool → ℕ → List ℕ → Result (X × List ℕ) BlobFault) (total : ℕ) (flags : List Bool) (one : X → List ℕ → Type 0) where
+  -- what spells one is read as that one, whatever follows
+  abbrev pub IsRead : Type 0
+  IsRead = (x : X) (front : List ℕ) → one x front → (op : ℕ) × (behind : List ℕ) × (front ≡ op ∷ behind) × (is_operation op ≡ true) × ((rest : List ℕ) → one_at total flags op (behind ++ rest) ≡ Ok (x, rest))
 
   none_again : (most : ℕ) (rest : List ℕ) → NoChange rest → changes_at one_at most total flags rest ≡ Ok ([], rest)
   unfolding changes_at
@@ -201,48 +161,28 @@ module _ {X : Type 0} (one_at : ℕ → List Bool → ℕ → List ℕ → Resul
   none_again (suc most) [] stops = refl
   none_again (suc most) (byte ∷ rest) stops = rw stops refl
 
-  next_again : (most : ℕ) (x : X) (xs : List X) (rest : List ℕ) → Again x → changes_at one_at most total flags (flat_map bytes xs ++ rest) ≡ Ok (xs, rest)
-      → changes_at one_at (suc most) total flags (operation x ∷ (behind x ++ (flat_map bytes xs ++ rest))) ≡ Ok (x ∷ xs, rest)
+  next_again : (most op : ℕ) (x : X) (xs : List X) (behind others rest : List ℕ) → is_operation op ≡ true → one_at total flags op (behind ++ (others ++ rest)) ≡ Ok (x, others ++ rest)
+      → changes_at one_at most total flags (others ++ rest) ≡ Ok (xs, rest) → changes_at one_at (suc most) total flags (op ∷ (behind ++ (others ++ rest))) ≡ Ok (x ∷ xs, rest)
   unfolding changes_at
-  next_again most x xs rest again others = rw (again.0, again.2 (flat_map bytes xs ++ rest), others) refl
+  next_again most op x xs behind others rest operation read later = rw (operation, read, later) refl
 
-  regrouped : (x : X) (xs : List X) (rest : List ℕ) → Again x → flat_map bytes (x ∷ xs) ++ rest ≡ operation x ∷ (behind x ++ (flat_map bytes xs ++ rest))
-  regrouped x xs rest again = append_assoc (bytes x) (flat_map bytes xs) rest ∙ ap (λ (front : List ℕ). front ++ (flat_map bytes xs ++ rest)) again.1
+  regrouped : (bytes front others rest behind : List ℕ) (op : ℕ) → bytes ≡ front ++ others → front ≡ op ∷ behind → bytes ++ rest ≡ op ∷ (behind ++ (others ++ rest))
+  regrouped bytes front others rest behind op parts first = ap (λ (b : List ℕ). b ++ rest) (parts ∙ ap (λ (b : List ℕ). b ++ others) first) ∙ append_assoc (op ∷ behind) others rest
 
-  shorter : (most : ℕ) (x : X) (xs : List X) (rest : List ℕ) → Again x → length (flat_map bytes (x ∷ xs) ++ rest) ≤ most → suc (length (flat_map bytes xs ++ rest)) ≤ most
-  shorter most x xs rest again le =
-      let long : length (operation x ∷ (behind x ++ (flat_map bytes xs ++ rest))) ≤ most = subst (λ (all : List ℕ). length all ≤ most) (regrouped x xs rest again) le in
-      omega (arith, long, length-append (behind x) (flat_map bytes xs ++ rest))
+  longer : (most op : ℕ) (bytes others rest behind : List ℕ) → bytes ++ rest ≡ op ∷ (behind ++ (others ++ rest)) → length (bytes ++ rest) ≤ most → suc (length (others ++ rest)) ≤ most
+  longer most op bytes others rest behind same le =
+      let long : length (op ∷ (behind ++ (others ++ rest))) ≤ most = subst (λ (all : List ℕ). length all ≤ most) same le in
+      omega (arith, long, length-append behind (others ++ rest))
 
-  pub each_again : (most : ℕ) (xs : List X) (rest : List ℕ) → length (flat_map bytes xs ++ rest) ≤ most → AllByRecursion Again xs → NoChange rest
-      → changes_at one_at most total flags (flat_map bytes xs ++ rest) ≡ Ok (xs, rest)
-  each_again most [] rest le again stops = none_again most rest stops
-  each_again zero (x ∷ xs) rest le again stops = absurd (omega (arith, shorter zero x xs rest again.0 le))
-  each_again (suc most) (x ∷ xs) rest le again stops =
-      ap (changes_at one_at (suc most) total flags) (regrouped x xs rest again.0)
-      ∙ next_again most x xs rest again.0 (each_again most xs rest (omega (arith, shorter (suc most) x xs rest again.0 le)) again.1 stops)
-
-module _ {A : Type 0} where
-  all_again : (total : ℕ) (flags : List Bool) (changes : List (Change A)) → AllByRecursion (λ change. IsTrue (change_fits flags change)) changes → AllByRecursion HasValues changes
-      → AllByRecursion (Again change_at total flags change_bytes behind_operation operation_of) changes
-  all_again total flags [] fit values = tt
-  all_again total flags (change ∷ changes) fit values =
-      ((operates change, change_parts change, λ rest. change_again total flags change rest fit.0 values.0), all_again total flags changes fit.1 values.1)
-
-  pub changes_again : (most total : ℕ) (flags : List Bool) (changes : List (Change A)) (rest : List ℕ) → length (flat_map change_bytes changes ++ rest) ≤ most → AllChangesFit flags changes → All HasValues changes → NoChange rest
-      → changes_at change_at most total flags (flat_map change_bytes changes ++ rest) ≡ Ok (changes, rest)
-  changes_again most total flags changes rest le fit values stops =
-      each_again change_at total flags change_bytes behind_operation operation_of most changes rest le
-      (all_again total flags changes (recursion_from_All (λ change. IsTrue (change_fits flags change)) changes fit) (recursion_from_All HasValues changes values)) stops
-
-  all_patches_again : (total : ℕ) (flags : List Bool) (patches : List (Patch A)) → AllByRecursion (λ patch. IsTrue (patch_fits flags patch)) patches → AllByRecursion PatchHasValues patches
-      → AllByRecursion (Again patch_at total flags patch_bytes behind_patch_operation patch_operation) patches
-  all_patches_again total flags [] fit values = tt
-  all_patches_again total flags (patch ∷ patches) fit values =
-      ((patch_operates patch, patch_parts patch, λ rest. patch_again total flags patch rest fit.0 values.0), all_patches_again total flags patches fit.1 values.1)
-
-  pub patches_again : (most total : ℕ) (flags : List Bool) (patches : List (Patch A)) (rest : List ℕ) → length (flat_map patch_bytes patches ++ rest) ≤ most → AllPatchesFit flags patches → All PatchHasValues patches → NoChange rest
-      → changes_at patch_at most total flags (flat_map patch_bytes patches ++ rest) ≡ Ok (patches, rest)
-  patches_again most total flags patches rest le fit values stops =
-      each_again patch_at total flags patch_bytes behind_patch_operation patch_operation most patches rest le
-      (all_patches_again total flags patches (recursion_from_All (λ patch. IsTrue (patch_fits flags patch)) patches fit) (recursion_from_All PatchHasValues patches values)) stops
+  pub each_again : IsRead → (most : ℕ) (xs : List X) (bytes rest : List ℕ) → length (bytes ++ rest) ≤ most → SpellsEach one xs bytes → NoChange rest
+      → changes_at one_at most total flags (bytes ++ rest) ≡ Ok (xs, rest)
+  each_again read most [] bytes rest le none stops = ap (λ (b : List ℕ). changes_at one_at most total flags (b ++ rest)) none ∙ none_again most rest stops
+  each_again read zero (x ∷ xs) bytes rest le (front, others, parts, is, spelled) stops =
+      let (op, behind, first, operation, again) = read x front is in
+      absurd (omega (arith, longer zero op bytes others rest behind (regrouped bytes front others rest behind op parts first) le))
+  each_again read (suc most) (x ∷ xs) bytes rest le (front, others, parts, is, spelled) stops =
+      let (op, behind, first, operation, again) = read x front is in
+      let same : bytes ++ rest ≡ op ∷ (behind ++ (others ++ rest)) = regrouped bytes front others rest behind op parts first in
+      ap (changes_at one_at (suc most) total flags) same
+      ∙ next_again most op x xs behind others rest operation (again (others ++ rest))
+      (each_again read most xs others rest (omega (arith, longer (suc most) op bytes others rest behind same le)) spelled stops)

@@ -18,7 +18,7 @@ use Rattle.cap_codec.specs.Demands.{demand_of, demands, new_demand, new_demands}
 use Rattle.cap_codec.specs.RecordReading.{record_at}
 use Rattle.cap_codec.proofs.Binds.{bind_ok, guard_ok, chosen, ok_is}
 
-five : (kind : ℕ) → (kind == 2) ≡ false → nat_lt 5 kind ≡ false → (kind == 0) ≡ false → (kind == 1) ≡ false → (kind == 3) ≡ false → (kind == 4) ≡ false → (kind == 5) ≡ true
+pub five : (kind : ℕ) → (kind == 2) ≡ false → nat_lt 5 kind ≡ false → (kind == 0) ≡ false → (kind == 1) ≡ false → (kind == 3) ≡ false → (kind == 4) ≡ false → (kind == 5) ≡ true
 five kind e2 below e0 e1 e3 e4 =
     let f0 = eqb-false kind 0 e0 in let f1 = eqb-false kind 1 e1 in let f2 = eqb-false kind 2 e2 in let f3 = eqb-false kind 3 e3 in let f4 = eqb-false kind 4 e4 in
     let le = ltb-false 5 kind below in

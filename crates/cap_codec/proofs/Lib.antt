@@ -6,6 +6,8 @@ pub mod HeaderLemmas
 pub mod FieldAgain
 pub mod ChangeAgain
 pub mod BlobAgain
+pub mod Spelled
+pub mod SpelledBlob
 pub mod Steady
 pub mod FieldSteps
 pub mod Looking

@@ -10,5 +10,6 @@ pub mod RecordReading
 pub mod BlobReading
 pub mod ChangeLeft
 pub mod Writable
+pub mod Spelling
 pub mod Pieces
 pub mod Stream

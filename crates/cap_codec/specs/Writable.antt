@@ -1,5 +1,5 @@
 -- What can be written, and what it reads as.
-use Rattle.std.specs.Prelude.{ℕ, Bool, true, false, List, [], ◌∷◌, IfSome, IsTrue, IsUtf8, All, filter, ◌≡◌, ◌⊎◌, Result, Ok, Err}
+use Rattle.std.specs.Prelude.{ℕ, Bool, true, false, List, [], ◌∷◌, IfSome, IsTrue, IsUtf8, All, filter}
 use Rattle.cap_value.specs.Bytes.{is_name}
 use Rattle.cap_value.specs.Value.{IsValue}
 use Rattle.cap_row.specs.Schema.{is_schema, has_key}
@@ -11,7 +11,6 @@ use Rattle.cap_changes.specs.declared.change.Change.{Change}
 use Rattle.cap_changes.specs.declared.change.Change.TheVariants as changed
 use Rattle.cap_changes.specs.declared.patch.Patch.{Patch}
 use Rattle.cap_changes.specs.declared.patch.Patch.TheVariants as patched
-use Rattle.cap_codec.specs.declared.fault.BlobFault.{BlobFault}
 use Rattle.cap_codec.specs.declared.read.Blob.{Blob}
 use Rattle.cap_codec.specs.declared.read.Blob.TheVariants.{Changes, Patches}
 use Rattle.cap_codec.specs.Changeset.{list_bytes}
@@ -71,12 +70,6 @@ module _ {A : Type 0} where
   abbrev pub with_some : Blob A → Blob A
   with_some (Changes groups) = Changes (filter (λ group. has_some group.changes) groups)
   with_some (Patches groups) = of_patches (filter (λ group. has_some group.patches) groups)
-
-  -- Reading that gave exactly one blob and no fault, or exactly one fault and no blob.
-  abbrev pub HasOneAnswer : Result (Blob A) BlobFault → Type 0
-  HasOneAnswer read =
-      ((blob : Blob A) × (read ≡ Ok blob) × ((other : Blob A) → read ≡ Ok other → other ≡ blob) × ((fault : BlobFault) → read ≡ Err fault → ⊥))
-      ⊎ ((fault : BlobFault) × (read ≡ Err fault) × ((other : BlobFault) → read ≡ Err other → other ≡ fault) × ((blob : Blob A) → read ≡ Ok blob → ⊥))
 
   -- nothing of it would be left out
   abbrev pub HasNoEmptyGroup : Blob A → Type 0

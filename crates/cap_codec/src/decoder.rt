@@ -1,8 +1,12 @@
 //! Blobs that come in pieces.
 
-ghost use Rattle.std.specs.Prelude.{◌≡◌, ◌++◌, [], OnOk};
+ghost use Rattle.std.specs.Prelude.{◌≡◌, ◌++◌, [], Ok, Err, IfOk, OnOk};
+ghost use Rattle.cap_value.specs.declared.memory.Fault.TheVariants.{Refused};
 ghost use Rattle.cap_value.specs.Memory.{AnswersUnlessMemory};
+ghost use Rattle.cap_codec.specs.declared.fault.BlobFault.{BlobFault as Wrong};
+ghost use Rattle.cap_codec.specs.declared.read.Blob.{Blob as Contents};
 ghost use Rattle.cap_codec.specs.BlobReading.{blob_at};
+ghost use Rattle.cap_codec.specs.Spelling.{Spells};
 ghost use Rattle.cap_codec.specs.Pieces.{lasting, KeepsFault};
 
 use crate::fault::BlobFault;
@@ -57,6 +61,8 @@ impl<A: AllocHandle> Decoder<A> {
     /// mend (any but `Truncated`), and from then on with the same. Its place is counted from the first byte ever fed.
     /// Where there is no memory, the decoder stays as it was.
     pub fn feed(&mut self, piece: &[u8]) -> Result<(), Fault<BlobFault>>
+        // A fault that no more bytes mend is answered again, and takes no memory.
+        ensures again { (fault : Wrong) → lasting (blob_at {A = A} self.old) ≡ Err fault → result ≡ Err (Refused fault) }
         ensures answers { AnswersUnlessMemory result (lasting (blob_at {A = A} (self.old ++ piece.now))) }
         ensures ok { OnOk result (self.new ≡ self.old ++ piece.now) }
         ensures err { KeepsFault A result self.old self.new }
@@ -85,11 +91,16 @@ impl<A: AllocHandle> Decoder<A> {
 
     /// What is in the bytes, all of them, as `read_blob` answers it.
     pub fn finish(self) -> Result<Blob<A>, Fault<BlobFault>>
-        ensures { AnswersUnlessMemory result (blob_at self) }
+        // A fault that `feed` could tell takes no memory.
+        ensures again { (fault : Wrong) → lasting (blob_at {A = A} self) ≡ Err fault → result ≡ Err (Refused fault) }
+        // As `read_blob` answers of all the bytes.
+        ensures spelled { IfOk result (λ blob. Spells blob self) }
+        ensures read { (blob : Contents A) → Spells blob self → AnswersUnlessMemory result (Ok blob) }
+        ensures answers { AnswersUnlessMemory result (blob_at self) }
     {
-        if let Some(fault) = self.fault {
-            return Err(Fault::Refused(fault));
+        match self.fault {
+            Some(fault) => Err(Fault::Refused(fault)),
+            None => read_blob(self.alloc, &self.bytes),
         }
-        read_blob(self.alloc, &self.bytes)
     }
 }

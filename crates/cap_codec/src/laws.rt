@@ -1,17 +1,30 @@
 //! Laws of blobs, over the grammar alone. The functions do nothing.
 
 ghost use Rattle.std.specs.Prelude.{◌≡◌, ◌++◌, ℕ, List, Ok, Err};
+ghost use Rattle.cap_value.specs.Bytes.{AreBytes};
 ghost use Rattle.cap_codec.specs.declared.read.Blob.{Blob};
 ghost use Rattle.cap_codec.specs.BlobReading.{blob_at};
 ghost use Rattle.cap_codec.specs.declared.fault.BlobFault.{BlobFault};
 ghost use Rattle.cap_codec.specs.Pieces.{lasting};
-ghost use Rattle.cap_codec.specs.Writable.{IsWritable, HasNoEmptyGroup, HasOneAnswer, blob_bytes, with_some};
+ghost use Rattle.cap_codec.specs.Spelling.{Spells};
+ghost use Rattle.cap_codec.specs.Writable.{IsWritable, HasNoEmptyGroup, blob_bytes, with_some};
 
 use cap_value::AllocHandle;
 
-/// Every byte list has exactly one reading or exactly one fault.
-pub fn one_reading_or_one_fault<A: AllocHandle>()
-    ensures { (bytes : List ℕ) → HasOneAnswer (blob_at {A = A} bytes) }
+/// Bytes are read as a blob where they spell it, and as no other.
+pub fn read_is_spelled<A: AllocHandle>()
+    ensures read { (bytes : List ℕ) (blob : Blob A) → Spells blob bytes → blob_at bytes ≡ Ok blob }
+    ensures spelled { (bytes : List ℕ) (blob : Blob A) → AreBytes bytes → blob_at bytes ≡ Ok blob → Spells blob bytes }
+{}
+
+/// Each byte list spells at most one blob.
+pub fn no_bytes_spell_two<A: AllocHandle>()
+    ensures { (bytes : List ℕ) (a b : Blob A) → Spells a bytes → Spells b bytes → a ≡ b }
+{}
+
+/// What is written for a list spells that list, without its groups that have no change.
+pub fn written_is_spelled<A: AllocHandle>()
+    ensures { (blob : Blob A) → IsWritable blob → Spells (with_some blob) (blob_bytes blob) }
 {}
 
 /// What was written for a list reads as that list, without its groups that have no change.
@@ -21,10 +34,12 @@ pub fn written_is_read_again<A: AllocHandle>()
 
 /// No two lists of groups with changes have the same bytes, of changesets or of patchsets.
 pub fn no_two_have_the_same_bytes<A: AllocHandle>()
-    ensures { (a b : Blob A) → IsWritable a → IsWritable b → HasNoEmptyGroup a → HasNoEmptyGroup b → blob_bytes a ≡ blob_bytes b → a ≡ b }
+    ensures { (a b : Blob A) → IsWritable a → IsWritable b → HasNoEmptyGroup a → HasNoEmptyGroup b →
+        blob_bytes a ≡ blob_bytes b → a ≡ b }
 {}
 
 /// A fault other than `Truncated` of a blob's front is the fault of the blob, whatever follows that front.
 pub fn a_fault_lasts<A: AllocHandle>()
-    ensures { (front more : List ℕ) (fault : BlobFault) → lasting (blob_at {A = A} front) ≡ Err fault → lasting (blob_at {A = A} (front ++ more)) ≡ Err fault }
+    ensures { (front more : List ℕ) (fault : BlobFault) → lasting (blob_at {A = A} front) ≡ Err fault →
+        lasting (blob_at {A = A} (front ++ more)) ≡ Err fault }
 {}

@@ -25,7 +25,8 @@ mod write;
 pub use decoder::Decoder;
 pub use fault::{BlobFault, FaultKind};
 pub use laws::{
-    a_fault_lasts, no_two_have_the_same_bytes, one_reading_or_one_fault, written_is_read_again,
+    a_fault_lasts, no_bytes_spell_two, no_two_have_the_same_bytes, read_is_spelled,
+    written_is_read_again, written_is_spelled,
 };
 pub use read::{Blob, read_blob};
 pub use stream::{ReadFault, WriteFault, read_from, write_changes_to, write_patches_to};

@@ -1,10 +1,12 @@
 //! Bytes as changesets and patchsets.
 
-ghost use Rattle.std.specs.Prelude.{◌≡◌, length};
+ghost use Rattle.std.specs.Prelude.{◌≡◌, length, Ok, IfOk};
 ghost use Rattle.cap_value.specs.Memory.{AnswersUnlessMemory};
 ghost use Rattle.cap_codec.specs.Reading.{Gives};
+ghost use Rattle.cap_codec.specs.declared.read.Blob.{Blob as Contents};
 ghost use Rattle.cap_codec.specs.BlobReading as blob;
 ghost use Rattle.cap_codec.specs.BlobReading.{group_at, patch_group_at, groups_at, blob_at};
+ghost use Rattle.cap_codec.specs.Spelling.{Spells};
 
 use crate::fault::{BlobFault, FaultKind};
 use crate::group::{take_group, take_patch_group};
@@ -79,10 +81,8 @@ fn take_patch_groups<A: AllocHandle>(
     Ok(list)
 }
 
-/// What is in these bytes, all of them: a changeset or a patchset, of this program or of another. Refused
-/// with the first fault from left to right where they are no blob.
 #[tactic(auto, unfolding(crate::specs::BlobReading::blob_at))]
-pub fn read_blob<A: AllocHandle>(alloc: A, bytes: &[u8]) -> Result<Blob<A>, Fault<BlobFault>>
+fn take_blob<A: AllocHandle>(alloc: A, bytes: &[u8]) -> Result<Blob<A>, Fault<BlobFault>>
     ensures { AnswersUnlessMemory result (blob_at bytes.now) }
 {
     match bytes {
@@ -94,4 +94,17 @@ pub fn read_blob<A: AllocHandle>(alloc: A, bytes: &[u8]) -> Result<Blob<A>, Faul
             kind: FaultKind::BadHeader,
         })),
     }
+}
+
+/// What is in these bytes, all of them: a changeset or a patchset, of this program or of another. Refused
+/// with the first fault from left to right where they are no blob.
+pub fn read_blob<A: AllocHandle>(alloc: A, bytes: &[u8]) -> Result<Blob<A>, Fault<BlobFault>>
+    // What is read is spelled by the bytes, all of them.
+    ensures spelled { IfOk result (λ blob. Spells blob bytes.now) }
+    // What the bytes spell is read, and no fault is answered.
+    ensures read { (blob : Contents A) → Spells blob bytes.now → AnswersUnlessMemory result (Ok blob) }
+    // Which fault it is.
+    ensures answers { AnswersUnlessMemory result (blob_at bytes.now) }
+{
+    take_blob(alloc, bytes)
 }

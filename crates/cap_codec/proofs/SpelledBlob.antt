@@ -1,0 +1,365 @@
+-- What was read is spelled by the bytes that were read: changes, headers, groups and blobs.
+use Rattle.std.proofs.Common.{◌≡◌, ℕ, zero, suc, ◌+◌, ◌<◌, ◌≤◌, inl, inr, Bool, true, false, cond, nat_lt, nat_le, ◌==◌, ◌&&◌, ◌||◌, List, [], ◌∷◌, ◌++◌, length, take, drop, map, position, Option, Some, None, IfSome, IfOk, Result, Ok, Err, IsTrue, IsUtf8, refl, sym, ap, subst, ◌∙◌, append_assoc, arith, lt-ltb, le-ltb, length-take, length-append}
+use Rattle.std.specs.List.{AllByRecursion, list_any, position_or_len}
+use Rattle.std.specs.Cmp.Lexicographic.{pointwise}
+use Rattle.std.specs.Str.{is_utf8}
+use Rattle.std.proofs.lemmas.Bool.{and_parts, or_parts, ltb-true, ltb-false, eqb-true, eqb-false, cases_lt}
+use Rattle.std.proofs.lemmas.List.{length-map}
+use Rattle.std.proofs.lemmas.List.Elements.{All-from_recursion}
+use Rattle.std.proofs.lemmas.Str.{IsUtf8-from_is_utf8}
+use Rattle.cap_value.specs.declared.memory.Fault.{Fault}
+use Rattle.cap_value.specs.Memory.{AnswersUnlessMemory}
+use Rattle.cap_value.specs.Value.{IsValue}
+use Rattle.cap_value.specs.Bytes.{AreBytes, is_name}
+use Rattle.cap_row.specs.declared.schema.TheConstants.{COLUMNS_MAX}
+use Rattle.cap_row.specs.Schema.{has_key}
+use Rattle.cap_changes.specs.Group.{TableChanges}
+use Rattle.cap_changes.specs.PatchGroup.{TablePatches}
+use Rattle.cap_changes.specs.Record.{RecordFields}
+use Rattle.cap_changes.specs.declared.change.Change.{Change}
+use Rattle.cap_changes.specs.declared.change.Change.TheVariants as changed
+use Rattle.cap_changes.specs.declared.patch.Patch.{Patch}
+use Rattle.cap_changes.specs.declared.patch.Patch.TheVariants as patched
+use Rattle.cap_codec.specs.declared.demand.Demand.{Demand}
+use Rattle.cap_codec.specs.declared.fault.BlobFault.{BlobFault}
+use Rattle.cap_codec.specs.declared.read.Blob.{Blob}
+use Rattle.cap_codec.specs.declared.read.Blob.TheVariants.{Changes, Patches}
+use Rattle.cap_codec.specs.declared.rule.Rule.TheVariants as rules
+use Rattle.cap_codec.specs.Demands.{demands, new_demands}
+use Rattle.cap_codec.specs.Field.{record_bytes, key_bytes}
+use Rattle.cap_codec.specs.HeaderReading.{Header, is_zero, is_set, count_at, flags_at, named_at, name_at, header_at}
+use Rattle.cap_codec.specs.Pieces.{lasting}
+use Rattle.cap_codec.specs.Reading.{◌>>=◌, place, byte_at, bytes_at, varint_at}
+use Rattle.cap_codec.specs.RecordReading.{record_at}
+use Rattle.cap_codec.specs.Varint.{varint_bytes}
+use Rattle.cap_codec.specs.BlobReading.{is_operation, change_at, patch_at, changes_at, group_at, patch_group_at, groups_at, blob_at}
+use Rattle.cap_codec.specs.Spelling.{SpellsEach, SpellsGroup, SpellsChange, SpellsPatch, SpellsChanges, SpellsPatches, Spells}
+use Rattle.cap_codec.specs.Writable.{IsTable, AreValues}
+use Rattle.cap_codec.proofs.Binds.{bind_ok, guard_ok, check_ok, chosen, ok_is}
+use Rattle.cap_codec.proofs.FitLemmas.{meets, record_meets, full_fits, patch_record_fits, key_fits, update_fits}
+use Rattle.cap_codec.proofs.ChangeAgain.{asked_record, all_asked, of_full, of_keyed, keys_asked, new_asked}
+use Rattle.cap_codec.proofs.HeaderLemmas.{key_is_set, is_schema_of, name_before}
+use Rattle.cap_codec.proofs.Spelled.{AreLow, low_behind, varint_spelled, bytes_spelled, record_spelled}
+use Rattle.cap_codec.proofs.BlobAgain.{blob_again}
+
+module _ {A : Type 0} where
+  -- ---- records
+
+  abbrev IsRecord : (RecordFields A → List ℕ) → List ℕ → RecordFields A × List ℕ → Type 0
+  IsRecord written bytes x = AreValues x.0 × (bytes ≡ written x.0 ++ x.1)
+
+  of_record : (written : RecordFields A → List ℕ) (total : ℕ) (demands : List Demand) (bytes : List ℕ) (x : RecordFields A × List ℕ) → AreLow bytes → record_at total demands bytes ≡ Ok x
+      → asked_record demands x.0 ≡ written x.0 → IsRecord written bytes x
+  of_record written total demands bytes x low e same =
+      let asked = record_spelled total demands bytes x low e in
+      (All-from_recursion (λ field. IfSome field IsValue) x.0 asked.1, asked.0 ∙ ap (λ (front : List ℕ). front ++ x.1) same)
+
+  full_spelled : (total : ℕ) (flags : List Bool) (bytes : List ℕ) (x : RecordFields A × List ℕ) → AreLow bytes → record_at total (demands rules.Full flags) bytes ≡ Ok x → IsRecord record_bytes bytes x
+  full_spelled total flags bytes x low e =
+      of_record record_bytes total (demands rules.Full flags) bytes x low e (all_asked rules.Full of_full flags x.0 (record_meets total (demands rules.Full flags) bytes x e))
+
+  keyed_spelled : (total : ℕ) (flags : List Bool) (bytes : List ℕ) (x : RecordFields A × List ℕ) → AreLow bytes → record_at total (demands rules.Keyed flags) bytes ≡ Ok x → IsRecord record_bytes bytes x
+  keyed_spelled total flags bytes x low e =
+      of_record record_bytes total (demands rules.Keyed flags) bytes x low e (all_asked rules.Keyed of_keyed flags x.0 (record_meets total (demands rules.Keyed flags) bytes x e))
+
+  key_spelled : (total : ℕ) (flags : List Bool) (bytes : List ℕ) (x : RecordFields A × List ℕ) → AreLow bytes → record_at total (demands rules.KeyAlone flags) bytes ≡ Ok x → IsRecord key_bytes bytes x
+  key_spelled total flags bytes x low e =
+      of_record key_bytes total (demands rules.KeyAlone flags) bytes x low e (keys_asked flags x.0 (record_meets total (demands rules.KeyAlone flags) bytes x e))
+
+  new_spelled : (total : ℕ) (flags : List Bool) (old : RecordFields A) (bytes : List ℕ) (x : RecordFields A × List ℕ) → AreLow bytes → record_at total (new_demands flags old) bytes ≡ Ok x → IsRecord record_bytes bytes x
+  new_spelled total flags old bytes x low e =
+      of_record record_bytes total (new_demands flags old) bytes x low e (new_asked flags old x.0 (record_meets total (new_demands flags old) bytes x e))
+
+-- ---- changes
+
+third : (a b c : Bool) → (a || b || c) ≡ true → a ≡ false → b ≡ false → c ≡ true
+third true b c e p q = absurd cc
+third false true c e p q = absurd cc
+third false false c e p q = e
+
+-- an operation byte and these bytes begin with one, and with what is left
+abbrev Begins : {X : Type 0} → (X → List ℕ → Type 0) → ℕ → List ℕ → X × List ℕ → Type 0
+Begins one op bytes x = (front : List ℕ) × (bytes ≡ front ++ x.1) × one x.0 (op ∷ front)
+
+module _ {A : Type 0} where
+  abbrev one_record : (RecordFields A → Change A) → RecordFields A × List ℕ → Result (Change A × List ℕ) BlobFault
+  one_record make x = Ok (make x.0, x.1)
+
+  change_spelled : (total : ℕ) (flags : List Bool) (op : ℕ) (bytes : List ℕ) (x : Change A × List ℕ) → AreLow bytes → is_operation op ≡ true → change_at total flags op bytes ≡ Ok x → Begins (SpellsChange flags) op bytes x
+  unfolding change_at
+  change_spelled total flags op [] x low operation e = absurd cc
+  change_spelled total flags op (mark ∷ bytes) x low operation e = elim (chosen (op == 0x12) _ _ _ e) [
+    | inl (insert, h) ↦
+        let new = bind_ok (record_at total (demands rules.Full flags) bytes) (λ new. Ok (changed.Insert (is_set mark) new.0, new.1)) x h in
+        let is = full_spelled total flags bytes new.0 low.1 new.1 in
+        subst (Begins (SpellsChange flags) op (mark ∷ bytes)) (ok_is (changed.Insert (is_set mark) new.0.0, new.0.1) x new.2)
+        (mark ∷ record_bytes new.0.0, ap (λ (b : List ℕ). mark ∷ b) is.1,
+        (full_fits total flags bytes new.0 new.1, is.0, (mark, refl, ap (λ (k : ℕ). k ∷ mark ∷ record_bytes new.0.0) (eqb-true op 0x12 insert))))
+    | inr (no_insert, h0) ↦ elim (chosen (op == 0x17) _ _ _ h0) [
+      | inl (update, h) ↦
+          let old = bind_ok (record_at total (demands rules.Keyed flags) bytes) (λ old. record_at total (new_demands flags old.0) old.1 >>= (λ new. Ok (changed.Update (is_set mark) old.0 new.0, new.1))) x h in
+          let new = bind_ok (record_at total (new_demands flags old.0.0) old.0.1) (λ new. Ok (changed.Update (is_set mark) old.0.0 new.0, new.1)) x old.2 in
+          let first = keyed_spelled total flags bytes old.0 low.1 old.1 in
+          let second = new_spelled total flags old.0.0 old.0.1 new.0 (low_behind bytes (record_bytes old.0.0) old.0.1 first.1 low.1) new.1 in
+          subst (Begins (SpellsChange flags) op (mark ∷ bytes)) (ok_is (changed.Update (is_set mark) old.0.0 new.0.0, new.0.1) x new.2)
+          (mark ∷ (record_bytes old.0.0 ++ record_bytes new.0.0),
+          ap (λ (b : List ℕ). mark ∷ b) (first.1 ∙ ap (λ (b : List ℕ). record_bytes old.0.0 ++ b) second.1 ∙ sym (append_assoc (record_bytes old.0.0) (record_bytes new.0.0) new.0.1)),
+          (update_fits total flags bytes old.0 new.0 old.1 new.1, (first.0, second.0), (mark, refl, ap (λ (k : ℕ). k ∷ mark ∷ (record_bytes old.0.0 ++ record_bytes new.0.0)) (eqb-true op 0x17 update))))
+      | inr (no_update, h) ↦
+          let old = bind_ok (record_at total (demands rules.Full flags) bytes) (λ old. Ok (changed.Delete (is_set mark) old.0, old.1)) x h in
+          let is = full_spelled total flags bytes old.0 low.1 old.1 in
+          let delete = third (op == 0x12) (op == 0x17) (op == 0x09) operation no_insert no_update in
+          subst (Begins (SpellsChange flags) op (mark ∷ bytes)) (ok_is (changed.Delete (is_set mark) old.0.0, old.0.1) x old.2)
+          (mark ∷ record_bytes old.0.0, ap (λ (b : List ℕ). mark ∷ b) is.1,
+          (full_fits total flags bytes old.0 old.1, is.0, (mark, refl, ap (λ (k : ℕ). k ∷ mark ∷ record_bytes old.0.0) (eqb-true op 0x09 delete))))
+    ]
+  ]
+
+  patch_spelled : (total : ℕ) (flags : List Bool) (op : ℕ) (bytes : List ℕ) (x : Patch A × List ℕ) → AreLow bytes → is_operation op ≡ true → patch_at total flags op bytes ≡ Ok x → Begins (SpellsPatch flags) op bytes x
+  unfolding patch_at
+  patch_spelled total flags op [] x low operation e = absurd cc
+  patch_spelled total flags op (mark ∷ bytes) x low operation e = elim (chosen (op == 0x12) _ _ _ e) [
+    | inl (insert, h) ↦
+        let new = bind_ok (record_at total (demands rules.Full flags) bytes) (λ new. Ok (patched.Insert (is_set mark) new.0, new.1)) x h in
+        let is = full_spelled total flags bytes new.0 low.1 new.1 in
+        subst (Begins (SpellsPatch flags) op (mark ∷ bytes)) (ok_is (patched.Insert (is_set mark) new.0.0, new.0.1) x new.2)
+        (mark ∷ record_bytes new.0.0, ap (λ (b : List ℕ). mark ∷ b) is.1,
+        (full_fits total flags bytes new.0 new.1, is.0, (mark, refl, ap (λ (k : ℕ). k ∷ mark ∷ record_bytes new.0.0) (eqb-true op 0x12 insert))))
+    | inr (no_insert, h0) ↦ elim (chosen (op == 0x17) _ _ _ h0) [
+      | inl (update, h) ↦
+          let new = bind_ok (record_at total (demands rules.Keyed flags) bytes) (λ new. Ok (patched.Update (is_set mark) new.0, new.1)) x h in
+          let is = keyed_spelled total flags bytes new.0 low.1 new.1 in
+          subst (Begins (SpellsPatch flags) op (mark ∷ bytes)) (ok_is (patched.Update (is_set mark) new.0.0, new.0.1) x new.2)
+          (mark ∷ record_bytes new.0.0, ap (λ (b : List ℕ). mark ∷ b) is.1,
+          (patch_record_fits total flags bytes new.0 new.1, is.0, (mark, refl, ap (λ (k : ℕ). k ∷ mark ∷ record_bytes new.0.0) (eqb-true op 0x17 update))))
+      | inr (no_update, h) ↦
+          let key = bind_ok (record_at total (demands rules.KeyAlone flags) bytes) (λ key. Ok (patched.Delete (is_set mark) key.0, key.1)) x h in
+          let is = key_spelled total flags bytes key.0 low.1 key.1 in
+          let delete = third (op == 0x12) (op == 0x17) (op == 0x09) operation no_insert no_update in
+          subst (Begins (SpellsPatch flags) op (mark ∷ bytes)) (ok_is (patched.Delete (is_set mark) key.0.0, key.0.1) x key.2)
+          (mark ∷ key_bytes key.0.0, ap (λ (b : List ℕ). mark ∷ b) is.1,
+          (key_fits total flags bytes key.0 key.1, is.0, (mark, refl, ap (λ (k : ℕ). k ∷ mark ∷ key_bytes key.0.0) (eqb-true op 0x09 delete))))
+    ]
+  ]
+
+-- ---- the changes of a group
+
+module _ {X : Type 0} (one_at : ℕ → List Bool → ℕ → List ℕ → Result (X × List ℕ) BlobFault) (total : ℕ) (flags : List Bool) (one : X → List ℕ → Type 0) where
+  abbrev IsSpelled : Type 0
+  IsSpelled = (op : ℕ) (bytes : List ℕ) (x : X × List ℕ) → AreLow bytes → is_operation op ≡ true → one_at total flags op bytes ≡ Ok x → Begins one op bytes x
+
+  abbrev pub Front : List ℕ → List X × List ℕ → Type 0
+  Front bytes x = (front : List ℕ) × (bytes ≡ front ++ x.1) × SpellsEach one x.0 front
+
+  each_spelled : IsSpelled → (most : ℕ) (bytes : List ℕ) (x : List X × List ℕ) → AreLow bytes → changes_at one_at most total flags bytes ≡ Ok x → Front bytes x
+  unfolding changes_at
+  each_spelled spelled zero bytes x low e = subst (Front bytes) (ok_is ([], bytes) x e) ([], refl, refl)
+  each_spelled spelled (suc most) [] x low e = subst (Front []) (ok_is ([], []) x e) ([], refl, refl)
+  each_spelled spelled (suc most) (op ∷ bytes) x low e = elim (chosen (is_operation op) _ _ _ e) [
+    | inl (operation, h) ↦
+        let first = bind_ok (one_at total flags op bytes) (λ change. changes_at one_at most total flags change.1 >>= (λ others. Ok (change.0 ∷ others.0, others.1))) x h in
+        let others = bind_ok (changes_at one_at most total flags first.0.1) (λ others. Ok (first.0.0 ∷ others.0, others.1)) x first.2 in
+        let is = spelled op bytes first.0 low.1 operation first.1 in
+        let are = each_spelled spelled most first.0.1 others.0 (low_behind bytes is.0 first.0.1 is.1 low.1) others.1 in
+        subst (Front (op ∷ bytes)) (ok_is (first.0.0 ∷ others.0.0, others.0.1) x others.2)
+        ((op ∷ is.0) ++ are.0,
+        ap (λ (b : List ℕ). op ∷ b) (is.1 ∙ ap (λ (b : List ℕ). is.0 ++ b) are.1 ∙ sym (append_assoc is.0 are.0 others.0.1)),
+        (op ∷ is.0, are.0, refl, is.2, are.2))
+    | inr (other, h) ↦ subst (Front (op ∷ bytes)) (ok_is ([], op ∷ bytes) x h) ([], refl, refl)
+  ]
+
+-- ---- headers
+
+count_spelled : (total : ℕ) (bytes : List ℕ) (x : ℕ × List ℕ) → AreLow bytes → count_at total bytes ≡ Ok x → (1 ≤ x.0) × (x.0 ≤ 2000) × (bytes ≡ varint_bytes x.0 ++ x.1)
+unfolding count_at
+count_spelled total bytes x low e =
+    let count = bind_ok (varint_at total bytes) _ x e in
+    let bad = guard_ok ((count.0.0 == 0) || nat_lt COLUMNS_MAX count.0.0) _ _ x count.2 in
+    let parts = or_parts (count.0.0 == 0) (nat_lt COLUMNS_MAX count.0.0) bad.0 in
+    let some = eqb-false count.0.0 0 parts.0 in
+    let few : count.0.0 ≤ 2000 = ltb-false COLUMNS_MAX count.0.0 parts.1 in
+    let number = varint_spelled total bytes count.0 low count.1 in
+    subst (λ (y : ℕ × List ℕ). (1 ≤ y.0) × (y.0 ≤ 2000) × (bytes ≡ varint_bytes y.0 ++ y.1)) (ok_is count.0 x bad.1) (omega arith, few, number.1)
+
+flags_spelled : (total count : ℕ) (bytes : List ℕ) (x : List ℕ × List ℕ) → flags_at total count bytes ≡ Ok x → (list_any is_set x.0 ≡ true) × (length x.0 ≡ count) × (bytes ≡ x.0 ++ x.1)
+unfolding flags_at
+flags_spelled total count bytes x e =
+    let flags = bind_ok (bytes_at total count bytes) _ x e in
+    let keyed = check_ok (list_any is_set flags.0.0) _ _ x flags.2 in
+    let parts = bytes_spelled total count bytes flags.0 flags.1 in
+    subst (λ (y : List ℕ × List ℕ). (list_any is_set y.0 ≡ true) × (length y.0 ≡ count) × (bytes ≡ y.0 ++ y.1)) (ok_is flags.0 x keyed.1) (keyed.0, parts.1, parts.0)
+
+one_more : (n : ℕ) → 1 + n ≡ suc n
+one_more n = omega arith
+
+two_more : (n : ℕ) → 1 + n + 1 ≡ suc (n + 1)
+two_more n = omega arith
+
+-- the first zero byte, with what stands before and behind it
+zero_at : (most : ℕ) (bytes : List ℕ) → position_or_len is_zero (take most bytes) < length (take most bytes)
+    → bytes ≡ take (position_or_len is_zero (take most bytes)) bytes ++ 0 ∷ drop (position_or_len is_zero (take most bytes) + 1) bytes
+zero_at zero bytes lt = absurd (omega arith)
+zero_at (suc most) [] lt = absurd (omega arith)
+zero_at (suc most) (byte ∷ bytes) lt = first (is_zero byte) refl (λ below. zero_at most bytes below) lt
+  where
+    first : (b : Bool) → is_zero byte ≡ b → (position_or_len is_zero (take most bytes) < length (take most bytes)
+        → bytes ≡ take (position_or_len is_zero (take most bytes)) bytes ++ 0 ∷ drop (position_or_len is_zero (take most bytes) + 1) bytes)
+        → position_or_len is_zero (byte ∷ take most bytes) < suc (length (take most bytes))
+        → byte ∷ bytes ≡ take (position_or_len is_zero (byte ∷ take most bytes)) (byte ∷ bytes) ++ 0 ∷ drop (position_or_len is_zero (byte ∷ take most bytes) + 1) (byte ∷ bytes)
+    first true e others lt' = rw e (ap (λ (k : ℕ). k ∷ bytes) (eqb-true byte 0 e))
+    first false e others lt' =
+        let below : 1 + position_or_len is_zero (take most bytes) < suc (length (take most bytes)) = rw e at lt' in
+        rw (e, two_more (position_or_len is_zero (take most bytes)), one_more (position_or_len is_zero (take most bytes))) (ap (λ (b : List ℕ). byte ∷ b) (others (omega arith)))
+
+no_name : {X : Type 0} (b : Bool) (f g : BlobFault) (x : X) → cond b (Err f) (Err g) ≡ Ok x → ⊥
+no_name true f g x e = cc
+no_name false f g x e = cc
+
+abbrev IsNamed : List ℕ → List ℕ × List ℕ → Type 0
+IsNamed bytes x = IsTrue (is_name x.0) × IsUtf8 x.0 × (bytes ≡ x.0 ++ 0 ∷ x.1)
+
+name_spelled : (total : ℕ) (bytes : List ℕ) (x : List ℕ × List ℕ) → name_at total bytes ≡ Ok x → IsNamed bytes x
+unfolding name_at
+name_spelled total bytes x e = elim (cases_lt (position_or_len is_zero (take 256 bytes)) (length (take 256 bytes))) [
+  | inl found ↦
+      let len = position_or_len is_zero (take 256 bytes) in
+      let first : position is_zero (take 256 bytes) ≡ Some len = rw (lt-ltb len (length (take 256 bytes)) found) refl in
+      let read : named_at total bytes (Some len) ≡ Ok x = subst (λ (o : Option ℕ). named_at total bytes o ≡ Ok x) first e in
+      let good = check_ok (nat_lt 0 len && is_utf8 (take len bytes)) _ _ x read in
+      let tests = and_parts (nat_lt 0 len) (is_utf8 (take len bytes)) good.0 in
+      subst (IsNamed bytes) (ok_is (take len bytes, drop (len + 1) bytes) x good.1)
+      (name_before bytes len first (ltb-true 0 len tests.0) (omega (arith, length-take 256 bytes)) (omega (arith, length-take 256 bytes)), IsUtf8-from_is_utf8 (take len bytes) tests.1, zero_at 256 bytes found)
+  | inr none ↦
+      let nowhere : position is_zero (take 256 bytes) ≡ None = rw (le-ltb _ _ none) refl in
+      let read : named_at total bytes None ≡ Ok x = subst (λ (o : Option ℕ). named_at total bytes o ≡ Ok x) nowhere e in
+      absurd (no_name (nat_le (length bytes) 255) _ _ x read)
+]
+
+abbrev IsHeader : List ℕ → Header × List ℕ → Type 0
+IsHeader bytes x = IsTable x.0.table x.0.flags × ((flags : List ℕ) × (map is_set flags ≡ x.0.flags) × (bytes ≡ varint_bytes (length x.0.flags) ++ flags ++ x.0.table ++ 0 ∷ x.1))
+
+header_spelled : (total : ℕ) (bytes : List ℕ) (x : Header × List ℕ) → AreLow bytes → header_at total bytes ≡ Ok x → IsHeader bytes x
+unfolding header_at
+header_spelled total bytes x low e =
+    let count = bind_ok (count_at total bytes) (λ count. flags_at total count.0 count.1 >>= (λ flags. name_at total flags.1 >>= (λ name. Ok (record { table = name.0; flags = map is_set flags.0 }, name.1)))) x e in
+    let flags = bind_ok (flags_at total count.0.0 count.0.1) (λ flags. name_at total flags.1 >>= (λ name. Ok (record { table = name.0; flags = map is_set flags.0 }, name.1))) x count.2 in
+    let name = bind_ok (name_at total flags.0.1) (λ name. Ok (record { table = name.0; flags = map is_set flags.0.0 }, name.1)) x flags.2 in
+    let columns = count_spelled total bytes count.0 low count.1 in
+    let keyed = flags_spelled total count.0.0 count.0.1 flags.0 flags.1 in
+    let named = name_spelled total flags.0.1 name.0 name.1 in
+    let long : length (map is_set flags.0.0) ≡ count.0.0 = length-map flags.0.0 is_set ∙ keyed.1 in
+    let table : IsTable name.0.0 (map is_set flags.0.0) = record {
+      name = named.0;
+      utf8 = named.1;
+      columns = is_schema_of flags.0.0 (subst (λ (k : ℕ). 1 ≤ k) (sym keyed.1) columns.0) (subst (λ (k : ℕ). k ≤ 2000) (sym keyed.1) columns.1);
+      keyed = key_is_set flags.0.0 ∙ keyed.0;
+    } in
+    let parts : bytes ≡ varint_bytes (length (map is_set flags.0.0)) ++ flags.0.0 ++ name.0.0 ++ 0 ∷ name.0.1 =
+    columns.2 ∙ ap (λ (b : List ℕ). varint_bytes count.0.0 ++ b) (keyed.2 ∙ ap (λ (b : List ℕ). flags.0.0 ++ b) named.2)
+    ∙ sym (append_assoc (varint_bytes count.0.0) flags.0.0 (name.0.0 ++ 0 ∷ name.0.1)) ∙ sym (append_assoc (varint_bytes count.0.0 ++ flags.0.0) name.0.0 (0 ∷ name.0.1))
+    ∙ ap (λ (k : ℕ). varint_bytes k ++ flags.0.0 ++ name.0.0 ++ 0 ∷ name.0.1) (sym long) in
+    subst (IsHeader bytes) (ok_is (record { table = name.0.0; flags = map is_set flags.0.0 }, name.0.1) x name.2) (table, (flags.0.0, refl, parts))
+
+-- ---- groups
+
+-- the kind byte and these bytes begin with a group, and with what is left
+abbrev BeginsGroup : {X : Type 0} → (X → List ℕ → Type 0) → ℕ → List ℕ → X × List ℕ → Type 0
+BeginsGroup one kind bytes x = (front : List ℕ) × (bytes ≡ front ++ x.1) × one x.0 (kind ∷ front)
+
+of_group : {X : Type 0} (kind : ℕ) (one : X → List ℕ → Type 0) (bytes : List ℕ) (header : Header) (behind : List ℕ) (changes : List X) (left : List ℕ) → IsHeader bytes (header, behind)
+    → (front : List ℕ) → behind ≡ front ++ left → SpellsEach one changes front
+    → (all : List ℕ) × (bytes ≡ all ++ left) × SpellsGroup kind header.table header.flags one changes (kind ∷ all)
+of_group kind one bytes header behind changes left (table, (flags, flagged, parts)) front is spelled =
+    let start = varint_bytes (length header.flags) ++ flags ++ header.table in
+    (start ++ 0 ∷ front,
+    parts ∙ ap (λ (b : List ℕ). start ++ 0 ∷ b) is ∙ sym (append_assoc start (0 ∷ front) left),
+    record { named = table; flags = flags; flagged = flagged; rest = front; parts = refl; each = spelled })
+
+module _ {A : Type 0} where
+  group_spelled : (total : ℕ) (bytes : List ℕ) (x : TableChanges A × List ℕ) → AreLow bytes → group_at total bytes ≡ Ok x → BeginsGroup SpellsChanges 0x54 bytes x
+  unfolding group_at
+  group_spelled total bytes x low e =
+      let header = bind_ok (header_at total bytes) _ x e in
+      let changes = bind_ok (changes_at change_at (length header.0.1) total header.0.0.flags header.0.1) (λ changes. Ok (record { table = header.0.0.table; schema = header.0.0.flags; changes = [] ++ changes.0 }, changes.1)) x header.2 in
+      let is = header_spelled total bytes header.0 low header.1 in
+      let low' = low_behind bytes (varint_bytes (length header.0.0.flags) ++ is.1.0 ++ header.0.0.table ++ 0 ∷ []) header.0.1 (is.1.2 ∙ sym (append_assoc (varint_bytes (length header.0.0.flags) ++ is.1.0 ++ header.0.0.table) (0 ∷ []) header.0.1)) low in
+      let are = each_spelled change_at total header.0.0.flags (SpellsChange header.0.0.flags) (change_spelled total header.0.0.flags) (length header.0.1) header.0.1 changes.0 low' changes.1 in
+      subst (BeginsGroup SpellsChanges 0x54 bytes) (ok_is (record { table = header.0.0.table; schema = header.0.0.flags; changes = changes.0.0 }, changes.0.1) x changes.2)
+      (of_group 0x54 (SpellsChange header.0.0.flags) bytes header.0.0 header.0.1 changes.0.0 changes.0.1 is are.0 are.1 are.2)
+
+  patch_group_spelled : (total : ℕ) (bytes : List ℕ) (x : TablePatches A × List ℕ) → AreLow bytes → patch_group_at total bytes ≡ Ok x → BeginsGroup SpellsPatches 0x50 bytes x
+  unfolding patch_group_at
+  patch_group_spelled total bytes x low e =
+      let header = bind_ok (header_at total bytes) _ x e in
+      let patches = bind_ok (changes_at patch_at (length header.0.1) total header.0.0.flags header.0.1) (λ patches. Ok (record { table = header.0.0.table; schema = header.0.0.flags; patches = [] ++ patches.0 }, patches.1)) x header.2 in
+      let is = header_spelled total bytes header.0 low header.1 in
+      let low' = low_behind bytes (varint_bytes (length header.0.0.flags) ++ is.1.0 ++ header.0.0.table ++ 0 ∷ []) header.0.1 (is.1.2 ∙ sym (append_assoc (varint_bytes (length header.0.0.flags) ++ is.1.0 ++ header.0.0.table) (0 ∷ []) header.0.1)) low in
+      let are = each_spelled patch_at total header.0.0.flags (SpellsPatch header.0.0.flags) (patch_spelled total header.0.0.flags) (length header.0.1) header.0.1 patches.0 low' patches.1 in
+      subst (BeginsGroup SpellsPatches 0x50 bytes) (ok_is (record { table = header.0.0.table; schema = header.0.0.flags; patches = patches.0.0 }, patches.0.1) x patches.2)
+      (of_group 0x50 (SpellsPatch header.0.0.flags) bytes header.0.0 header.0.1 patches.0.0 patches.0.1 is are.0 are.1 are.2)
+
+-- ---- the groups of a blob
+
+module _ {X : Type 0} (one_at : ℕ → List ℕ → Result (X × List ℕ) BlobFault) (kind : ℕ) (one : X → List ℕ → Type 0) where
+  abbrev IsGroupSpelled : Type 0
+  IsGroupSpelled = (total : ℕ) (bytes : List ℕ) (x : X × List ℕ) → AreLow bytes → one_at total bytes ≡ Ok x → BeginsGroup one kind bytes x
+
+  groups_spelled : IsGroupSpelled → (most total : ℕ) (bytes : List ℕ) (xs : List X) → AreLow bytes → length bytes ≤ most → groups_at one_at kind most total bytes ≡ Ok xs → SpellsEach one xs bytes
+  unfolding groups_at
+  groups_spelled spelled zero total [] xs low le e = subst (λ (ys : List X). SpellsEach one ys []) (ok_is [] xs e) refl
+  groups_spelled spelled zero total (byte ∷ bytes) xs low le e = absurd (omega arith)
+  groups_spelled spelled (suc most) total [] xs low le e = subst (λ (ys : List X). SpellsEach one ys []) (ok_is [] xs e) refl
+  groups_spelled spelled (suc most) total (byte ∷ bytes) xs low le e =
+      let same = check_ok (byte == kind) _ _ xs e in
+      let first = bind_ok (one_at total bytes) (λ group. groups_at one_at kind most total group.1 >>= (λ others. Ok (group.0 ∷ others))) xs same.1 in
+      let others = bind_ok (groups_at one_at kind most total first.0.1) (λ others. Ok (first.0.0 ∷ others)) xs first.2 in
+      let is = spelled total bytes first.0 low.1 first.1 in
+      let shorter : length first.0.1 ≤ most = let long : length (is.0 ++ first.0.1) ≤ most = subst (λ (b : List ℕ). length b ≤ most) is.1 (omega arith) in omega (arith, long, length-append is.0 first.0.1) in
+      let are = groups_spelled spelled most total first.0.1 others.0 (low_behind bytes is.0 first.0.1 is.1 low.1) shorter others.1 in
+      subst (λ (ys : List X). SpellsEach one ys (byte ∷ bytes)) (ok_is (first.0.0 ∷ others.0) xs others.2)
+      (kind ∷ is.0, first.0.1, ap (λ (k : ℕ). k ∷ bytes) (eqb-true byte kind same.0) ∙ ap (λ (b : List ℕ). kind ∷ b) is.1, is.2, are)
+
+-- ---- blobs
+
+module _ {A : Type 0} where
+  some_groups : (byte : ℕ) (bytes : List ℕ) (groups : List (TablePatches A)) → SpellsEach SpellsPatches groups (byte ∷ bytes) → groups ≡ [] → ⊥
+  some_groups byte bytes groups spelled none =
+      let nothing : SpellsEach {X = TablePatches A} SpellsPatches [] (byte ∷ bytes) = subst (λ (gs : List (TablePatches A)). SpellsEach SpellsPatches gs (byte ∷ bytes)) none spelled in cc
+
+  -- Bytes that are read as a blob spell it.
+  pub blob_spelled : (bytes : List ℕ) (blob : Blob A) → AreLow bytes → blob_at bytes ≡ Ok blob → Spells blob bytes
+  unfolding blob_at
+  blob_spelled [] blob low e = subst (λ (b : Blob A). Spells b []) (ok_is (Changes []) blob e) refl
+  blob_spelled (kind ∷ bytes) blob low e = elim (chosen (kind == 0x54) _ _ _ e) [
+    | inl (of_changes, h) ↦
+        let groups = bind_ok (groups_at group_at kind (length (kind ∷ bytes)) (length (kind ∷ bytes)) (kind ∷ bytes)) (λ groups. Ok (Changes groups)) blob h in
+        let read : groups_at group_at 0x54 (length (kind ∷ bytes)) (length (kind ∷ bytes)) (kind ∷ bytes) ≡ Ok groups.0 =
+        subst (λ (k : ℕ). groups_at group_at k (length (kind ∷ bytes)) (length (kind ∷ bytes)) (kind ∷ bytes) ≡ Ok groups.0) (eqb-true kind 0x54 of_changes) groups.1 in
+        subst (λ (b : Blob A). Spells b (kind ∷ bytes)) (ok_is (Changes groups.0) blob groups.2)
+        (groups_spelled group_at 0x54 SpellsChanges group_spelled (length (kind ∷ bytes)) (length (kind ∷ bytes)) (kind ∷ bytes) groups.0 low (omega arith) read)
+    | inr (other, h0) ↦
+        let patchset = check_ok (kind == 0x50) _ _ blob h0 in
+        let groups = bind_ok (groups_at patch_group_at kind (length (kind ∷ bytes)) (length (kind ∷ bytes)) (kind ∷ bytes)) (λ groups. Ok (Patches groups)) blob patchset.1 in
+        let read : groups_at patch_group_at 0x50 (length (kind ∷ bytes)) (length (kind ∷ bytes)) (kind ∷ bytes) ≡ Ok groups.0 =
+        subst (λ (k : ℕ). groups_at patch_group_at k (length (kind ∷ bytes)) (length (kind ∷ bytes)) (kind ∷ bytes) ≡ Ok groups.0) (eqb-true kind 0x50 patchset.0) groups.1 in
+        let spelled = groups_spelled patch_group_at 0x50 SpellsPatches patch_group_spelled (length (kind ∷ bytes)) (length (kind ∷ bytes)) (kind ∷ bytes) groups.0 low (omega arith) read in
+        subst (λ (b : Blob A). Spells b (kind ∷ bytes)) (ok_is (Patches groups.0) blob groups.2) (spelled, some_groups kind bytes groups.0 spelled)
+  ]
+
+  -- ---- what a reader answers
+
+  pub answer_spelled : (bytes : List ℕ) (answer : Result (Blob A) (Fault BlobFault)) → AreLow bytes → AnswersUnlessMemory answer (blob_at bytes) → IfOk answer (λ blob. Spells blob bytes)
+  answer_spelled bytes (Ok blob) low is = blob_spelled bytes blob low is
+  answer_spelled bytes (Err fault) low is = tt
+
+  pub spelled_answer : (bytes : List ℕ) (answer : Result (Blob A) (Fault BlobFault)) (blob : Blob A) → Spells blob bytes → AnswersUnlessMemory answer (blob_at bytes) → AnswersUnlessMemory answer (Ok blob)
+  spelled_answer bytes answer blob spelled is = subst (λ (read : Result (Blob A) BlobFault). AnswersUnlessMemory answer read) (blob_again blob bytes spelled) is
+
+module _ (A : Type 0) where
+  -- what spells a blob has no fault
+  pub none_lasts : (bytes : List ℕ) (blob : Blob A) (f : BlobFault) → Spells blob bytes → lasting (blob_at {A = A} bytes) ≡ Err f → ⊥
+  none_lasts bytes blob f spelled lasts = let none : lasting (blob_at {A = A} bytes) ≡ Ok tt = ap lasting (blob_again blob bytes spelled) in cc
+
+pub low_bytes : (bytes : List ℕ) → AreBytes bytes → AreLow bytes
+low_bytes [] are = tt
+low_bytes (byte ∷ bytes) are = (are 0 (omega arith), low_bytes bytes (λ i lt. are (suc i) (omega arith)))
