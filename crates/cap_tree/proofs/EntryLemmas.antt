@@ -1,6 +1,6 @@
 -- Entries in order, around one of them: what a look-up, a put and a take do on its side of it.
 use Rattle.std.proofs.Common.{◌≡◌, ℕ, ◌+◌, ◌≤◌, suc, inl, inr, Bool, true, false, cond, List, [], ◌∷◌, ◌++◌, length, ◌<◌, length-append, refl, sym, ap, ◌∙◌, subst, arith}
-use Rattle.std.specs.Prelude.{Option, Some, None, ◌↔◌, ◌⊎◌}
+use Rattle.std.specs.Prelude.{Option, Some, None, Result, Ok, Err, OnOk, ◌↔◌, ◌⊎◌}
 use Rattle.std.specs.declared.cmp.Ordering.{Ordering}
 use Rattle.std.specs.declared.cmp.Ordering.TheVariants.{Less, Equal, Greater}
 use Rattle.std.specs.Ordering.{is_eq, is_le, is_gt, eq_by_cmp, match_ordering, ordering_reverse}
@@ -16,7 +16,7 @@ use Rattle.std.proofs.lemmas.Option.{slice_get-get_or}
 use Rattle.std.specs.Map.{keys_of, lookup, remove_entry}
 use Rattle.std.specs.BTreeMap.{is_at}
 use Rattle.std.specs.BTreeMap.Range.{entries_below, entries_from}
-use Rattle.cap_tree.specs.Tree.{IsOrdered, get, put_entry, take_entry, Updates}
+use Rattle.cap_tree.specs.Tree.{IsOrdered, get, put_each, put_entry, take_entry, Updates}
 
 -- the other way round
 reversed : {K : Type 0} {cmp : K → K → Ordering} → IsTotalOrder cmp → (x y : K) (r : Ordering) → cmp x y ≡ r → cmp y x ≡ ordering_reverse r
@@ -345,3 +345,14 @@ module _ {K V : Type 0} (cmp : K → K → Ordering) where
   pub ordered_none : (es : List (K × V)) → length es ≡ 0 → IsOrdered cmp es
   ordered_none [] none = sorted_nil cmp
   ordered_none (e ∷ es) none = absurd (omega (arith, none))
+
+-- trees that get no entry stay
+pub put_each-none : {K V : Type 0} (cmp : K → K → Ordering) (trees : List (List (K × V))) (added : List (K × V)) → length added ≡ 0 → put_each cmp trees added ≡ trees
+put_each-none cmp [] added none = refl
+put_each-none cmp (t ∷ ts) [] none = refl
+put_each-none cmp (t ∷ ts) (e ∷ es) none = absurd (omega (arith, none))
+
+-- what holds anyhow holds on success
+pub on_ok : {P A E : Type 0} (r : Result A E) → P → OnOk r P
+on_ok (Ok a) p = p
+on_ok (Err e) p = tt

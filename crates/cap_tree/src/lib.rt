@@ -7,6 +7,7 @@
 mod branch;
 mod build;
 mod confirm;
+mod each;
 mod find;
 mod iter;
 mod path;
@@ -16,6 +17,7 @@ mod take;
 mod tree;
 
 pub use confirm::Confirm;
+pub use each::insert_each_after;
 pub use iter::Iter;
 pub use tree::Tree;
 
