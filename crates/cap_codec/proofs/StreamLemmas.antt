@@ -1,6 +1,6 @@
 -- What was read of a reader's bytes, and what was written of a list's.
-use Rattle.std.proofs.Common.{◌≡◌, ℕ, List, [], ◌++◌, take, drop, Option, Some, None, IfSome, Ok, Err, sym, ap, ◌∙◌, append_assoc, append-nil, take-append-drop}
-use Rattle.std.specs.Io.KnownBytes.{Consumes, Appends, IsAtEnd}
+use Rattle.std.proofs.Common.{◌≡◌, ℕ, zero, suc, ◌+◌, ◌≤◌, refl, arith, List, [], ◌++◌, take, drop, Option, Some, None, IfSome, Ok, Err, sym, ap, ◌∙◌, append_assoc, append-nil, take-append-drop}
+use Rattle.std.specs.Io.KnownBytes.{Consumes, Appends, IsAtEnd, Keeps}
 use Rattle.std.proofs.KnownBytes.{Appends-trans}
 use Rattle.cap_value.specs.Memory.{AnswersUnlessMemory}
 use Rattle.cap_value.specs.declared.memory.Fault.{Fault}
@@ -9,7 +9,8 @@ use Rattle.cap_codec.specs.declared.fault.BlobFault.{BlobFault}
 use Rattle.cap_codec.specs.declared.read.Blob.{Blob}
 use Rattle.cap_codec.specs.BlobReading.{blob_at}
 use Rattle.cap_codec.specs.Pieces.{lasting}
-use Rattle.cap_codec.specs.Stream.{IsBlobOf, read_fault}
+use Rattle.cap_codec.specs.Calls.{Calls, AllWent, TellsWrite}
+use Rattle.cap_codec.specs.Stream.{IsBlobOf, EndsReads, read_fault}
 use Rattle.cap_codec.proofs.Looking.{err_lasts, fault_of_lasting}
 
 -- a write took some more of the bytes
@@ -20,6 +21,45 @@ writes_more a b c bytes rest count (front, parts, before) taken = (
   parts ∙ ap (λ (r : List ℕ). front ++ r) (sym (take-append-drop count rest)) ∙ sym (append_assoc front (take count rest) (drop count rest)),
   Appends-trans a b c front (take count rest) before taken,
 )
+
+-- ---- how the calls went
+
+module _ {X : Type 0} (went failed : X → X → Type 0) where
+  -- at least so many calls, each of which went so
+  abbrev Counted : ℕ → X → X → Type 0
+  Counted least old new = (n : ℕ) × (least ≤ n) × Calls went n old new
+
+  pub one_more : (old before new : X) → AllWent went old before → went before new → AllWent went old new
+  one_more old before new (n, calls) last = (suc n, (before, calls, last))
+
+  pub counted_more : (least : ℕ) (old before new : X) → Counted least old before → went before new → Counted (least + 1) old new
+  counted_more least old before new (n, le, calls) last = (suc n, omega arith, (before, calls, last))
+
+  pub all_went : (least : ℕ) (old before new : X) → Counted least old before → went before new → AllWent went old new
+  all_went least old before new (n, le, calls) last = (suc n, (before, calls, last))
+
+  -- a write that took some bytes
+  pub write_took : (E : Type 0) (count : ℕ) (old new : X) → (count ≡ 0 → ⊥) → TellsWrite {E = E} went failed (Ok count) old new → went old new
+  write_took E zero old new some told = absurd (some refl)
+  write_took E (suc count) old new some told = told
+
+  pub ends_err : (Y : Type 0) (fault : Fault BlobFault) (old new : X) → AllWent went old new → EndsReads {X = Y} went failed (Err (read_fault fault)) old new
+  ends_err Y (Refused fault) old new all = all
+  ends_err Y OutOfMemory old new all = all
+
+-- an interrupted read gave nothing
+pub kept_fed : (a b c : Option (List ℕ)) (fed : List ℕ) → Consumes a b fed → Keeps b c → Consumes a c fed
+kept_fed None b c fed p keeps = tt
+kept_fed (Some xs) None c fed p keeps = absurd p
+kept_fed (Some xs) (Some ys) None fed p keeps = absurd keeps
+kept_fed (Some xs) (Some ys) (Some zs) fed p keeps = p ∙ ap (λ (r : List ℕ). fed ++ r) (sym keeps)
+
+-- a read gave these bytes
+pub more_fed : (a b c : Option (List ℕ)) (fed piece : List ℕ) → Consumes a b fed → Consumes b c piece → Consumes a c (fed ++ piece)
+more_fed None b c fed piece p q = tt
+more_fed (Some xs) None c fed piece p q = absurd p
+more_fed (Some xs) (Some ys) None fed piece p q = absurd q
+more_fed (Some xs) (Some ys) (Some zs) fed piece p q = p ∙ ap (λ (r : List ℕ). fed ++ r) q ∙ sym (append_assoc fed piece zs)
 
 module _ (A : Type 0) where
   -- the last read gave nothing

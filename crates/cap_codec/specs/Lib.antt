@@ -12,4 +12,5 @@ pub mod ChangeLeft
 pub mod Writable
 pub mod Spelling
 pub mod Pieces
+pub mod Calls
 pub mod Stream

@@ -2,6 +2,7 @@
 //! "Changeset Format").
 #![tactic(auto)]
 
+mod calls;
 mod change;
 mod decoder;
 mod demand;
@@ -22,6 +23,7 @@ mod within;
 mod writable;
 mod write;
 
+pub use calls::{Sink, Source};
 pub use decoder::Decoder;
 pub use fault::{BlobFault, FaultKind};
 pub use laws::{

@@ -1,19 +1,22 @@
 //! Blobs from readers and to writers.
 
-ghost use Rattle.std.specs.Prelude.{◌≡◌, IfSome, IfErr, OnOk, OnErr};
+ghost use Rattle.std.specs.Prelude.{◌≡◌, ◌↔◌, IsTrue, IfSome, IfErr, OnOk, OnErr};
+ghost use Rattle.std.specs.IoError.{error_kind};
 ghost use Rattle.std.specs.Io.KnownBytes.{Appends};
 ghost use Rattle.cap_codec.specs.BlobReading.{blob_at};
 ghost use Rattle.cap_codec.specs.Changeset.{list_bytes};
 ghost use Rattle.cap_codec.specs.Patchset.{patch_list_bytes};
-ghost use Rattle.cap_codec.specs.Stream.{IsBlobOf, WritesFront, WritesSome};
+ghost use Rattle.cap_codec.specs.Stream.{IsBlobOf, EndsReads, EndsWrites, WritesFront, WritesSome};
 
+use crate::calls::{Sink, Source};
 use crate::decoder::Decoder;
 use crate::fault::BlobFault;
 use crate::read::Blob;
 use crate::write::{write_changes, write_patches};
 use cap_changes::{ChangeList, PatchList};
 use cap_value::{AllocHandle, Fault};
-use std::io::{ErrorKind, Read, Write};
+use std::io;
+use std::io::ErrorKind;
 use thiserror::Error;
 
 /// The most reads that one call makes of its reader.
@@ -61,18 +64,30 @@ pub enum WriteFault {
     Memory,
 }
 
+fn is_interrupted(error: &io::Error) -> bool
+    ensures { IsTrue result ↔ (error_kind error.now ≡ ErrorKind.Interrupted) }
+{
+    error.kind() == ErrorKind::Interrupted
+}
+
 /// What is in the bytes that the reader gives, read in pieces of at most 4,096 bytes: to the end, or to the piece
 /// that shows a fault, and then the rest is left unread. A read that was interrupted is tried again.
-pub fn read_from<A: AllocHandle, R: Read>(alloc: A, reader: &mut R) -> Result<Blob<A>, ReadFault>
-    ensures { IfSome (R.remaining reader.old) (λ given. IsBlobOf result (blob_at given)) }
+pub fn read_from<A: AllocHandle, R: Source>(alloc: A, reader: &mut R) -> Result<Blob<A>, ReadFault>
+    ensures blob { IfSome (R.remaining reader.old) (λ given. IsBlobOf result (blob_at given)) }
+    // Which answer is given where, as far as the reader tells its reads.
+    ensures told { EndsReads R.gave R.failed result reader.old reader.new }
 {
     let mut piece = [0u8; PIECE_LEN];
     let mut decoder = Decoder::new(alloc);
     for _ in 0..READS_MAX {
-        let count = match reader.read(&mut piece) {
+        let count = match reader.read_some(&mut piece) {
             Ok(count) => count,
-            Err(error) if error.kind() == ErrorKind::Interrupted => continue,
-            Err(_) => return Err(ReadFault::Read),
+            Err(error) => {
+                if is_interrupted(&error) {
+                    continue;
+                }
+                return Err(ReadFault::Read);
+            }
         };
         if count == 0 {
             return Ok(decoder.finish()?);
@@ -83,14 +98,15 @@ pub fn read_from<A: AllocHandle, R: Read>(alloc: A, reader: &mut R) -> Result<Bl
 }
 
 /// Writes the bytes, all of them, as often as the writer takes some.
-fn write_whole<W: Write>(writer: &mut W, bytes: &[u8]) -> Result<(), WriteFault>
+fn write_whole<W: Sink>(writer: &mut W, bytes: &[u8]) -> Result<(), WriteFault>
     ensures ok { OnOk result (Appends (W.contents writer.old) (W.contents writer.new) bytes.now) }
     ensures err { OnErr result (WritesSome (W.contents writer.old) (W.contents writer.new) bytes.now) }
     ensures only { IfErr result (λ fault. fault ≡ WriteFault.Write) }
+    ensures told { EndsWrites W.took W.failed result writer.old writer.new }
 {
     let mut rest = bytes;
     while !rest.is_empty() {
-        match writer.write(rest) {
+        match writer.write_some(rest) {
             Ok(0) | Err(_) => return Err(WriteFault::Write),
             Ok(count) => rest = &rest[count..],
         }
@@ -99,26 +115,32 @@ fn write_whole<W: Write>(writer: &mut W, bytes: &[u8]) -> Result<(), WriteFault>
 }
 
 /// Writes the bytes of a changeset, as `write_changes` gives them.
-pub fn write_changes_to<A: AllocHandle, W: Write>(
+pub fn write_changes_to<A: AllocHandle, W: Sink>(
     alloc: A,
     writer: &mut W,
     list: &ChangeList<A>,
 ) -> Result<(), WriteFault>
     ensures ok { OnOk result (Appends (W.contents writer.old) (W.contents writer.new) (list_bytes list.now)) }
-    ensures err { IfErr result (λ fault. WritesFront fault (W.contents writer.old) (W.contents writer.new) (list_bytes list.now)) }
+    ensures err { IfErr result (λ fault.
+        WritesFront fault (W.contents writer.old) (W.contents writer.new) (list_bytes list.now)) }
+    // Which answer is given where, as far as the writer tells its writes.
+    ensures told { EndsWrites W.took W.failed result writer.old writer.new }
 {
     let bytes = write_changes(alloc, list).map_err(|_| WriteFault::Memory)?;
     write_whole(writer, bytes.as_slice())
 }
 
 /// Writes the bytes of a patchset, as `write_patches` gives them.
-pub fn write_patches_to<A: AllocHandle, W: Write>(
+pub fn write_patches_to<A: AllocHandle, W: Sink>(
     alloc: A,
     writer: &mut W,
     list: &PatchList<A>,
 ) -> Result<(), WriteFault>
     ensures ok { OnOk result (Appends (W.contents writer.old) (W.contents writer.new) (patch_list_bytes list.now)) }
-    ensures err { IfErr result (λ fault. WritesFront fault (W.contents writer.old) (W.contents writer.new) (patch_list_bytes list.now)) }
+    ensures err { IfErr result (λ fault.
+        WritesFront fault (W.contents writer.old) (W.contents writer.new) (patch_list_bytes list.now)) }
+    // Which answer is given where, as far as the writer tells its writes.
+    ensures told { EndsWrites W.took W.failed result writer.old writer.new }
 {
     let bytes = write_patches(alloc, list).map_err(|_| WriteFault::Memory)?;
     write_whole(writer, bytes.as_slice())

@@ -1,0 +1,68 @@
+//! Readers and writers that tell how their calls went.
+
+ghost use Rattle.std.specs.Prelude.{◌≤◌, ℕ, List, Option, length};
+ghost use Rattle.std.specs.Io.{ReadsAtMost, WritesAtMost};
+ghost use Rattle.std.specs.Io.KnownBytes.{ReadConsumes, WriteAppends};
+ghost use Rattle.cap_codec.specs.Calls.{TellsRead, TellsWrite};
+
+use std::io;
+use std::io::{Read, Write};
+
+/// Where the bytes of a blob come from. Each reader is one, of which a contract does not know how its reads went; one
+/// that tells it says so in `gave` and `failed`.
+pub trait Source {
+    // The bytes that reads will give from here on, where they are known.
+    ghost remaining: { Self → Option (List ℕ) };
+    // What is told of a read that gave bytes or was interrupted, by the state before it and the state after it.
+    ghost gave: { Self → Self → Type 0 };
+    // What is told of a read that failed.
+    ghost failed: { Self → Self → Type 0 };
+
+    /// One read, as `Read::read` makes it. An error other than an interruption is a failed read.
+    fn read_some(&mut self, piece: &mut [u8]) -> io::Result<usize>
+        ensures bound { ReadsAtMost result piece.new }
+        ensures bytes { ReadConsumes (remaining self.old) (remaining self.new) result piece.new }
+        ensures told { TellsRead gave failed result self.old self.new };
+}
+
+impl<R: Read> Source for R {
+    ghost use Rattle.std.specs.Prelude.{⊤};
+
+    ghost remaining = { λ reader. R.Read.remaining reader };
+    ghost gave = { λ _ _. ⊤ };
+    ghost failed = { λ _ _. ⊤ };
+
+    fn read_some(&mut self, piece: &mut [u8]) -> io::Result<usize> {
+        self.read(piece)
+    }
+}
+
+/// Where the bytes of a blob go. Each writer is one, of which a contract does not know how its writes went; one that
+/// tells it says so in `took` and `failed`.
+pub trait Sink {
+    // The bytes that the writer holds, where they are known.
+    ghost contents: { Self → Option (List ℕ) };
+    // What is told of a write that took some bytes, by the state before it and the state after it.
+    ghost took: { Self → Self → Type 0 };
+    // What is told of a write that failed.
+    ghost failed: { Self → Self → Type 0 };
+
+    /// One write of at least one byte, as `Write::write` makes it. An error, and 0 bytes, are a failed write.
+    fn write_some(&mut self, bytes: &[u8]) -> io::Result<usize>
+        requires { 1 ≤ length bytes.now }
+        ensures bound { WritesAtMost result bytes.now }
+        ensures bytes { WriteAppends (contents self.old) (contents self.new) result bytes.now }
+        ensures told { TellsWrite took failed result self.old self.new };
+}
+
+impl<W: Write> Sink for W {
+    ghost use Rattle.std.specs.Prelude.{⊤};
+
+    ghost contents = { λ writer. W.Write.contents writer };
+    ghost took = { λ _ _. ⊤ };
+    ghost failed = { λ _ _. ⊤ };
+
+    fn write_some(&mut self, bytes: &[u8]) -> io::Result<usize> {
+        self.write(bytes)
+    }
+}
