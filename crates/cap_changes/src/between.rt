@@ -24,8 +24,8 @@ pub fn change_between<A: AllocHandle>(
     requires now_keyed { ForSome (option_copied now) (touched.IsKeyedRow schema.now) }
     requires same_key { ForSome (option_copied image) (λ before.
         ForSome (option_copied now) (touched.HaveSameKey schema.now before)) }
-    ensures change { IfOk result (λ change.
-        change ≡ touched.change_of schema.now indirect (option_copied image.entry) (option_copied now.entry)) }
+    ensures change { IfOk result (λ change. change ≡
+        touched.change_of schema.now indirect (option_copied image.entry) (option_copied now.entry)) }
     ensures some { IfOk result (λ change. IfSome change (λ made. IsTrue (touched.is_some_change made))) }
     ensures fits { IfOk result (λ change. IfSome change (λ made. IsTrue (change_fits schema.now made))) }
 {

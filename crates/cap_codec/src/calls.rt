@@ -8,12 +8,12 @@ ghost use Rattle.cap_codec.specs.Calls.{TellsRead, TellsWrite};
 use std::io;
 use std::io::{Read, Write};
 
-/// Where the bytes of a blob come from. Each reader is one, of which a contract does not know how its reads went; one
-/// that tells it says so in `gave` and `failed`.
+/// Where the bytes of a blob come from. Each reader is one, of which a contract does not know how its reads
+/// went; one that tells it says so in `gave` and `failed`.
 pub trait Source {
     // The bytes that reads will give from here on, where they are known.
     ghost remaining: { Self → Option (List ℕ) };
-    // What is told of a read that gave bytes or was interrupted, by the state before it and the state after it.
+    // What is told of a read that gave bytes or was interrupted, by the states before and after it.
     ghost gave: { Self → Self → Type 0 };
     // What is told of a read that failed.
     ghost failed: { Self → Self → Type 0 };
@@ -37,12 +37,12 @@ impl<R: Read> Source for R {
     }
 }
 
-/// Where the bytes of a blob go. Each writer is one, of which a contract does not know how its writes went; one that
-/// tells it says so in `took` and `failed`.
+/// Where the bytes of a blob go. Each writer is one, of which a contract does not know how its writes went;
+/// one that tells it says so in `took` and `failed`.
 pub trait Sink {
     // The bytes that the writer holds, where they are known.
     ghost contents: { Self → Option (List ℕ) };
-    // What is told of a write that took some bytes, by the state before it and the state after it.
+    // What is told of a write that took some bytes, by the states before and after it.
     ghost took: { Self → Self → Type 0 };
     // What is told of a write that failed.
     ghost failed: { Self → Self → Type 0 };

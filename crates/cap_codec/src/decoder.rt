@@ -62,7 +62,8 @@ impl<A: AllocHandle> Decoder<A> {
     /// Where there is no memory, the decoder stays as it was.
     pub fn feed(&mut self, piece: &[u8]) -> Result<(), Fault<BlobFault>>
         // A fault that no more bytes mend is answered again, and takes no memory.
-        ensures again { (fault : Wrong) → lasting (blob_at {A = A} self.old) ≡ Err fault → result ≡ Err (Refused fault) }
+        ensures again { (fault : Wrong) → lasting (blob_at {A = A} self.old) ≡ Err fault →
+            result ≡ Err (Refused fault) }
         ensures answers { AnswersUnlessMemory result (lasting (blob_at {A = A} (self.old ++ piece.now))) }
         ensures ok { OnOk result (self.new ≡ self.old ++ piece.now) }
         ensures err { KeepsFault A result self.old self.new }
@@ -92,7 +93,8 @@ impl<A: AllocHandle> Decoder<A> {
     /// What is in the bytes, all of them, as `read_blob` answers it.
     pub fn finish(self) -> Result<Blob<A>, Fault<BlobFault>>
         // A fault that `feed` could tell takes no memory.
-        ensures again { (fault : Wrong) → lasting (blob_at {A = A} self) ≡ Err fault → result ≡ Err (Refused fault) }
+        ensures again { (fault : Wrong) → lasting (blob_at {A = A} self) ≡ Err fault →
+            result ≡ Err (Refused fault) }
         // As `read_blob` answers of all the bytes.
         ensures spelled { IfOk result (λ blob. Spells blob self) }
         ensures read { (blob : Contents A) → Spells blob self → AnswersUnlessMemory result (Ok blob) }

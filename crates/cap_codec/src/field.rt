@@ -1,7 +1,8 @@
 //! The fields of a record as bytes.
 
 ghost use Rattle.std.specs.Prelude.{◌≡◌, ◌++◌, OnOk};
-ghost use Rattle.cap_codec.specs.Field.{number_bytes, sized_bytes, value_bytes, field_bytes, record_bytes, key_bytes};
+ghost use Rattle.cap_codec.specs.Field.{number_bytes, sized_bytes, value_bytes};
+ghost use Rattle.cap_codec.specs.Field.{field_bytes, record_bytes, key_bytes};
 
 use crate::varint::push_varint;
 use byteorder::{BigEndian, ByteOrder};

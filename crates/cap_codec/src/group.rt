@@ -7,7 +7,8 @@ ghost use Rattle.cap_row.specs.Schema.{has_key};
 ghost use Rattle.cap_row.specs.declared.schema.TheConstants.{COLUMNS_MAX};
 ghost use Rattle.cap_codec.specs.Reading.{Gives};
 ghost use Rattle.cap_codec.specs.HeaderReading.{is_set};
-ghost use Rattle.cap_codec.specs.BlobReading.{change_at, patch_at, changes_at, group_at, patch_group_at, with_changes, with_patches};
+ghost use Rattle.cap_codec.specs.BlobReading.{change_at, patch_at, changes_at};
+ghost use Rattle.cap_codec.specs.BlobReading.{group_at, patch_group_at, with_changes, with_patches};
 
 use crate::change::{is_operation, take_change, take_patch};
 use crate::fault::BlobFault;

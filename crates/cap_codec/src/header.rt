@@ -1,10 +1,12 @@
 //! The header of a group.
 
-ghost use Rattle.std.specs.Prelude.{◌≡◌, ◌<◌, ◌≤◌, ◌+◌, ℕ, Bool, List, Option, length, take, position, IfSome, IfOk, IsTrue};
+ghost use Rattle.std.specs.Prelude.{◌≡◌, ◌<◌, ◌≤◌, ◌+◌, ℕ, Bool, List};
+ghost use Rattle.std.specs.Prelude.{Option, length, take, position, IfSome, IfOk, IsTrue};
 ghost use Rattle.cap_value.specs.Bytes.{is_name};
 ghost use Rattle.std.specs.List.{list_any};
 ghost use Rattle.cap_codec.specs.Reading.{place, Reads, Gives};
-ghost use Rattle.cap_codec.specs.HeaderReading.{is_zero, is_set, count_at, flags_at, name_at, header_at, header_of};
+ghost use Rattle.cap_codec.specs.HeaderReading.{is_zero, is_set, count_at};
+ghost use Rattle.cap_codec.specs.HeaderReading.{flags_at, name_at, header_at, header_of};
 
 use crate::fault::{BlobFault, FaultKind};
 use crate::lent::{place_of, take_bytes, take_varint, text_in};

@@ -14,7 +14,8 @@ use cap_value::AllocHandle;
 /// Bytes are read as a blob where they spell it, and as no other.
 pub fn read_is_spelled<A: AllocHandle>()
     ensures read { (bytes : List ℕ) (blob : Blob A) → Spells blob bytes → blob_at bytes ≡ Ok blob }
-    ensures spelled { (bytes : List ℕ) (blob : Blob A) → AreBytes bytes → blob_at bytes ≡ Ok blob → Spells blob bytes }
+    ensures spelled { (bytes : List ℕ) (blob : Blob A) → AreBytes bytes → blob_at bytes ≡ Ok blob →
+        Spells blob bytes }
 {}
 
 /// Each byte list spells at most one blob.

@@ -5,7 +5,8 @@ ghost use Rattle.std.specs.Option.{option_map};
 ghost use Rattle.cap_value.specs.declared.text.TheConstants.{BYTES_MAX};
 ghost use Rattle.std.specs.Str.{is_utf8};
 ghost use Rattle.cap_codec.specs.Reading.{place, Reads, byte_at, bytes_at, varint_at};
-ghost use Rattle.cap_codec.specs.FieldReading.{allows, text_of, number_at, sized_at, text_at, content_at, field_at, value_of, IsWithin};
+ghost use Rattle.cap_codec.specs.FieldReading.{allows, text_of, number_at, sized_at};
+ghost use Rattle.cap_codec.specs.FieldReading.{text_at, content_at, field_at, value_of, IsWithin};
 
 use crate::demand::Demand;
 use crate::fault::{BlobFault, FaultKind};

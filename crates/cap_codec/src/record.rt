@@ -90,7 +90,8 @@ pub fn take_new_record<'a, A: AllocHandle>(
     bytes: &'a [u8],
 ) -> Result<(Record<A>, &'a [u8]), Fault<BlobFault>>
     requires { length old.now ≡ length flags.now }
-    ensures gives { Gives (λ x. (x.0, x.1.now)) result (record_at total (new_demands flags.now old.now) bytes.now) }
+    ensures gives { Gives (λ x. (x.0, x.1.now)) result
+        (record_at total (new_demands flags.now old.now) bytes.now) }
     ensures behind { IfOk result (λ x. length x.1.now ≤ length bytes.now) }
 {
     let mut fields = Vec::with_capacity(alloc, flags.len().min(bytes.len()))?;

@@ -4,7 +4,8 @@
 ghost use Rattle.std.specs.Prelude.{◌≡◌, ◌≤◌, ◌∷◌, true, length, drop, None, Ok, IfOk, IfSome};
 ghost use Rattle.cap_codec.specs.Reading.{Gives};
 ghost use Rattle.cap_codec.specs.BlobReading as blob;
-ghost use Rattle.cap_codec.specs.Pieces.{columns_at, kind_byte, may_mend, IsPlace, Passes, Steps, GoesTo, Begins, Scans};
+ghost use Rattle.cap_codec.specs.Pieces.{columns_at, kind_byte, may_mend, IsPlace};
+ghost use Rattle.cap_codec.specs.Pieces.{Passes, Steps, GoesTo, Begins, Scans};
 
 use crate::change::is_operation;
 use crate::fault::{BlobFault, FaultKind};

@@ -136,7 +136,8 @@ pub fn write_patches_to<A: AllocHandle, W: Sink>(
     writer: &mut W,
     list: &PatchList<A>,
 ) -> Result<(), WriteFault>
-    ensures ok { OnOk result (Appends (W.contents writer.old) (W.contents writer.new) (patch_list_bytes list.now)) }
+    ensures ok { OnOk result
+        (Appends (W.contents writer.old) (W.contents writer.new) (patch_list_bytes list.now)) }
     ensures err { IfErr result (λ fault.
         WritesFront fault (W.contents writer.old) (W.contents writer.new) (patch_list_bytes list.now)) }
     // Which answer is given where, as far as the writer tells its writes.

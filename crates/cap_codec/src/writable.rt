@@ -6,7 +6,8 @@ ghost use Rattle.cap_codec.specs.declared.read.Blob.TheVariants as kinds;
 ghost use Rattle.cap_codec.specs.BlobReading.{blob_at};
 ghost use Rattle.cap_codec.specs.Changeset.{list_bytes};
 ghost use Rattle.cap_codec.specs.Patchset.{patch_list_bytes};
-ghost use Rattle.cap_codec.specs.Writable.{AreValues, HasValues, PatchHasValues, IsGroup, IsPatchGroup, IsWritable, with_some};
+ghost use Rattle.cap_codec.specs.Writable.{AreValues, HasValues, PatchHasValues};
+ghost use Rattle.cap_codec.specs.Writable.{IsGroup, IsPatchGroup, IsWritable, with_some};
 
 use cap_changes::{Change, ChangeList, Group, Patch, PatchGroup, PatchList};
 use cap_value::{AllocHandle, Value};

@@ -2,7 +2,8 @@
 
 ghost use Rattle.std.specs.Prelude.{◌≡◌, ◌++◌, ◌∷◌, [], OnOk, IfOk};
 ghost use Rattle.std.specs.List.{flat_map};
-ghost use Rattle.cap_codec.specs.Changeset.{mark, flags_bytes, header_bytes, change_bytes, group_bytes, list_bytes};
+ghost use Rattle.cap_codec.specs.Changeset.{mark, flags_bytes, header_bytes};
+ghost use Rattle.cap_codec.specs.Changeset.{change_bytes, group_bytes, list_bytes};
 ghost use Rattle.cap_codec.specs.Patchset.{patch_bytes, patch_group_bytes, patch_list_bytes};
 
 use crate::field::{push_key, push_record};
