@@ -1,9 +1,6 @@
--- The changes of one table.
-use Rattle.std.specs.Prelude.{ℕ, Bool, List}
+-- The changes of one table in a changeset.
+use Rattle.cap_changes.specs.Entries.{TableEntries}
 use Rattle.cap_changes.specs.declared.change.Change.{Change}
 
--- the table's name, its key flags, and its changes in order
-pub record TableChanges (A : Type 0) : Type 0 where
-  pub table : List ℕ
-  pub schema : List Bool
-  pub changes : List (Change A)
+abbrev pub TableChanges : Type 0 → Type 0
+TableChanges A = TableEntries (Change A)

@@ -27,7 +27,7 @@ module _ {A : Type 0} where
 
   -- each change's patch, in the same order
   abbrev pub patches_of : TableChanges A → TablePatches A
-  patches_of group = record { table = group.table; schema = group.schema; patches = map (patch_of group.schema) group.changes }
+  patches_of group = record { table = group.table; schema = group.schema; changes = map (patch_of group.schema) group.changes }
 
   abbrev pub patch_list_of : List (TableChanges A) → List (TablePatches A)
   patch_list_of groups = map patches_of groups

@@ -1,44 +1,47 @@
 ghost use Rattle.std.specs.Prelude.{◌≡◌, ◌++◌, ◌∷◌, [], IsTrue, OnOk, OnErr};
 ghost use Rattle.cap_row.specs.Schema.{has_key};
+ghost use Rattle.cap_changes.specs.Entries.{AllFit};
 
-use crate::Change;
+use crate::{Change, Entry, Patch};
 use cap_row::Schema;
 use cap_value::{AllocHandle, Name, OutOfMemory};
 use std::marker::Model;
 
 /// The changes of one table in a changeset.
+pub type Group<A> = TableGroup<Change<A>, A>;
+
+/// The changes of one table in a patchset.
+pub type PatchGroup<A> = TableGroup<Patch<A>, A>;
+
+/// The changes of one table, of a changeset or of a patchset.
 ///
 /// Its schema has a key column, and each change fits the schema.
 #[derive(Drop)]
-pub struct Group<A: AllocHandle> {
+pub struct TableGroup<C: Entry, A: AllocHandle> {
     table: Name<A>,
     schema: Schema<A>,
-    changes: Vec<Change<A>, A>,
+    changes: Vec<C, A>,
 }
 
-impl<A: AllocHandle> Model for Group<A> {
+impl<C: Entry, A: AllocHandle> Model for TableGroup<C, A> {
     ghost use Rattle.std.specs.Prelude.{IsTrue};
     ghost use Rattle.cap_row.specs.Schema.{has_key};
-    ghost use Rattle.cap_changes.specs.Group.{TableChanges};
+    ghost use Rattle.cap_changes.specs.Entries.{TableEntries, AllFit};
 
-    ghost Value = { TableChanges A };
-
-    ghost use Rattle.cap_changes.specs.Fits.{AllChangesFit};
+    ghost Value = { TableEntries C };
 
     ghost view = { λ g. record { table = g.table; schema = g.schema; changes = g.changes.items } };
 
-    ghost invariant = { λ g. IsTrue (has_key g.schema) × AllChangesFit g.schema g.changes.items };
+    ghost invariant = { λ g. IsTrue (has_key g.schema) × AllFit C.fits_in g.schema g.changes.items };
 }
 
-impl<A: AllocHandle> Group<A> {
-    ghost use Rattle.cap_changes.specs.Fits.{change_fits, AllChangesFit};
-
+impl<C: Entry, A: AllocHandle> TableGroup<C, A> {
     /// A group of this table without changes. It takes no memory.
     pub fn new(alloc: A, table: Name<A>, schema: Schema<A>) -> Self
         requires { IsTrue (has_key schema) }
         ensures { result ≡ record { table = table; schema = schema; changes = [] } }
     {
-        Group {
+        TableGroup {
             table,
             schema,
             changes: Vec::new(alloc),
@@ -46,8 +49,10 @@ impl<A: AllocHandle> Group<A> {
     }
 
     /// Puts a change last. Where there is no memory, the group stays as it was.
-    pub fn push(&mut self, change: Change<A>) -> Result<(), OutOfMemory>
-        requires { IsTrue (change_fits self.old.schema change) }
+    pub fn push(&mut self, change: C) -> Result<(), OutOfMemory>
+    where
+        C: Drop,
+        requires { IsTrue (C.fits_in self.old.schema change) }
         ensures ok { OnOk result (self.new ≡ record self.old { changes = self.old.changes ++ change ∷ [] }) }
         ensures err { OnErr result (self.new ≡ self.old) }
     {
@@ -71,9 +76,9 @@ impl<A: AllocHandle> Group<A> {
     }
 
     /// The changes, in the order in which they were put.
-    pub fn changes(&self) -> &[Change<A>]
+    pub fn changes(&self) -> &[C]
         ensures changes { result.now ≡ self.now.changes }
-        ensures fit { AllChangesFit self.now.schema self.now.changes }
+        ensures fit { AllFit C.fits_in self.now.schema self.now.changes }
     {
         self.changes.as_slice()
     }

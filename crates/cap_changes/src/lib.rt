@@ -3,22 +3,20 @@
 
 mod between;
 mod change;
-mod change_list;
+mod entry;
 mod fits;
 mod group;
+mod list;
 mod patch;
-mod patch_group;
-mod patch_list;
 mod patches;
 mod record;
 
 pub use between::change_between;
 pub use change::Change;
-pub use change_list::ChangeList;
-pub use group::Group;
+pub use entry::Entry;
+pub use group::{Group, PatchGroup, TableGroup};
+pub use list::{ChangeList, GroupList, PatchList};
 pub use patch::Patch;
-pub use patch_group::PatchGroup;
-pub use patch_list::PatchList;
 pub use patches::to_patches;
 pub use record::Record;
 

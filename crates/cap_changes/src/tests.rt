@@ -116,15 +116,15 @@ fn patches_keep_key_and_new_values(rt: HostRuntime) -> Result<(), Fail> {
     let group = &list.groups()[0];
     assert_eq!(rt; group.table().as_str(), "t");
     assert_eq!(rt; group.schema().flags(), [true, false].as_slice());
-    assert_eq!(rt; group.patches().len(), 3);
+    assert_eq!(rt; group.changes().len(), 3);
     assert!(rt;
-        matches!(&group.patches()[0], Patch::Insert { indirect: true, new } if is(new, Some(1), Some("x")))
+        matches!(&group.changes()[0], Patch::Insert { indirect: true, new } if is(new, Some(1), Some("x")))
     );
     assert!(rt;
-        matches!(&group.patches()[1], Patch::Update { indirect: true, new } if is(new, Some(1), Some("y")))
+        matches!(&group.changes()[1], Patch::Update { indirect: true, new } if is(new, Some(1), Some("y")))
     );
     assert!(rt;
-        matches!(&group.patches()[2], Patch::Delete { indirect: true, key } if is(key, Some(1), None))
+        matches!(&group.changes()[2], Patch::Delete { indirect: true, key } if is(key, Some(1), None))
     );
     Ok(())
 }

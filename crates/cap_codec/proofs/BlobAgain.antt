@@ -102,7 +102,7 @@ module _ {A : Type 0} where
       ap (patch_group_at total) (append_assoc (varint_bytes (length group.schema) ++ is.flags ++ group.table) (0 ∷ is.rest) rest)
       ∙ rw (
         header_again total group.table group.schema is.flags (is.rest ++ rest) is.named is.flagged,
-        each_again patch_at total group.schema (SpellsPatch group.schema) (patch_again total group.schema) (length (is.rest ++ rest)) group.patches is.rest rest (omega arith) is.each stops,
+        each_again patch_at total group.schema (SpellsPatch group.schema) (patch_again total group.schema) (length (is.rest ++ rest)) group.changes is.rest rest (omega arith) is.each stops,
       ) refl)
 
 -- ---- the groups of a blob
@@ -261,12 +261,12 @@ module _ {A : Type 0} where
     groups_written groups is.1,
   )
 
-  patch_groups_written : (groups : List (TablePatches A)) → AllByRecursion IsPatchGroup groups → AllByRecursion (IsWritten SpellsPatches patch_group_bytes (λ group. has_some group.patches)) groups
+  patch_groups_written : (groups : List (TablePatches A)) → AllByRecursion IsPatchGroup groups → AllByRecursion (IsWritten SpellsPatches patch_group_bytes (λ group. has_some group.changes)) groups
   patch_groups_written [] is = tt
   patch_groups_written (group ∷ groups) is = (
-    by_patches group.table group.schema group.patches (under_header 0x50 group.table group.schema (SpellsPatch group.schema) group.patches (flat_map patch_bytes group.patches) is.0.table
-    (each_written (SpellsPatch group.schema) patch_bytes group.patches
-    (patches_written group.schema group.patches (recursion_from_All (λ patch. IsTrue (patch_fits group.schema patch)) group.patches is.0.fit) (recursion_from_All PatchHasValues group.patches is.0.values)))),
+    by_patches group.table group.schema group.changes (under_header 0x50 group.table group.schema (SpellsPatch group.schema) group.changes (flat_map patch_bytes group.changes) is.0.table
+    (each_written (SpellsPatch group.schema) patch_bytes group.changes
+    (patches_written group.schema group.changes (recursion_from_All (λ patch. IsTrue (patch_fits group.schema patch)) group.changes is.0.fit) (recursion_from_All PatchHasValues group.changes is.0.values)))),
     patch_groups_written groups is.1,
   )
 
@@ -280,8 +280,8 @@ module _ {A : Type 0} where
   written_spelled (Changes groups) writable =
       some_written SpellsChanges group_bytes (λ group. has_some group.changes) groups (groups_written groups (recursion_from_All IsGroup groups writable))
   written_spelled (Patches groups) writable =
-      of_spelled (filter (λ group. has_some group.patches) groups) (patch_list_bytes groups)
-      (some_written SpellsPatches patch_group_bytes (λ group. has_some group.patches) groups (patch_groups_written groups (recursion_from_All IsPatchGroup groups writable)))
+      of_spelled (filter (λ group. has_some group.changes) groups) (patch_list_bytes groups)
+      (some_written SpellsPatches patch_group_bytes (λ group. has_some group.changes) groups (patch_groups_written groups (recursion_from_All IsPatchGroup groups writable)))
 
   -- What was written for a blob reads as it, without the groups that have no change.
   pub written_again : (blob : Blob A) → IsWritable blob → blob_at (blob_bytes blob) ≡ Ok (with_some blob)
@@ -296,7 +296,7 @@ module _ {A : Type 0} where
   nothing_left_out : (blob : Blob A) → HasNoEmptyGroup blob → with_some blob ≡ blob
   nothing_left_out (Changes groups) each = ap Changes (all_kept (λ group. has_some group.changes) groups (recursion_from_All (λ group. IsTrue (has_some group.changes)) groups each))
   nothing_left_out (Patches groups) each =
-      ap of_patches (all_kept (λ group. has_some group.patches) groups (recursion_from_All (λ group. IsTrue (has_some group.patches)) groups each.1)) ∙ some_patches groups each.0
+      ap of_patches (all_kept (λ group. has_some group.changes) groups (recursion_from_All (λ group. IsTrue (has_some group.changes)) groups each.1)) ∙ some_patches groups each.0
 
   pub one_blob : (a b : Blob A) → IsWritable a → IsWritable b → HasNoEmptyGroup a → HasNoEmptyGroup b → blob_bytes a ≡ blob_bytes b → a ≡ b
   one_blob a b of_a of_b whole_a whole_b same =

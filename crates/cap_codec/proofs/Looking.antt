@@ -233,7 +233,7 @@ module _ (A : Type 0) where
 
   patches_reading : IsGroupReading (patch_at {A = A}) (patch_group_at {A = A}) 0x50
   unfolding patch_group_at
-  patches_reading = (λ header patches. record { table = header.table; schema = header.flags; patches = patches }, λ total bytes. refl)
+  patches_reading = (λ header patches. record { table = header.table; schema = header.flags; changes = patches }, λ total bytes. refl)
 
   -- The next change or header in a group of these columns, behind its first byte, which stands at `at`: the columns
   -- from there on, and what stands behind it.

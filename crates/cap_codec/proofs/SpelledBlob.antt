@@ -291,11 +291,11 @@ module _ {A : Type 0} where
   unfolding patch_group_at
   patch_group_spelled total bytes x low e =
       let header = bind_ok (header_at total bytes) _ x e in
-      let patches = bind_ok (changes_at patch_at (length header.0.1) total header.0.0.flags header.0.1) (λ patches. Ok (record { table = header.0.0.table; schema = header.0.0.flags; patches = [] ++ patches.0 }, patches.1)) x header.2 in
+      let patches = bind_ok (changes_at patch_at (length header.0.1) total header.0.0.flags header.0.1) (λ patches. Ok (record { table = header.0.0.table; schema = header.0.0.flags; changes = [] ++ patches.0 }, patches.1)) x header.2 in
       let is = header_spelled total bytes header.0 low header.1 in
       let low' = low_behind bytes (varint_bytes (length header.0.0.flags) ++ is.1.0 ++ header.0.0.table ++ 0 ∷ []) header.0.1 (is.1.2 ∙ sym (append_assoc (varint_bytes (length header.0.0.flags) ++ is.1.0 ++ header.0.0.table) (0 ∷ []) header.0.1)) low in
       let are = each_spelled patch_at total header.0.0.flags (SpellsPatch header.0.0.flags) (patch_spelled total header.0.0.flags) (length header.0.1) header.0.1 patches.0 low' patches.1 in
-      subst (BeginsGroup SpellsPatches 0x50 bytes) (ok_is (record { table = header.0.0.table; schema = header.0.0.flags; patches = patches.0.0 }, patches.0.1) x patches.2)
+      subst (BeginsGroup SpellsPatches 0x50 bytes) (ok_is (record { table = header.0.0.table; schema = header.0.0.flags; changes = patches.0.0 }, patches.0.1) x patches.2)
       (of_group 0x50 (SpellsPatch header.0.0.flags) bytes header.0.0 header.0.1 patches.0.0 patches.0.1 is are.0 are.1 are.2)
 
 -- ---- the groups of a blob

@@ -4,6 +4,7 @@ use Rattle.cap_changes.specs.declared.change.Change.{Change}
 use Rattle.cap_changes.specs.declared.change.Change.TheVariants as changed
 use Rattle.cap_changes.specs.declared.patch.Patch.{Patch}
 use Rattle.cap_changes.specs.declared.patch.Patch.TheVariants as patched
+use Rattle.cap_changes.specs.Entries.{TableEntries}
 use Rattle.cap_changes.specs.Group.{TableChanges}
 use Rattle.cap_changes.specs.PatchGroup.{TablePatches}
 use Rattle.cap_codec.specs.declared.fault.BlobFault.{BlobFault}
@@ -54,23 +55,20 @@ module _ {X : Type 0} where
 abbrev pub wrong_kind : ℕ → ℕ → BlobFault
 wrong_kind kind at = if is_kind kind then record { at = at; kind = Mixed } else record { at = at; kind = BadOp }
 
+-- a group with more changes behind its own
+abbrev pub with_changes : {X : Type 0} → TableEntries X → Result (List X × List ℕ) BlobFault → Result (TableEntries X × List ℕ) BlobFault
+with_changes group read = read >>= (λ changes. Ok (record group { changes = group.changes ++ changes.0 }, changes.1))
+
 module _ {A : Type 0} where
-  -- a group with more changes behind its own
-  abbrev pub with_changes : TableChanges A → Result (List (Change A) × List ℕ) BlobFault → Result (TableChanges A × List ℕ) BlobFault
-  with_changes group read = read >>= (λ changes. Ok (record group { changes = group.changes ++ changes.0 }, changes.1))
-
-  abbrev pub with_patches : TablePatches A → Result (List (Patch A) × List ℕ) BlobFault → Result (TablePatches A × List ℕ) BlobFault
-  with_patches group read = read >>= (λ patches. Ok (record group { patches = group.patches ++ patches.0 }, patches.1))
-
   -- a group of a changeset, behind its kind byte
   unfoldable pub group_at : ℕ → List ℕ → Result (TableChanges A × List ℕ) BlobFault
   group_at total bytes = header_at total bytes >>= (λ header.
-      with_changes (record { table = header.0.table; schema = header.0.flags; changes = [] }) (changes_at change_at (length header.1) total header.0.flags header.1))
+      with_changes {X = Change A} (record { table = header.0.table; schema = header.0.flags; changes = [] }) (changes_at change_at (length header.1) total header.0.flags header.1))
 
   -- a group of a patchset, behind its kind byte
   unfoldable pub patch_group_at : ℕ → List ℕ → Result (TablePatches A × List ℕ) BlobFault
   patch_group_at total bytes = header_at total bytes >>= (λ header.
-      with_patches (record { table = header.0.table; schema = header.0.flags; patches = [] }) (changes_at patch_at (length header.1) total header.0.flags header.1))
+      with_changes {X = Patch A} (record { table = header.0.table; schema = header.0.flags; changes = [] }) (changes_at patch_at (length header.1) total header.0.flags header.1))
 
 module _ {X : Type 0} where
   -- Groups of one kind up to the end, at most `most` of them.

@@ -20,7 +20,7 @@ module _ {A : Type 0} where
   patches_under header (first ∷ others) = header ++ flat_map patch_bytes (first ∷ others)
 
   abbrev pub patch_group_bytes : TablePatches A → List ℕ
-  patch_group_bytes group = patches_under (header_bytes 0x50 group.table group.schema) group.patches
+  patch_group_bytes group = patches_under (header_bytes 0x50 group.table group.schema) group.changes
 
   -- the groups in the list's order
   abbrev pub patch_list_bytes : List (TablePatches A) → List ℕ

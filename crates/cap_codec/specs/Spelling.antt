@@ -58,7 +58,7 @@ module _ {A : Type 0} where
   SpellsChanges group bytes = SpellsGroup 0x54 group.table group.schema (SpellsChange group.schema) group.changes bytes
 
   abbrev pub SpellsPatches : TablePatches A → List ℕ → Type 0
-  SpellsPatches group bytes = SpellsGroup 0x50 group.table group.schema (SpellsPatch group.schema) group.patches bytes
+  SpellsPatches group bytes = SpellsGroup 0x50 group.table group.schema (SpellsPatch group.schema) group.changes bytes
 
   -- All groups are of one kind. No bytes at all are a changeset without groups.
   abbrev pub Spells : Blob A → List ℕ → Type 0

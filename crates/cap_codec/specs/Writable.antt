@@ -50,8 +50,8 @@ module _ {A : Type 0} where
 
   pub record IsPatchGroup (group : TablePatches A) : Type 0 where
     pub table : IsTable group.table group.schema
-    pub fit : AllPatchesFit group.schema group.patches
-    pub values : All PatchHasValues group.patches
+    pub fit : AllPatchesFit group.schema group.changes
+    pub values : All PatchHasValues group.changes
 
   abbrev pub IsWritable : Blob A → Type 0
   IsWritable (Changes groups) = All IsGroup groups
@@ -69,9 +69,9 @@ module _ {A : Type 0} where
   -- without the groups that have no change
   abbrev pub with_some : Blob A → Blob A
   with_some (Changes groups) = Changes (filter (λ group. has_some group.changes) groups)
-  with_some (Patches groups) = of_patches (filter (λ group. has_some group.patches) groups)
+  with_some (Patches groups) = of_patches (filter (λ group. has_some group.changes) groups)
 
   -- nothing of it would be left out
   abbrev pub HasNoEmptyGroup : Blob A → Type 0
   HasNoEmptyGroup (Changes groups) = All (λ group. IsTrue (has_some group.changes)) groups
-  HasNoEmptyGroup (Patches groups) = IsTrue (has_some groups) × All (λ group. IsTrue (has_some group.patches)) groups
+  HasNoEmptyGroup (Patches groups) = IsTrue (has_some groups) × All (λ group. IsTrue (has_some group.changes)) groups

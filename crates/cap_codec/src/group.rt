@@ -8,7 +8,7 @@ ghost use Rattle.cap_row.specs.declared.schema.TheConstants.{COLUMNS_MAX};
 ghost use Rattle.cap_codec.specs.Reading.{Gives};
 ghost use Rattle.cap_codec.specs.HeaderReading.{is_set};
 ghost use Rattle.cap_codec.specs.BlobReading.{change_at, patch_at, changes_at};
-ghost use Rattle.cap_codec.specs.BlobReading.{group_at, patch_group_at, with_changes, with_patches};
+ghost use Rattle.cap_codec.specs.BlobReading.{group_at, patch_group_at, with_changes};
 
 use crate::change::{is_operation, take_change, take_patch};
 use crate::fault::BlobFault;
@@ -78,7 +78,7 @@ fn take_patches<'a, A: AllocHandle>(
     bytes: &'a [u8],
 ) -> Result<(PatchGroup<A>, &'a [u8]), Fault<BlobFault>>
     ensures gives { Gives (λ x. (x.0, x.1.now)) result
-        (with_patches group (changes_at patch_at (length bytes.now) total group.schema bytes.now)) }
+        (with_changes group (changes_at patch_at (length bytes.now) total group.schema bytes.now)) }
     ensures behind { IfOk result (λ x. length x.1.now ≤ length bytes.now) }
 {
     let mut rest = bytes;

@@ -80,7 +80,7 @@ fn is_patch_group<A: AllocHandle>(group: &PatchGroup<A>)
 {
     let _name = group.table().as_str();
     let _flags = group.schema().flags();
-    patches_have_values(group.patches());
+    patches_have_values(group.changes());
 }
 
 /// That whatever a list of changes holds can be written, and is read again as it was, without the groups that have

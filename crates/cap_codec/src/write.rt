@@ -160,7 +160,7 @@ fn push_patch_group<A: AllocHandle>(
 ) -> Result<(), OutOfMemory>
     ensures { OnOk result (out.new.items ≡ out.old.items ++ patch_group_bytes group.now) }
 {
-    let patches = group.patches();
+    let patches = group.changes();
     if patches.is_empty() {
         return Ok(());
     }

@@ -5,7 +5,7 @@ use Rattle.cap_codec.proofs.group.take_changes.Given as goal
 
 abbrev pub invariant-loop-rest : goal.invariant-loop-rest
 invariant-loop-rest g l = record {
-  read : ChangesLeft l.group l.total l.rest (with_changes l.fn.group (changes_at change_at (length l.bytes) l.total l.fn.group.schema l.bytes));
+  read : ChangesLeft change_at l.group l.total l.rest (with_changes l.fn.group (changes_at change_at (length l.bytes) l.total l.fn.group.schema l.bytes));
   behind : length l.rest ≤ length l.bytes;
 }
 

@@ -1,11 +1,11 @@
 use Rattle.std.proofs.Common.{◌≤◌, length}
-use Rattle.cap_codec.specs.BlobReading.{patch_at, changes_at, with_patches}
-use Rattle.cap_codec.proofs.Left.{PatchesLeft}
+use Rattle.cap_codec.specs.BlobReading.{patch_at, changes_at, with_changes}
+use Rattle.cap_codec.proofs.Left.{ChangesLeft}
 use Rattle.cap_codec.proofs.group.take_patches.Given as goal
 
 abbrev pub invariant-loop-rest : goal.invariant-loop-rest
 invariant-loop-rest g l = record {
-  read : PatchesLeft l.group l.total l.rest (with_patches l.fn.group (changes_at patch_at (length l.bytes) l.total l.fn.group.schema l.bytes));
+  read : ChangesLeft patch_at l.group l.total l.rest (with_changes l.fn.group (changes_at patch_at (length l.bytes) l.total l.fn.group.schema l.bytes));
   behind : length l.rest ≤ length l.bytes;
 }
 

@@ -1,36 +1,44 @@
 ghost use Rattle.std.specs.Prelude.{◌≡◌, ◌++◌, ◌∷◌, [], OnOk, OnErr};
 
-use crate::Group;
+use crate::{Change, Entry, Patch, TableGroup};
 use cap_value::{AllocHandle, OutOfMemory};
 use std::marker::Model;
 
 /// A changeset: groups of changes, one after the other.
+pub type ChangeList<A> = GroupList<Change<A>, A>;
+
+/// A patchset: groups of its changes, one after the other.
+pub type PatchList<A> = GroupList<Patch<A>, A>;
+
+/// Groups, one after the other: a changeset or a patchset.
 #[derive(Drop)]
-pub struct ChangeList<A: AllocHandle> {
-    groups: Vec<Group<A>, A>,
+pub struct GroupList<C: Entry, A: AllocHandle> {
+    groups: Vec<TableGroup<C, A>, A>,
 }
 
-impl<A: AllocHandle> Model for ChangeList<A> {
+impl<C: Entry, A: AllocHandle> Model for GroupList<C, A> {
     ghost use Rattle.std.specs.Prelude.{List};
-    ghost use Rattle.cap_changes.specs.Group.{TableChanges};
+    ghost use Rattle.cap_changes.specs.Entries.{TableEntries};
 
-    ghost Value = { List (TableChanges A) };
+    ghost Value = { List (TableEntries C) };
 
     ghost view = { λ l. l.groups.items };
 }
 
-impl<A: AllocHandle> ChangeList<A> {
+impl<C: Entry, A: AllocHandle> GroupList<C, A> {
     /// The list without groups. It takes no memory.
     pub fn new(alloc: A) -> Self
         ensures { result ≡ [] }
     {
-        ChangeList {
+        GroupList {
             groups: Vec::new(alloc),
         }
     }
 
     /// Puts a group last. Where there is no memory, the list stays as it was.
-    pub fn push(&mut self, group: Group<A>) -> Result<(), OutOfMemory>
+    pub fn push(&mut self, group: TableGroup<C, A>) -> Result<(), OutOfMemory>
+    where
+        C: Drop,
         ensures ok { OnOk result (self.new ≡ self.old ++ group ∷ []) }
         ensures err { OnErr result (self.new ≡ self.old) }
     {
@@ -39,7 +47,7 @@ impl<A: AllocHandle> ChangeList<A> {
     }
 
     /// The groups, in the order in which they were put.
-    pub fn groups(&self) -> &[Group<A>]
+    pub fn groups(&self) -> &[TableGroup<C, A>]
         ensures { result.now ≡ self.now }
     {
         self.groups.as_slice()
