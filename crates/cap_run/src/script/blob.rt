@@ -38,7 +38,7 @@ pub fn write_patchset<A: AllocHandle, W: Write>(
     for group in list.groups() {
         let columns = SchemaText(group.schema());
         writeln!(output, "group {} {columns}", group.table().as_str())?;
-        for patch in group.patches() {
+        for patch in group.changes() {
             write_patch(patch, output)?;
         }
     }
