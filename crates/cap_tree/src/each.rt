@@ -13,12 +13,7 @@ use cap_value::{AllocHandle, Exact, Fault};
 /// `confirm` is asked once, when all memory has been found. Where it refuses, or there is no memory, every tree is as
 /// it was.
 #[cycle(each)]
-pub fn insert_each_after<
-    K: Ord + Exact + Drop,
-    V: Exact + Drop,
-    A: AllocHandle,
-    C: Confirm,
->(
+pub fn insert_each_after<K: Ord + Exact + Drop, V: Exact + Drop, A: AllocHandle, C: Confirm>(
     trees: &mut [Tree<K, V, A>],
     entries: &[(K, V)],
     confirm: &mut C,

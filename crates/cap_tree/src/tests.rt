@@ -1,12 +1,14 @@
-use crate::Tree;
+use crate::{Confirm, Tree, insert_each_after};
+use cap_value::{AllocHandle, Fault};
 use linked_list_allocator::LocalHeap;
-use std::alloc::{AllocError, Allocator, Global};
+use std::alloc::{AllocError, Global};
+use std::collections::BTreeMap;
 use std::test::Fail;
 
 type Numbers<A> = Tree<u64, u64, A>;
 
 // The numbers from 1 up to `count`, each with ten times itself.
-fn rising<A: Allocator + Copy>(alloc: A, count: u64) -> Result<Numbers<A>, AllocError> {
+fn rising<A: AllocHandle>(alloc: A, count: u64) -> Result<Numbers<A>, AllocError> {
     let mut tree = Tree::empty(alloc);
     for n in 1..=count {
         tree = tree.put(n, n.wrapping_mul(10))?;
@@ -15,7 +17,7 @@ fn rising<A: Allocator + Copy>(alloc: A, count: u64) -> Result<Numbers<A>, Alloc
 }
 
 // Whether the tree has just those numbers.
-fn is_rising<A: Allocator + Copy>(tree: &Numbers<A>, count: u64) -> bool {
+fn is_rising<A: AllocHandle>(tree: &Numbers<A>, count: u64) -> bool {
     tree.len() == count as usize
         && tree.iter().zip(1..=count).all(|((key, value), n)| *key == n
             && *value == n.wrapping_mul(10))
@@ -97,5 +99,138 @@ fn each_allocation_refused_in_turn(rt: HostRuntime) -> Result<(), Fail> {
     assert!(rt; 4 < refused_takes && refused_takes < 64, "{refused_takes}");
     drop(tree);
     assert_eq!(rt; heap.used(), 0);
+    Ok(())
+}
+
+// A last step that agrees or refuses, and counts how often it was asked.
+#[derive(Drop)]
+struct Step {
+    agrees: bool,
+    asked: u32,
+}
+
+impl Confirm for Step {
+    ghost use Rattle.std.specs.Prelude.{◌≡◌, MatchResult, true, false};
+
+    type Refusal = ();
+
+    ghost can_confirm = { λ _. Unit {0} };
+
+    ghost gives = { λ s r _. MatchResult r (λ _. s.agrees ≡ true) (λ _. s.agrees ≡ false) };
+
+    fn confirm(&mut self) -> Result<(), ()> {
+        self.asked = self.asked.wrapping_add(1);
+        if self.agrees { Ok(()) } else { Err(()) }
+    }
+}
+
+fn last_step(agrees: bool) -> Step {
+    Step { agrees, asked: 0 }
+}
+
+// The next of a row of numbers that look random.
+fn next_random(seed: u64) -> u64 {
+    let mixed = seed ^ (seed << 13);
+    let mixed = mixed ^ (mixed >> 7);
+    mixed ^ (mixed << 17)
+}
+
+#[test]
+fn ten_thousand_changes_beside_a_map_and_snapshots(rt: HostRuntime) -> Result<(), Fail> {
+    let mut tree: Numbers<Global> = Tree::empty(rt.alloc());
+    let mut map = BTreeMap::new(rt.alloc());
+    let mut snapshots = Vec::new(rt.alloc());
+    let mut seed = 88_172_645_463_325_252u64;
+    for n in 0..10_000u64 {
+        seed = next_random(seed);
+        let key = seed % 512;
+        if seed % 3 == 0 {
+            assert_eq!(rt; tree.remove(&key)?, map.remove(&key));
+        } else {
+            assert_eq!(rt; tree.insert(key, n)?, map.insert(key, n)?);
+        }
+        assert_eq!(rt; tree.len(), map.len());
+        if n % 500 == 0 {
+            let entries: Vec<(u64, u64)> = map
+                .iter()
+                .map(|(key, value)| (*key, *value))
+                .collect(rt.alloc())?;
+            snapshots.push((tree.snapshot()?, entries))?;
+        }
+    }
+    for (snapshot, entries) in &snapshots {
+        assert_eq!(rt; snapshot.len(), entries.len());
+        for (entry, (key, value)) in entries.iter().zip(snapshot.iter()) {
+            assert_eq!(rt; *entry, (*key, *value));
+        }
+    }
+    assert_eq!(rt; snapshots.len(), 20);
+    Ok(())
+}
+
+#[test]
+fn a_change_waits_for_one_answer(rt: HostRuntime) -> Result<(), Fail> {
+    let mut tree = rising(rt.alloc(), 100)?;
+    let (mut no, mut yes) = (last_step(false), last_step(true));
+    assert!(rt;
+        matches!(
+            tree.insert_after(101, 1010, &mut no),
+            Err(Fault::Refused(()))
+        )
+    );
+    assert!(rt; matches!(tree.remove_after(&50, &mut no), Err(Fault::Refused(()))));
+    assert_eq!(rt; no.asked, 2);
+    assert!(rt; is_rising(&tree, 100));
+    assert!(rt; matches!(tree.insert_after(101, 1010, &mut yes), Ok(None)));
+    assert!(rt; is_rising(&tree, 101));
+    assert!(rt; matches!(tree.remove_after(&101, &mut yes), Ok(Some(1010))));
+    assert!(rt; matches!(tree.remove_after(&101, &mut yes), Ok(None)));
+    assert_eq!(rt; yes.asked, 3);
+    assert!(rt; is_rising(&tree, 100));
+    Ok(())
+}
+
+#[test]
+fn three_trees_change_together_or_not_at_all(rt: HostRuntime) -> Result<(), Fail> {
+    let heap = LocalHeap::new(rt.alloc(), 16384)?;
+    let mut trees = Vec::new(rt.alloc());
+    for count in [10u64, 20, 30] {
+        trees.push(rising(&heap, count)?)?;
+    }
+    let entries = [(11u64, 110u64), (21, 210), (31, 310)];
+    let mut no = last_step(false);
+    let refused = insert_each_after(trees.as_mut_slice(), &entries, &mut no);
+    assert!(rt; matches!(refused, Err(Fault::Refused(()))));
+    assert_eq!(rt; no.asked, 1);
+    let mut starved = 0u32;
+    for free in 0..64usize {
+        // The heap is filled but for a few small blocks.
+        let mut blocks = Vec::new(rt.alloc());
+        for _ in 0..2048 {
+            match Box::new(&heap, [0u64; 2]) {
+                Ok(block) => blocks.push(block)?,
+                Err(_) => break,
+            }
+        }
+        blocks.truncate(blocks.len().saturating_sub(free * 8));
+        let mut yes = last_step(true);
+        match insert_each_after(trees.as_mut_slice(), &entries, &mut yes) {
+            Ok(()) => {
+                assert_eq!(rt; yes.asked, 1);
+                for (tree, (key, value)) in trees.iter_mut().zip(entries) {
+                    assert_eq!(rt; tree.remove(&key)?, Some(value));
+                }
+            }
+            Err(_) => {
+                starved = starved.saturating_add(1);
+                assert_eq!(rt; yes.asked, 0);
+            }
+        }
+        drop(blocks);
+        for (tree, count) in trees.iter().zip([10u64, 20, 30]) {
+            assert!(rt; is_rising(tree, count));
+        }
+    }
+    assert!(rt; 4 < starved && starved < 64, "{starved}");
     Ok(())
 }

@@ -9,11 +9,11 @@ ghost use Rattle.cap_tree.specs.Tree.{IsOrdered, get, put_entry, take_entry, Upd
 
 use crate::branch::Branch;
 use crate::build::{build, is_ordered};
+use crate::confirm::{Confirm, ask};
 use crate::find::{find, first, last};
 use crate::iter::Iter;
 use crate::put::put;
 use crate::take::take;
-use crate::confirm::{Confirm, ask};
 use cap_value::{AllocHandle, Exact, Fault, OutOfMemory};
 use std::alloc::{AllocError, Allocator};
 use std::marker::Model;

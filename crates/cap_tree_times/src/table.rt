@@ -2,6 +2,7 @@
 
 use crate::keys::value_of;
 use cap_tree::Tree;
+use cap_value::AllocHandle;
 use std::alloc::{AllocError, Allocator};
 use std::collections::BTreeMap;
 
@@ -30,11 +31,11 @@ fn digested(digest: u64, key: u64, value: u64) -> u64 {
     digest.rotate_left(5) ^ key ^ value
 }
 
-impl<A: Allocator + Copy> Table<A> for Numbers<A> {
+impl<A: AllocHandle> Table<A> for Numbers<A> {
     fn grown(alloc: A, keys: &[u64]) -> Result<Self, AllocError> {
         let mut tree = Tree::empty(alloc);
         for key in keys {
-            tree = tree.put(*key, value_of(*key))?;
+            tree.insert(*key, value_of(*key))?;
         }
         Ok(tree)
     }
@@ -60,7 +61,7 @@ impl<A: Allocator + Copy> Table<A> for Numbers<A> {
     fn left_after(self, keys: &[u64]) -> Result<usize, AllocError> {
         let mut tree = self;
         for key in keys {
-            tree = tree.take(key)?;
+            tree.remove(key)?;
         }
         Ok(tree.len())
     }
