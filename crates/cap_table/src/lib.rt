@@ -7,6 +7,8 @@ mod row_name;
 mod row_ref;
 mod scan;
 mod table;
+#[cfg(test)]
+mod tests;
 
 pub use replaced::Replaced;
 pub use row_name::RowName;

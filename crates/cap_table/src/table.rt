@@ -64,6 +64,22 @@ impl<A: AllocHandle> Table<A> {
         }
     }
 
+    // An empty table that has given all ids below one.
+    #[cfg(test)]
+    pub(crate) fn with_next_id(alloc: A, schema: Schema<A>, next_id: u64) -> Self
+        requires first { 1 ≤ next_id }
+        requires last { next_id ≤ 2 ^ 63 }
+        ensures { result ≡ record (empty_table schema) { next_id = next_id } }
+    {
+        Table {
+            alloc,
+            schema,
+            keyed: Tree::empty(alloc),
+            loose: Tree::empty(alloc),
+            next_id,
+        }
+    }
+
     /// The columns.
     pub fn schema(&self) -> &Schema<A>
         ensures { result.now ≡ self.now.schema }

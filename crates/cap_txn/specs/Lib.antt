@@ -1,0 +1,7 @@
+pub mod Assigned
+pub mod Batch
+pub mod Operation
+pub mod Outcome
+pub mod Read
+pub mod Tables
+pub mod Transaction

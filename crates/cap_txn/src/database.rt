@@ -1,0 +1,152 @@
+ghost use Rattle.std.specs.Prelude.{◌≡◌, ◌≤◌, [], length, IfOk, OnErr};
+ghost use Rattle.std.specs.Option.{option_copied};
+ghost use Rattle.cap_value.specs.Bytes.{bytes_cmp};
+ghost use Rattle.cap_tree.specs.Tree.{IsOrdered};
+ghost use Rattle.cap_table.specs.Made.{LeavesUnlessMemory, RefusesFirst};
+ghost use Rattle.cap_txn.specs.Tables.{create, refused_create, table_of};
+ghost use Rattle.cap_txn.specs.Operation.{step, changes_told, changes, row_before};
+ghost use Rattle.cap_txn.specs.Read.{read, rows_of, Lends};
+
+use crate::place::{copies, place_of, put_at, step_at};
+use crate::{Op, Step};
+use cap_row::{Row, Schema};
+use cap_table::{RowRef, Scan, Table};
+use cap_value::{AllocHandle, Exact, Fault, Name, OutOfMemory, Refusal};
+use std::marker::Model;
+
+/// The most tables that a database may have.
+pub const TABLES_MAX: usize = 64;
+
+/// Tables by name.
+///
+/// They stand in one list, which a snapshot copies: at most 64 counts of owners. The rows are shared.
+pub struct Database<A: AllocHandle> {
+    tables: Vec<(Name<A>, Table<A>), A>,
+}
+
+impl<A: AllocHandle> Model for Database<A> {
+    ghost use Rattle.cap_txn.specs.Tables.{Tables};
+
+    ghost Value = { Tables A };
+
+    ghost use Rattle.cap_txn.specs.Tables.{AreTables};
+
+    ghost view = { λ d. d.tables.items };
+
+    ghost invariant = { λ d. AreTables d.tables.items };
+}
+
+// A derived `Drop` would be opened in each caller's loop.
+impl<A: AllocHandle> Drop for Database<A> {
+    fn drop(self) {
+        let Database { tables: _ } = self;
+    }
+}
+
+impl<A: AllocHandle> Database<A> {
+    /// A database without tables, which takes no memory.
+    pub fn empty(alloc: A) -> Self
+        ensures { result ≡ [] }
+    {
+        Database {
+            tables: Vec::new(alloc),
+        }
+    }
+
+    /// How many tables there are.
+    pub fn len(&self) -> usize
+        ensures tables { result ≡ length self.now }
+        ensures few { result ≤ TABLES_MAX }
+        ensures ordered { IsOrdered bytes_cmp self.now }
+    {
+        self.tables.len()
+    }
+
+    /// The table of this name.
+    pub fn table(&self, name: &Name<A>) -> Option<&Table<A>>
+        ensures { option_copied result ≡ table_of self.now name.now }
+    {
+        match place_of(&self.tables, name) {
+            Ok(place) => Some(&self.tables[place].1),
+            Err(_) => None,
+        }
+    }
+
+    /// Adds a table without rows. Refused with `TableExists` where a table has the name already, and then with
+    /// `TooMany` where there are `TABLES_MAX`. On an error the database is as before.
+    pub fn create(&mut self, name: Name<A>, schema: Schema<A>) -> Result<(), Fault<Refusal>>
+        ensures tables { LeavesUnlessMemory result (create self.old name schema) self.new }
+        ensures kept { OnErr result (self.new ≡ self.old) }
+        ensures first { RefusesFirst (refused_create self.old name) result }
+    {
+        let place = match place_of(&self.tables, &name) {
+            Ok(_) => return Err(Fault::Refused(Refusal::TableExists)),
+            Err(place) => place,
+        };
+        if self.tables.len() >= TABLES_MAX {
+            return Err(Fault::Refused(Refusal::TooMany));
+        }
+        let table = Table::empty(*self.tables.allocator(), schema);
+        put_at(&mut self.tables, place, name, table)?;
+        Ok(())
+    }
+
+    /// Makes one operation, and tells its changes. Refused with `NoTable` where no table has the name, and then as
+    /// the table's call refuses it. On an error the database is as before.
+    pub fn step(&mut self, op: &Op<A>) -> Result<Step<A>, Fault<Refusal>>
+        ensures tables { LeavesUnlessMemory result (step self.old op.now) self.new }
+        ensures kept { OnErr result (self.new ≡ self.old) }
+        ensures changes { IfOk result (λ step. changes_told step ≡ changes self.old op.now) }
+        ensures row { IfOk result (λ step. step.row ≡ row_before self.old op.now) }
+    {
+        match place_of(&self.tables, &op.table) {
+            Ok(place) => step_at(&mut self.tables, place, op),
+            Err(_) => Err(Fault::Refused(Refusal::NoTable)),
+        }
+    }
+
+    /// The row of this name in a table, or its absence. Refused with `NoTable` where no table has the name.
+    pub fn get(&self, table: &Name<A>, row: &RowRef<A>) -> Result<Option<&Row<A>>, Refusal>
+        ensures { Lends result (read self.now table.now row.now) }
+    {
+        match self.table(table) {
+            Some(table) => Ok(table.get(row)),
+            None => Err(Refusal::NoTable),
+        }
+    }
+
+    /// All rows of a table, each with its name: those with a key in the order of their keys, and then the others by
+    /// their ids. Refused with `NoTable` where no table has the name.
+    pub fn scan(&self, table: &Name<A>) -> Result<Scan<'_, A>, Refusal>
+        ensures { result ≡ rows_of self.now table.now }
+    {
+        match self.table(table) {
+            Some(table) => Ok(table.scan()),
+            None => Err(Refusal::NoTable),
+        }
+    }
+
+    /// The same database, which shares its rows.
+    pub fn snapshot(&self) -> Result<Self, OutOfMemory>
+        ensures { IfOk result (λ database. database ≡ self.now) }
+    {
+        Ok(Database {
+            tables: copies(*self.tables.allocator(), &self.tables)?,
+        })
+    }
+}
+
+/// The same database, which shares its rows.
+impl<A: AllocHandle> Clone for Database<A> {
+    ghost use Rattle.std.specs.Prelude.{◌≡◌};
+
+    ghost is_clone = { λ database clone. clone ≡ database };
+
+    fn clone(&self) -> Result<Self, OutOfMemory> {
+        self.snapshot()
+    }
+}
+
+impl<A: AllocHandle> Exact for Database<A> {
+    ghost exact = { λ database clone same. same };
+}

@@ -1,0 +1,33 @@
+//! Databases, and lists of operations on them that are made whole or not at all.
+#![tactic(auto)]
+
+mod assignments;
+mod batch;
+mod cause;
+mod change;
+mod database;
+mod op;
+mod outcome;
+mod place;
+mod refused_at;
+mod run;
+mod savepoint;
+mod snapshot;
+mod step;
+#[cfg(test)]
+mod tests;
+mod txn;
+
+pub use assignments::Assignments;
+pub use batch::{Batch, OPS_MAX};
+pub use cause::Cause;
+pub use change::Change;
+pub use database::{Database, TABLES_MAX};
+pub use op::{Action, Op};
+pub use outcome::Outcome;
+pub use refused_at::RefusedAt;
+pub use run::run_ops;
+pub use savepoint::Mark;
+pub use snapshot::Snapshot;
+pub use step::Step;
+pub use txn::{SAVEPOINTS_MAX, Txn};

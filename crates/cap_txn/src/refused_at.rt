@@ -1,0 +1,10 @@
+use cap_value::Refusal;
+
+/// Which operation of a list is refused, and why.
+#[derive(Clone, Copy, Debug, PartialEq, Eq, Drop)]
+pub struct RefusedAt {
+    /// The operation's place in the list, counted from 0.
+    pub at: usize,
+    /// Why.
+    pub why: Refusal,
+}

@@ -1,0 +1,48 @@
+ghost use Rattle.std.specs.Prelude.{◌≡◌, ◌++◌, OnOk};
+ghost use Rattle.cap_value.specs.Memory.{AnswersUnlessMemory};
+ghost use Rattle.cap_txn.specs.Operation.{run, changes_told};
+
+use crate::{Change, Database, Op, Outcome, RefusedAt, Step};
+use cap_value::{AllocHandle, Fault, OutOfMemory};
+
+/// Makes operations one after another, all of them or none: the database after them and all their changes, or the
+/// place of the first that is refused and why. The database that they start from stays as it is.
+///
+/// The operations are made in place on one snapshot, so a node of a tree is copied once however many of them
+/// change it.
+pub fn run_ops<A: AllocHandle>(
+    alloc: A,
+    database: &Database<A>,
+    ops: &[Op<A>],
+) -> Result<Outcome<A>, Fault<RefusedAt>>
+    ensures { AnswersUnlessMemory result (run database.now ops.now) }
+{
+    let mut next = database.snapshot()?;
+    let mut changes = Vec::with_capacity(alloc, ops.len())?;
+    for (at, op) in ops.iter().enumerate() {
+        match next.step(op) {
+            Ok(step) => tell(&mut changes, step)?,
+            Err(Fault::Refused(why)) => return Err(Fault::Refused(RefusedAt { at, why })),
+            Err(Fault::OutOfMemory) => return Err(Fault::OutOfMemory),
+        }
+    }
+    Ok(Outcome::new(next, changes))
+}
+
+fn tell<A: AllocHandle>(changes: &mut Vec<Change<A>, A>, step: Step<A>) -> Result<(), OutOfMemory>
+    ensures { OnOk result (changes.new.items ≡ changes.old.items ++ changes_told step) }
+{
+    let Step {
+        first,
+        second,
+        row: _,
+    } = step;
+    changes.push(first)?;
+    match second {
+        None => Ok(()),
+        Some(second) => {
+            changes.push(second)?;
+            Ok(())
+        }
+    }
+}

@@ -1,0 +1,169 @@
+ghost use Rattle.std.specs.Prelude.{◌≡◌, ◌<◌, ◌≤◌, ◌+◌, Some, None, length, take, slice_index_or, MatchOption, IfOk, OnErr};
+ghost use Rattle.cap_table.specs.Made.{LeavesUnlessMemory, RefusesFirst};
+ghost use Rattle.cap_txn.specs.Batch.{refused_push};
+ghost use Rattle.cap_txn.specs.Read.{read, rows_of, Lends};
+ghost use Rattle.cap_txn.specs.Transaction.{begin, after_op, after_savepoint, refused_savepoint, after_back, numbered, up_to, batch_of};
+ghost use Rattle.cap_txn.specs.declared.savepoint.Savepoint as saved;
+
+use crate::savepoint::Savepoint;
+use crate::{Batch, Database, Mark, OPS_MAX, Op, Snapshot};
+use cap_row::Row;
+use cap_table::{RowRef, Scan};
+use cap_value::{AllocHandle, Fault, Name, OutOfMemory, Refusal};
+use std::marker::Model;
+
+/// The most savepoints that a transaction may make.
+pub const SAVEPOINTS_MAX: u64 = 10_000;
+
+/// Operations on a snapshot that are tried one by one, and handed on as a batch.
+#[derive(Drop)]
+pub struct Txn<A: AllocHandle> {
+    base: Snapshot<A>,
+    database: Database<A>,
+    ops: Vec<Op<A>, A>,
+    savepoints: Vec<Savepoint<A>, A>,
+    made: u64,
+}
+
+impl<A: AllocHandle> Model for Txn<A> {
+    ghost use Rattle.std.specs.Prelude.{◌≤◌, length};
+    ghost use Rattle.cap_txn.specs.Transaction.{TxnState};
+
+    ghost Value = { TxnState A };
+
+    ghost view = { λ t. record { base = t.base; database = t.database; ops = t.ops.items; savepoints = t.savepoints.items; made = t.made } };
+
+    ghost invariant = { λ t. length t.ops.items ≤ 10000 };
+}
+
+impl<A: AllocHandle> Txn<A> {
+    /// A transaction on the snapshot, of which nothing is done yet.
+    pub fn begin(alloc: A, snapshot: &Snapshot<A>) -> Result<Self, OutOfMemory>
+        ensures { IfOk result (λ txn. txn ≡ begin snapshot.now) }
+    {
+        Ok(Txn {
+            base: snapshot.copy()?,
+            database: snapshot.database().snapshot()?,
+            ops: Vec::new(alloc),
+            savepoints: Vec::new(alloc),
+            made: 0,
+        })
+    }
+
+    /// Makes an operation on what stands. Refused with `TooMany` where `OPS_MAX` operations stand, and then as the
+    /// operation itself. On an error the transaction is as before.
+    pub fn op(&mut self, op: Op<A>) -> Result<(), Fault<Refusal>>
+        ensures txn { LeavesUnlessMemory result (after_op self.old op) self.new }
+        ensures kept { OnErr result (self.new ≡ self.old) }
+        ensures first { RefusesFirst (refused_push self.old.ops) result }
+    {
+        if self.ops.len() >= OPS_MAX {
+            return Err(Fault::Refused(Refusal::TooMany));
+        }
+        self.ops.reserve(1)?;
+        self.database.step(&op)?;
+        let Ok(()) = self.ops.push(op) else {
+            unreachable!()
+        };
+        Ok(())
+    }
+
+    /// The row of this name in a table as it stands, or its absence. Refused with `NoTable` where no table has the
+    /// name.
+    pub fn get(&self, table: &Name<A>, row: &RowRef<A>) -> Result<Option<&Row<A>>, Refusal>
+        ensures { Lends result (read self.now.database table.now row.now) }
+    {
+        self.database.get(table, row)
+    }
+
+    /// All rows of a table as it stands, each with its name: those with a key in the order of their keys, and then the
+    /// others by their ids. Refused with `NoTable` where no table has the name.
+    pub fn scan(&self, table: &Name<A>) -> Result<Scan<'_, A>, Refusal>
+        ensures { result ≡ rows_of self.now.database table.now }
+    {
+        self.database.scan(table)
+    }
+
+    /// Makes a savepoint (SQL As Understood By SQLite, "SAVEPOINT"). Refused with `TooMany` where `SAVEPOINTS_MAX`
+    /// were made, undone ones too. On an error the transaction is as before.
+    pub fn savepoint(&mut self) -> Result<Mark, Fault<Refusal>>
+        ensures txn { LeavesUnlessMemory result (after_savepoint self.old) self.new }
+        ensures kept { OnErr result (self.new ≡ self.old) }
+        ensures mark { IfOk result (λ mark. mark.number ≡ self.old.made) }
+        ensures first { RefusesFirst (refused_savepoint self.old) result }
+    {
+        let number = self.made;
+        if number >= SAVEPOINTS_MAX {
+            return Err(Fault::Refused(Refusal::TooMany));
+        }
+        let savepoint = Savepoint {
+            number,
+            ops: self.ops.len(),
+            database: self.database.snapshot()?,
+        };
+        if self.savepoints.push(savepoint).is_err() {
+            return Err(Fault::OutOfMemory);
+        }
+        self.made = number + 1;
+        Ok(Mark { number })
+    }
+
+    /// Goes back to a savepoint, which stays, and undoes all later ones (SQL As Understood By SQLite, "ROLLBACK TO").
+    /// Refused with `NoMark` where there is no savepoint of the mark, or it was undone. On an error the transaction is
+    /// as before.
+    pub fn back_to(&mut self, mark: Mark) -> Result<(), Fault<Refusal>>
+        ensures txn { LeavesUnlessMemory result (after_back self.old mark.number) self.new }
+        ensures kept { OnErr result (self.new ≡ self.old) }
+    {
+        let Some(place) = place_of(&self.savepoints, mark.number) else {
+            return Err(Fault::Refused(Refusal::NoMark));
+        };
+        let savepoint = &self.savepoints[place];
+        let stood = savepoint.ops;
+        let database = savepoint.database.snapshot()?;
+        self.database = database;
+        self.ops.truncate(stood);
+        self.savepoints.truncate(place + 1);
+        Ok(())
+    }
+
+    /// Undoes all of it: the snapshot is as it was, and nothing is left.
+    pub fn rollback(self) {
+        let Txn {
+            base: _,
+            database: _,
+            ops: _,
+            savepoints: _,
+            made: _,
+        } = self;
+    }
+
+    /// The operations that stand, to be made on the snapshot's version alone. It takes no memory.
+    pub fn into_batch(self) -> Batch<A>
+        ensures { result ≡ batch_of self }
+    {
+        let version = self.base.version();
+        let Txn {
+            base: _,
+            database: _,
+            ops,
+            savepoints: _,
+            made: _,
+        } = self;
+        Batch::of_ops(version, ops)
+    }
+}
+
+// The place of the savepoint of this number.
+fn place_of<A: AllocHandle>(savepoints: &[Savepoint<A>], number: u64) -> Option<usize>
+    ensures within { MatchOption result (numbered number savepoints.now ≡ None) (λ i. i < length savepoints.now) }
+    ensures found { MatchOption result (numbered number savepoints.now ≡ None) (λ i. (d : saved.Savepoint A) → numbered number savepoints.now ≡ Some (slice_index_or savepoints.now i d)) }
+    ensures front { MatchOption result (numbered number savepoints.now ≡ None) (λ i. up_to number savepoints.now ≡ take (i + 1) savepoints.now) }
+{
+    for (place, savepoint) in savepoints.iter().enumerate() {
+        if savepoint.number == number {
+            return Some(place);
+        }
+    }
+    None
+}
