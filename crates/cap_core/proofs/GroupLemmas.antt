@@ -2,7 +2,7 @@
 use Rattle.std.proofs.Common.{◌≡◌, ℕ, Bool, Option, Some, List, [], ◌∷◌, ◌++◌, sym, ◌∙◌}
 use Rattle.cap_changes.specs.declared.change.Change.{Change}
 use Rattle.cap_changes.specs.Group.{TableChanges}
-use Rattle.cap_core.specs.Grouped.{IsGroupOf, changes_in}
+use Rattle.cap_core.specs.Code.Grouped.{IsGroupOf, changes_in}
 
 module _ {A : Type 0} {name : List ℕ} {schema : List Bool} where
   -- a group of the table with one more change

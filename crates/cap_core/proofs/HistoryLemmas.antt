@@ -1,20 +1,24 @@
 -- What one more event makes of what a history leaves.
-use Rattle.std.proofs.lemmas.List.{append-nil}
+use Rattle.std.proofs.lemmas.List.{append-nil, map-append}
 use Rattle.std.proofs.lemmas.List.Elements.{filter-append}
-use Rattle.std.proofs.Common.{◌≡◌, ℕ, Bool, true, false, cond, List, [], ◌∷◌, ◌++◌, ◌&&◌, ◌||◌, not, map, refl, sym, ap, ap₂, subst, ◌∙◌}
-use Rattle.std.specs.Prelude.{filter, fold}
-use Rattle.std.specs.List.{list_any, range_with_len}
+use Rattle.std.proofs.lemmas.List.Folds.{list_all-append}
+use Rattle.std.proofs.lemmas.Bool.Decides.{nat_tests}
+use Rattle.std.proofs.Common.{◌≡◌, ◌≤◌, ℕ, suc, ◌+◌, Bool, true, false, cond, List, [], ◌∷◌, ◌++◌, ◌&&◌, ◌||◌, not, map, length, refl, sym, ap, ap₂, subst, ◌∙◌, arith}
+use Rattle.std.specs.Prelude.{filter, fold, nat_eq, nat_le, nat_lt}
+use Rattle.std.specs.List.{list_all, list_any, range_with_len, enumerate_from}
 use Rattle.std.proofs.Math.Bool.{or-true}
-use Rattle.std.specs.Cmp.Lexicographic.{nat_list_eq_equiv}
+use Rattle.std.specs.Cmp.Lexicographic.{bytes_decides, nat_list_eq_equiv}
 use Rattle.cap_value.specs.Bytes.{bytes_eq}
 use Rattle.cap_row.specs.Fields.{Fields}
 use Rattle.cap_core.specs.declared.event.Event.{Event}
-use Rattle.cap_core.specs.Database.{Database, row_at}
-use Rattle.cap_core.specs.History.{Past, is_accepted, main, session_of, names_attached, attach_list, attached_by, touched_by, touches, touches_on, touch_of, changes_by}
 use Rattle.cap_core.specs.declared.row_change.RowChange.{RowChange}
-use Rattle.cap_core.specs.Session.{Records, Touch, is_listed, first_of_each, records_of}
-use Rattle.cap_core.specs.Transition.{note, note_with, note_changes}
-use Rattle.cap_core.proofs.RecordsLemmas.{records_of-append}
+use Rattle.cap_core.specs.Database.{Database, row_at}
+use Rattle.cap_core.specs.History.{Past, is_accepted, main, event_effect, session_of, names_attached, attachings, event_attachings, attach_list, event_touches, touches, touch_of}
+use Rattle.cap_core.specs.Session.{SessionState, TouchedRows, is_listed, first_of_each, touched_rows}
+use Rattle.cap_core.specs.Touch.{Attaching, Touch, is_in_time, is_recorded, touches_of}
+use Rattle.cap_core.specs.Transition.{touch_key, touch_table, touch_session}
+use Rattle.cap_core.proofs.SmallLemmas.{both, first, second, either_false, other_false}
+use Rattle.cap_core.proofs.TouchedLemmas.{touch_more, touched_rows-append}
 
 -- ---- names
 
@@ -78,51 +82,135 @@ pub is_listed-map : {X : Type 0} (f : List ℕ → X) (name : List ℕ) (names :
 is_listed-map f name [] = refl
 is_listed-map f name (n ∷ names) = ap (λ b. bytes_eq name n || b) (is_listed-map f name names)
 
+-- ---- moments
+
+all_at : (place k : ℕ) → nat_lt place k ≡ true → (names : List (List ℕ)) → list_all {X = Attaching} (λ moment. nat_lt moment.event k) (map (λ name. record { table = name; event = place; change = 0 }) names) ≡ true
+all_at place k lt [] = refl
+all_at place k lt (name ∷ names) = both (nat_lt place k) _ lt (all_at place k lt names)
+
 module _ {A : Type 0} where
+  -- ---- touches in time
+
+  -- a moment of a listed name is in time for a touch that comes after all of them
+  pub recorded : (moments : List Attaching) (touch : Touch A) (name : List ℕ) → bytes_eq name touch.table ≡ true → list_all {X = Attaching} (λ moment. nat_lt moment.event touch.event) moments ≡ true
+      → is_listed name (map (λ moment. moment.table) moments) ≡ true → is_recorded moments touch ≡ true
+  recorded [] touch name same earlier listed = listed
+  recorded (moment ∷ moments) touch name same earlier listed =
+      let rest = second (nat_lt moment.event touch.event) (list_all {X = Attaching} (λ m. nat_lt m.event touch.event) moments) earlier in
+      let now = first (nat_lt moment.event touch.event) (list_all {X = Attaching} (λ m. nat_lt m.event touch.event) moments) earlier in
+      let names : bytes_eq touch.table moment.table ≡ bytes_eq name moment.table = ap (λ n. bytes_eq n moment.table) (sym ((bytes_decides name touch.table).0 same)) in
+      elim (bytes_eq name moment.table) as (λ b. bytes_eq name moment.table ≡ b → (b || is_listed name (map (λ m. m.table) moments)) ≡ true → is_recorded (moment ∷ moments) touch ≡ true) [
+        | true ↦ λ t _. ap (λ b. b || is_recorded moments touch) (both (bytes_eq touch.table moment.table) (is_in_time touch moment) (names ∙ t) (ap (λ b. b || (nat_eq moment.event touch.event && nat_le moment.change touch.change)) now))
+        | false ↦ λ t more. ap (λ b. (bytes_eq touch.table moment.table && is_in_time touch moment) || b) (recorded moments touch name same rest more) ∙ or-true _
+      ] refl listed
+
+  -- a name that is not listed has no touch
+  pub not_recorded : (moments : List Attaching) (touch : Touch A) (name : List ℕ) → bytes_eq name touch.table ≡ true → is_listed name (map (λ moment. moment.table) moments) ≡ false → is_recorded moments touch ≡ false
+  not_recorded [] touch name same absent = refl
+  not_recorded (moment ∷ moments) touch name same absent =
+      let here : bytes_eq touch.table moment.table ≡ false = ap (λ n. bytes_eq n moment.table) (sym ((bytes_decides name touch.table).0 same)) ∙ either_false (bytes_eq name moment.table) _ absent in
+      ap₂ (λ a b. (a && is_in_time touch moment) || b) here (not_recorded moments touch name same (other_false (bytes_eq name moment.table) _ absent))
+
+  pub none_of : (moments : List Attaching) (name : List ℕ) → is_listed name (map (λ moment. moment.table) moments) ≡ false → (found : List (Touch A)) → touches_of name (filter (is_recorded moments) found) ≡ []
+  none_of moments name absent [] = refl
+  none_of moments name absent (touch ∷ found) =
+      elim (bytes_eq name touch.table) as (λ b. bytes_eq name touch.table ≡ b → touches_of name (cond (is_recorded moments touch) (touch ∷ filter (is_recorded moments) found) (filter (is_recorded moments) found)) ≡ []) [
+        | true ↦ λ t. ap (λ b. touches_of name (cond b (touch ∷ filter (is_recorded moments) found) (filter (is_recorded moments) found))) (not_recorded moments touch name t absent) ∙ none_of moments name absent found
+        | false ↦ λ t. elim (is_recorded moments touch) as (λ b. touches_of name (cond b (touch ∷ filter (is_recorded moments) found) (filter (is_recorded moments) found)) ≡ []) [
+          | true ↦ ap (λ b. map (λ u. (u.key, u)) (cond b (touch ∷ filter (λ u. bytes_eq name u.table) (filter (is_recorded moments) found)) (filter (λ u. bytes_eq name u.table) (filter (is_recorded moments) found)))) t ∙ none_of moments name absent found
+          | false ↦ none_of moments name absent found
+        ]
+      ] refl
+
+  pub touches_of-append : (name : List ℕ) (xs ys : List (Touch A)) → touches_of name (xs ++ ys) ≡ touches_of name xs ++ touches_of name ys
+  touches_of-append name xs ys =
+      ap (map (λ touch. (touch.key, touch))) (filter-append (λ touch. bytes_eq name touch.table) xs ys)
+      ∙ map-append (λ touch. (touch.key, touch)) (filter (λ touch. bytes_eq name touch.table) xs) (filter (λ touch. bytes_eq name touch.table) ys)
+
   -- ---- what an event leaves as it was
 
-  pub attach_list-quiet : (session : ℕ) (event : Event A) (past : Past A) → attached_by session event ≡ [] → attach_list session (event ∷ past) ≡ attach_list session past
-  attach_list-quiet session event past quiet = ap first_of_each (ap (λ more. names_attached session past ++ more) quiet ∙ append-nil _)
+  pub attachings-quiet : (session : ℕ) (event : Event A) (past : Past A) → event_attachings session event past ≡ [] → attachings session (event ∷ past) ≡ attachings session past
+  attachings-quiet session event past quiet = ap (λ more. attachings session past ++ more) quiet ∙ append-nil _
 
-  pub touches-quiet : (session : ℕ) (name : List ℕ) (event : Event A) (past : Past A) → touched_by session name event past ≡ [] → touches session name (event ∷ past) ≡ touches session name past
-  touches-quiet session name event past quiet = ap (λ more. touches session name past ++ more) quiet ∙ append-nil _
+  pub attach_list-quiet : (session : ℕ) (event : Event A) (past : Past A) → event_attachings session event past ≡ [] → attach_list session (event ∷ past) ≡ attach_list session past
+  attach_list-quiet session event past quiet = ap (λ moments. first_of_each (map (λ moment. moment.table) moments)) (attachings-quiet session event past quiet)
 
-  pub session_of-quiet : (session : ℕ) (event : Event A) (past : Past A) → attached_by session event ≡ [] → ((name : List ℕ) → touched_by session name event past ≡ []) → session_of (event ∷ past) session ≡ session_of past session
-  session_of-quiet session event past attaches touches' =
-      λ i. map (λ name. (name, records_of (touches-quiet session name event past (touches' name) i))) (attach_list-quiet session event past attaches i)
+  pub touches-quiet : (session : ℕ) (event : Event A) (past : Past A) → event_touches session event past ≡ [] → touches session (event ∷ past) ≡ touches session past
+  touches-quiet session event past quiet = ap (λ more. touches session past ++ more) quiet ∙ append-nil _
 
+  pub session_of-quiet : (session : ℕ) (event : Event A) (past : Past A) → event_attachings session event past ≡ [] → event_touches session event past ≡ [] → session_of (event ∷ past) session ≡ session_of past session
+  session_of-quiet session event past attaches touched =
+      λ i. map (λ name. (name, touched_rows (touches_of name (touches-quiet session event past touched i)))) (attach_list-quiet session event past attaches i)
+
+  -- an event that attaches and touches nothing
   pub record IsQuiet (event : Event A) (past : Past A) : Type 0 where
-    pub attaches : (session : ℕ) → attached_by session event ≡ []
-    pub touched : (session : ℕ) (name : List ℕ) → touched_by session name event past ≡ []
+    pub attaches : (session : ℕ) → event_attachings session event past ≡ []
+    pub touched : (session : ℕ) → event_touches session event past ≡ []
 
-  pub sessions-quiet : (event : Event A) (past : Past A) → IsQuiet event past → (n : ℕ) → map (session_of (event ∷ past)) (range_with_len 1 n) ≡ map (session_of past) (range_with_len 1 n)
-  sessions-quiet event past quiet n = λ i. map (λ session. session_of-quiet session event past (quiet.attaches session) (quiet.touched session) i) (range_with_len 1 n)
+  pub sessions-quiet : (event : Event A) (past : Past A) → IsQuiet event past → (numbers : List ℕ) → map {B = ℕ × SessionState A} (λ number. (number, session_of (event ∷ past) number)) numbers ≡ map (λ number. (number, session_of past number)) numbers
+  sessions-quiet event past quiet numbers = λ i. map {B = ℕ × SessionState A} (λ number. (number, session_of-quiet number event past (quiet.attaches number) (quiet.touched number) i)) numbers
 
-  pub either_none : (b : Bool) → cond b [] [] ≡ (let none : List (Fields A × Touch A) = [] in none)
-  either_none true = refl
-  either_none false = refl
+  pub event_touches-none : (session : ℕ) (event : Event A) (past : Past A) → (event_effect (main past) event).changes ≡ [] → event_touches session event past ≡ []
+  event_touches-none session event past none = ap (λ changes. filter (is_recorded (attachings session (event ∷ past))) (map (touch_of past) (enumerate_from 0 changes))) none
 
-  -- ---- a commit
+  -- ---- moments are of events that were
 
-  note_changes-map : (before : Database A) (changes : List (RowChange A)) (names : List (List ℕ)) (records : List ℕ → Records A)
-      → note_changes before changes (map (λ name. (name, records name)) names) ≡ map (λ name. (name, fold note (records name) (touches_on before name changes))) names
-  note_changes-map before [] names records = refl
-  note_changes-map before (change ∷ changes) names records =
-      ap (note_changes before changes) (map-map (note_with change (row_at before change.table change.key)) (λ name. (name, records name)) names)
-      ∙ note_changes-map before changes names (λ name. cond (bytes_eq name change.table) (note (records name) (touch_of before change)) (records name))
-      ∙ (λ i. map (λ name. (name, one_more name i)) names)
-    where
-      one_more : (name : List ℕ) → fold note (cond (bytes_eq name change.table) (note (records name) (touch_of before change)) (records name)) (touches_on before name changes) ≡ fold note (records name) (touches_on before name (change ∷ changes))
-      one_more name = elim (bytes_eq name change.table) as (λ b. fold note (cond b (note (records name) (touch_of before change)) (records name)) (touches_on before name changes)
-          ≡ fold note (records name) (map (touch_of before) (cond b (change ∷ filter (λ c. bytes_eq name c.table) changes) (filter (λ c. bytes_eq name c.table) changes)))) [ true ↦ refl | false ↦ refl ]
+  pub attachings-earlier : (session k : ℕ) (past : Past A) → length past ≤ k → list_all {X = Attaching} (λ moment. nat_lt moment.event k) (attachings session past) ≡ true
+  attachings-earlier session k [] le = refl
+  attachings-earlier session k (event ∷ past) le =
+      let lt : nat_lt (length past) k ≡ true = grind (arith, nat_tests) in
+      list_all-append {X = Attaching} (λ moment. nat_lt moment.event k) (attachings session past) (event_attachings session event past)
+      ∙ both (list_all {X = Attaching} (λ moment. nat_lt moment.event k) (attachings session past)) _ (attachings-earlier session k past (omega arith))
+      (elim (is_accepted event.reply) as (λ b. list_all {X = Attaching} (λ moment. nat_lt moment.event k) (cond b (map (λ name. record { table = name; event = length past; change = 0 }) (names_attached session event.command)) []) ≡ true) [
+        | true ↦ all_at (length past) k lt (names_attached session event.command)
+        | false ↦ refl
+      ])
 
-  -- an accepted event that attaches nothing and makes these changes
-  pub session_of-changes : (session : ℕ) (event : Event A) (past : Past A) → is_accepted event.reply ≡ true → attached_by session event ≡ []
-      → session_of (event ∷ past) session ≡ note_changes (main past) (changes_by (main past) event.command) (session_of past session)
-  session_of-changes session event past accepted attaches =
-      ap (map (λ name. (name, records_of (touches session name (event ∷ past))))) (attach_list-quiet session event past attaches)
-      ∙ map-listed (λ name. (name, records_of (touches session name (event ∷ past)))) (λ name. (name, fold note (records_of (touches session name past)) (touches_on (main past) name (changes_by (main past) event.command)))) (attach_list session past)
-      (λ name listed. ap (λ records. (name, records))
-      (ap (λ b. records_of (touches session name past ++ cond b (touches_on (main past) name (changes_by (main past) event.command)) [])) (ap₂ (λ a b. a && b) accepted listed)
-      ∙ records_of-append (touches session name past) (touches_on (main past) name (changes_by (main past) event.command))))
-      ∙ sym (note_changes-map (main past) (changes_by (main past) event.command) (attach_list session past) (λ name. records_of (touches session name past)))
+  -- ---- changes to rows
+
+  -- the touches of a listed table by an event are its changes to rows of that table
+  fold-touches : (past : Past A) (moments : List Attaching) (name : List ℕ) → ((touch : Touch A) → touch.event ≡ length past → bytes_eq name touch.table ≡ true → is_recorded moments touch ≡ true)
+      → (n : ℕ) (changes : List (RowChange A)) (rows : TouchedRows A)
+      → fold touch_more rows (touches_of name (filter (is_recorded moments) (map (touch_of past) (enumerate_from n changes)))) ≡ fold (touch_table (main past) name) rows changes
+  fold-touches past moments name seen n [] rows = refl
+  fold-touches past moments name seen n (change ∷ changes) rows =
+      let touch = touch_of past (n, change) in
+      let rest = filter (is_recorded moments) (map (touch_of past) (enumerate_from (n + 1) changes)) in
+      elim (bytes_eq name change.table) as (λ b. bytes_eq name change.table ≡ b → fold touch_more rows (touches_of name (cond (is_recorded moments touch) (touch ∷ rest) rest))
+      ≡ fold (touch_table (main past) name) (cond b (touch_key rows change.key (row_at (main past) change.table change.key) false) rows) changes) [
+        | true ↦ λ t.
+            ap (λ b. fold touch_more rows (touches_of name (cond b (touch ∷ rest) rest))) (seen touch refl t)
+            ∙ ap (λ b. fold touch_more rows (map (λ u. (u.key, u)) (cond b (touch ∷ filter (λ u. bytes_eq name u.table) rest) (filter (λ u. bytes_eq name u.table) rest)))) t
+            ∙ fold-touches past moments name seen (n + 1) changes (touch_key rows change.key (row_at (main past) change.table change.key) false)
+        | false ↦ λ t.
+            elim (is_recorded moments touch) as (λ b. fold touch_more rows (touches_of name (cond b (touch ∷ rest) rest)) ≡ fold touch_more rows (touches_of name rest)) [
+              | true ↦ ap (λ b. fold touch_more rows (map (λ u. (u.key, u)) (cond b (touch ∷ filter (λ u. bytes_eq name u.table) rest) (filter (λ u. bytes_eq name u.table) rest)))) t
+              | false ↦ refl
+            ]
+            ∙ fold-touches past moments name seen (n + 1) changes rows
+      ] refl
+
+  pub listed-recorded : (session : ℕ) (event : Event A) (past : Past A) → event_attachings session event past ≡ [] → (name : List ℕ) → is_listed name (attach_list session past) ≡ true
+      → (touch : Touch A) → touch.event ≡ length past → bytes_eq name touch.table ≡ true → is_recorded (attachings session (event ∷ past)) touch ≡ true
+  listed-recorded session event past attaches name listed touch at same =
+      ap (λ moments. is_recorded moments touch) (attachings-quiet session event past attaches)
+      ∙ recorded (attachings session past) touch name same
+      (ap (λ k. list_all {X = Attaching} (λ moment. nat_lt moment.event k) (attachings session past)) at ∙ attachings-earlier session (length past) past (omega arith))
+      (sym (is_listed-first_of_each name (map (λ moment. moment.table) (attachings session past))) ∙ listed)
+
+  pub touched-after : (session : ℕ) (event : Event A) (past : Past A) → event_attachings session event past ≡ [] → (name : List ℕ) → is_listed name (attach_list session past) ≡ true
+      → touched_rows (touches_of name (touches session (event ∷ past))) ≡ fold (touch_table (main past) name) (touched_rows (touches_of name (touches session past))) (event_effect (main past) event).changes
+  touched-after session event past attaches name listed =
+      ap touched_rows (touches_of-append name (touches session past) (event_touches session event past))
+      ∙ touched_rows-append (touches_of name (touches session past)) (touches_of name (event_touches session event past))
+      ∙ fold-touches past (attachings session (event ∷ past)) name (listed-recorded session event past attaches name listed) 0 (event_effect (main past) event).changes (touched_rows (touches_of name (touches session past)))
+
+  -- an event that attaches nothing
+  pub session_of-changes : (session : ℕ) (event : Event A) (past : Past A) → event_attachings session event past ≡ []
+      → session_of (event ∷ past) session ≡ touch_session (main past) (event_effect (main past) event).changes (session_of past session)
+  session_of-changes session event past attaches =
+      ap (map (λ name. (name, touched_rows (touches_of name (touches session (event ∷ past)))))) (attach_list-quiet session event past attaches)
+      ∙ map-listed (λ name. (name, touched_rows (touches_of name (touches session (event ∷ past)))))
+      (λ name. (name, fold (touch_table (main past) name) (touched_rows (touches_of name (touches session past))) (event_effect (main past) event).changes)) (attach_list session past)
+      (λ name listed. ap (λ rows. (name, rows)) (touched-after session event past attaches name listed))
+      ∙ sym (map-map (λ attached. (attached.0, fold (touch_table (main past) attached.0) attached.1 (event_effect (main past) event).changes)) (λ name. (name, touched_rows (touches_of name (touches session past)))) (attach_list session past))

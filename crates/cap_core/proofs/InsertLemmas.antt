@@ -1,11 +1,13 @@
--- What a session captures after the insert that it sees first.
-use Rattle.std.proofs.Common.{◌≡◌, ℕ, true, false, cond, Option, Some, None, Result, Ok, Err, List, [], ◌∷◌, ◌++◌, ◌&&◌, ◌||◌, not, map, length, refl, sym, ap, ap₂, subst, ◌∙◌}
-use Rattle.std.specs.Prelude.{filter, is_some, option_and_then, ◌==◌}
+-- What a session captures after an insert of a row whose key had none when the session saw it first.
+use Rattle.std.proofs.Common.{◌≡◌, ℕ, Bool, true, false, cond, Option, Some, None, Result, Ok, Err, List, [], ◌∷◌, ◌++◌, ◌&&◌, ◌||◌, map, length, refl, sym, ap, ap₂, subst, ◌∙◌, arith, nat_eq, Ordering, Less, Equal, Greater}
+use Rattle.std.specs.Prelude.{fold, is_some, option_and_then, ◌==◌}
+use Rattle.std.specs.Option.{option_map}
 use Rattle.std.specs.List.{filter_map, cons_option}
-use Rattle.std.specs.Ordering.{is_eq}
+use Rattle.std.specs.Ordering.{is_eq, eq_by_cmp, match_ordering}
 use Rattle.std.specs.Cmp.{tied_itself}
 use Rattle.std.specs.Cmp.Lexicographic.{bytes_decides, nat_list_eq_equiv}
 use Rattle.std.specs.FinMap.Entries.{find, find-put}
+use Rattle.std.proofs.lemmas.Bool.Decides.{nat_tests}
 use Rattle.std.proofs.lemmas.Cmp.{nat_list_cmp_total}
 use Rattle.cap_value.specs.Bytes.{bytes_eq}
 use Rattle.cap_value.specs.declared.refusal.Refusal.{Refusal}
@@ -14,98 +16,128 @@ use Rattle.cap_row.specs.Fields.{Fields}
 use Rattle.cap_row.specs.Key.{fields_cmp, fields_cmp_total, key_of}
 use Rattle.cap_changes.specs.Change.{change_of, full_record}
 use Rattle.cap_changes.specs.Group.{TableChanges}
+use Rattle.cap_changes.specs.declared.change.Change.{Change}
 use Rattle.cap_changes.specs.declared.change.Change.TheVariants.{Insert as Inserted}
 use Rattle.cap_tree.specs.Tree.{get, put_entry}
 use Rattle.cap_core.specs.declared.event.Event.{Event}
 use Rattle.cap_core.specs.declared.operation.Operation.TheVariants.{Insert}
-use Rattle.cap_core.specs.declared.row_change.RowChange.{RowChange}
-use Rattle.cap_core.specs.Answer.{answer, commit_reply, State, state_after}
+use Rattle.cap_core.specs.declared.touched_row.TouchedRow.{TouchedRow}
+use Rattle.cap_core.specs.Answer.{answer, write_reply, State, state_after}
 use Rattle.cap_core.specs.Database.{Database, row_at, table_of, with_row}
-use Rattle.cap_core.specs.FirstInsert.{IsFirstInsert, one_insert}
-use Rattle.cap_core.specs.History.{Past, after, attach_list, changes_by, committed, is_accepted, main, name_attached, names_attached, session_of, stepped_changes, touch_of, touches, touches_on}
-use Rattle.cap_core.specs.Operation.{Stepped, insert_keyed, insert_row, step}
-use Rattle.cap_core.specs.Session.{Records, Touch, captured, change_now, first_of_each, group_of, is_listed, records_of, table_changes}
+use Rattle.cap_core.specs.History.{Past, attach_list, effect_of, event_attachings, event_effect, is_accepted, main, names_attached, session_of, touches}
+use Rattle.cap_core.specs.Insert.{HasChange, IsInsertOfAbsent, changes_by_key}
+use Rattle.cap_core.specs.Operation.{Effect, insert_keyed, insert_row, step}
+use Rattle.cap_core.specs.Outcome.{no_effect, outcome, refused_at}
+use Rattle.cap_core.specs.Session.{TouchedRows, change_now, group_of, is_indirect, is_listed, session_changes, table_changes, touched_rows}
 use Rattle.cap_core.specs.Table.{TableState}
-use Rattle.cap_core.specs.Transition.{noted}
-use Rattle.cap_core.proofs.HistoryLemmas.{attach_list-quiet, either_none, is_listed-filter}
-use Rattle.cap_core.proofs.LawLemmas.{no_records}
-use Rattle.cap_core.proofs.RecordsLemmas.{fields_same, get-find, put_entry-put, records_of-none, records_of-push}
+use Rattle.cap_core.specs.Touch.{Attaching, Touch, touches_of}
+use Rattle.cap_core.specs.Transition.{touch_again, touch_key, touch_table}
+use Rattle.cap_core.proofs.HistoryLemmas.{attach_list-quiet, touched-after}
+use Rattle.cap_core.proofs.LawLemmas.{first_image}
 use Rattle.cap_core.proofs.SoundLemmas.{absent_found, table_of-put}
+use Rattle.cap_core.proofs.TouchedLemmas.{fields_same, get-find, put_entry-put}
 
--- ---- one name among those that are listed once
+-- ---- one item among those that a function makes
 
-module _ {X : Type 0} (f : List ℕ → Option X) (name : List ℕ) (others : (other : List ℕ) → bytes_eq name other ≡ false → f other ≡ None) where
-  nothing_without : (names : List (List ℕ)) → filter_map f (filter (λ other. not (bytes_eq name other)) names) ≡ []
-  nothing_without [] = refl
-  nothing_without (n ∷ names) =
-      elim (bytes_eq name n) as (λ b. bytes_eq name n ≡ b → filter_map f (cond (not b) (n ∷ filter (λ other. not (bytes_eq name other)) names) (filter (λ other. not (bytes_eq name other)) names)) ≡ []) [
-        | true ↦ λ same. nothing_without names
-        | false ↦ λ apart. ap (λ first. cons_option first (filter_map f (filter (λ other. not (bytes_eq name other)) names))) (others n apart) ∙ nothing_without names
-      ] refl
+cons_option-append : {X : Type 0} (o : Option X) (xs : List X) (x : X) (ys : List X) → cons_option o (xs ++ x ∷ ys) ≡ cons_option o xs ++ x ∷ ys
+cons_option-append None xs x ys = refl
+cons_option-append (Some y) xs x ys = refl
 
-  same_without : (y : List ℕ) → bytes_eq name y ≡ false → (names : List (List ℕ)) → filter_map f (filter (λ other. not (bytes_eq y other)) names) ≡ filter_map f names
-  same_without y apart [] = refl
-  same_without y apart (n ∷ names) =
-      elim (bytes_eq y n) as (λ b. bytes_eq y n ≡ b → filter_map f (cond (not b) (n ∷ filter (λ other. not (bytes_eq y other)) names) (filter (λ other. not (bytes_eq y other)) names)) ≡ cons_option (f n) (filter_map f names)) [
-        | true ↦ λ same. same_without y apart names
-            ∙ ap (λ first. cons_option first (filter_map f names)) (sym (others n (sym (sym apart ∙ nat_list_eq_equiv.symm name y ∙ nat_list_eq_equiv.congr y n name same ∙ nat_list_eq_equiv.symm n name))))
-        | false ↦ λ other. ap (λ rest. cons_option (f n) rest) (same_without y apart names)
-      ] refl
+module _ {X Y : Type 0} (f : Y → Option X) (g : List ℕ → Y) (name : List ℕ) (x : X) (here : f (g name) ≡ Some x) where
+  record Parts (list : List X) : Type 0 where
+    before : List X
+    after : List X
+    parts : list ≡ before ++ x ∷ after
 
-  pub only : (x : X) → f name ≡ Some x → (names : List (List ℕ)) → is_listed name (first_of_each names) ≡ true → filter_map f (first_of_each names) ≡ x ∷ []
-  only x here [] listed = cc
-  only x here (y ∷ names) listed =
-      elim (bytes_eq name y) as (λ b. bytes_eq name y ≡ b → (b || is_listed name (filter (λ other. not (bytes_eq y other)) (first_of_each names))) ≡ true
-      → cons_option (f y) (filter_map f (filter (λ other. not (bytes_eq y other)) (first_of_each names))) ≡ x ∷ []) [
-        | true ↦ λ same _. subst (λ z. cons_option (f z) (filter_map f (filter (λ other. not (bytes_eq z other)) (first_of_each names))) ≡ x ∷ []) ((bytes_decides name y).0 same)
-            (ap₂ (λ first rest. cons_option first rest) here (nothing_without (first_of_each names)))
-        | false ↦ λ apart rest. ap (λ first. cons_option first (filter_map f (filter (λ other. not (bytes_eq y other)) (first_of_each names)))) (others y apart)
-            ∙ same_without y apart (first_of_each names)
-            ∙ only x here names (sym (is_listed-filter name y (first_of_each names) apart) ∙ rest)
+  among : (names : List (List ℕ)) → is_listed name names ≡ true → Parts (filter_map f (map g names))
+  among [] listed = cc
+  among (n ∷ names) listed =
+      elim (bytes_eq name n) as (λ b. bytes_eq name n ≡ b → (b || is_listed name names) ≡ true → Parts (cons_option (f (g n)) (filter_map f (map g names)))) [
+        | true ↦ λ same _. record {
+          before = [];
+          after = filter_map f (map g names);
+          parts = ap (λ o. cons_option o (filter_map f (map g names))) (ap (λ z. f (g z)) (sym ((bytes_decides name n).0 same)) ∙ here);
+        }
+        | false ↦ λ _ more. let rest = among names more in record {
+          before = cons_option (f (g n)) rest.before;
+          after = rest.after;
+          parts = ap (cons_option (f (g n))) rest.parts ∙ cons_option-append (f (g n)) rest.before x rest.after;
+        }
       ] refl listed
 
-module _ {X Y : Type 0} (f : Y → Option X) (g : List ℕ → Y) where
-  filter_map-map : (names : List (List ℕ)) → filter_map f (map g names) ≡ filter_map (λ n. f (g n)) names
-  filter_map-map [] = refl
-  filter_map-map (n ∷ names) = ap (cons_option (f (g n))) (filter_map-map names)
+never : (b : Bool) → (b && false) ≡ false
+never true = refl
+never false = refl
 
 module _ {A : Type 0} where
+  -- ---- changes under their keys
+
+  abbrev keyed : TableState A → Fields A × TouchedRow A → Option (Fields A × Change A)
+  keyed table touched = option_map (λ change. (touched.0, change)) (change_now table touched)
+
+  keyed-one : (key : Fields A) (change : Option (Change A)) (rest : List (Fields A × Change A)) (changes : List (Change A)) → map (λ k. k.1) rest ≡ changes
+      → map (λ k. k.1) (cons_option (option_map (λ c. (key, c)) change) rest) ≡ cons_option change changes
+  keyed-one key None rest changes is = is
+  keyed-one key (Some change) rest changes is = ap (λ cs. change ∷ cs) is
+
+  keyed-map : (table : TableState A) (rows : TouchedRows A) → map (λ k. k.1) (changes_by_key table rows) ≡ filter_map (change_now table) rows
+  keyed-map table [] = refl
+  keyed-map table (touched ∷ rows) = keyed-one touched.0 (change_now table touched) (changes_by_key table rows) (filter_map (change_now table) rows) (keyed-map table rows)
+
+  passed : (key other : Fields A) (change : Option (Change A)) (rest : List (Fields A × Change A)) → eq_by_cmp fields_cmp key other ≡ false → get fields_cmp (cons_option (option_map (λ c. (other, c)) change) rest) key ≡ get fields_cmp rest key
+  passed key other None rest apart = refl
+  passed key other (Some change) rest apart = ap (λ b. cond b (Some change) (get fields_cmp rest key)) apart
+
+  met : (key : Fields A) (change : Change A) (found : Option (Change A)) (rest : List (Fields A × Change A)) → found ≡ Some change → get fields_cmp (cons_option (option_map (λ c. (key, c)) found) rest) key ≡ Some change
+  met key change found rest is =
+      ap (λ o. get fields_cmp (cons_option (option_map (λ c. (key, c)) o) rest) key) is ∙ ap (λ b. cond (is_eq b) (Some change) (get fields_cmp rest key)) (tied_itself fields_cmp_total key)
+
+  keyed-put : (table : TableState A) (key : Fields A) (touched : TouchedRow A) (change : Change A) → change_now table (key, touched) ≡ Some change → (rows : TouchedRows A)
+      → get fields_cmp (changes_by_key table (put_entry fields_cmp rows key touched)) key ≡ Some change
+  keyed-put table key touched change is [] = met key change (change_now table (key, touched)) [] is
+  keyed-put table key touched change is (row ∷ rows) =
+      elim (fields_cmp key row.0) as (λ r. fields_cmp key row.0 ≡ r → get fields_cmp (changes_by_key table (match_ordering r ((key, touched) ∷ row ∷ rows) ((key, touched) ∷ rows) (row ∷ put_entry fields_cmp rows key touched))) key ≡ Some change) [
+        | Less ↦ λ _. met key change (change_now table (key, touched)) (changes_by_key table (row ∷ rows)) is
+        | Equal ↦ λ _. met key change (change_now table (key, touched)) (changes_by_key table rows) is
+        | Greater ↦ λ above. passed key row.0 (change_now table row) (changes_by_key table (put_entry fields_cmp rows key touched)) (ap is_eq above) ∙ keyed-put table key touched change is rows
+      ] refl
+
+  some_group : (name : List ℕ) (schema : List Bool) (key : Fields A) (change : Change A) (changes : List (Fields A × Change A)) → get fields_cmp changes key ≡ Some change
+      → group_of name schema (map (λ k. k.1) changes) ≡ Some (record { table = name; schema = schema; changes = map (λ k. k.1) changes })
+  some_group name schema key change [] is = cc
+  some_group name schema key change (c ∷ changes) is =
+      let some : nat_eq (length (map (λ k. k.1) (c ∷ changes))) 0 ≡ false = grind (arith, nat_tests) in
+      ap (λ b. cond b None (Some (record { table = name; schema = schema; changes = map (λ k. k.1) (c ∷ changes) }))) some
+
   -- ---- an accepted insert
 
-  abbrev inserted_as : Database A → List ℕ → TableState A → Fields A → Fields A → Stepped A
-  inserted_as database name table row key = record { database = with_row database name table key row; changes = record { table = name; key = key } ∷ [] }
+  abbrev insertion : Database A → List ℕ → TableState A → Fields A → Fields A → Effect A
+  insertion database name table key row = record { database = with_row database name table key row; changes = record { table = name; key = key } ∷ [] }
 
   -- the key was not there, and this is what the insert made
-  record WasInserted (database : Database A) (name : List ℕ) (table : TableState A) (row : Fields A) (stepped : Result (Stepped A) Refusal) : Type 0 where
-    key : Fields A
+  record WasInserted (database : Database A) (name : List ℕ) (table : TableState A) (key row : Fields A) (made : Result (Effect A) Refusal) : Type 0 where
     fresh : get fields_cmp table.rows key ≡ None
-    made : stepped ≡ Ok (inserted_as database name table row key)
+    is : made ≡ Ok (insertion database name table key row)
 
-  keyed_inserted : (state : State A) (database : Database A) (name : List ℕ) (table : TableState A) (row : Fields A) (key : Option (Fields A))
-      → is_accepted (commit_reply state (insert_keyed database name table row key)) ≡ true → WasInserted database name table row (insert_keyed database name table row key)
-  keyed_inserted state database name table row None accepted = cc
-  keyed_inserted state database name table row (Some key) accepted =
-      let made : Result (Stepped A) Refusal = Ok (inserted_as database name table row key) in
-      elim (is_some (get fields_cmp table.rows key)) as (λ b. is_some (get fields_cmp table.rows key) ≡ b → is_accepted (commit_reply state (cond b (Err Duplicate) made)) ≡ true → WasInserted database name table row (cond b (Err Duplicate) made)) [
+  keyed_inserted : (state : State A) (database : Database A) (name : List ℕ) (table : TableState A) (key row : Fields A)
+      → is_accepted (write_reply state (refused_at (Some 0) (insert_keyed database name table row (Some key)))) ≡ true → WasInserted database name table key row (insert_keyed database name table row (Some key))
+  keyed_inserted state database name table key row accepted =
+      let made : Result (Effect A) Refusal = Ok (insertion database name table key row) in
+      elim (is_some (get fields_cmp table.rows key)) as (λ b. is_some (get fields_cmp table.rows key) ≡ b → is_accepted (write_reply state (refused_at (Some 0) (cond b (Err Duplicate) made))) ≡ true → WasInserted database name table key row (cond b (Err Duplicate) made)) [
         | true ↦ λ there refusal. cc
-        | false ↦ λ fresh _. record { key = key; fresh = absent_found (get fields_cmp table.rows key) fresh; made = refl }
+        | false ↦ λ fresh _. record { fresh = absent_found (get fields_cmp table.rows key) fresh; is = refl }
       ] refl accepted
 
-  row_inserted : (state : State A) (database : Database A) (name : List ℕ) (table : TableState A) (row : Fields A)
-      → is_accepted (commit_reply state (insert_row database name row (Some table))) ≡ true → WasInserted database name table row (insert_row database name row (Some table))
-  row_inserted state database name table row accepted =
-      elim (length row == length table.schema) as (λ b. is_accepted (commit_reply state (cond b (insert_keyed database name table row (key_of table.schema row)) (Err WrongWidth))) ≡ true
-      → WasInserted database name table row (cond b (insert_keyed database name table row (key_of table.schema row)) (Err WrongWidth))) [
-        | true ↦ λ a. keyed_inserted state database name table row (key_of table.schema row) a
+  row_inserted : (state : State A) (database : Database A) (name : List ℕ) (table : TableState A) (key row : Fields A) (own : Option (Fields A)) → own ≡ Some key
+      → is_accepted (write_reply state (refused_at (Some 0) (cond (length row == length table.schema) (insert_keyed database name table row own) (Err WrongWidth)))) ≡ true
+      → WasInserted database name table key row (cond (length row == length table.schema) (insert_keyed database name table row own) (Err WrongWidth))
+  row_inserted state database name table key row own is accepted =
+      elim (length row == length table.schema) as (λ b. is_accepted (write_reply state (refused_at (Some 0) (cond b (insert_keyed database name table row own) (Err WrongWidth)))) ≡ true
+      → WasInserted database name table key row (cond b (insert_keyed database name table row own) (Err WrongWidth))) [
+        | true ↦ λ a. subst (λ o. WasInserted database name table key row (insert_keyed database name table row o)) (sym is)
+            (keyed_inserted state database name table key row (ap (λ o. is_accepted (write_reply state (refused_at (Some 0) (insert_keyed database name table row o)))) (sym is) ∙ a))
         | false ↦ λ a. cc
       ] accepted
-
-  -- ---- the records and the change
-
-  one_record : (key : Fields A) (touch : Touch A) → records_of ((key, touch) ∷ []) ≡ (key, record { image = touch.image; indirect = touch.indirect }) ∷ []
-  one_record key touch =
-      records_of-push [] (key, touch)
-      ∙ ap (λ records. put_entry fields_cmp records key (noted (get fields_cmp records key) touch)) records_of-none
 
   get-put : (rows : List (Fields A × Fields A)) (key row : Fields A) → get fields_cmp (put_entry fields_cmp rows key row) key ≡ Some row
   get-put rows key row =
@@ -114,78 +146,78 @@ module _ {A : Type 0} where
       ∙ find-put fields_cmp fields_cmp_total key key row rows
       ∙ ap (λ b. cond (is_eq b) (Some row) (find fields_cmp key rows)) (tied_itself fields_cmp_total key)
 
-  -- a key that was not there has the change that inserts its row now
-  inserted_now : (table : TableState A) (key row : Fields A) (image : Option (Fields A)) → image ≡ None
-      → change_now (record table { rows = put_entry fields_cmp table.rows key row }) (key, record { image = image; indirect = false }) ≡ Some (Inserted false (full_record row))
-  inserted_now table key row image fresh = ap₂ (change_of table.schema false) fresh (get-put table.rows key row)
+  -- a first touch without a row, and this one, leave no image
+  no_image : (touched : List (Fields A × Touch A)) (key : Fields A) (image : Option (Fields A)) → image ≡ None → ((touch : Touch A) → get fields_cmp touched key ≡ Some touch → touch.image ≡ None)
+      → touch_again (get fields_cmp (touched_rows touched) key) image false ≡ record { image = None; indirect = false }
+  no_image touched key image none absent =
+      ap (λ found. touch_again found image false) (first_image touched key)
+      ∙ elim (get fields_cmp touched key) as (λ o. get fields_cmp touched key ≡ o → touch_again (option_map (λ touch. record { image = touch.image; indirect = is_indirect touched key }) o) image false ≡ record { image = None; indirect = false }) [
+        | None ↦ λ _. ap (λ i. record { image = i; indirect = false }) none
+        | Some touch ↦ λ is. ap₂ (λ i b. record { image = i; indirect = b }) (absent touch is) (never (is_indirect touched key))
+      ] refl
 
   -- ---- the event
 
-  module _ (past : Past A) (event : Event A) (session : ℕ) (name : List ℕ) (table : TableState A) (row : Fields A) (is : IsFirstInsert past event session name table row) where
-    inserted : WasInserted (main past) name table row (step (main past) (Insert name row))
+  module _ (past : Past A) (event : Event A) (session : ℕ) (name : List ℕ) (table : TableState A) (key row : Fields A) (is : IsInsertOfAbsent past event session name table key row) where
+    inserted : WasInserted (main past) name table key row (step (main past) (Insert name row))
     inserted =
-        subst (λ found. WasInserted (main past) name table row (insert_row (main past) name row found)) (sym is.there)
-        (row_inserted (state_after past) (main past) name table row
-        (ap (λ found. is_accepted (commit_reply (state_after past) (insert_row (main past) name row found))) (sym is.there)
+        subst (λ found. WasInserted (main past) name table key row (insert_row (main past) name row found)) (sym is.there)
+        (row_inserted (state_after past) (main past) name table key row (key_of table.schema row) is.own
+        (ap (λ found. is_accepted (write_reply (state_after past) (refused_at (Some 0) (insert_row (main past) name row found)))) (sym is.there)
         ∙ ap (λ c. is_accepted (answer (state_after past) c)) (sym is.inserts)
         ∙ ap is_accepted (sym is.legal.0)
         ∙ is.accepted))
 
-    abbrev change : RowChange A
-    change = record { table = name; key = inserted.key }
+    effect-is : event_effect (main past) event ≡ insertion (main past) name table key row
+    effect-is = (λ i. cond (is.accepted i) (effect_of (main past) (outcome (main past) (is.inserts i))) (no_effect (main past))) ∙ ap (λ r. effect_of (main past) (refused_at (Some 0) r)) inserted.is
 
-    main-after : main (event ∷ past) ≡ with_row (main past) name table inserted.key row
-    main-after = (λ i. cond (is.accepted i) (after (main past) (is.inserts i)) (main past)) ∙ ap (committed (main past)) inserted.made
+    attaches : event_attachings session event past ≡ []
+    attaches = λ i. cond (is.accepted i) (map (λ n. let moment : Attaching = record { table = n; event = length past; change = 0 } in moment) (names_attached session (is.inserts i))) []
 
-    changes-are : changes_by (main past) event.command ≡ change ∷ []
-    changes-are = ap (changes_by (main past)) is.inserts ∙ ap stepped_changes inserted.made
+    abbrev touched : List (Fields A × Touch A)
+    touched = touches_of name (touches session past)
 
-    touches-are : (other : List ℕ) → touches session other (event ∷ past) ≡ cond (is_listed other (attach_list session past)) (touches_on (main past) other (change ∷ [])) []
-    touches-are other = λ i. is.untouched other i ++ cond (is.accepted i && is_listed other (attach_list session past)) (touches_on (main past) other (changes-are i)) []
-
-    attached-as-before : attach_list session (event ∷ past) ≡ attach_list session past
-    attached-as-before = attach_list-quiet session event past (λ i. cond (is.accepted i) (name_attached session (is.inserts i)) [])
-
-    abbrev records : List ℕ → Records A
-    records other = records_of (touches session other (event ∷ past))
-
-    abbrev changes_at : List ℕ → Option (TableChanges A)
-    changes_at other = table_changes (other, records other) (table_of (main (event ∷ past)) other)
-
-    untouched-other : (other : List ℕ) → bytes_eq name other ≡ false → changes_at other ≡ None
-    untouched-other other apart =
-        ap (λ rs. table_changes (other, rs) (table_of (main (event ∷ past)) other))
-        (ap records_of (touches-are other
-        ∙ ap (λ b. cond (is_listed other (attach_list session past)) (map (touch_of (main past)) (cond b (change ∷ []) [])) []) (nat_list_eq_equiv.symm other name ∙ apart)
-        ∙ either_none (is_listed other (attach_list session past)))
-        ∙ records_of-none)
-        ∙ no_records other (table_of (main (event ∷ past)) other)
+    abbrev rows : TouchedRows A
+    rows = touched_rows (touches_of name (touches session (event ∷ past)))
 
     abbrev image : Option (Fields A)
-    image = row_at (main past) name inserted.key
+    image = row_at (main past) name key
 
     image-none : image ≡ None
-    image-none = ap (option_and_then (λ t. get fields_cmp t.rows inserted.key)) is.there ∙ inserted.fresh
+    image-none = ap (option_and_then (λ t. get fields_cmp t.rows key)) is.there ∙ inserted.fresh
 
-    records-are : records name ≡ (inserted.key, record { image = image; indirect = false }) ∷ []
-    records-are =
-        ap records_of (touches-are name
-        ∙ (λ i. cond (is.attached i) (map (touch_of (main past)) (cond (nat_list_eq_equiv.refl name i) (change ∷ []) [])) []))
-        ∙ one_record inserted.key (record { image = image; indirect = false })
+    rows-are : rows ≡ put_entry fields_cmp (touched_rows touched) key (record { image = None; indirect = false })
+    rows-are =
+        touched-after session event past attaches name is.attached
+        ∙ ap (λ (e : Effect A). fold (touch_table (main past) name) (touched_rows touched) e.changes) effect-is
+        ∙ ap (λ b. cond b (touch_key (touched_rows touched) key image false) (touched_rows touched)) (nat_list_eq_equiv.refl name)
+        ∙ ap (put_entry fields_cmp (touched_rows touched) key) (no_image touched key image image-none is.absent)
 
-    table-after : table_of (main (event ∷ past)) name ≡ Some (record table { rows = put_entry fields_cmp table.rows inserted.key row })
+    abbrev table-now : TableState A
+    table-now = record table { rows = put_entry fields_cmp table.rows key row }
+
+    table-after : table_of (main (event ∷ past)) name ≡ Some table-now
     table-after =
-        ap (λ database. table_of database name) main-after
-        ∙ table_of-put (main past) name (record table { rows = put_entry fields_cmp table.rows inserted.key row }) name
-        ∙ ap (λ o. cond (is_eq o) (Some (record table { rows = put_entry fields_cmp table.rows inserted.key row })) (table_of (main past) name)) (tied_itself nat_list_cmp_total name)
+        ap (λ (e : Effect A). table_of e.database name) effect-is
+        ∙ table_of-put (main past) name table-now name
+        ∙ ap (λ o. cond (is_eq o) (Some table-now) (table_of (main past) name)) (tied_itself nat_list_cmp_total name)
 
-    here : changes_at name ≡ Some (one_insert name table.schema row)
+    abbrev change : Change A
+    change = Inserted false (full_record row)
+
+    here : get fields_cmp (changes_by_key table-now rows) key ≡ Some change
     here =
-        ap₂ (λ rs found. table_changes (name, rs) found) records-are table-after
-        ∙ ap (λ changed. group_of name table.schema (cons_option changed [])) (inserted_now table inserted.key row image image-none)
+        ap (λ r. get fields_cmp (changes_by_key table-now r) key) rows-are
+        ∙ keyed-put table-now key (record { image = None; indirect = false }) change (ap (change_of table.schema false None) (get-put table.rows key row)) (touched_rows touched)
 
-    pub first_insert : captured (main (event ∷ past)) (session_of (event ∷ past) session) ≡ one_insert name table.schema row ∷ []
-    first_insert =
-        ap (λ names. captured (main (event ∷ past)) (map (λ other. (other, records other)) names)) attached-as-before
-        ∙ filter_map-map (λ attached. table_changes attached (table_of (main (event ∷ past)) attached.0)) (λ other. (other, records other)) (attach_list session past)
-        ∙ only changes_at name untouched-other (one_insert name table.schema row) here (names_attached session past) is.attached
+    group-here : table_changes (name, rows) (table_of (main (event ∷ past)) name) ≡ Some (record { table = name; schema = table.schema; changes = map (λ k. k.1) (changes_by_key table-now rows) })
+    group-here =
+        ap (table_changes (name, rows)) table-after
+        ∙ ap (group_of name table.schema) (sym (keyed-map table-now rows))
+        ∙ some_group name table.schema key change (changes_by_key table-now rows) here
+
+    pub insert_has_change : HasChange (session_changes (main (event ∷ past)) (session_of (event ∷ past) session)) name table.schema (changes_by_key table-now rows) key change
+    insert_has_change =
+        let listed : is_listed name (attach_list session (event ∷ past)) ≡ true = ap (is_listed name) (attach_list-quiet session event past attaches) ∙ is.attached in
+        let found = among (λ attached. table_changes attached (table_of (main (event ∷ past)) attached.0)) (λ n. (n, touched_rows (touches_of n (touches session (event ∷ past))))) name _ group-here (attach_list session (event ∷ past)) listed in
+        record { before = found.before; after = found.after; group = found.parts; here = here }

@@ -1,5 +1,5 @@
 -- Laws of histories, sessions and captures.
-use Rattle.std.proofs.Common.{◌≡◌, ℕ, Bool, true, false, cond, Option, Some, None, List, [], ◌∷◌, map, refl, sym, ap, ◌∙◌, T, IsTrue}
+use Rattle.std.proofs.Common.{◌≡◌, ◌+◌, ℕ, Bool, true, false, cond, Option, Some, None, Result, Ok, Err, List, [], ◌∷◌, ◌++◌, map, refl, sym, ap, ap₂, ◌∙◌, T, IsTrue, nat_le, length}
 use Rattle.std.specs.Option.{option_map}
 use Rattle.std.specs.List.{cons_option}
 use Rattle.std.specs.Ordering.{is_eq}
@@ -10,38 +10,45 @@ use Rattle.cap_changes.specs.Column.{by_column}
 use Rattle.cap_changes.specs.declared.change.Change.{Change}
 use Rattle.cap_changes.specs.declared.change.Change.TheVariants.{Update}
 use Rattle.cap_tree.specs.Tree.{get}
+use Rattle.cap_core.specs.declared.limits.TheConstants.{SESSIONS_MAX}
 use Rattle.cap_core.specs.declared.command.Command.{Command}
 use Rattle.cap_core.specs.declared.command.Command.TheVariants as command
 use Rattle.cap_core.specs.declared.event.Event.{Event}
-use Rattle.cap_core.specs.declared.recorded.Recorded.{Recorded}
-use Rattle.cap_core.specs.Answer.{State, answer, state_after}
+use Rattle.cap_core.specs.declared.reply.Reply.{Reply}
+use Rattle.cap_core.specs.declared.touched_row.TouchedRow.{TouchedRow}
+use Rattle.cap_core.specs.Answer.{State, IsLegal, IsLegalPast, answer, event_by, reply_of, session_numbered, state, state_after, write_reply}
 use Rattle.cap_core.specs.Database.{Database, table_of}
 use Rattle.cap_core.specs.History.{Past, is_accepted, main, session_of, touches, attach_list}
-use Rattle.cap_core.specs.Session.{Records, Touch, captured, table_changes, change_now, is_indirect, records_of}
+use Rattle.cap_core.specs.Operation.{Effect}
+use Rattle.cap_core.specs.Outcome.{Refused as Why, outcome}
+use Rattle.cap_core.specs.Replies.{replies_after}
+use Rattle.cap_core.specs.Session.{SessionState, TouchedRows, session_changes, table_changes, change_now, is_indirect, touched_rows}
 use Rattle.cap_core.specs.Table.{TableState}
-use Rattle.cap_core.specs.Transition.{one_more}
-use Rattle.cap_core.proofs.NextLemmas.{after_refusal}
-use Rattle.cap_core.proofs.RecordsLemmas.{get-find, find-records_of, recorded_at, records_of-none}
+use Rattle.cap_core.specs.Touch.{Touch, touches_of}
+use Rattle.cap_core.specs.Transition.{next, one_more, after_write, after_attach, after_new_session}
+use Rattle.cap_core.proofs.NextLemmas.{IsLegal-push, after_refusal, next-is, state-push}
+use Rattle.cap_core.proofs.TouchedLemmas.{get-find, find-touched_rows, touched_at, touched_rows-none}
 
 module _ {A : Type 0} where
-  pub no_records : (name : List ℕ) (table : Option (TableState A)) → table_changes (name, []) table ≡ None
-  no_records name None = refl
-  no_records name (Some table) = refl
+  pub no_changes : (name : List ℕ) (table : Option (TableState A)) → table_changes (name, []) table ≡ None
+  no_changes name None = refl
+  no_changes name (Some table) = refl
 
-  captured-none : (database : Database A) (records : List ℕ → Records A) → ((name : List ℕ) → records name ≡ []) → (names : List (List ℕ)) → captured database (map (λ name. (name, records name)) names) ≡ []
-  captured-none database records none [] = refl
-  captured-none database records none (name ∷ names) =
-      ap (λ first. cons_option first (captured database (map (λ name. (name, records name)) names))) (ap (λ r. table_changes (name, r) (table_of database name)) (none name) ∙ no_records name (table_of database name))
-      ∙ captured-none database records none names
+  untouched_tables : (database : Database A) (rows : List ℕ → TouchedRows A) → ((name : List ℕ) → rows name ≡ []) → (names : List (List ℕ)) → session_changes database (map (λ name. (name, rows name)) names) ≡ []
+  untouched_tables database rows none [] = refl
+  untouched_tables database rows none (name ∷ names) =
+      ap (λ first. cons_option first (session_changes database (map (λ name. (name, rows name)) names))) (ap (λ r. table_changes (name, r) (table_of database name)) (none name) ∙ no_changes name (table_of database name))
+      ∙ untouched_tables database rows none names
 
-  pub untouched : (past : Past A) (session : ℕ) → ((name : List ℕ) → touches session name past ≡ []) → captured (main past) (session_of past session) ≡ []
-  untouched past session none = captured-none (main past) (λ name. records_of (touches session name past)) (λ name. ap records_of (none name) ∙ records_of-none) (attach_list session past)
+  pub untouched : (past : Past A) (session : ℕ) → touches session past ≡ [] → session_changes (main past) (session_of past session) ≡ []
+  untouched past session none =
+      untouched_tables (main past) (λ name. touched_rows (touches_of name (touches session past))) (λ name. ap (λ found. touched_rows (touches_of name found)) none ∙ touched_rows-none) (attach_list session past)
 
-  pub first_record : (touches' : List (Fields A × Touch A)) (key : Fields A) → get fields_cmp (records_of touches') key ≡ option_map (λ touch. record { image = touch.image; indirect = is_indirect touches' key }) (get fields_cmp touches' key)
-  unfolding recorded_at
-  first_record touches' key =
-      get-find fields_cmp (records_of touches') key ∙ find-records_of touches' key
-      ∙ ap (option_map (λ touch. record { image = touch.image; indirect = is_indirect touches' key })) (sym (get-find fields_cmp touches' key))
+  pub first_image : (touched : List (Fields A × Touch A)) (key : Fields A) → get fields_cmp (touched_rows touched) key ≡ option_map (λ touch. record { image = touch.image; indirect = is_indirect touched key }) (get fields_cmp touched key)
+  unfolding touched_at
+  first_image touched key =
+      get-find fields_cmp (touched_rows touched) key ∙ find-touched_rows touched key
+      ∙ ap (option_map (λ touch. record { image = touch.image; indirect = is_indirect touched key })) (sym (get-find fields_cmp touched key))
 
   restored_by : (schema : List Bool) (indirect : Bool) (image : Option (Fields A)) → change_of schema indirect image image ≡ None
   restored_by schema indirect None = refl
@@ -49,18 +56,66 @@ module _ {A : Type 0} where
       let changed : Option (Change A) = Some (Update indirect (by_column old_field schema row row) (by_column new_field schema row row)) in
       ap (λ b. cond b None changed) (ap is_eq ((fields_cmp-Equal row row).1 refl))
 
-  pub restored : (table : TableState A) (key : Fields A) (recorded : Recorded A) → recorded.image ≡ get fields_cmp table.rows key → change_now table (key, recorded) ≡ None
-  restored table key recorded same = ap (change_of table.schema recorded.indirect recorded.image) (sym same) ∙ restored_by table.schema recorded.indirect recorded.image
+  pub restored : (table : TableState A) (key : Fields A) (touched : TouchedRow A) → touched.image ≡ get fields_cmp table.rows key → change_now table (key, touched) ≡ None
+  restored table key touched same = ap (change_of table.schema touched.indirect touched.image) (sym same) ∙ restored_by table.schema touched.indirect touched.image
+
+  -- ---- a history that goes on
+
+  pub grown : (h : List (Event A)) (by : ℕ) (c : Command A) → IsLegal h → IsLegal (h ++ event_by by c (reply_of h c) ∷ [])
+  grown h by c legal = IsLegal-push h (event_by by c (reply_of h c)) legal refl
+
+  pub grown-state : (h : List (Event A)) (by : ℕ) (c : Command A) → IsLegal h → state (h ++ event_by by c (reply_of h c) ∷ []) ≡ next (state h) c
+  unfolding reply_of
+  grown-state h by c legal = sym (state-push h by c (state h) (answer (state h) c) legal refl refl).1
+
+  -- ---- a refused command, and the commands after it
+
+  abbrev replies_from : State A → List (Command A) → List (Reply A)
+  replies_from s [] = []
+  replies_from s (c ∷ commands) = answer s c ∷ replies_from (next s c) commands
+
+  from-state : (past : Past A) → IsLegalPast past → (commands : List (Command A)) → replies_after past commands ≡ replies_from (state_after past) commands
+  from-state past legal [] = refl
+  from-state past legal (c ∷ commands) =
+      ap (λ replies. answer (state_after past) c ∷ replies)
+      (from-state (event_by 0 c (answer (state_after past) c) ∷ past) (refl, legal) commands ∙ ap (λ s. replies_from s commands) (sym (next-is past 0 c legal)))
+
+  write_reply-one_more : (s : State A) (r : Result (Effect A) Why) → write_reply (one_more s) r ≡ write_reply s r
+  write_reply-one_more s (Ok effect) = refl
+  write_reply-one_more s (Err why) = refl
 
   answer-one_more : (s : State A) (c : Command A) → answer (one_more s) c ≡ answer s c
-  answer-one_more s (command.CreateTable name schema) = refl
-  answer-one_more s (command.Commit operation) = refl
+  answer-one_more s (command.CreateTable name schema) = write_reply-one_more s (outcome s.main (command.CreateTable name schema))
+  answer-one_more s (command.Commit operation) = write_reply-one_more s (outcome s.main (command.Commit operation))
   answer-one_more s command.NewSession = refl
   answer-one_more s (command.Attach number name) = refl
   answer-one_more s (command.Capture number) = refl
 
-  pub refusal_leaves : (past : Past A) (event : Event A) → is_accepted event.reply ≡ false → (c : Command A) → answer (state_after (event ∷ past)) c ≡ answer (state_after past) c
-  refusal_leaves past event refused c = ap (λ s. answer s c) (sym (after_refusal event past refused)) ∙ answer-one_more (state_after past) c
+  after_write-one_more : (s : State A) (r : Result (Effect A) Why) → after_write (one_more s) r ≡ one_more (after_write s r)
+  after_write-one_more s (Ok effect) = refl
+  after_write-one_more s (Err why) = refl
+
+  after_attach-one_more : (s : State A) (number : ℕ) (name : List ℕ) (session : Option (SessionState A)) → after_attach (one_more s) number name session ≡ one_more (after_attach s number name session)
+  after_attach-one_more s number name None = refl
+  after_attach-one_more s number name (Some session) = refl
+
+  next-one_more : (s : State A) (c : Command A) → next (one_more s) c ≡ one_more (next s c)
+  next-one_more s (command.CreateTable name schema) = after_write-one_more s (outcome s.main (command.CreateTable name schema))
+  next-one_more s (command.Commit operation) = after_write-one_more s (outcome s.main (command.Commit operation))
+  next-one_more s command.NewSession =
+      let more : State A = record (one_more s) { sessions_made = s.sessions_made + 1; sessions = s.sessions ++ (s.sessions_made + 1, []) ∷ [] } in
+      elim (nat_le SESSIONS_MAX (length s.sessions)) as (λ b. cond b (one_more (one_more s)) (one_more more) ≡ one_more (cond b (one_more s) more)) [ true ↦ refl | false ↦ refl ]
+  next-one_more s (command.Attach number name) = after_attach-one_more s number name (session_numbered s.sessions number)
+  next-one_more s (command.Capture number) = refl
+
+  one_more-same : (s : State A) (commands : List (Command A)) → replies_from (one_more s) commands ≡ replies_from s commands
+  one_more-same s [] = refl
+  one_more-same s (c ∷ commands) =
+      ap₂ (λ reply replies. reply ∷ replies) (answer-one_more s c) (ap (λ t. replies_from t commands) (next-one_more s c) ∙ one_more-same (next s c) commands)
+
+  pub refusal_leaves : (past : Past A) (event : Event A) → IsLegalPast (event ∷ past) → is_accepted event.reply ≡ false → (commands : List (Command A)) → replies_after (event ∷ past) commands ≡ replies_after past commands
+  refusal_leaves past event legal refused commands =
+      from-state (event ∷ past) legal commands ∙ ap (λ s. replies_from s commands) (sym (after_refusal event past refused)) ∙ one_more-same (state_after past) commands ∙ sym (from-state past legal.1 commands)
 
 pub truth : (b : Bool) → T b → IsTrue b
 truth true t = refl

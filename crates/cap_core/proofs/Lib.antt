@@ -1,8 +1,10 @@
+pub mod AttachedLemmas
 pub mod GroupLemmas
 pub mod HistoryLemmas
 pub mod InsertLemmas
 pub mod LawLemmas
 pub mod NextLemmas
 pub mod PrepareLemmas
-pub mod RecordsLemmas
+pub mod SmallLemmas
 pub mod SoundLemmas
+pub mod TouchedLemmas

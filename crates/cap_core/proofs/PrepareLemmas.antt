@@ -14,6 +14,11 @@ module _ {A E : Type 0} where
   prepared s c (Ok p) met h by legal is = let pushed = state-push h by c s p.1 legal is met.1 in (pushed.0, met.0 ∙ pushed.1)
   prepared s c (Err e) met h by legal is = tt
 
+  pub prepared-legal : (s : State A) (c : Command A) (r : Result (State A × Reply A) E) → IfOk r (λ p. (p.0 ≡ next s c) × (p.1 ≡ answer s c)) → (h : List (Event A)) (by : ℕ) → IsLegal h → state h ≡ s
+      → IfOk r (λ p. IsLegal (h ++ event_by by c p.1 ∷ []))
+  prepared-legal s c (Ok p) met h by legal is = IsLegal-push h (event_by by c p.1) legal (state-push h by c s p.1 legal is met.1).0
+  prepared-legal s c (Err e) met h by legal is = tt
+
 module _ {A : Type 0} where
   pub history_of-push : (commands : List (Command A)) (replies : List (Reply A)) (c : Command A) (r : Reply A) → length commands ≡ length replies
       → history_of (commands ++ c ∷ []) (replies ++ r ∷ []) ≡ history_of commands replies ++ event_by 0 c r ∷ []

@@ -1,6 +1,6 @@
--- Rows that stand under their own keys, after a put and where one is found.
+-- Rows that stand under their own keys, after a change and where one is found.
 use Rattle.std.proofs.Common.{◌≡◌, ℕ, zero, suc, ◌+◌, ◌<◌, Bool, true, false, cond, Option, Some, None, List, [], ◌∷◌, ◌&&◌, ◌||◌, ◌++◌, map, length, refl, sym, ap, ap₂, subst, ◌∙◌, arith, not, Ordering, Less, Equal, Greater, IsTrue, Bor, Result, Ok, Err, get_or, take, drop, drop-cons, add-one, nat_eq}
-use Rattle.std.specs.Prelude.{slice_index_or, option_and_then, IfSome, IfOk, nat_le, is_some, slice_get, slice_set}
+use Rattle.std.specs.Prelude.{slice_index_or, fold, option_and_then, IfSome, IfOk, nat_le, is_some}
 use Rattle.std.specs.Option.{option_copied, option_map}
 use Rattle.std.specs.List.{list_all, list_any, enumerate_from}
 use Rattle.std.specs.Ordering.{eq_by_cmp, match_ordering}
@@ -27,27 +27,17 @@ use Rattle.cap_core.specs.Assigned.{is_assignable}
 use Rattle.std.proofs.lemmas.Bool.Decides.{nat_tests}
 use Rattle.std.specs.Ordering.{is_eq}
 use Rattle.cap_row.specs.Schema.{has_key}
-use Rattle.cap_core.specs.declared.recorded.Recorded.{Recorded}
+use Rattle.cap_core.specs.declared.touched_row.TouchedRow.{TouchedRow}
 use Rattle.cap_core.specs.declared.row_change.RowChange.{RowChange}
 use Rattle.cap_core.specs.Database.{Database, table_of, row_at}
-use Rattle.cap_core.specs.Session.{Records, SessionState}
-use Rattle.cap_core.specs.Operation.{Stepped}
-use Rattle.cap_core.specs.Sound.{stands, is_key_of, rows_stand, schema_of_table, image_stands, records_stand, session_stands, sessions_stand, change_stands, IsSoundStep}
-use Rattle.cap_core.specs.Transition.{note_with, note_change, note_changes, attach, noted}
+use Rattle.cap_core.specs.Answer.{session_numbered}
+use Rattle.cap_core.specs.Session.{TouchedRows, SessionState}
+use Rattle.cap_core.specs.Operation.{Effect}
+use Rattle.cap_core.specs.Code.Sound.{stands, is_key_of, rows_stand, schema_of_table, image_stands, touched_stand, session_stands, sessions_stand, change_stands, IsSoundEffect}
+use Rattle.cap_core.specs.Transition.{touch_again, touch_key, touch_table, touch_session, touch_sessions, attach, with_session}
 use Rattle.cap_core.specs.Table.{TableState}
-use Rattle.cap_core.proofs.RecordsLemmas.{tied, fields_same, get-find, put_entry-put}
-
-pub both : (a b : Bool) → a ≡ true → b ≡ true → (a && b) ≡ true
-both true b p q = q
-both false b p q = p
-
-pub first : (a b : Bool) → (a && b) ≡ true → a ≡ true
-first true b p = refl
-first false b p = p
-
-pub second : (a b : Bool) → (a && b) ≡ true → b ≡ true
-second true b p = p
-second false b p = cc
+use Rattle.cap_core.proofs.SmallLemmas.{both, first, second}
+use Rattle.cap_core.proofs.TouchedLemmas.{tied, fields_same, get-find, put_entry-put}
 
 module _ {K X : Type 0} (R : K → K → Ordering) (test : K × X → Bool) where
   -- what passes the test of a list passes it after a put of what passes it
@@ -101,17 +91,7 @@ module _ {X : Type 0} (test : X → Bool) where
   list_all-weaker check keeps [] all = refl
   list_all-weaker check keeps (x ∷ xs) all = both (check x) _ (keeps x (first (test x) (list_all test xs) all)) (list_all-weaker check keeps xs (second (test x) (list_all test xs) all))
 
-  pub list_all-set : (xs : List X) (i : ℕ) (v : X) → list_all test xs ≡ true → test v ≡ true → list_all test (slice_set xs i v) ≡ true
-  list_all-set [] i v all new = refl
-  list_all-set (x ∷ xs) zero v all new = both (test v) _ new (second (test x) (list_all test xs) all)
-  list_all-set (x ∷ xs) (suc i) v all new = both (test x) _ (first (test x) (list_all test xs) all) (list_all-set xs i v (second (test x) (list_all test xs) all) new)
-
-  pub list_all-get : (xs : List X) (i : ℕ) (v : X) → list_all test xs ≡ true → slice_get xs i ≡ Some v → test v ≡ true
-  list_all-get [] i v all is = cc
-  list_all-get (x ∷ xs) zero v all is = let same : x ≡ v = cc in subst (λ y. test y ≡ true) same (first (test x) (list_all test xs) all)
-  list_all-get (x ∷ xs) (suc i) v all is = list_all-get xs i v (second (test x) (list_all test xs) all) is
-
-  pub list_all-push : (xs : List X) (v : X) → list_all test xs ≡ true → test v ≡ true → list_all test (xs ++ v ∷ []) ≡ true
+  list_all-push : (xs : List X) (v : X) → list_all test xs ≡ true → test v ≡ true → list_all test (xs ++ v ∷ []) ≡ true
   list_all-push xs v all new = list_all-append test xs (v ∷ []) ∙ both (list_all test xs) _ all (both (test v) true new refl)
 
 pub absent_found : {X : Type 0} (found : Option X) → is_some found ≡ false → found ≡ None
@@ -140,74 +120,102 @@ module _ {A : Type 0} where
         | false ↦ λ e. refl
       ] refl
 
-  pub sessions_stand-kept : (before after : Database A) → ((name : List ℕ) → schema_of_table after name ≡ schema_of_table before name) → (sessions : List (SessionState A)) → sessions_stand before sessions ≡ true → sessions_stand after sessions ≡ true
-  sessions_stand-kept before after kept sessions all = (λ i. list_all (λ session. list_all (λ attached. records_stand (kept attached.0 i) attached.1) session) sessions) ∙ all
+  -- so does a table of a new name
+  pub schema_of_table-create : (database : Database A) (name : List ℕ) (table : TableState A) → is_some (table_of database name) ≡ false → (q : List ℕ) (schema : List Bool)
+      → schema_of_table database q ≡ Some schema → schema_of_table (put_entry bytes_cmp database name table) q ≡ Some schema
+  schema_of_table-create database name table absent q schema is =
+      ap (option_map (λ t. t.schema)) (table_of-put database name table q)
+      ∙ elim (eq_by_cmp bytes_cmp q name) as (λ b. eq_by_cmp bytes_cmp q name ≡ b → option_map (λ t. t.schema) (cond b (Some table) (table_of database q)) ≡ Some schema) [
+        | true ↦ λ e.
+            let none : schema_of_table database q ≡ None = ap (λ n. schema_of_table database n) (tied bytes_cmp q name names_same e) ∙ ap (option_map (λ t. t.schema)) (absent_found (table_of database name) absent) in
+            absurd cc
+        | false ↦ λ e. is
+      ] refl
 
   image_stands-none : (schema : Option (List Bool)) (key : Fields A) (image : Option (Fields A)) → image_stands None key image ≡ true → image_stands schema key image ≡ true
   image_stands-none None key None is = refl
   image_stands-none (Some schema) key None is = refl
   image_stands-none schema key (Some row) is = cc
 
-  image_stands-create : (database : Database A) (name : List ℕ) (table : TableState A) → is_some (table_of database name) ≡ false → (q : List ℕ) (key : Fields A) (image : Option (Fields A))
-      → image_stands (schema_of_table database q) key image ≡ true → image_stands (schema_of_table (put_entry bytes_cmp database name table) q) key image ≡ true
-  image_stands-create database name table absent q key image is =
-      subst (λ found. image_stands (option_map (λ t. t.schema) found) key image ≡ true) (sym (table_of-put database name table q))
-      (elim (eq_by_cmp bytes_cmp q name) as (λ b. eq_by_cmp bytes_cmp q name ≡ b → image_stands (option_map (λ t. t.schema) (cond b (Some table) (table_of database q))) key image ≡ true) [
-        | true ↦ λ e. image_stands-none (Some table.schema) key image
-            (subst (λ found. image_stands (option_map (λ t. t.schema) found) key image ≡ true) (absent_found (table_of database q) (ap (λ n. is_some (table_of database n)) (tied bytes_cmp q name names_same e) ∙ absent)) is)
-        | false ↦ λ e. is
-      ] refl)
+  image_stands-kept : (before after : Option (List Bool)) → ((schema : List Bool) → before ≡ Some schema → after ≡ Some schema) → (key : Fields A) (image : Option (Fields A)) → image_stands before key image ≡ true → image_stands after key image ≡ true
+  image_stands-kept None after kept key image is = image_stands-none after key image is
+  image_stands-kept (Some schema) after kept key image is = subst (λ found. image_stands found key image ≡ true) (sym (kept schema refl)) is
 
-  pub sessions_stand-create : (database : Database A) (name : List ℕ) (table : TableState A) → is_some (table_of database name) ≡ false → (sessions : List (SessionState A)) → sessions_stand database sessions ≡ true → sessions_stand (put_entry bytes_cmp database name table) sessions ≡ true
-  sessions_stand-create database name table absent =
-      list_all-weaker (session_stands database) (session_stands (put_entry bytes_cmp database name table))
-      (list_all-weaker (λ attached. records_stand (schema_of_table database attached.0) attached.1) (λ attached. records_stand (schema_of_table (put_entry bytes_cmp database name table) attached.0) attached.1)
-      (λ attached. list_all-weaker (λ recorded. image_stands (schema_of_table database attached.0) recorded.0 recorded.1.image) (λ recorded. image_stands (schema_of_table (put_entry bytes_cmp database name table) attached.0) recorded.0 recorded.1.image)
-      (λ recorded. image_stands-create database name table absent attached.0 recorded.0 recorded.1.image) attached.1))
+  -- what stands goes on to stand where each table keeps its columns
+  session_stands-kept : (before after : Database A) → ((name : List ℕ) (schema : List Bool) → schema_of_table before name ≡ Some schema → schema_of_table after name ≡ Some schema) → (session : SessionState A) → session_stands before session ≡ true → session_stands after session ≡ true
+  session_stands-kept before after kept =
+      list_all-weaker (λ attached. touched_stand (schema_of_table before attached.0) attached.1) (λ attached. touched_stand (schema_of_table after attached.0) attached.1)
+      (λ attached. list_all-weaker (λ touched. image_stands (schema_of_table before attached.0) touched.0 touched.1.image) (λ touched. image_stands (schema_of_table after attached.0) touched.0 touched.1.image)
+      (λ touched. image_stands-kept (schema_of_table before attached.0) (schema_of_table after attached.0) (kept attached.0) touched.0 touched.1.image) attached.1)
 
-  -- ---- noting
+  -- ---- touches
 
-  image_stands-noted : (schema : Option (List Bool)) (key : Fields A) (found : Option (Recorded A)) (image : Option (Fields A)) → ((recorded : Recorded A) → found ≡ Some recorded → image_stands schema key recorded.image ≡ true) → image_stands schema key image ≡ true
-      → image_stands schema key (noted found (record { image = image; indirect = false })).image ≡ true
-  image_stands-noted schema key None image old new = new
-  image_stands-noted schema key (Some recorded) image old new = old recorded refl
+  image_stands-again : (schema : Option (List Bool)) (key : Fields A) (found : Option (TouchedRow A)) (image : Option (Fields A)) → ((touched : TouchedRow A) → found ≡ Some touched → image_stands schema key touched.image ≡ true) → image_stands schema key image ≡ true
+      → image_stands schema key (touch_again found image false).image ≡ true
+  image_stands-again schema key None image old new = new
+  image_stands-again schema key (Some touched) image old new = old touched refl
 
-  note_with-stands : (database : Database A) (change : RowChange A) → change_stands database change ≡ true → (attached : List ℕ × Records A) → records_stand (schema_of_table database attached.0) attached.1 ≡ true
-      → records_stand (schema_of_table database attached.0) (note_with change (row_at database change.table change.key) attached).1 ≡ true
-  note_with-stands database change new attached all =
-      let schema = schema_of_table database attached.0 in
+  touch_table-stands : (database : Database A) (change : RowChange A) → change_stands database change ≡ true → (name : List ℕ) (rows : TouchedRows A) → touched_stand (schema_of_table database name) rows ≡ true
+      → touched_stand (schema_of_table database name) (touch_table database name rows change) ≡ true
+  touch_table-stands database change new name rows all =
+      let schema = schema_of_table database name in
       let image = row_at database change.table change.key in
-      let test : Fields A × Recorded A → Bool = λ recorded. image_stands schema recorded.0 recorded.1.image in
-      elim (bytes_eq attached.0 change.table) as (λ b. bytes_eq attached.0 change.table ≡ b → records_stand schema (cond b (put_entry fields_cmp attached.1 change.key (noted (get fields_cmp attached.1 change.key) (record { image = image; indirect = false }))) attached.1) ≡ true) [
+      let test : Fields A × TouchedRow A → Bool = λ touched. image_stands schema touched.0 touched.1.image in
+      elim (bytes_eq name change.table) as (λ b. bytes_eq name change.table ≡ b → touched_stand schema (cond b (touch_key rows change.key image false) rows) ≡ true) [
         | true ↦ λ e.
-            let same : attached.0 ≡ change.table = (bytes_decides attached.0 change.table).0 e in
-            list_all-put_entry fields_cmp test attached.1 change.key (noted (get fields_cmp attached.1 change.key) (record { image = image; indirect = false })) all
-            (image_stands-noted schema change.key (get fields_cmp attached.1 change.key) image
-            (λ recorded found. found-passes fields_cmp test fields_same attached.1 change.key recorded all found)
-            (subst (λ name. image_stands (schema_of_table database name) change.key image ≡ true) (sym same) new))
+            let same : name ≡ change.table = (bytes_decides name change.table).0 e in
+            list_all-put_entry fields_cmp test rows change.key (touch_again (get fields_cmp rows change.key) image false) all
+            (image_stands-again schema change.key (get fields_cmp rows change.key) image
+            (λ touched found. found-passes fields_cmp test fields_same rows change.key touched all found)
+            (subst (λ n. image_stands (schema_of_table database n) change.key image ≡ true) (sym same) new))
         | false ↦ λ e. all
       ] refl
 
-  note_changes-stands : (database : Database A) (changes : List (RowChange A)) → list_all (change_stands database) changes ≡ true → (session : SessionState A) → session_stands database session ≡ true → session_stands database (note_changes database changes session) ≡ true
-  note_changes-stands database [] new session all = all
-  note_changes-stands database (change ∷ changes) new session all =
-      note_changes-stands database changes (second (change_stands database change) (list_all (change_stands database) changes) new) (note_change database session change)
-      (list_all-map (λ attached. records_stand (schema_of_table database attached.0) attached.1) (λ attached. records_stand (schema_of_table database attached.0) attached.1) (note_with change (row_at database change.table change.key))
-      (note_with-stands database change (first (change_stands database change) (list_all (change_stands database) changes) new)) session all)
+  touch_tables-stand : (database : Database A) (changes : List (RowChange A)) → list_all (change_stands database) changes ≡ true → (name : List ℕ) (rows : TouchedRows A) → touched_stand (schema_of_table database name) rows ≡ true
+      → touched_stand (schema_of_table database name) (fold (touch_table database name) rows changes) ≡ true
+  touch_tables-stand database [] new name rows all = all
+  touch_tables-stand database (change ∷ changes) new name rows all =
+      touch_tables-stand database changes (second (change_stands database change) (list_all (change_stands database) changes) new) name (touch_table database name rows change)
+      (touch_table-stands database change (first (change_stands database change) (list_all (change_stands database) changes) new) name rows all)
 
-  -- the sessions after a commit
-  pub sessions_stand-commit : (database : Database A) (stepped : Stepped A) → IsSoundStep database stepped → (sessions : List (SessionState A)) → sessions_stand database sessions ≡ true
-      → sessions_stand stepped.database (map (note_changes database stepped.changes) sessions) ≡ true
-  sessions_stand-commit database stepped sound sessions all =
-      sessions_stand-kept database stepped.database sound.schemas (map (note_changes database stepped.changes) sessions)
-      (list_all-map (session_stands database) (session_stands database) (note_changes database stepped.changes) (note_changes-stands database stepped.changes sound.images) sessions all)
+  touch_session-stands : (database : Database A) (changes : List (RowChange A)) → list_all (change_stands database) changes ≡ true → (session : SessionState A) → session_stands database session ≡ true → session_stands database (touch_session database changes session) ≡ true
+  touch_session-stands database changes new =
+      list_all-map (λ attached. touched_stand (schema_of_table database attached.0) attached.1) (λ attached. touched_stand (schema_of_table database attached.0) attached.1) (λ attached. (attached.0, fold (touch_table database attached.0) attached.1 changes))
+      (λ attached all. touch_tables-stand database changes new attached.0 attached.1 all)
+
+  -- the sessions after an effect
+  pub sessions_stand-effect : (database : Database A) (effect : Effect A) → IsSoundEffect database effect → (sessions : List (ℕ × SessionState A)) → sessions_stand database sessions ≡ true
+      → sessions_stand effect.database (touch_sessions database effect.changes sessions) ≡ true
+  sessions_stand-effect database effect sound =
+      list_all-map (λ session. session_stands database session.1) (λ session. session_stands effect.database session.1) (λ session. (session.0, touch_session database effect.changes session.1))
+      (λ session all. session_stands-kept database effect.database sound.schemas (touch_session database effect.changes session.1) (touch_session-stands database effect.changes sound.images session.1 all))
 
   pub attach-stands : (database : Database A) (name : List ℕ) (session : SessionState A) → session_stands database session ≡ true → session_stands database (attach name session) ≡ true
   attach-stands database name session all =
       elim (list_any (λ attached. bytes_eq name attached.0) session) as (λ b. session_stands database (cond b session (session ++ (name, []) ∷ [])) ≡ true) [
         | true ↦ all
-        | false ↦ list_all-push (λ attached. records_stand (schema_of_table database attached.0) attached.1) session (name, []) all refl
+        | false ↦ list_all-push (λ attached. touched_stand (schema_of_table database attached.0) attached.1) session (name, []) all refl
       ]
+
+  -- a session that is found stands, and so do all where one that stands comes in its place, or last
+  pub numbered-stands : (database : Database A) (sessions : List (ℕ × SessionState A)) (number : ℕ) (session : SessionState A) → sessions_stand database sessions ≡ true → session_numbered sessions number ≡ Some session → session_stands database session ≡ true
+  numbered-stands database [] number session all found = cc
+  numbered-stands database (s ∷ sessions) number session all found =
+      elim (nat_eq number s.0) as (λ b. cond b (Some s.1) (session_numbered sessions number) ≡ Some session → session_stands database session ≡ true) [
+        | true ↦ λ is. let same : s.1 ≡ session = cc in subst (λ t. session_stands database t ≡ true) same (first (session_stands database s.1) (sessions_stand database sessions) all)
+        | false ↦ λ is. numbered-stands database sessions number session (second (session_stands database s.1) (sessions_stand database sessions) all) is
+      ] found
+
+  pub with_session-stands : (database : Database A) (sessions : List (ℕ × SessionState A)) (number : ℕ) (new : SessionState A) → sessions_stand database sessions ≡ true → session_stands database new ≡ true → sessions_stand database (with_session sessions number new) ≡ true
+  with_session-stands database [] number new all one = refl
+  with_session-stands database (s ∷ sessions) number new all one =
+      elim (nat_eq number s.0) as (λ b. sessions_stand database (cond b ((s.0, new) ∷ sessions) (s ∷ with_session sessions number new)) ≡ true) [
+        | true ↦ both (session_stands database new) _ one (second (session_stands database s.1) (sessions_stand database sessions) all)
+        | false ↦ both (session_stands database s.1) _ (first (session_stands database s.1) (sessions_stand database sessions) all) (with_session-stands database sessions number new (second (session_stands database s.1) (sessions_stand database sessions) all) one)
+      ]
+
+  pub new_session-stands : (database : Database A) (sessions : List (ℕ × SessionState A)) (number : ℕ) → sessions_stand database sessions ≡ true → sessions_stand database (sessions ++ (number, []) ∷ []) ≡ true
+  new_session-stands database sessions number all = list_all-push (λ session. session_stands database session.1) sessions (number, []) all refl
 
   -- ---- rows with keys
 

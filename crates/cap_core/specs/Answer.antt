@@ -1,67 +1,67 @@
 -- The state that a history leaves, the reply to a command after it, and which histories are legal.
-use Rattle.std.specs.Prelude.{◌≡◌, ℕ, zero, suc, Option, Some, None, Result, Ok, Err, List, [], ◌∷◌, ◌+◌, length, reverse, is_some, slice_get, nat_le, if◌then◌else◌}
+use Rattle.std.specs.Prelude.{◌≡◌, ℕ, Option, Some, None, Result, Ok, Err, List, [], ◌∷◌, ◌+◌, length, reverse, nat_eq, nat_le, if◌then◌else◌}
+use Rattle.std.specs.Map.{lookup}
 use Rattle.cap_value.specs.declared.refusal.Refusal.{Refusal}
-use Rattle.cap_value.specs.declared.refusal.Refusal.TheVariants.{TableExists, TooMany, NoSession}
-use Rattle.cap_core.specs.declared.limits.TheConstants.{TABLES_MAX, SESSIONS_MAX}
+use Rattle.cap_value.specs.declared.refusal.Refusal.TheVariants.{TooMany, NoSession}
+use Rattle.cap_core.specs.declared.limits.TheConstants.{SESSIONS_MAX}
 use Rattle.cap_core.specs.declared.command.Command.{Command}
 use Rattle.cap_core.specs.declared.command.Command.TheVariants as command
 use Rattle.cap_core.specs.declared.event.Event.{Event}
 use Rattle.cap_core.specs.declared.reply.Reply.{Reply}
 use Rattle.cap_core.specs.declared.reply.Reply.TheVariants.{Done, Written, Session, Capture, Refused}
-use Rattle.cap_core.specs.Database.{Database, table_of}
-use Rattle.cap_core.specs.History.{Past, main, version, sessions}
-use Rattle.cap_core.specs.Operation.{Stepped, step}
-use Rattle.cap_core.specs.Session.{SessionState, captured}
+use Rattle.cap_core.specs.Database.{Database}
+use Rattle.cap_core.specs.History.{Past, main, version, sessions_made, sessions}
+use Rattle.cap_core.specs.Operation.{Effect}
+use Rattle.cap_core.specs.Outcome.{Refused as Why, outcome}
+use Rattle.cap_core.specs.Session.{SessionState, session_changes}
 
--- the number of events, the tables, the version, and the sessions in the order of their numbers
+-- the number of events, the tables, the version, the number of sessions made, and the live sessions under their numbers, which rise
 pub record State (A : Type 0) : Type 0 where
   pub events : ℕ
   pub main : Database A
   pub version : ℕ
-  pub sessions : List (SessionState A)
+  pub sessions_made : ℕ
+  pub sessions : List (ℕ × SessionState A)
 
 module _ {A : Type 0} where
-  -- the session of this number. Numbers start at 1
-  abbrev pub session_numbered : List (SessionState A) → ℕ → Option (SessionState A)
-  session_numbered sessions zero = None
-  session_numbered sessions (suc place) = slice_get sessions place
+  abbrev pub session_numbered : List (ℕ × SessionState A) → ℕ → Option (SessionState A)
+  session_numbered sessions number = lookup (nat_eq number) sessions
 
-  abbrev pub refused : Refusal → Reply A
-  refused why = Refused None why
+  abbrev pub refusal : Refusal → Reply A
+  refusal why = Refused None why
 
-  abbrev pub create_reply : State A → List ℕ → Reply A
-  create_reply state name =
-      if is_some (table_of state.main name) then refused TableExists
-      else if nat_le TABLES_MAX (length state.main) then refused TooMany
-      else Written (state.version + 1)
-
-  -- a refused operation is named by its place, which is 0
-  abbrev pub commit_reply : State A → Result (Stepped A) Refusal → Reply A
-  commit_reply state (Ok stepped) = Written (state.version + 1)
-  commit_reply state (Err why) = Refused (Some 0) why
+  -- the reply to a command that writes
+  abbrev pub write_reply : State A → Result (Effect A) Why → Reply A
+  write_reply state (Ok effect) = Written (state.version + 1)
+  write_reply state (Err why) = Refused why.0 why.1
 
   abbrev pub session_reply : State A → Reply A
-  session_reply state =
-      if nat_le SESSIONS_MAX (length state.sessions) then refused TooMany else Session (length state.sessions + 1)
+  session_reply state = if nat_le SESSIONS_MAX (length state.sessions) then refusal TooMany else Session (state.sessions_made + 1)
 
   abbrev pub attach_reply : Option (SessionState A) → Reply A
-  attach_reply None = refused NoSession
+  attach_reply None = refusal NoSession
   attach_reply (Some session) = Done
 
-  abbrev pub capture_reply : State A → Option (SessionState A) → Reply A
-  capture_reply state None = refused NoSession
-  capture_reply state (Some session) = Capture (captured state.main session)
+  abbrev pub capture_reply : Database A → Option (SessionState A) → Reply A
+  capture_reply database None = refusal NoSession
+  capture_reply database (Some session) = Capture (session_changes database session)
 
   -- the reply to a command in a state
   abbrev pub answer : State A → Command A → Reply A
-  answer state (command.CreateTable name schema) = create_reply state name
-  answer state (command.Commit operation) = commit_reply state (step state.main operation)
+  answer state (command.CreateTable name schema) = write_reply state (outcome state.main (command.CreateTable name schema))
+  answer state (command.Commit operation) = write_reply state (outcome state.main (command.Commit operation))
   answer state command.NewSession = session_reply state
   answer state (command.Attach session name) = attach_reply (session_numbered state.sessions session)
-  answer state (command.Capture session) = capture_reply state (session_numbered state.sessions session)
+  answer state (command.Capture session) = capture_reply state.main (session_numbered state.sessions session)
 
   abbrev pub state_after : Past A → State A
-  state_after past = record { events = length past; main = main past; version = version past; sessions = sessions past }
+  state_after past = record {
+    events = length past;
+    main = main past;
+    version = version past;
+    sessions_made = sessions_made past;
+    sessions = sessions past;
+  }
 
   -- each reply is that of its command after the events before it
   abbrev pub IsLegalPast : Past A → Type 0

@@ -1,11 +1,14 @@
 pub mod Answer
 pub mod Assigned
+pub mod Code
+pub mod Confirm
 pub mod Database
-pub mod FirstInsert
-pub mod Grouped
 pub mod History
+pub mod Insert
 pub mod Operation
+pub mod Outcome
+pub mod Replies
 pub mod Session
-pub mod Sound
 pub mod Table
+pub mod Touch
 pub mod Transition

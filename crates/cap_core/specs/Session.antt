@@ -1,4 +1,4 @@
--- A session: the tables attached to it, and what it keeps of the rows that were touched.
+-- A session: the tables attached to it, what it keeps of the rows that were touched, and its changes.
 use Rattle.std.specs.Prelude.{ℕ, Bool, Option, Some, None, List, [], ◌∷◌, map, filter, not, if◌then◌else◌, length, ◌==◌}
 use Rattle.std.specs.List.{list_any, list_all, filter_map}
 use Rattle.std.specs.Ordering.{eq_by_cmp}
@@ -10,22 +10,18 @@ use Rattle.cap_tree.specs.Tree.{get}
 use Rattle.cap_changes.specs.Group.{TableChanges}
 use Rattle.cap_changes.specs.declared.change.Change.{Change}
 use Rattle.cap_changes.specs.Change.{change_of}
-use Rattle.cap_core.specs.declared.recorded.Recorded.{Recorded}
+use Rattle.cap_core.specs.declared.touched_row.TouchedRow.{TouchedRow}
 use Rattle.cap_core.specs.Database.{Database, table_of}
 use Rattle.cap_core.specs.Table.{TableState}
+use Rattle.cap_core.specs.Touch.{Touch}
 
 -- the touched keys of a table, in their order, each with its first image and its mark
-abbrev pub Records : Type 0 → Type 0
-Records A = List (Fields A × Recorded A)
+abbrev pub TouchedRows : Type 0 → Type 0
+TouchedRows A = List (Fields A × TouchedRow A)
 
--- the attached tables in the order in which they were attached, each with its records
+-- the attached tables in the order in which they were attached, each with its touched rows
 abbrev pub SessionState : Type 0 → Type 0
-SessionState A = List (List ℕ × Records A)
-
--- a key that was touched: the row before the commit, or its absence, and whether the touch was indirect
-pub record Touch (A : Type 0) : Type 0 where
-  pub image : Option (Fields A)
-  pub indirect : Bool
+SessionState A = List (List ℕ × TouchedRows A)
 
 -- the name is among these
 abbrev pub is_listed : List ℕ → List (List ℕ) → Bool
@@ -42,23 +38,23 @@ module _ {A : Type 0} where
   is_indirect touches key = list_all (λ touch. touch.1.indirect) (filter (λ touch. eq_by_cmp fields_cmp key touch.0) touches)
 
   -- the touched keys in their order, each with the image of its first touch and its mark
-  unfoldable pub records_of : List (Fields A × Touch A) → Records A
-  records_of touches =
+  unfoldable pub touched_rows : List (Fields A × Touch A) → TouchedRows A
+  touched_rows touches =
       map (λ first. (first.0, record { image = first.1.image; indirect = is_indirect touches first.0 })) (map_of.entries (map_of.from_entries {R = fields_cmp} touches))
 
   -- the change of one touched key, from its first image to the row now
-  abbrev pub change_now : TableState A → Fields A × Recorded A → Option (Change A)
-  change_now table recorded = change_of table.schema recorded.1.indirect recorded.1.image (get fields_cmp table.rows recorded.0)
+  abbrev pub change_now : TableState A → Fields A × TouchedRow A → Option (Change A)
+  change_now table touched = change_of table.schema touched.1.indirect touched.1.image (get fields_cmp table.rows touched.0)
 
   -- the changes of a table, where there are any
   abbrev pub group_of : List ℕ → List Bool → List (Change A) → Option (TableChanges A)
   group_of name schema changes = if length changes == 0 then None else Some (record { table = name; schema = schema; changes = changes })
 
   -- the changes of an attached table
-  abbrev pub table_changes : List ℕ × Records A → Option (TableState A) → Option (TableChanges A)
+  abbrev pub table_changes : List ℕ × TouchedRows A → Option (TableState A) → Option (TableChanges A)
   table_changes attached None = None
   table_changes attached (Some table) = group_of attached.0 table.schema (filter_map (change_now table) attached.1)
 
   -- the changes of a session: attached tables in order, without those that have no change
-  abbrev pub captured : Database A → SessionState A → List (TableChanges A)
-  captured database session = filter_map (λ attached. table_changes attached (table_of database attached.0)) session
+  abbrev pub session_changes : Database A → SessionState A → List (TableChanges A)
+  session_changes database session = filter_map (λ attached. table_changes attached (table_of database attached.0)) session

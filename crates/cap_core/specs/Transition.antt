@@ -1,77 +1,73 @@
--- What a command makes of a state.
-use Rattle.std.specs.Prelude.{ℕ, Bool, false, Option, Some, None, Result, Ok, Err, List, [], ◌∷◌, ◌++◌, ◌+◌, ◌-◌, ◌&&◌, map, fold, is_some, length, nat_le, slice_set, if◌then◌else◌}
-use Rattle.cap_value.specs.Bytes.{bytes_cmp, bytes_eq}
-use Rattle.cap_value.specs.declared.refusal.Refusal.{Refusal}
+-- The state after one more command, by the state alone. Laws tie it to what a history leaves, where no session's
+-- touched rows are kept from one event to the next.
+use Rattle.std.specs.Prelude.{ℕ, Bool, false, Option, Some, None, Result, Ok, Err, List, [], ◌∷◌, ◌++◌, ◌+◌, ◌&&◌, map, fold, length, nat_eq, nat_le, if◌then◌else◌}
+use Rattle.std.specs.List.{list_any}
+use Rattle.cap_value.specs.Bytes.{bytes_eq}
 use Rattle.cap_row.specs.Fields.{Fields}
 use Rattle.cap_row.specs.Key.{fields_cmp}
 use Rattle.cap_tree.specs.Tree.{get, put_entry}
-use Rattle.cap_core.specs.declared.limits.TheConstants.{TABLES_MAX, SESSIONS_MAX}
+use Rattle.cap_core.specs.declared.limits.TheConstants.{SESSIONS_MAX}
 use Rattle.cap_core.specs.declared.command.Command.{Command}
 use Rattle.cap_core.specs.declared.command.Command.TheVariants as command
-use Rattle.cap_core.specs.declared.recorded.Recorded.{Recorded}
-use Rattle.cap_core.specs.Answer.{State, session_numbered}
-use Rattle.cap_core.specs.Database.{Database, table_of, row_at}
 use Rattle.cap_core.specs.declared.row_change.RowChange.{RowChange}
-use Rattle.cap_core.specs.Operation.{Stepped, step}
-use Rattle.cap_core.specs.Session.{Records, SessionState, Touch}
-use Rattle.std.specs.List.{list_any}
+use Rattle.cap_core.specs.declared.touched_row.TouchedRow.{TouchedRow}
+use Rattle.cap_core.specs.Answer.{State, session_numbered}
+use Rattle.cap_core.specs.Database.{Database, row_at}
+use Rattle.cap_core.specs.Operation.{Effect}
+use Rattle.cap_core.specs.Outcome.{Refused, outcome}
+use Rattle.cap_core.specs.Session.{SessionState, TouchedRows}
 
 module _ {A : Type 0} where
-  -- a key that has a record keeps its image, and is indirect only if this touch is too
-  abbrev pub noted : Option (Recorded A) → Touch A → Recorded A
-  noted None touch = record { image = touch.image; indirect = touch.indirect }
-  noted (Some recorded) touch = record { image = recorded.image; indirect = recorded.indirect && touch.indirect }
+  -- a key that was touched before keeps its image, and is indirect only if this touch is too
+  abbrev pub touch_again : Option (TouchedRow A) → Option (Fields A) → Bool → TouchedRow A
+  touch_again None image indirect = record { image = image; indirect = indirect }
+  touch_again (Some touched) image indirect = record { image = touched.image; indirect = touched.indirect && indirect }
 
-  abbrev pub note : Records A → Fields A × Touch A → Records A
-  note records touch = put_entry fields_cmp records touch.0 (noted (get fields_cmp records touch.0) touch.1)
+  abbrev pub touch_key : TouchedRows A → Fields A → Option (Fields A) → Bool → TouchedRows A
+  touch_key rows key image indirect = put_entry fields_cmp rows key (touch_again (get fields_cmp rows key) image indirect)
 
-  -- an attached table after a change to a row, whose image is the row before or its absence
-  abbrev pub note_with : RowChange A → Option (Fields A) → List ℕ × Records A → List ℕ × Records A
-  note_with change image attached =
-      (attached.0, if bytes_eq attached.0 change.table then note attached.1 (change.key, record { image = image; indirect = false }) else attached.1)
-
-  -- a session after a change to a row
-  abbrev pub note_change : Database A → SessionState A → RowChange A → SessionState A
-  note_change before session change = map (note_with change (row_at before change.table change.key)) session
+  -- the touched rows of the table of this name after a change to a row of any table, which was as these tables have it
+  abbrev pub touch_table : Database A → List ℕ → TouchedRows A → RowChange A → TouchedRows A
+  touch_table before name rows change =
+      if bytes_eq name change.table then touch_key rows change.key (row_at before change.table change.key) false else rows
 
   -- a session after changes to rows
-  abbrev pub note_changes : Database A → List (RowChange A) → SessionState A → SessionState A
-  note_changes before changes session = fold (note_change before) session changes
+  abbrev pub touch_session : Database A → List (RowChange A) → SessionState A → SessionState A
+  touch_session before changes session = map (λ attached. (attached.0, fold (touch_table before attached.0) attached.1 changes)) session
+
+  abbrev pub touch_sessions : Database A → List (RowChange A) → List (ℕ × SessionState A) → List (ℕ × SessionState A)
+  touch_sessions before changes sessions = map (λ session. (session.0, touch_session before changes session.1)) sessions
 
   -- a name goes last in the attach list unless it is there
   abbrev pub attach : List ℕ → SessionState A → SessionState A
   attach name session = if list_any (λ attached. bytes_eq name attached.0) session then session else session ++ (name, []) ∷ []
 
+  -- this in place of the session with the number
+  abbrev pub with_session : List (ℕ × SessionState A) → ℕ → SessionState A → List (ℕ × SessionState A)
+  with_session [] number new = []
+  with_session (session ∷ sessions) number new = if nat_eq number session.0 then (session.0, new) ∷ sessions else session ∷ with_session sessions number new
+
   abbrev pub one_more : State A → State A
   one_more state = record state { events = state.events + 1 }
 
-  abbrev pub created : State A → List ℕ → List Bool → State A
-  created state name schema =
-      record (one_more state) { main = put_entry bytes_cmp state.main name (record { schema = schema; rows = [] }); version = state.version + 1 }
-
-  abbrev pub after_create : State A → List ℕ → List Bool → State A
-  after_create state name schema =
-      if is_some (table_of state.main name) then one_more state
-      else if nat_le TABLES_MAX (length state.main) then one_more state
-      else created state name schema
-
-  abbrev pub after_commit : State A → Result (Stepped A) Refusal → State A
-  after_commit state (Err why) = one_more state
-  after_commit state (Ok stepped) =
-      record (one_more state) { main = stepped.database; version = state.version + 1; sessions = map (note_changes state.main stepped.changes) state.sessions }
+  abbrev pub after_write : State A → Result (Effect A) Refused → State A
+  after_write state (Ok effect) =
+      record (one_more state) { main = effect.database; version = state.version + 1; sessions = touch_sessions state.main effect.changes state.sessions }
+  after_write state (Err why) = one_more state
 
   abbrev pub after_new_session : State A → State A
   after_new_session state =
-      if nat_le SESSIONS_MAX (length state.sessions) then one_more state else record (one_more state) { sessions = state.sessions ++ [] ∷ [] }
+      if nat_le SESSIONS_MAX (length state.sessions) then one_more state
+      else record (one_more state) { sessions_made = state.sessions_made + 1; sessions = state.sessions ++ (state.sessions_made + 1, []) ∷ [] }
 
   abbrev pub after_attach : State A → ℕ → List ℕ → Option (SessionState A) → State A
   after_attach state number name None = one_more state
-  after_attach state number name (Some session) = record (one_more state) { sessions = slice_set state.sessions (number - 1) (attach name session) }
+  after_attach state number name (Some session) = record (one_more state) { sessions = with_session state.sessions number (attach name session) }
 
-  -- the state after a command
+  -- the state after a command: where it is not named it leaves everything but the number of events
   abbrev pub next : State A → Command A → State A
-  next state (command.CreateTable name schema) = after_create state name schema
-  next state (command.Commit operation) = after_commit state (step state.main operation)
+  next state (command.CreateTable name schema) = after_write state (outcome state.main (command.CreateTable name schema))
+  next state (command.Commit operation) = after_write state (outcome state.main (command.Commit operation))
   next state command.NewSession = after_new_session state
   next state (command.Attach number name) = after_attach state number name (session_numbered state.sessions number)
-  next state (command.Capture number) = one_more state
+  next state _ = one_more state

@@ -1,15 +1,17 @@
 ghost use Rattle.std.specs.Prelude.{◌≡◌, [], ◌∷◌, ◌++◌, Some, IfOk, IfSome, IsTrue};
+ghost use Rattle.std.specs.List.{cons_option, filter_map, list_all};
 ghost use Rattle.std.specs.Option.{option_copied, option_map, ForSome};
 ghost use Rattle.cap_row.specs.Schema.{has_key};
 ghost use Rattle.cap_changes.specs.Fits.{change_fits};
 ghost use Rattle.cap_codec.specs.Changeset.{list_bytes};
-ghost use Rattle.cap_core.specs.Session.{captured, table_changes, change_now};
-ghost use Rattle.cap_core.specs.Sound.{session_stands, records_stand, image_stands};
-ghost use Rattle.cap_core.specs.Grouped.{IsGroupOf, changes_in};
+ghost use Rattle.cap_core.specs.Code.Attached.{attached_changes, table_stands, tables_of};
+ghost use Rattle.cap_core.specs.Code.Grouped.{IsGroupOf, changes_in};
+ghost use Rattle.cap_core.specs.Code.Sound.{session_stands, touched_stand, image_stands};
+ghost use Rattle.cap_core.specs.Session.{session_changes, table_changes, change_now};
 
-use crate::Recorded;
-use crate::session::{Records, Session};
-use crate::step::Database;
+use crate::TouchedRow;
+use crate::attached_table::{AttachedTable, TouchedRows};
+use crate::effect::Database;
 use crate::table::Table;
 use cap_changes::{Change, ChangeList, Group, change_between};
 use cap_codec::write_changes;
@@ -55,46 +57,61 @@ impl<A: AllocHandle> Capture<A> {
     }
 }
 
-/// The changes of a session, from the first images that it keeps to the rows now.
+/// The changes of a session with these tables, from the first images that it keeps to the rows now.
 pub(crate) fn changes_of<A: AllocHandle>(
     alloc: A,
-    session: &Session<A>,
+    tables: &[AttachedTable<A>],
     main: &Database<A>,
 ) -> Result<ChangeList<A>, OutOfMemory>
-    requires { IsTrue (session_stands main.now session.now) }
-    ensures { IfOk result (λ list. list ≡ captured main.now session.now) }
+    requires { IsTrue (session_stands main.now (tables_of tables.now)) }
+    ensures { IfOk result (λ list. list ≡ session_changes main.now (tables_of tables.now)) }
 {
-    changes_of_tables(alloc, session.tables(), main)
+    changes_of_tables(alloc, tables, main)
 }
 
 fn changes_of_tables<A: AllocHandle>(
     alloc: A,
-    tables: &[(Name<A>, Records<A>)],
+    tables: &[AttachedTable<A>],
     main: &Database<A>,
 ) -> Result<ChangeList<A>, OutOfMemory>
-    requires { IsTrue (session_stands main.now tables.now) }
-    ensures { IfOk result (λ list. list ≡ captured main.now tables.now) }
+    requires { IsTrue (list_all (table_stands main.now) tables.now) }
+    ensures { IfOk result (λ list. list ≡ filter_map (attached_changes main.now) tables.now) }
 {
     let mut list = ChangeList::new(alloc);
     for table in tables {
-        if let Some(group) = changes_of_table(alloc, table, main.get(&table.0))? {
-            list.push(group)?;
-        }
+        let group = changes_of_table(alloc, table, main.get(&table.name))?;
+        list = with_group(list, group)?;
     }
     Ok(list)
+}
+
+// The list with one more group, where there is one.
+fn with_group<A: AllocHandle>(
+    mut list: ChangeList<A>,
+    group: Option<Group<A>>,
+) -> Result<ChangeList<A>, OutOfMemory>
+    ensures { IfOk result (λ l. l ≡ list ++ cons_option group []) }
+{
+    match group {
+        Some(group) => {
+            list.push(group)?;
+            Ok(list)
+        }
+        None => Ok(list),
+    }
 }
 
 // The changes of an attached table, none where there is no change.
 fn changes_of_table<A: AllocHandle>(
     alloc: A,
-    attached: &(Name<A>, Records<A>),
+    attached: &AttachedTable<A>,
     table: Option<&Table<A>>,
 ) -> Result<Option<Group<A>>, OutOfMemory>
-    requires { IsTrue (records_stand (option_map (λ t. t.schema) (option_copied table)) attached.now.1) }
-    ensures { IfOk result (λ group. group ≡ table_changes attached.now (option_copied table.entry)) }
+    requires { IsTrue (touched_stand (option_map (λ t. t.schema) (option_copied table)) attached.now.touched) }
+    ensures { IfOk result (λ group. group ≡ table_changes (attached.now.name, attached.now.touched) (option_copied table.entry)) }
 {
     match table {
-        Some(table) => group_of(alloc, &attached.0, &attached.1, table),
+        Some(table) => group_of(alloc, &attached.name, &attached.touched, table),
         None => Ok(None),
     }
 }
@@ -102,15 +119,15 @@ fn changes_of_table<A: AllocHandle>(
 fn group_of<A: AllocHandle>(
     alloc: A,
     name: &Name<A>,
-    records: &Records<A>,
+    touched: &TouchedRows<A>,
     table: &Table<A>,
 ) -> Result<Option<Group<A>>, OutOfMemory>
-    requires { IsTrue (records_stand (Some table.now.schema) records.now) }
-    ensures { IfOk result (λ group. group ≡ table_changes (name.now, records.now) (Some table.now)) }
+    requires { IsTrue (touched_stand (Some table.now.schema) touched.now) }
+    ensures { IfOk result (λ group. group ≡ table_changes (name.now, touched.now) (Some table.now)) }
 {
     let mut group = None;
-    for (key, recorded) in records {
-        if let Some(change) = change_now(alloc, table, key, recorded)? {
+    for (key, row) in touched {
+        if let Some(change) = change_now(alloc, table, key, row)? {
             group = Some(with_change(alloc, name, table.schema(), group, change)?);
         }
     }
@@ -122,18 +139,18 @@ fn change_now<A: AllocHandle>(
     alloc: A,
     table: &Table<A>,
     key: &Key<A>,
-    recorded: &Recorded<A>,
+    touched: &TouchedRow<A>,
 ) -> Result<Option<Change<A>>, OutOfMemory>
-    requires { IsTrue (image_stands (Some table.now.schema) key.now recorded.now.image) }
-    ensures change { IfOk result (λ change. change ≡ change_now table.now (key.now, recorded.now)) }
+    requires { IsTrue (image_stands (Some table.now.schema) key.now touched.now.image) }
+    ensures change { IfOk result (λ change. change ≡ change_now table.now (key.now, touched.now)) }
     ensures fits { IfOk result (λ change. IfSome change (λ made. IsTrue (change_fits table.now.schema made))) }
     ensures keyed { IfOk result (λ change. IfSome change (λ _. IsTrue (has_key table.now.schema))) }
 {
     change_between(
         alloc,
         table.schema(),
-        recorded.indirect,
-        recorded.image.as_ref(),
+        touched.indirect,
+        touched.image.as_ref(),
         table.get(key),
     )
 }

@@ -1,45 +1,66 @@
 //! Laws of histories, sessions and captures, over the definitions alone. The functions do nothing.
-ghost use Rattle.std.specs.Prelude.{◌≡◌, ℕ, false, None, [], ◌∷◌, List, IsTrue};
+ghost use Rattle.std.specs.Prelude.{◌≡◌, ℕ, ◌+◌, false, None, [], ◌∷◌, ◌++◌, List, IsTrue, length, map};
 ghost use Rattle.std.specs.Option.{option_map};
 ghost use Rattle.std.specs.FinMap.Entries.{is_sorted};
 ghost use Rattle.cap_row.specs.Fields.{Fields};
 ghost use Rattle.cap_row.specs.Key.{fields_cmp};
-ghost use Rattle.cap_tree.specs.Tree.{get};
+ghost use Rattle.cap_changes.specs.Change.{full_record};
+ghost use Rattle.cap_changes.specs.declared.change.Change.{Change};
+ghost use Rattle.cap_tree.specs.Tree.{get, put_entry};
 ghost use Rattle.cap_core.specs.declared.command.Command.{Command};
 ghost use Rattle.cap_core.specs.declared.event.Event.{Event};
-ghost use Rattle.cap_core.specs.declared.recorded.Recorded.{Recorded};
-ghost use Rattle.cap_core.specs.Answer.{answer, state_after};
-ghost use Rattle.cap_core.specs.FirstInsert.{IsFirstInsert, one_insert};
+ghost use Rattle.cap_core.specs.declared.touched_row.TouchedRow.{TouchedRow};
+ghost use Rattle.cap_core.specs.Answer.{IsLegal, IsLegalPast, event_by, reply_of, state};
 ghost use Rattle.cap_core.specs.History.{Past, is_accepted, main, session_of, touches};
-ghost use Rattle.cap_core.specs.Session.{Touch, captured, change_now, is_indirect, records_of};
+ghost use Rattle.cap_core.specs.Insert.{HasChange, IsInsertOfAbsent, changes_by_key};
+ghost use Rattle.cap_core.specs.Replies.{replies_after};
+ghost use Rattle.cap_core.specs.Session.{change_now, is_indirect, session_changes, touched_rows};
 ghost use Rattle.cap_core.specs.Table.{TableState};
+ghost use Rattle.cap_core.specs.Touch.{Touch, touches_of};
+ghost use Rattle.cap_core.specs.Transition.{next};
 
 use cap_value::AllocHandle;
 
-/// A session that was touched by nothing captures nothing.
+/// The empty history is legal, and a legal history stays legal with an event whose reply is that of its command.
+/// What it leaves is then the next state, which counts the events.
+pub fn legal_histories_grow<A: AllocHandle>()
+    ensures none { IsLegal {A = A} [] }
+    ensures more { (h : List (Event A)) (by : ℕ) (command : Command A) → IsLegal h → IsLegal (h ++ event_by by command (reply_of h command) ∷ []) }
+    ensures next { (h : List (Event A)) (by : ℕ) (command : Command A) → IsLegal h
+        → state (h ++ event_by by command (reply_of h command) ∷ []) ≡ next (state h) command }
+    ensures count { (h : List (Event A)) → (state h).events ≡ length h }
+{}
+
+/// A session without touches captures nothing.
 pub fn untouched_captures_nothing<A: AllocHandle>()
-    ensures { (past : Past A) (session : ℕ) → ((name : List ℕ) → touches session name past ≡ []) → captured (main past) (session_of past session) ≡ [] }
+    ensures { (past : Past A) (session : ℕ) → touches session past ≡ [] → session_changes (main past) (session_of past session) ≡ [] }
 {}
 
-/// After an accepted insert of a key that was never there, a capture has just that INSERT.
-pub fn first_insert_is_captured<A: AllocHandle>()
-    ensures { (past : Past A) (event : Event A) (session : ℕ) (name : List ℕ) (table : TableState A) (row : Fields A) → IsFirstInsert past event session name table row → captured (main (event ∷ past)) (session_of (event ∷ past) session) ≡ one_insert name table.schema row ∷ [] }
+/// After an accepted insert into an attached table, of a key that had no row when the session saw it first, a capture
+/// has that INSERT as the key's one change, whatever the session holds of other keys and tables.
+pub fn insert_is_captured<A: AllocHandle>()
+    ensures { (past : Past A) (event : Event A) (session : ℕ) (name : List ℕ) (table : TableState A) (key : Fields A) (row : Fields A)
+        → IsInsertOfAbsent past event session name table key row
+        → HasChange (session_changes (main (event ∷ past)) (session_of (event ∷ past) session)) name table.schema
+        (changes_by_key (record table { rows = put_entry fields_cmp table.rows key row }) (touched_rows (touches_of name (touches session (event ∷ past)))))
+        key (Change.Insert false (full_record row)) }
 {}
 
-/// However often a key is touched it has one record, with the image of its first touch.
-pub fn one_record_a_key<A: AllocHandle>()
-    ensures once { (touches : List (Fields A × Touch A)) → IsTrue (is_sorted fields_cmp (records_of touches)) }
-    ensures first { (touches : List (Fields A × Touch A)) (key : Fields A) →
-        get fields_cmp (records_of touches) key
-        ≡ option_map (λ touch. record { image = touch.image; indirect = is_indirect touches key }) (get fields_cmp touches key) }
+/// However often a key is touched, the session keeps one row of it, with the image of the key's first touch.
+pub fn one_touched_row_a_key<A: AllocHandle>()
+    ensures once { (touched : List (Fields A × Touch A)) → IsTrue (is_sorted fields_cmp (touched_rows touched)) }
+    ensures first { (touched : List (Fields A × Touch A)) (key : Fields A) →
+        get fields_cmp (touched_rows touched) key
+        ≡ option_map (λ touch. record { image = touch.image; indirect = is_indirect touched key }) (get fields_cmp touched key) }
 {}
 
-/// A key whose row is again as it was when it was touched first has no change, though it has a record.
+/// A key whose row is again as it was when it was touched first has no change, though it was touched.
 pub fn restored_row_is_no_change<A: AllocHandle>()
-    ensures { (table : TableState A) (key : Fields A) (recorded : Recorded A) → recorded.image ≡ get fields_cmp table.rows key → change_now table (key, recorded) ≡ None }
+    ensures { (table : TableState A) (key : Fields A) (touched : TouchedRow A) → touched.image ≡ get fields_cmp table.rows key → change_now table (key, touched) ≡ None }
 {}
 
-/// A refused command changes no later reply.
+/// A refused command changes no later reply, whatever commands follow.
 pub fn refusal_changes_no_reply<A: AllocHandle>()
-    ensures { (past : Past A) (event : Event A) → is_accepted event.reply ≡ false → (command : Command A) → answer (state_after (event ∷ past)) command ≡ answer (state_after past) command }
+    ensures { (past : Past A) (event : Event A) → IsLegalPast (event ∷ past) → is_accepted event.reply ≡ false
+        → (commands : List (Command A)) → replies_after (event ∷ past) commands ≡ replies_after past commands }
 {}

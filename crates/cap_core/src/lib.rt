@@ -1,32 +1,35 @@
 //! The sequential server: the reply to each command, and the state that it leaves.
 #![tactic(auto)]
 
+mod attached_table;
 mod capture;
 mod command;
+mod confirm;
+mod effect;
 mod event;
 mod fault;
 mod laws;
 mod limits;
 mod operation;
-mod recorded;
 mod reply;
 mod row_change;
-mod sequential;
+mod server;
 mod session;
-mod step;
 mod table;
+mod touched_row;
 
 pub use capture::Capture;
 pub use command::Command;
+pub use confirm::{Agree, Confirm, Never};
 pub use event::Event;
 pub use fault::CallFault;
 pub use laws::{
-    one_record_a_key, refusal_changes_no_reply, restored_row_is_no_change,
-    untouched_captures_nothing,
+    insert_is_captured, legal_histories_grow, one_touched_row_a_key, refusal_changes_no_reply,
+    restored_row_is_no_change, untouched_captures_nothing,
 };
 pub use limits::{SESSIONS_MAX, TABLES_MAX};
 pub use operation::{Assignments, Operation, RowRef};
-pub use recorded::Recorded;
 pub use reply::Reply;
 pub use row_change::RowChange;
-pub use sequential::Core;
+pub use server::Core;
+pub use touched_row::TouchedRow;

@@ -2,7 +2,7 @@ ghost use Rattle.std.specs.Prelude.{◌≡◌, [], IsTrue, IfOk, IfSome};
 ghost use Rattle.std.specs.Option.{option_copied};
 ghost use Rattle.cap_row.specs.Key.{fields_cmp};
 ghost use Rattle.cap_tree.specs.Tree.{get, put_entry, take_entry};
-ghost use Rattle.cap_core.specs.Sound.{stands};
+ghost use Rattle.cap_core.specs.Code.Sound.{stands};
 
 use cap_row::{Key, Row, Schema};
 use cap_tree::Tree;
@@ -22,7 +22,7 @@ impl<A: AllocHandle> Model for Table<A> {
 
     ghost Value = { TableState A };
 
-    ghost use Rattle.cap_core.specs.Sound.{rows_stand};
+    ghost use Rattle.cap_core.specs.Code.Sound.{rows_stand};
 
     ghost view = { λ t. record { schema = t.schema; rows = t.rows } };
 

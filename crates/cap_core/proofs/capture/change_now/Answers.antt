@@ -1,6 +1,6 @@
 use Rattle.std.proofs.Common.{◌≡◌, true, Some, sym, subst}
 use Rattle.std.specs.Option.{option_copied}
-use Rattle.cap_core.specs.Sound.{image_stands}
+use Rattle.cap_core.specs.Code.Sound.{image_stands}
 use Rattle.cap_core.proofs.SoundLemmas.{images-same_key, keyed-changes, found-image}
 use Rattle.cap_core.proofs.capture.change_now.Goals as goal
 
@@ -13,7 +13,7 @@ change_between-requires-clause-same_key g c =
 
 pub returns-clause-keyed : goal.returns-clause-keyed
 returns-clause-keyed g c =
-    keyed-changes c.args.table.now.schema c.args.key.now c.args.recorded.now.indirect (option_copied c.as_ref.result) (option_copied c.get.result) c.change_between.result
+    keyed-changes c.args.table.now.schema c.args.key.now c.args.touched.now.indirect (option_copied c.as_ref.result) (option_copied c.get.result) c.change_between.result
     (subst (λ image. image_stands (Some c.args.table.now.schema) c.args.key.now image ≡ true) (sym c.as_ref.ensures.value) c.requires)
     (found-image _ _ c.get.result c.get.ensures.stands)
     (rw c.schema.ensures at c.change_between.ensures.change)

@@ -1,5 +1,5 @@
 use Rattle.std.proofs.Common.{IsTrue, sym, subst}
-use Rattle.cap_core.specs.Sound.{stands}
+use Rattle.cap_core.specs.Code.Sound.{stands}
 use Rattle.cap_core.specs.Table.{TableState}
 use Rattle.cap_core.proofs.SoundLemmas.{stands-put}
 use Rattle.cap_core.proofs.table.Table.put.Goals as goal

@@ -1,0 +1,41 @@
+-- An insert of a row into an attached table, and how a capture shows it.
+use Rattle.std.specs.Prelude.{◌≡◌, ℕ, Bool, true, Option, Some, None, List, ◌∷◌, ◌++◌, map}
+use Rattle.std.specs.List.{filter_map}
+use Rattle.std.specs.Option.{option_map}
+use Rattle.cap_row.specs.Fields.{Fields}
+use Rattle.cap_row.specs.Key.{fields_cmp, key_of}
+use Rattle.cap_changes.specs.Group.{TableChanges}
+use Rattle.cap_changes.specs.declared.change.Change.{Change}
+use Rattle.cap_tree.specs.Tree.{get}
+use Rattle.cap_core.specs.declared.command.Command.TheVariants.{Commit}
+use Rattle.cap_core.specs.declared.event.Event.{Event}
+use Rattle.cap_core.specs.declared.operation.Operation.TheVariants as operation
+use Rattle.cap_core.specs.Answer.{IsLegalPast}
+use Rattle.cap_core.specs.Database.{table_of}
+use Rattle.cap_core.specs.History.{Past, attach_list, is_accepted, main, touches}
+use Rattle.cap_core.specs.Session.{TouchedRows, change_now, is_listed}
+use Rattle.cap_core.specs.Table.{TableState}
+use Rattle.cap_core.specs.Touch.{Touch, touches_of}
+
+module _ {A : Type 0} where
+  -- After the past comes an accepted insert of a row with this key into a table that is attached to the session, and
+  -- the key had no row where the session's first touch of it came, if there was one.
+  pub record IsInsertOfAbsent (past : Past A) (event : Event A) (session : ℕ) (name : List ℕ) (table : TableState A) (key row : Fields A) : Type 0 where
+    pub legal : IsLegalPast (event ∷ past)
+    pub inserts : event.command ≡ Commit (operation.Insert name row)
+    pub accepted : is_accepted event.reply ≡ true
+    pub there : table_of (main past) name ≡ Some table
+    pub own : key_of table.schema row ≡ Some key
+    pub attached : is_listed name (attach_list session past) ≡ true
+    pub absent : (touch : Touch A) → get fields_cmp (touches_of name (touches session past)) key ≡ Some touch → touch.image ≡ None
+
+  -- the changes of a table, each under its key
+  abbrev pub changes_by_key : TableState A → TouchedRows A → List (Fields A × Change A)
+  changes_by_key table rows = filter_map (λ touched. option_map (λ change. (touched.0, change)) (change_now table touched)) rows
+
+  -- a change list has a group of the table with these changes, among which the key has this one
+  pub record HasChange (list : List (TableChanges A)) (name : List ℕ) (schema : List Bool) (changes : List (Fields A × Change A)) (key : Fields A) (change : Change A) : Type 0 where
+    pub before : List (TableChanges A)
+    pub after : List (TableChanges A)
+    pub group : list ≡ before ++ record { table = name; schema = schema; changes = map (λ keyed. keyed.1) changes } ∷ after
+    pub here : get fields_cmp changes key ≡ Some change

@@ -1,0 +1,305 @@
+//! The server. The file is not called after its type, since no module may be called `core`.
+ghost use Rattle.std.specs.Prelude.{◌≡◌, ℕ, ◌+◌, ◌<◌, ◌^◌, ◌≤◌, [], ◌∷◌, ◌++◌, List, Some, None, Ok, Err, IfOk, IfErr, OnOk, OnErr, IsTrue, length};
+ghost use Rattle.cap_core.specs.declared.event.Event.{Event};
+ghost use Rattle.cap_core.specs.Answer.{State, state, reply_of, IsLegal, event_by, history_of, answer, write_reply, session_reply, attach_reply, capture_reply, session_numbered};
+ghost use Rattle.cap_core.specs.Code.Sound.{IsSoundEffect};
+ghost use Rattle.cap_core.specs.Confirm.{MatchFault};
+ghost use Rattle.cap_core.specs.Outcome.{create, refused_at};
+ghost use Rattle.cap_core.specs.Operation.{step};
+ghost use Rattle.cap_core.specs.Transition.{next, one_more, after_write, after_new_session, after_attach};
+
+use crate::capture::changes_of;
+use crate::confirm::ask;
+use crate::effect::{Database, Effect, create_table, step};
+use crate::session::{Session, copies_of_sessions, find_session, take_over, touch_sessions};
+use crate::{Agree, Capture, Command, Confirm, Operation, Reply, SESSIONS_MAX};
+use cap_row::Schema;
+use cap_tree::Tree;
+use cap_value::{AllocHandle, Fault, Name, OutOfMemory, Refusal};
+use std::marker::Model;
+
+/// The sequential server at one moment: the tables, their version, the live sessions, and how many commands were
+/// answered so far.
+#[derive(Drop)]
+pub struct Core<A: AllocHandle> {
+    alloc: A,
+    events: u64,
+    version: u64,
+    main: Database<A>,
+    sessions_made: u64,
+    sessions: Vec<Session<A>, A>,
+}
+
+impl<A: AllocHandle> Model for Core<A> {
+    ghost use Rattle.std.specs.Prelude.{◌≤◌, IsTrue};
+    ghost use Rattle.cap_core.specs.Answer.{State};
+
+    ghost Value = { State A };
+
+    ghost use Rattle.cap_core.specs.Code.Attached.{sessions_of};
+    ghost use Rattle.cap_core.specs.Code.Sound.{sessions_stand};
+
+    ghost view = { λ c. record { events = c.events; main = c.main; version = c.version; sessions_made = c.sessions_made; sessions = sessions_of c.sessions.items } };
+
+    ghost invariant = { λ c. (c.version ≤ c.events) × (c.sessions_made ≤ c.events) × IsTrue (sessions_stand c.main (sessions_of c.sessions.items)) };
+}
+
+impl<A: AllocHandle> Core<A> {
+    /// A server without tables and sessions.
+    pub fn new(alloc: A) -> Self
+        ensures { result ≡ state [] }
+    {
+        Core {
+            alloc,
+            events: 0,
+            version: 0,
+            main: Tree::empty(alloc),
+            sessions_made: 0,
+            sessions: Vec::new(alloc),
+        }
+    }
+
+    /// How many commands were answered so far.
+    pub fn events(&self) -> u64
+        ensures { result ≡ self.now.events }
+    {
+        self.events
+    }
+
+    /// Carries out a command once the step outside agrees to its reply. The step is asked once, when all memory was
+    /// found, or not at all. Where there is no memory, or the step refuses, nothing has changed.
+    pub fn step<C: Confirm<A>>(
+        &mut self,
+        command: &Command<A>,
+        confirm: &mut C,
+    ) -> Result<Reply<A>, Fault<C::Refusal>>
+        requires room { self.old.events + 1 < 2 ^ 63 }
+        requires can_confirm { C.can_confirm confirm.old (answer self.old command.now) }
+        ensures reply { IfOk result (λ reply. reply ≡ answer self.old command.now) }
+        ensures state { OnOk result (self.new ≡ next self.old command.now) }
+        ensures agreed { OnOk result (C.gives confirm.old (answer self.old command.now) (Ok tt) confirm.new) }
+        ensures unchanged { OnErr result (self.new ≡ self.old) }
+        ensures refused { IfErr result (λ fault. MatchFault fault (confirm.new ≡ confirm.old)
+            (λ why. C.gives confirm.old (answer self.old command.now) (Err why) confirm.new)) }
+    {
+        match command {
+            Command::CreateTable { table, schema } => self.create_table(table, schema, confirm),
+            Command::Commit(operation) => self.commit(operation, confirm),
+            Command::NewSession => self.new_session(confirm),
+            Command::Attach { session, table } => self.attach(*session, table, confirm),
+            Command::Capture { session } => self.capture(*session, confirm),
+        }
+    }
+
+    /// The reply to a command, and the server after it; this one stays as it was. Where there is no memory, nothing
+    /// has changed.
+    pub fn prepare(&self, command: &Command<A>) -> Result<(Core<A>, Reply<A>), OutOfMemory>
+        requires room { self.now.events + 1 < 2 ^ 63 }
+        ensures history { (h : List (Event A)) (by : ℕ) → IsLegal h → state h ≡ self.now →
+            IfOk result (λ r. (r.1 ≡ reply_of h command.now) × (r.0 ≡ state (h ++ event_by by command.now r.1 ∷ []))) }
+        ensures legal { (h : List (Event A)) (by : ℕ) → IsLegal h → state h ≡ self.now →
+            IfOk result (λ r. IsLegal (h ++ event_by by command.now r.1 ∷ [])) }
+        ensures step { IfOk result (λ r. (r.0 ≡ next self.now command.now) × (r.1 ≡ answer self.now command.now)) }
+    {
+        let mut core = self.copy()?;
+        let reply = core.run_command(command)?;
+        Ok((core, reply))
+    }
+
+    /// Runs commands one after the other, from a server without tables and sessions.
+    pub fn run(
+        alloc: A,
+        commands: &[Command<A>],
+    ) -> Result<(Core<A>, Vec<Reply<A>, A>), OutOfMemory>
+        requires few { length commands.now < 2 ^ 63 }
+        ensures whole { IfOk result (λ r. length r.1.items ≡ length commands.now) }
+        ensures legal { IfOk result (λ r. IsLegal (history_of commands.now r.1.items)) }
+        ensures state { IfOk result (λ r. r.0 ≡ state (history_of commands.now r.1.items)) }
+    {
+        let mut core = Core::new(alloc);
+        let mut replies = Vec::with_capacity(alloc, commands.len())?;
+        for command in commands {
+            let reply = core.run_command(command)?;
+            replies.push(reply)?;
+        }
+        Ok((core, replies))
+    }
+
+    // A command that no step outside belongs to.
+    fn run_command(&mut self, command: &Command<A>) -> Result<Reply<A>, OutOfMemory>
+        requires room { self.old.events + 1 < 2 ^ 63 }
+        ensures { IfOk result (λ reply. (self.new ≡ next self.old command.now) × (reply ≡ answer self.old command.now)) }
+    {
+        match self.step(command, &mut Agree) {
+            Ok(reply) => Ok(reply),
+            Err(Fault::OutOfMemory) => Err(OutOfMemory),
+            Err(Fault::Refused(never)) => match never {},
+        }
+    }
+
+    // The same server.
+    fn copy(&self) -> Result<Self, OutOfMemory>
+        ensures { IfOk result (λ core. core ≡ self.now) }
+    {
+        Ok(Core {
+            alloc: self.alloc,
+            events: self.events,
+            version: self.version,
+            main: self.main.snapshot()?,
+            sessions_made: self.sessions_made,
+            sessions: copies_of_sessions(self.alloc, &self.sessions)?,
+        })
+    }
+
+    fn create_table<C: Confirm<A>>(
+        &mut self,
+        name: &Name<A>,
+        schema: &Schema<A>,
+        confirm: &mut C,
+    ) -> Result<Reply<A>, Fault<C::Refusal>>
+        requires room { self.old.events + 1 < 2 ^ 63 }
+        requires can_confirm { C.can_confirm confirm.old (write_reply self.old (refused_at None (create self.old.main name.now schema.now))) }
+        ensures ok { IfOk result (λ reply. let made = refused_at None (create self.old.main name.now schema.now) in
+            (reply ≡ write_reply self.old made) × (self.new ≡ after_write self.old made) × C.gives confirm.old (write_reply self.old made) (Ok tt) confirm.new) }
+        ensures err { IfErr result (λ fault. let made = refused_at None (create self.old.main name.now schema.now) in
+            (self.new ≡ self.old) × MatchFault fault (confirm.new ≡ confirm.old) (λ why. C.gives confirm.old (write_reply self.old made) (Err why) confirm.new)) }
+    {
+        match create_table(self.alloc, &self.main, name, schema) {
+            Ok(effect) => self.write(effect, confirm),
+            Err(Fault::Refused(why)) => self.keep(Reply::Refused { at: None, why }, confirm),
+            Err(Fault::OutOfMemory) => Err(Fault::OutOfMemory),
+        }
+    }
+
+    fn commit<C: Confirm<A>>(
+        &mut self,
+        operation: &Operation<A>,
+        confirm: &mut C,
+    ) -> Result<Reply<A>, Fault<C::Refusal>>
+        requires room { self.old.events + 1 < 2 ^ 63 }
+        requires can_confirm { C.can_confirm confirm.old (write_reply self.old (refused_at (Some 0) (step self.old.main operation.now))) }
+        ensures ok { IfOk result (λ reply. let made = refused_at (Some 0) (step self.old.main operation.now) in
+            (reply ≡ write_reply self.old made) × (self.new ≡ after_write self.old made) × C.gives confirm.old (write_reply self.old made) (Ok tt) confirm.new) }
+        ensures err { IfErr result (λ fault. let made = refused_at (Some 0) (step self.old.main operation.now) in
+            (self.new ≡ self.old) × MatchFault fault (confirm.new ≡ confirm.old) (λ why. C.gives confirm.old (write_reply self.old made) (Err why) confirm.new)) }
+    {
+        match step(self.alloc, &self.main, operation) {
+            Ok(effect) => self.write(effect, confirm),
+            Err(Fault::Refused(why)) => self.keep(Reply::Refused { at: Some(0), why }, confirm),
+            Err(Fault::OutOfMemory) => Err(Fault::OutOfMemory),
+        }
+    }
+
+    // Takes over an effect on the tables, with its touches in each session.
+    fn write<C: Confirm<A>>(
+        &mut self,
+        effect: Effect<A>,
+        confirm: &mut C,
+    ) -> Result<Reply<A>, Fault<C::Refusal>>
+        requires room { self.old.events + 1 < 2 ^ 63 }
+        requires sound { IsSoundEffect self.old.main effect }
+        requires can_confirm { C.can_confirm confirm.old (Reply.Written (self.old.version + 1)) }
+        ensures ok { IfOk result (λ reply. (reply ≡ Reply.Written (self.old.version + 1)) × (self.new ≡ after_write self.old (Ok effect))
+            × C.gives confirm.old (Reply.Written (self.old.version + 1)) (Ok tt) confirm.new) }
+        ensures err { IfErr result (λ fault. (self.new ≡ self.old)
+            × MatchFault fault (confirm.new ≡ confirm.old) (λ why. C.gives confirm.old (Reply.Written (self.old.version + 1)) (Err why) confirm.new)) }
+    {
+        touch_sessions(self.sessions.as_mut_slice(), &self.main, effect.changes())?;
+        let version = self.version + 1;
+        let reply = Reply::Written { version };
+        ask(confirm, &reply)?;
+        take_over(self.sessions.as_mut_slice());
+        self.main = effect.into_database();
+        self.version = version;
+        self.events += 1;
+        Ok(reply)
+    }
+
+    fn new_session<C: Confirm<A>>(&mut self, confirm: &mut C) -> Result<Reply<A>, Fault<C::Refusal>>
+        requires room { self.old.events + 1 < 2 ^ 63 }
+        requires can_confirm { C.can_confirm confirm.old (session_reply self.old) }
+        ensures ok { IfOk result (λ reply. (reply ≡ session_reply self.old) × (self.new ≡ after_new_session self.old)
+            × C.gives confirm.old (session_reply self.old) (Ok tt) confirm.new) }
+        ensures err { IfErr result (λ fault. (self.new ≡ self.old)
+            × MatchFault fault (confirm.new ≡ confirm.old) (λ why. C.gives confirm.old (session_reply self.old) (Err why) confirm.new)) }
+    {
+        if self.sessions.len() >= SESSIONS_MAX {
+            let why = Refusal::TooMany;
+            return self.keep(Reply::Refused { at: None, why }, confirm);
+        }
+        let number = self.sessions_made + 1;
+        let session = Session::new(self.alloc, number);
+        self.sessions.reserve(1)?;
+        let reply = Reply::Session(number);
+        ask(confirm, &reply)?;
+        self.sessions.push_reserved(session);
+        self.sessions_made = number;
+        self.events += 1;
+        Ok(reply)
+    }
+
+    fn attach<C: Confirm<A>>(
+        &mut self,
+        number: u64,
+        name: &Name<A>,
+        confirm: &mut C,
+    ) -> Result<Reply<A>, Fault<C::Refusal>>
+        requires room { self.old.events + 1 < 2 ^ 63 }
+        requires can_confirm { C.can_confirm confirm.old (attach_reply (session_numbered self.old.sessions number)) }
+        ensures ok { IfOk result (λ reply. let session = session_numbered self.old.sessions number in
+            (reply ≡ attach_reply session) × (self.new ≡ after_attach self.old number name.now session)
+            × C.gives confirm.old (attach_reply session) (Ok tt) confirm.new) }
+        ensures err { IfErr result (λ fault. (self.new ≡ self.old) × MatchFault fault (confirm.new ≡ confirm.old)
+            (λ why. C.gives confirm.old (attach_reply (session_numbered self.old.sessions number)) (Err why) confirm.new)) }
+    {
+        let Some((place, _session)) = find_session(&self.sessions, number) else {
+            let why = Refusal::NoSession;
+            return self.keep(Reply::Refused { at: None, why }, confirm);
+        };
+        match self.sessions[place].attach(self.alloc, name, confirm) {
+            Ok(reply) => {
+                self.events += 1;
+                Ok(reply)
+            }
+            Err(fault) => Err(fault),
+        }
+    }
+
+    fn capture<C: Confirm<A>>(
+        &mut self,
+        number: u64,
+        confirm: &mut C,
+    ) -> Result<Reply<A>, Fault<C::Refusal>>
+        requires room { self.old.events + 1 < 2 ^ 63 }
+        requires can_confirm { C.can_confirm confirm.old (capture_reply self.old.main (session_numbered self.old.sessions number)) }
+        ensures ok { IfOk result (λ reply. let session = session_numbered self.old.sessions number in
+            (reply ≡ capture_reply self.old.main session) × (self.new ≡ one_more self.old)
+            × C.gives confirm.old (capture_reply self.old.main session) (Ok tt) confirm.new) }
+        ensures err { IfErr result (λ fault. (self.new ≡ self.old) × MatchFault fault (confirm.new ≡ confirm.old)
+            (λ why. C.gives confirm.old (capture_reply self.old.main (session_numbered self.old.sessions number)) (Err why) confirm.new)) }
+    {
+        let Some((_place, session)) = find_session(&self.sessions, number) else {
+            let why = Refusal::NoSession;
+            return self.keep(Reply::Refused { at: None, why }, confirm);
+        };
+        let changes = changes_of(self.alloc, &session.tables, &self.main)?;
+        self.keep(Reply::Capture(Capture::new(changes)), confirm)
+    }
+
+    // A command that changes nothing but the number of events.
+    fn keep<C: Confirm<A>>(
+        &mut self,
+        reply: Reply<A>,
+        confirm: &mut C,
+    ) -> Result<Reply<A>, Fault<C::Refusal>>
+        requires room { self.old.events + 1 < 2 ^ 63 }
+        requires can_confirm { C.can_confirm confirm.old reply }
+        ensures ok { IfOk result (λ r. (r ≡ reply) × (self.new ≡ one_more self.old) × C.gives confirm.old reply (Ok tt) confirm.new) }
+        ensures err { IfErr result (λ fault. (self.new ≡ self.old)
+            × MatchFault fault (confirm.new ≡ confirm.old) (λ why. C.gives confirm.old reply (Err why) confirm.new)) }
+    {
+        ask(confirm, &reply)?;
+        self.events += 1;
+        Ok(reply)
+    }
+}
