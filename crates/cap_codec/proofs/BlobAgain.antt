@@ -15,12 +15,12 @@ use Rattle.cap_changes.specs.declared.change.Change.TheVariants as changed
 use Rattle.cap_changes.specs.declared.patch.Patch.{Patch}
 use Rattle.cap_changes.specs.declared.patch.Patch.TheVariants as patched
 use Rattle.cap_codec.specs.declared.fault.BlobFault.{BlobFault}
-use Rattle.cap_codec.specs.declared.read.Blob.{Blob}
-use Rattle.cap_codec.specs.declared.read.Blob.TheVariants.{Changes, Patches}
+use Rattle.cap_codec.specs.declared.read.Contents.{Contents}
+use Rattle.cap_codec.specs.declared.read.Contents.TheVariants.{Changes, Patches}
 use Rattle.cap_codec.specs.Changeset.{mark, flags_bytes, header_bytes, change_bytes, changes_under, group_bytes, list_bytes}
 use Rattle.cap_codec.specs.Field.{record_bytes, key_bytes}
 use Rattle.cap_codec.specs.HeaderReading.{is_zero, is_set, count_at, flags_at, name_at, header_at}
-use Rattle.cap_codec.specs.Patchset.{patch_bytes, patches_under, patch_group_bytes, patch_list_bytes}
+use Rattle.cap_codec.specs.Patchset.{patch_bytes, patch_group_bytes, patch_list_bytes}
 use Rattle.cap_codec.specs.Varint.{varint_bytes}
 use Rattle.cap_codec.specs.BlobReading.{is_operation, change_at, patch_at, group_at, patch_group_at, groups_at, blob_at}
 use Rattle.cap_codec.specs.Spelling.{SpellsEach, SpellsGroup, SpellsChange, SpellsPatch, SpellsChanges, SpellsPatches, Spells}
@@ -166,7 +166,7 @@ module _ {A : Type 0} where
       rw (parts, again) refl
 
   -- Bytes that spell a blob are read as that blob.
-  pub blob_again : (blob : Blob A) (bytes : List ℕ) → Spells blob bytes → blob_at bytes ≡ Ok blob
+  pub blob_again : (blob : Contents A) (bytes : List ℕ) → Spells blob bytes → blob_at bytes ≡ Ok blob
   blob_again (Changes groups) bytes spelled =
       of_changes groups bytes (begins group_at 0x54 SpellsChanges group_again groups bytes spelled)
       (groups_again group_at 0x54 SpellsChanges group_again refl (length bytes) (length bytes) groups bytes (omega arith) spelled)
@@ -174,7 +174,7 @@ module _ {A : Type 0} where
       of_a_patchset groups bytes (begins patch_group_at 0x50 SpellsPatches patch_group_again groups bytes spelled) some
       (groups_again patch_group_at 0x50 SpellsPatches patch_group_again refl (length bytes) (length bytes) groups bytes (omega arith) spelled)
 
-  pub one_spelled : (bytes : List ℕ) (a b : Blob A) → Spells a bytes → Spells b bytes → a ≡ b
+  pub one_spelled : (bytes : List ℕ) (a b : Contents A) → Spells a bytes → Spells b bytes → a ≡ b
   one_spelled bytes a b of_a of_b = ok_is a b (sym (blob_again a bytes of_a) ∙ blob_again b bytes of_b)
 
 -- ---- what is written
@@ -219,6 +219,12 @@ under_header kind table schema one xs bytes is each = record {
   each = each;
 }
 
+by_entries : {X : Type 0} (kind : ℕ) (bytes : X → List ℕ) (one : X → List ℕ → Type 0) (table : List ℕ) (schema : List Bool) (xs : List X) → SpellsGroup kind table schema one xs (header_bytes kind table schema ++ flat_map bytes xs)
+    → ((changes_under bytes (header_bytes kind table schema) xs ≡ []) × (has_some xs ≡ false))
+    ⊎ ((has_some xs ≡ true) × SpellsGroup kind table schema one xs (changes_under bytes (header_bytes kind table schema) xs))
+by_entries kind bytes one table schema [] spelled = inl (refl, refl)
+by_entries kind bytes one table schema (first ∷ others) spelled = inr (refl, spelled)
+
 module _ {A : Type 0} where
   change_written : (flags : List Bool) (change : Change A) → IsTrue (change_fits flags change) → HasValues change → SpellsChange flags change (change_bytes change)
   change_written flags (changed.Insert indirect new) fits values = (fits, values, (mark indirect, set_is indirect, refl))
@@ -240,22 +246,10 @@ module _ {A : Type 0} where
   patches_written flags [] fit values = tt
   patches_written flags (patch ∷ patches) fit values = (patch_written flags patch fit.0 values.0, patches_written flags patches fit.1 values.1)
 
-  by_changes : (table : List ℕ) (schema : List Bool) (changes : List (Change A)) → SpellsGroup 0x54 table schema (SpellsChange schema) changes (header_bytes 0x54 table schema ++ flat_map change_bytes changes)
-      → ((changes_under (header_bytes 0x54 table schema) changes ≡ []) × (has_some changes ≡ false))
-      ⊎ ((has_some changes ≡ true) × SpellsGroup 0x54 table schema (SpellsChange schema) changes (changes_under (header_bytes 0x54 table schema) changes))
-  by_changes table schema [] spelled = inl (refl, refl)
-  by_changes table schema (first ∷ others) spelled = inr (refl, spelled)
-
-  by_patches : (table : List ℕ) (schema : List Bool) (patches : List (Patch A)) → SpellsGroup 0x50 table schema (SpellsPatch schema) patches (header_bytes 0x50 table schema ++ flat_map patch_bytes patches)
-      → ((patches_under (header_bytes 0x50 table schema) patches ≡ []) × (has_some patches ≡ false))
-      ⊎ ((has_some patches ≡ true) × SpellsGroup 0x50 table schema (SpellsPatch schema) patches (patches_under (header_bytes 0x50 table schema) patches))
-  by_patches table schema [] spelled = inl (refl, refl)
-  by_patches table schema (first ∷ others) spelled = inr (refl, spelled)
-
   groups_written : (groups : List (TableChanges A)) → AllByRecursion IsGroup groups → AllByRecursion (IsWritten SpellsChanges group_bytes (λ group. has_some group.changes)) groups
   groups_written [] is = tt
   groups_written (group ∷ groups) is = (
-    by_changes group.table group.schema group.changes (under_header 0x54 group.table group.schema (SpellsChange group.schema) group.changes (flat_map change_bytes group.changes) is.0.table
+    by_entries 0x54 change_bytes (SpellsChange group.schema) group.table group.schema group.changes (under_header 0x54 group.table group.schema (SpellsChange group.schema) group.changes (flat_map change_bytes group.changes) is.0.table
     (each_written (SpellsChange group.schema) change_bytes group.changes
     (changes_written group.schema group.changes (recursion_from_All (λ change. IsTrue (change_fits group.schema change)) group.changes is.0.fit) (recursion_from_All HasValues group.changes is.0.values)))),
     groups_written groups is.1,
@@ -264,7 +258,7 @@ module _ {A : Type 0} where
   patch_groups_written : (groups : List (TablePatches A)) → AllByRecursion IsPatchGroup groups → AllByRecursion (IsWritten SpellsPatches patch_group_bytes (λ group. has_some group.changes)) groups
   patch_groups_written [] is = tt
   patch_groups_written (group ∷ groups) is = (
-    by_patches group.table group.schema group.changes (under_header 0x50 group.table group.schema (SpellsPatch group.schema) group.changes (flat_map patch_bytes group.changes) is.0.table
+    by_entries 0x50 patch_bytes (SpellsPatch group.schema) group.table group.schema group.changes (under_header 0x50 group.table group.schema (SpellsPatch group.schema) group.changes (flat_map patch_bytes group.changes) is.0.table
     (each_written (SpellsPatch group.schema) patch_bytes group.changes
     (patches_written group.schema group.changes (recursion_from_All (λ patch. IsTrue (patch_fits group.schema patch)) group.changes is.0.fit) (recursion_from_All PatchHasValues group.changes is.0.values)))),
     patch_groups_written groups is.1,
@@ -276,7 +270,7 @@ module _ {A : Type 0} where
   of_spelled (first ∷ others) bytes spelled = (spelled, λ e. cc)
 
   -- The bytes of a blob spell it, without the groups that have no change.
-  pub written_spelled : (blob : Blob A) → IsWritable blob → Spells (with_some blob) (blob_bytes blob)
+  pub written_spelled : (blob : Contents A) → IsWritable blob → Spells (with_some blob) (blob_bytes blob)
   written_spelled (Changes groups) writable =
       some_written SpellsChanges group_bytes (λ group. has_some group.changes) groups (groups_written groups (recursion_from_All IsGroup groups writable))
   written_spelled (Patches groups) writable =
@@ -284,7 +278,7 @@ module _ {A : Type 0} where
       (some_written SpellsPatches patch_group_bytes (λ group. has_some group.changes) groups (patch_groups_written groups (recursion_from_All IsPatchGroup groups writable)))
 
   -- What was written for a blob reads as it, without the groups that have no change.
-  pub written_again : (blob : Blob A) → IsWritable blob → blob_at (blob_bytes blob) ≡ Ok (with_some blob)
+  pub written_again : (blob : Contents A) → IsWritable blob → blob_at (blob_bytes blob) ≡ Ok (with_some blob)
   written_again blob writable = blob_again (with_some blob) (blob_bytes blob) (written_spelled blob writable)
 
   -- ---- no two blobs without empty groups have the same bytes
@@ -293,13 +287,13 @@ module _ {A : Type 0} where
   some_patches [] some = absurd cc
   some_patches (first ∷ others) some = refl
 
-  nothing_left_out : (blob : Blob A) → HasNoEmptyGroup blob → with_some blob ≡ blob
+  nothing_left_out : (blob : Contents A) → HasNoEmptyGroup blob → with_some blob ≡ blob
   nothing_left_out (Changes groups) each = ap Changes (all_kept (λ group. has_some group.changes) groups (recursion_from_All (λ group. IsTrue (has_some group.changes)) groups each))
   nothing_left_out (Patches groups) each =
       ap of_patches (all_kept (λ group. has_some group.changes) groups (recursion_from_All (λ group. IsTrue (has_some group.changes)) groups each.1)) ∙ some_patches groups each.0
 
-  pub one_blob : (a b : Blob A) → IsWritable a → IsWritable b → HasNoEmptyGroup a → HasNoEmptyGroup b → blob_bytes a ≡ blob_bytes b → a ≡ b
+  pub one_blob : (a b : Contents A) → IsWritable a → IsWritable b → HasNoEmptyGroup a → HasNoEmptyGroup b → blob_bytes a ≡ blob_bytes b → a ≡ b
   one_blob a b of_a of_b whole_a whole_b same =
-      let first : blob_at (blob_bytes a) ≡ Ok a = written_again a of_a ∙ ap (λ (x : Blob A). Ok x) (nothing_left_out a whole_a) in
-      let second : blob_at (blob_bytes b) ≡ Ok b = written_again b of_b ∙ ap (λ (x : Blob A). Ok x) (nothing_left_out b whole_b) in
+      let first : blob_at (blob_bytes a) ≡ Ok a = written_again a of_a ∙ ap (λ (x : Contents A). Ok x) (nothing_left_out a whole_a) in
+      let second : blob_at (blob_bytes b) ≡ Ok b = written_again b of_b ∙ ap (λ (x : Contents A). Ok x) (nothing_left_out b whole_b) in
       ok_is a b (sym first ∙ ap blob_at same ∙ second)

@@ -22,8 +22,8 @@ use Rattle.cap_changes.specs.declared.patch.Patch.{Patch}
 use Rattle.cap_changes.specs.declared.patch.Patch.TheVariants as patched
 use Rattle.cap_codec.specs.declared.demand.Demand.{Demand}
 use Rattle.cap_codec.specs.declared.fault.BlobFault.{BlobFault}
-use Rattle.cap_codec.specs.declared.read.Blob.{Blob}
-use Rattle.cap_codec.specs.declared.read.Blob.TheVariants.{Changes, Patches}
+use Rattle.cap_codec.specs.declared.read.Contents.{Contents}
+use Rattle.cap_codec.specs.declared.read.Contents.TheVariants.{Changes, Patches}
 use Rattle.cap_codec.specs.declared.rule.Rule.TheVariants as rules
 use Rattle.cap_codec.specs.Demands.{demands, new_demands}
 use Rattle.cap_codec.specs.Field.{record_bytes, key_bytes}
@@ -327,15 +327,15 @@ module _ {A : Type 0} where
       let nothing : SpellsEach {X = TablePatches A} SpellsPatches [] (byte ∷ bytes) = subst (λ (gs : List (TablePatches A)). SpellsEach SpellsPatches gs (byte ∷ bytes)) none spelled in cc
 
   -- Bytes that are read as a blob spell it.
-  pub blob_spelled : (bytes : List ℕ) (blob : Blob A) → AreLow bytes → blob_at bytes ≡ Ok blob → Spells blob bytes
+  pub blob_spelled : (bytes : List ℕ) (blob : Contents A) → AreLow bytes → blob_at bytes ≡ Ok blob → Spells blob bytes
   unfolding blob_at
-  blob_spelled [] blob low e = subst (λ (b : Blob A). Spells b []) (ok_is (Changes []) blob e) refl
+  blob_spelled [] blob low e = subst (λ (b : Contents A). Spells b []) (ok_is (Changes []) blob e) refl
   blob_spelled (kind ∷ bytes) blob low e = elim (chosen (kind == 0x54) _ _ _ e) [
     | inl (of_changes, h) ↦
         let groups = bind_ok (groups_at group_at kind (length (kind ∷ bytes)) (length (kind ∷ bytes)) (kind ∷ bytes)) (λ groups. Ok (Changes groups)) blob h in
         let read : groups_at group_at 0x54 (length (kind ∷ bytes)) (length (kind ∷ bytes)) (kind ∷ bytes) ≡ Ok groups.0 =
         subst (λ (k : ℕ). groups_at group_at k (length (kind ∷ bytes)) (length (kind ∷ bytes)) (kind ∷ bytes) ≡ Ok groups.0) (eqb-true kind 0x54 of_changes) groups.1 in
-        subst (λ (b : Blob A). Spells b (kind ∷ bytes)) (ok_is (Changes groups.0) blob groups.2)
+        subst (λ (b : Contents A). Spells b (kind ∷ bytes)) (ok_is (Changes groups.0) blob groups.2)
         (groups_spelled group_at 0x54 SpellsChanges group_spelled (length (kind ∷ bytes)) (length (kind ∷ bytes)) (kind ∷ bytes) groups.0 low (omega arith) read)
     | inr (other, h0) ↦
         let patchset = check_ok (kind == 0x50) _ _ blob h0 in
@@ -343,21 +343,21 @@ module _ {A : Type 0} where
         let read : groups_at patch_group_at 0x50 (length (kind ∷ bytes)) (length (kind ∷ bytes)) (kind ∷ bytes) ≡ Ok groups.0 =
         subst (λ (k : ℕ). groups_at patch_group_at k (length (kind ∷ bytes)) (length (kind ∷ bytes)) (kind ∷ bytes) ≡ Ok groups.0) (eqb-true kind 0x50 patchset.0) groups.1 in
         let spelled = groups_spelled patch_group_at 0x50 SpellsPatches patch_group_spelled (length (kind ∷ bytes)) (length (kind ∷ bytes)) (kind ∷ bytes) groups.0 low (omega arith) read in
-        subst (λ (b : Blob A). Spells b (kind ∷ bytes)) (ok_is (Patches groups.0) blob groups.2) (spelled, some_groups kind bytes groups.0 spelled)
+        subst (λ (b : Contents A). Spells b (kind ∷ bytes)) (ok_is (Patches groups.0) blob groups.2) (spelled, some_groups kind bytes groups.0 spelled)
   ]
 
   -- ---- what a reader answers
 
-  pub answer_spelled : (bytes : List ℕ) (answer : Result (Blob A) (Fault BlobFault)) → AreLow bytes → AnswersUnlessMemory answer (blob_at bytes) → IfOk answer (λ blob. Spells blob bytes)
+  pub answer_spelled : (bytes : List ℕ) (answer : Result (Contents A) (Fault BlobFault)) → AreLow bytes → AnswersUnlessMemory answer (blob_at bytes) → IfOk answer (λ blob. Spells blob bytes)
   answer_spelled bytes (Ok blob) low is = blob_spelled bytes blob low is
   answer_spelled bytes (Err fault) low is = tt
 
-  pub spelled_answer : (bytes : List ℕ) (answer : Result (Blob A) (Fault BlobFault)) (blob : Blob A) → Spells blob bytes → AnswersUnlessMemory answer (blob_at bytes) → AnswersUnlessMemory answer (Ok blob)
-  spelled_answer bytes answer blob spelled is = subst (λ (read : Result (Blob A) BlobFault). AnswersUnlessMemory answer read) (blob_again blob bytes spelled) is
+  pub spelled_answer : (bytes : List ℕ) (answer : Result (Contents A) (Fault BlobFault)) (blob : Contents A) → Spells blob bytes → AnswersUnlessMemory answer (blob_at bytes) → AnswersUnlessMemory answer (Ok blob)
+  spelled_answer bytes answer blob spelled is = subst (λ (read : Result (Contents A) BlobFault). AnswersUnlessMemory answer read) (blob_again blob bytes spelled) is
 
 module _ (A : Type 0) where
   -- what spells a blob has no fault
-  pub none_lasts : (bytes : List ℕ) (blob : Blob A) (f : BlobFault) → Spells blob bytes → lasting (blob_at {A = A} bytes) ≡ Err f → ⊥
+  pub none_lasts : (bytes : List ℕ) (blob : Contents A) (f : BlobFault) → Spells blob bytes → lasting (blob_at {A = A} bytes) ≡ Err f → ⊥
   none_lasts bytes blob f spelled lasts = let none : lasting (blob_at {A = A} bytes) ≡ Ok tt = ap lasting (blob_again blob bytes spelled) in cc
 
 pub low_bytes : (bytes : List ℕ) → AreBytes bytes → AreLow bytes

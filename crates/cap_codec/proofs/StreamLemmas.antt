@@ -6,7 +6,7 @@ use Rattle.cap_value.specs.Memory.{AnswersUnlessMemory}
 use Rattle.cap_value.specs.declared.memory.Fault.{Fault}
 use Rattle.cap_value.specs.declared.memory.Fault.TheVariants.{Refused, OutOfMemory}
 use Rattle.cap_codec.specs.declared.fault.BlobFault.{BlobFault}
-use Rattle.cap_codec.specs.declared.read.Blob.{Blob}
+use Rattle.cap_codec.specs.declared.read.Contents.{Contents}
 use Rattle.cap_codec.specs.BlobReading.{blob_at}
 use Rattle.cap_codec.specs.Pieces.{lasting}
 use Rattle.cap_codec.specs.Calls.{Calls, AllWent, TellsWrite}
@@ -63,7 +63,7 @@ more_fed (Some xs) (Some ys) (Some zs) fed piece p q = p ∙ ap (λ (r : List �
 
 module _ (A : Type 0) where
   -- the last read gave nothing
-  pub reads_whole : (a b c : Option (List ℕ)) (fed piece : List ℕ) (n : ℕ) (x : Blob A) → Consumes a b fed → Consumes b c (take n piece) → n ≡ 0 → IsAtEnd c → blob_at fed ≡ Ok x → IfSome a (λ given. blob_at given ≡ Ok x)
+  pub reads_whole : (a b c : Option (List ℕ)) (fed piece : List ℕ) (n : ℕ) (x : Contents A) → Consumes a b fed → Consumes b c (take n piece) → n ≡ 0 → IsAtEnd c → blob_at fed ≡ Ok x → IfSome a (λ given. blob_at given ≡ Ok x)
   reads_whole None b c fed piece n x p q none end read = tt
   reads_whole (Some xs) None c fed piece n x p q none end read = absurd p
   reads_whole (Some xs) (Some ys) None fed piece n x p q none end read = absurd q
@@ -74,7 +74,7 @@ module _ (A : Type 0) where
 
   -- the last piece showed a fault
   pub reads_fault : (a b c : Option (List ℕ)) (fed piece : List ℕ) (n : ℕ) (e : Fault BlobFault) → Consumes a b fed → Consumes b c (take n piece)
-      → AnswersUnlessMemory {X = Unit {0}} {E = BlobFault} (Err e) (lasting (blob_at {A = A} (fed ++ take n piece))) → IfSome a (λ given. IsBlobOf {X = Blob A} (Err (read_fault e)) (blob_at given))
+      → AnswersUnlessMemory {X = Unit {0}} {E = BlobFault} (Err e) (lasting (blob_at {A = A} (fed ++ take n piece))) → IfSome a (λ given. IsBlobOf {X = Contents A} (Err (read_fault e)) (blob_at given))
   reads_fault None b c fed piece n e p q answers = tt
   reads_fault (Some xs) b c fed piece n OutOfMemory p q answers = tt
   reads_fault (Some xs) None c fed piece n (Refused f) p q answers = absurd p

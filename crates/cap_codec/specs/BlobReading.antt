@@ -9,8 +9,8 @@ use Rattle.cap_changes.specs.Group.{TableChanges}
 use Rattle.cap_changes.specs.PatchGroup.{TablePatches}
 use Rattle.cap_codec.specs.declared.fault.BlobFault.{BlobFault}
 use Rattle.cap_codec.specs.declared.fault.FaultKind.TheVariants.{BadHeader, BadOp, Mixed}
-use Rattle.cap_codec.specs.declared.read.Blob.{Blob}
-use Rattle.cap_codec.specs.declared.read.Blob.TheVariants.{Changes, Patches}
+use Rattle.cap_codec.specs.declared.read.Contents.{Contents}
+use Rattle.cap_codec.specs.declared.read.Contents.TheVariants.{Changes, Patches}
 use Rattle.cap_codec.specs.declared.rule.Rule.TheVariants as rules
 use Rattle.cap_codec.specs.Reading.{◌>>=◌, fault, place, byte_at}
 use Rattle.cap_codec.specs.Demands.{demands, new_demands}
@@ -81,7 +81,7 @@ module _ {X : Type 0} where
 
 module _ {A : Type 0} where
   -- all of the bytes: the kind of the first group is that of the blob
-  unfoldable pub blob_at : List ℕ → Result (Blob A) BlobFault
+  unfoldable pub blob_at : List ℕ → Result (Contents A) BlobFault
   blob_at [] = Ok (Changes [])
   blob_at (kind ∷ bytes) =
       if kind == 0x54 then groups_at group_at kind (length (kind ∷ bytes)) (length (kind ∷ bytes)) (kind ∷ bytes) >>= (λ groups. Ok (Changes groups))

@@ -3,6 +3,7 @@ use Rattle.std.specs.Prelude.{ℕ, Bool, true, false, List, [], ◌∷◌, ◌++
 use Rattle.std.specs.List.{flat_map}
 use Rattle.cap_changes.specs.declared.change.Change.{Change}
 use Rattle.cap_changes.specs.declared.change.Change.TheVariants.{Insert, Update, Delete}
+use Rattle.cap_changes.specs.Entries.{TableEntries}
 use Rattle.cap_changes.specs.Group.{TableChanges}
 use Rattle.cap_codec.specs.Varint.{varint_bytes}
 use Rattle.cap_codec.specs.Field.{record_bytes}
@@ -19,6 +20,15 @@ flags_bytes flags = map mark flags
 abbrev pub header_bytes : ℕ → List ℕ → List Bool → List ℕ
 header_bytes kind table schema = kind ∷ (varint_bytes (length schema) ++ flags_bytes schema ++ table ++ 0 ∷ [])
 
+-- changes with these bytes behind a header; where there is none, there is no header either
+abbrev pub changes_under : {X : Type 0} → (X → List ℕ) → List ℕ → List X → List ℕ
+changes_under bytes header [] = []
+changes_under bytes header (first ∷ others) = header ++ flat_map bytes (first ∷ others)
+
+-- a group of this kind, whose changes have these bytes
+abbrev pub entries_bytes : {X : Type 0} → ℕ → (X → List ℕ) → TableEntries X → List ℕ
+entries_bytes kind bytes group = changes_under bytes (header_bytes kind group.table group.schema) group.changes
+
 module _ {A : Type 0} where
   -- the operation, whether the change is indirect, and its records
   abbrev pub change_bytes : Change A → List ℕ
@@ -26,13 +36,8 @@ module _ {A : Type 0} where
   change_bytes (Update indirect old new) = 0x17 ∷ mark indirect ∷ (record_bytes old ++ record_bytes new)
   change_bytes (Delete indirect old) = 0x09 ∷ mark indirect ∷ record_bytes old
 
-  -- a group without changes has no header
-  abbrev pub changes_under : List ℕ → List (Change A) → List ℕ
-  changes_under header [] = []
-  changes_under header (first ∷ others) = header ++ flat_map change_bytes (first ∷ others)
-
   abbrev pub group_bytes : TableChanges A → List ℕ
-  group_bytes group = changes_under (header_bytes 0x54 group.table group.schema) group.changes
+  group_bytes group = entries_bytes 0x54 change_bytes group
 
   -- the groups in the list's order
   abbrev pub list_bytes : List (TableChanges A) → List ℕ

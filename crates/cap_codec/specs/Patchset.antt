@@ -1,11 +1,11 @@
 -- The bytes of a patchset (The Session Extension, "sqlite3session_patchset").
-use Rattle.std.specs.Prelude.{ℕ, List, [], ◌∷◌, ◌++◌}
+use Rattle.std.specs.Prelude.{ℕ, List, ◌∷◌}
 use Rattle.std.specs.List.{flat_map}
 use Rattle.cap_changes.specs.declared.patch.Patch.{Patch}
 use Rattle.cap_changes.specs.declared.patch.Patch.TheVariants.{Insert, Update, Delete}
 use Rattle.cap_changes.specs.PatchGroup.{TablePatches}
 use Rattle.cap_codec.specs.Field.{record_bytes, key_bytes}
-use Rattle.cap_codec.specs.Changeset.{mark, header_bytes}
+use Rattle.cap_codec.specs.Changeset.{mark, entries_bytes}
 
 module _ {A : Type 0} where
   -- an UPDATE has one record, and a DELETE the key fields alone
@@ -14,13 +14,8 @@ module _ {A : Type 0} where
   patch_bytes (Update indirect new) = 0x17 ∷ mark indirect ∷ record_bytes new
   patch_bytes (Delete indirect key) = 0x09 ∷ mark indirect ∷ key_bytes key
 
-  -- a group without patches has no header
-  abbrev pub patches_under : List ℕ → List (Patch A) → List ℕ
-  patches_under header [] = []
-  patches_under header (first ∷ others) = header ++ flat_map patch_bytes (first ∷ others)
-
   abbrev pub patch_group_bytes : TablePatches A → List ℕ
-  patch_group_bytes group = patches_under (header_bytes 0x50 group.table group.schema) group.changes
+  patch_group_bytes group = entries_bytes 0x50 patch_bytes group
 
   -- the groups in the list's order
   abbrev pub patch_list_bytes : List (TablePatches A) → List ℕ

@@ -8,8 +8,8 @@ use Rattle.cap_changes.specs.declared.change.Change.{Change}
 use Rattle.cap_changes.specs.declared.change.Change.TheVariants as changed
 use Rattle.cap_changes.specs.declared.patch.Patch.{Patch}
 use Rattle.cap_changes.specs.declared.patch.Patch.TheVariants as patched
-use Rattle.cap_codec.specs.declared.read.Blob.{Blob}
-use Rattle.cap_codec.specs.declared.read.Blob.TheVariants.{Changes, Patches}
+use Rattle.cap_codec.specs.declared.read.Contents.{Contents}
+use Rattle.cap_codec.specs.declared.read.Contents.TheVariants.{Changes, Patches}
 use Rattle.cap_codec.specs.Varint.{varint_bytes}
 use Rattle.cap_codec.specs.Field.{record_bytes, key_bytes}
 use Rattle.cap_codec.specs.HeaderReading.{is_set}
@@ -61,6 +61,6 @@ module _ {A : Type 0} where
   SpellsPatches group bytes = SpellsGroup 0x50 group.table group.schema (SpellsPatch group.schema) group.changes bytes
 
   -- All groups are of one kind. No bytes at all are a changeset without groups.
-  abbrev pub Spells : Blob A → List ℕ → Type 0
+  abbrev pub Spells : Contents A → List ℕ → Type 0
   Spells (Changes groups) bytes = SpellsEach SpellsChanges groups bytes
   Spells (Patches groups) bytes = SpellsEach SpellsPatches groups bytes × ((groups ≡ []) → ⊥)

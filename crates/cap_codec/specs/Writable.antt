@@ -11,8 +11,8 @@ use Rattle.cap_changes.specs.declared.change.Change.{Change}
 use Rattle.cap_changes.specs.declared.change.Change.TheVariants as changed
 use Rattle.cap_changes.specs.declared.patch.Patch.{Patch}
 use Rattle.cap_changes.specs.declared.patch.Patch.TheVariants as patched
-use Rattle.cap_codec.specs.declared.read.Blob.{Blob}
-use Rattle.cap_codec.specs.declared.read.Blob.TheVariants.{Changes, Patches}
+use Rattle.cap_codec.specs.declared.read.Contents.{Contents}
+use Rattle.cap_codec.specs.declared.read.Contents.TheVariants.{Changes, Patches}
 use Rattle.cap_codec.specs.Changeset.{list_bytes}
 use Rattle.cap_codec.specs.Patchset.{patch_list_bytes}
 
@@ -53,25 +53,25 @@ module _ {A : Type 0} where
     pub fit : AllPatchesFit group.schema group.changes
     pub values : All PatchHasValues group.changes
 
-  abbrev pub IsWritable : Blob A → Type 0
+  abbrev pub IsWritable : Contents A → Type 0
   IsWritable (Changes groups) = All IsGroup groups
   IsWritable (Patches groups) = All IsPatchGroup groups
 
-  abbrev pub blob_bytes : Blob A → List ℕ
+  abbrev pub blob_bytes : Contents A → List ℕ
   blob_bytes (Changes groups) = list_bytes groups
   blob_bytes (Patches groups) = patch_list_bytes groups
 
   -- a patchset without groups has no bytes, as a changeset without groups
-  abbrev pub of_patches : List (TablePatches A) → Blob A
+  abbrev pub of_patches : List (TablePatches A) → Contents A
   of_patches [] = Changes []
   of_patches (first ∷ others) = Patches (first ∷ others)
 
   -- without the groups that have no change
-  abbrev pub with_some : Blob A → Blob A
+  abbrev pub with_some : Contents A → Contents A
   with_some (Changes groups) = Changes (filter (λ group. has_some group.changes) groups)
   with_some (Patches groups) = of_patches (filter (λ group. has_some group.changes) groups)
 
   -- nothing of it would be left out
-  abbrev pub HasNoEmptyGroup : Blob A → Type 0
+  abbrev pub HasNoEmptyGroup : Contents A → Type 0
   HasNoEmptyGroup (Changes groups) = All (λ group. IsTrue (has_some group.changes)) groups
   HasNoEmptyGroup (Patches groups) = IsTrue (has_some groups) × All (λ group. IsTrue (has_some group.changes)) groups

@@ -4,13 +4,13 @@ ghost use Rattle.std.specs.Prelude.{◌≡◌, ◌++◌, [], Ok, Err, IfOk, OnOk
 ghost use Rattle.cap_value.specs.declared.memory.Fault.TheVariants.{Refused};
 ghost use Rattle.cap_value.specs.Memory.{AnswersUnlessMemory};
 ghost use Rattle.cap_codec.specs.declared.fault.BlobFault.{BlobFault as Wrong};
-ghost use Rattle.cap_codec.specs.declared.read.Blob.{Blob as Contents};
+ghost use Rattle.cap_codec.specs.declared.read.Contents.{Contents as Spelled};
 ghost use Rattle.cap_codec.specs.BlobReading.{blob_at};
 ghost use Rattle.cap_codec.specs.Spelling.{Spells};
 ghost use Rattle.cap_codec.specs.Pieces.{lasting, KeepsFault};
 
 use crate::fault::BlobFault;
-use crate::read::{Blob, read_blob};
+use crate::read::{Contents, read_blob};
 use crate::scan::{Place, scan};
 use cap_value::{AllocHandle, Fault};
 use std::marker::Model;
@@ -91,13 +91,13 @@ impl<A: AllocHandle> Decoder<A> {
     }
 
     /// What is in the bytes, all of them, as `read_blob` answers it.
-    pub fn finish(self) -> Result<Blob<A>, Fault<BlobFault>>
+    pub fn finish(self) -> Result<Contents<A>, Fault<BlobFault>>
         // A fault that `feed` could tell takes no memory.
         ensures again { (fault : Wrong) → lasting (blob_at {A = A} self) ≡ Err fault →
             result ≡ Err (Refused fault) }
         // As `read_blob` answers of all the bytes.
         ensures spelled { IfOk result (λ blob. Spells blob self) }
-        ensures read { (blob : Contents A) → Spells blob self → AnswersUnlessMemory result (Ok blob) }
+        ensures read { (blob : Spelled A) → Spells blob self → AnswersUnlessMemory result (Ok blob) }
         ensures answers { AnswersUnlessMemory result (blob_at self) }
     {
         match self.fault {

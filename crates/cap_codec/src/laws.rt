@@ -2,7 +2,7 @@
 
 ghost use Rattle.std.specs.Prelude.{◌≡◌, ◌++◌, ℕ, List, Ok, Err};
 ghost use Rattle.cap_value.specs.Bytes.{AreBytes};
-ghost use Rattle.cap_codec.specs.declared.read.Blob.{Blob};
+ghost use Rattle.cap_codec.specs.declared.read.Contents.{Contents};
 ghost use Rattle.cap_codec.specs.BlobReading.{blob_at};
 ghost use Rattle.cap_codec.specs.declared.fault.BlobFault.{BlobFault};
 ghost use Rattle.cap_codec.specs.Pieces.{lasting};
@@ -13,29 +13,29 @@ use cap_value::AllocHandle;
 
 /// Bytes are read as a blob where they spell it, and as no other.
 pub fn read_is_spelled<A: AllocHandle>()
-    ensures read { (bytes : List ℕ) (blob : Blob A) → Spells blob bytes → blob_at bytes ≡ Ok blob }
-    ensures spelled { (bytes : List ℕ) (blob : Blob A) → AreBytes bytes → blob_at bytes ≡ Ok blob →
+    ensures read { (bytes : List ℕ) (blob : Contents A) → Spells blob bytes → blob_at bytes ≡ Ok blob }
+    ensures spelled { (bytes : List ℕ) (blob : Contents A) → AreBytes bytes → blob_at bytes ≡ Ok blob →
         Spells blob bytes }
 {}
 
 /// Each byte list spells at most one blob.
 pub fn no_bytes_spell_two<A: AllocHandle>()
-    ensures { (bytes : List ℕ) (a b : Blob A) → Spells a bytes → Spells b bytes → a ≡ b }
+    ensures { (bytes : List ℕ) (a b : Contents A) → Spells a bytes → Spells b bytes → a ≡ b }
 {}
 
 /// What is written for a list spells that list, without its groups that have no change.
 pub fn written_is_spelled<A: AllocHandle>()
-    ensures { (blob : Blob A) → IsWritable blob → Spells (with_some blob) (blob_bytes blob) }
+    ensures { (blob : Contents A) → IsWritable blob → Spells (with_some blob) (blob_bytes blob) }
 {}
 
 /// What was written for a list reads as that list, without its groups that have no change.
 pub fn written_is_read_again<A: AllocHandle>()
-    ensures { (blob : Blob A) → IsWritable blob → blob_at (blob_bytes blob) ≡ Ok (with_some blob) }
+    ensures { (blob : Contents A) → IsWritable blob → blob_at (blob_bytes blob) ≡ Ok (with_some blob) }
 {}
 
 /// No two lists of groups with changes have the same bytes, of changesets or of patchsets.
 pub fn no_two_have_the_same_bytes<A: AllocHandle>()
-    ensures { (a b : Blob A) → IsWritable a → IsWritable b → HasNoEmptyGroup a → HasNoEmptyGroup b →
+    ensures { (a b : Contents A) → IsWritable a → IsWritable b → HasNoEmptyGroup a → HasNoEmptyGroup b →
         blob_bytes a ≡ blob_bytes b → a ≡ b }
 {}
 

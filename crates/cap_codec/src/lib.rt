@@ -30,7 +30,7 @@ pub use laws::{
     a_fault_lasts, no_bytes_spell_two, no_two_have_the_same_bytes, read_is_spelled,
     written_is_read_again, written_is_spelled,
 };
-pub use read::{Blob, read_blob};
+pub use read::{Contents, read_blob};
 pub use stream::{ReadFault, WriteFault, read_from, write_changes_to, write_patches_to};
 pub use writable::{changes_are_writable, patches_are_writable};
 pub use write::{write_changes, write_patches};

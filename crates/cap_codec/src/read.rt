@@ -3,7 +3,7 @@
 ghost use Rattle.std.specs.Prelude.{◌≡◌, length, Ok, IfOk};
 ghost use Rattle.cap_value.specs.Memory.{AnswersUnlessMemory};
 ghost use Rattle.cap_codec.specs.Reading.{Gives};
-ghost use Rattle.cap_codec.specs.declared.read.Blob.{Blob as Contents};
+ghost use Rattle.cap_codec.specs.declared.read.Contents.{Contents as Spelled};
 ghost use Rattle.cap_codec.specs.BlobReading as blob;
 ghost use Rattle.cap_codec.specs.BlobReading.{group_at, patch_group_at, groups_at, blob_at};
 ghost use Rattle.cap_codec.specs.Spelling.{Spells};
@@ -17,7 +17,7 @@ use cap_value::{AllocHandle, Fault};
 
 /// What is in a blob.
 #[derive(Drop)]
-pub enum Blob<A: AllocHandle> {
+pub enum Contents<A: AllocHandle> {
     /// A changeset, or no bytes at all.
     Changes(ChangeList<A>),
     /// A patchset.
@@ -82,13 +82,13 @@ fn take_patch_groups<A: AllocHandle>(
 }
 
 #[tactic(auto, unfolding(crate::specs::BlobReading::blob_at))]
-fn take_blob<A: AllocHandle>(alloc: A, bytes: &[u8]) -> Result<Blob<A>, Fault<BlobFault>>
+fn take_blob<A: AllocHandle>(alloc: A, bytes: &[u8]) -> Result<Contents<A>, Fault<BlobFault>>
     ensures { AnswersUnlessMemory result (blob_at bytes.now) }
 {
     match bytes {
-        [] => Ok(Blob::Changes(ChangeList::new(alloc))),
-        [CHANGESET, ..] => Ok(Blob::Changes(take_groups(alloc, bytes.len(), bytes)?)),
-        [PATCHSET, ..] => Ok(Blob::Patches(take_patch_groups(alloc, bytes.len(), bytes)?)),
+        [] => Ok(Contents::Changes(ChangeList::new(alloc))),
+        [CHANGESET, ..] => Ok(Contents::Changes(take_groups(alloc, bytes.len(), bytes)?)),
+        [PATCHSET, ..] => Ok(Contents::Patches(take_patch_groups(alloc, bytes.len(), bytes)?)),
         _ => Err(Fault::Refused(BlobFault {
             at: 0,
             kind: FaultKind::BadHeader,
@@ -98,11 +98,11 @@ fn take_blob<A: AllocHandle>(alloc: A, bytes: &[u8]) -> Result<Blob<A>, Fault<Bl
 
 /// What is in these bytes, all of them: a changeset or a patchset, of this program or of another. Refused
 /// with the first fault from left to right where they are no blob.
-pub fn read_blob<A: AllocHandle>(alloc: A, bytes: &[u8]) -> Result<Blob<A>, Fault<BlobFault>>
+pub fn read_blob<A: AllocHandle>(alloc: A, bytes: &[u8]) -> Result<Contents<A>, Fault<BlobFault>>
     // What is read is spelled by the bytes, all of them.
     ensures spelled { IfOk result (λ blob. Spells blob bytes.now) }
     // What the bytes spell is read, and no fault is answered.
-    ensures read { (blob : Contents A) → Spells blob bytes.now → AnswersUnlessMemory result (Ok blob) }
+    ensures read { (blob : Spelled A) → Spells blob bytes.now → AnswersUnlessMemory result (Ok blob) }
     // Which fault it is.
     ensures answers { AnswersUnlessMemory result (blob_at bytes.now) }
 {

@@ -32,10 +32,10 @@ const PATCHES: [u8; 31] = [
     0, 0, 0, 1,
 ];
 
-fn is_insert(alloc: Global, blob: &Blob<Global>) -> Result<bool, Fail> {
+fn is_insert(alloc: Global, blob: &Contents<Global>) -> Result<bool, Fail> {
     match blob {
-        Blob::Changes(list) => Ok(write_changes(alloc, list)?.as_slice() == INSERT.as_slice()),
-        Blob::Patches(_list) => Ok(false),
+        Contents::Changes(list) => Ok(write_changes(alloc, list)?.as_slice() == INSERT.as_slice()),
+        Contents::Patches(_list) => Ok(false),
     }
 }
 
@@ -70,8 +70,8 @@ fn reads_in_pieces(alloc: Global, bytes: &[u8], len: usize) -> Result<bool, Fail
         decoder.feed(piece)?;
     }
     let written = match decoder.finish()? {
-        Blob::Changes(list) => write_changes(alloc, &list)?,
-        Blob::Patches(list) => write_patches(alloc, &list)?,
+        Contents::Changes(list) => write_changes(alloc, &list)?,
+        Contents::Patches(list) => write_patches(alloc, &list)?,
     };
     Ok(written.as_slice() == bytes)
 }
@@ -215,7 +215,7 @@ impl Write for Sink {
 #[test]
 fn a_write_that_fails(rt: HostRuntime) -> Result<(), Fail> {
     let alloc = rt.alloc();
-    let Blob::Changes(list) = read_blob(alloc, &INSERT)? else {
+    let Contents::Changes(list) = read_blob(alloc, &INSERT)? else {
         return Err(Fail::from("no changeset"));
     };
     // Two writes of seven bytes and one of six.
@@ -238,7 +238,7 @@ fn a_write_that_fails(rt: HostRuntime) -> Result<(), Fail> {
 
 fn update_patch(rt: &impl Abort, alloc: Global) -> Result<PatchList<Global>, Fail> {
     match read_blob(alloc, &UPDATE_PATCH) {
-        Ok(Blob::Patches(list)) => Ok(list),
+        Ok(Contents::Patches(list)) => Ok(list),
         _ => {
             assert!(rt; false);
             Ok(PatchList::new(alloc))
@@ -278,12 +278,12 @@ fn want_of_memory(rt: HostRuntime) -> Result<(), Fail> {
         let both_fit = first_fits && second == Ok(());
         assert!(rt; first_fits || first == Err(Fault::OutOfMemory));
         match decoder.finish() {
-            Ok(Blob::Changes(_list)) => {
+            Ok(Contents::Changes(_list)) => {
                 if both_fit {
                     return Ok(());
                 }
             }
-            Ok(Blob::Patches(_list)) => assert!(rt; false),
+            Ok(Contents::Patches(_list)) => assert!(rt; false),
             Err(_fault) => {}
         }
     }
@@ -296,13 +296,13 @@ fn want_of_memory_for_a_patchset(rt: HostRuntime) -> Result<(), Fail> {
     for units in 0..512 {
         let heap = LocalHeap::new(rt.alloc(), units * 16)?;
         match read_blob(&heap, &UPDATE_PATCH) {
-            Ok(Blob::Patches(list)) => {
+            Ok(Contents::Patches(list)) => {
                 if let Ok(bytes) = write_patches(&heap, &list) {
                     assert_eq!(rt; bytes.as_slice(), UPDATE_PATCH.as_slice());
                     return Ok(());
                 }
             }
-            Ok(Blob::Changes(_list)) => assert!(rt; false),
+            Ok(Contents::Changes(_list)) => assert!(rt; false),
             Err(fault) => assert!(rt; fault == Fault::OutOfMemory),
         }
     }

@@ -206,7 +206,7 @@ const INSERT_ONE: [u8; 20] = [
 
 fn changes_in(alloc: Global, bytes: &[u8]) -> Option<ChangeList<Global>> {
     match read_blob(alloc, bytes) {
-        Ok(Blob::Changes(list)) => Some(list),
+        Ok(Contents::Changes(list)) => Some(list),
         _ => None,
     }
 }
@@ -290,10 +290,10 @@ fn a_patchset_reads_again(rt: HostRuntime) -> Result<(), Fail> {
     let delete: [u8; 17] = [0x50, 2, 1, 0, 0x74, 0, 0x09, 0, 1, 0, 0, 0, 0, 0, 0, 0, 1];
     match read_blob(alloc, &delete) {
         Ok(blob) => match blob {
-            Blob::Patches(list) => {
+            Contents::Patches(list) => {
                 assert_eq!(rt; write_patches(alloc, &list)?.as_slice(), delete.as_slice());
             }
-            Blob::Changes(_list) => assert!(rt; false),
+            Contents::Changes(_list) => assert!(rt; false),
         },
         Err(_fault) => assert!(rt; false),
     }

@@ -2,7 +2,7 @@
 
 ghost use Rattle.std.specs.Prelude.{◌≡◌, All, IfSome, Ok};
 ghost use Rattle.cap_value.specs.Value.{IsValue};
-ghost use Rattle.cap_codec.specs.declared.read.Blob.TheVariants as kinds;
+ghost use Rattle.cap_codec.specs.declared.read.Contents.TheVariants as kinds;
 ghost use Rattle.cap_codec.specs.BlobReading.{blob_at};
 ghost use Rattle.cap_codec.specs.Changeset.{list_bytes};
 ghost use Rattle.cap_codec.specs.Patchset.{patch_list_bytes};

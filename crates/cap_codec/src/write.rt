@@ -1,14 +1,13 @@
 //! Changesets and patchsets as bytes.
 
-ghost use Rattle.std.specs.Prelude.{◌≡◌, ◌++◌, ◌∷◌, [], OnOk, IfOk};
+ghost use Rattle.std.specs.Prelude.{◌≡◌, ◌++◌, ◌∷◌, [], ℕ, List, OnOk, IfOk};
 ghost use Rattle.std.specs.List.{flat_map};
-ghost use Rattle.cap_codec.specs.Changeset.{mark, flags_bytes, header_bytes};
-ghost use Rattle.cap_codec.specs.Changeset.{change_bytes, group_bytes, list_bytes};
-ghost use Rattle.cap_codec.specs.Patchset.{patch_bytes, patch_group_bytes, patch_list_bytes};
+ghost use Rattle.cap_codec.specs.Changeset.{mark, flags_bytes, header_bytes, entries_bytes, list_bytes};
+ghost use Rattle.cap_codec.specs.Patchset.{patch_list_bytes};
 
 use crate::field::{push_key, push_record};
 use crate::varint::push_varint;
-use cap_changes::{Change, ChangeList, Group, Patch, PatchGroup, PatchList};
+use cap_changes::{Change, ChangeList, Entry, GroupList, Patch, PatchList, TableGroup};
 use cap_row::Schema;
 use cap_value::{AllocHandle, Name, OutOfMemory};
 
@@ -61,49 +60,119 @@ fn push_operation<A: AllocHandle>(
     Ok(())
 }
 
-fn push_change<A: AllocHandle>(out: &mut Vec<u8, A>, change: &Change<A>) -> Result<(), OutOfMemory>
-    ensures { OnOk result (out.new.items ≡ out.old.items ++ change_bytes change.now) }
-{
-    match change {
-        Change::Insert { indirect, new } => {
-            push_operation(out, INSERT, *indirect)?;
-            push_record(out, new.fields())?;
-        }
-        Change::Update { indirect, old, new } => {
-            push_operation(out, UPDATE, *indirect)?;
-            push_record(out, old.fields())?;
-            push_record(out, new.fields())?;
-        }
-        Change::Delete { indirect, old } => {
-            push_operation(out, DELETE, *indirect)?;
-            push_record(out, old.fields())?;
-        }
-    }
-    Ok(())
+/// What a group holds, as bytes.
+pub trait Encode<A: AllocHandle>: Entry {
+    // The byte that begins a group of these.
+    ghost kind: { ℕ };
+    // The bytes of one.
+    ghost bytes: { Self → List ℕ };
+
+    /// The byte that begins a group of these.
+    fn kind() -> u8
+        ensures { result ≡ kind };
+
+    /// Puts its bytes last.
+    fn push_to(&self, out: &mut Vec<u8, A>) -> Result<(), OutOfMemory>
+        ensures { OnOk result (out.new.items ≡ out.old.items ++ bytes self.now) };
 }
 
-fn push_changes<A: AllocHandle>(
+impl<A: AllocHandle> Encode<A> for Change<A> {
+    ghost use Rattle.cap_codec.specs.Changeset.{change_bytes};
+
+    ghost kind = { 0x54 };
+    ghost bytes = { λ change. change_bytes change };
+
+    fn kind() -> u8 {
+        CHANGESET
+    }
+
+    fn push_to(&self, out: &mut Vec<u8, A>) -> Result<(), OutOfMemory> {
+        match self {
+            Change::Insert { indirect, new } => {
+                push_operation(out, INSERT, *indirect)?;
+                push_record(out, new.fields())?;
+            }
+            Change::Update { indirect, old, new } => {
+                push_operation(out, UPDATE, *indirect)?;
+                push_record(out, old.fields())?;
+                push_record(out, new.fields())?;
+            }
+            Change::Delete { indirect, old } => {
+                push_operation(out, DELETE, *indirect)?;
+                push_record(out, old.fields())?;
+            }
+        }
+        Ok(())
+    }
+}
+
+impl<A: AllocHandle> Encode<A> for Patch<A> {
+    ghost use Rattle.cap_codec.specs.Patchset.{patch_bytes};
+
+    ghost kind = { 0x50 };
+    ghost bytes = { λ patch. patch_bytes patch };
+
+    fn kind() -> u8 {
+        PATCHSET
+    }
+
+    fn push_to(&self, out: &mut Vec<u8, A>) -> Result<(), OutOfMemory> {
+        match self {
+            Patch::Insert { indirect, new } => {
+                push_operation(out, INSERT, *indirect)?;
+                push_record(out, new.fields())?;
+            }
+            Patch::Update { indirect, new } => {
+                push_operation(out, UPDATE, *indirect)?;
+                push_record(out, new.fields())?;
+            }
+            Patch::Delete { indirect, key } => {
+                push_operation(out, DELETE, *indirect)?;
+                push_key(out, key.fields())?;
+            }
+        }
+        Ok(())
+    }
+}
+
+fn push_changes<C: Encode<A>, A: AllocHandle>(
     out: &mut Vec<u8, A>,
-    changes: &[Change<A>],
+    changes: &[C],
 ) -> Result<(), OutOfMemory>
-    ensures { OnOk result (out.new.items ≡ out.old.items ++ flat_map change_bytes changes.now) }
+    ensures { OnOk result (out.new.items ≡ out.old.items ++ flat_map C.bytes changes.now) }
 {
     for change in changes {
-        push_change(out, change)?;
+        change.push_to(out)?;
     }
     Ok(())
 }
 
 /// Puts a group last. A group without changes has no bytes.
-fn push_group<A: AllocHandle>(out: &mut Vec<u8, A>, group: &Group<A>) -> Result<(), OutOfMemory>
-    ensures { OnOk result (out.new.items ≡ out.old.items ++ group_bytes group.now) }
+fn push_group<C: Encode<A>, A: AllocHandle>(
+    out: &mut Vec<u8, A>,
+    group: &TableGroup<C, A>,
+) -> Result<(), OutOfMemory>
+    ensures { OnOk result (out.new.items ≡ out.old.items ++ entries_bytes C.kind C.bytes group.now) }
 {
     let changes = group.changes();
     if changes.is_empty() {
         return Ok(());
     }
-    push_header(out, CHANGESET, group.table(), group.schema())?;
+    push_header(out, C::kind(), group.table(), group.schema())?;
     push_changes(out, changes)
+}
+
+fn write_groups<C: Encode<A>, A: AllocHandle>(
+    alloc: A,
+    list: &GroupList<C, A>,
+) -> Result<Vec<u8, A>, OutOfMemory>
+    ensures { IfOk result (λ bytes. bytes.items ≡ flat_map (entries_bytes C.kind C.bytes) list.now) }
+{
+    let mut out = Vec::new(alloc);
+    for group in list.groups() {
+        push_group(&mut out, group)?;
+    }
+    Ok(out)
 }
 
 /// The bytes of a changeset: its groups one after the other, in the list's order (The Session Extension,
@@ -114,58 +183,7 @@ pub fn write_changes<A: AllocHandle>(
 ) -> Result<Vec<u8, A>, OutOfMemory>
     ensures { IfOk result (λ bytes. bytes.items ≡ list_bytes list.now) }
 {
-    let mut out = Vec::new(alloc);
-    for group in list.groups() {
-        push_group(&mut out, group)?;
-    }
-    Ok(out)
-}
-
-fn push_patch<A: AllocHandle>(out: &mut Vec<u8, A>, patch: &Patch<A>) -> Result<(), OutOfMemory>
-    ensures { OnOk result (out.new.items ≡ out.old.items ++ patch_bytes patch.now) }
-{
-    match patch {
-        Patch::Insert { indirect, new } => {
-            push_operation(out, INSERT, *indirect)?;
-            push_record(out, new.fields())?;
-        }
-        Patch::Update { indirect, new } => {
-            push_operation(out, UPDATE, *indirect)?;
-            push_record(out, new.fields())?;
-        }
-        Patch::Delete { indirect, key } => {
-            push_operation(out, DELETE, *indirect)?;
-            push_key(out, key.fields())?;
-        }
-    }
-    Ok(())
-}
-
-fn push_patches<A: AllocHandle>(
-    out: &mut Vec<u8, A>,
-    patches: &[Patch<A>],
-) -> Result<(), OutOfMemory>
-    ensures { OnOk result (out.new.items ≡ out.old.items ++ flat_map patch_bytes patches.now) }
-{
-    for patch in patches {
-        push_patch(out, patch)?;
-    }
-    Ok(())
-}
-
-/// Puts a group of a patchset last. A group without patches has no bytes.
-fn push_patch_group<A: AllocHandle>(
-    out: &mut Vec<u8, A>,
-    group: &PatchGroup<A>,
-) -> Result<(), OutOfMemory>
-    ensures { OnOk result (out.new.items ≡ out.old.items ++ patch_group_bytes group.now) }
-{
-    let patches = group.changes();
-    if patches.is_empty() {
-        return Ok(());
-    }
-    push_header(out, PATCHSET, group.table(), group.schema())?;
-    push_patches(out, patches)
+    write_groups(alloc, list)
 }
 
 /// The bytes of a patchset: its groups one after the other, in the list's order (The Session Extension,
@@ -176,9 +194,5 @@ pub fn write_patches<A: AllocHandle>(
 ) -> Result<Vec<u8, A>, OutOfMemory>
     ensures { IfOk result (λ bytes. bytes.items ≡ patch_list_bytes list.now) }
 {
-    let mut out = Vec::new(alloc);
-    for patches in list.groups() {
-        push_patch_group(&mut out, patches)?;
-    }
-    Ok(out)
+    write_groups(alloc, list)
 }

@@ -4,7 +4,7 @@
 
 ghost use Rattle.std.specs.Prelude.{◌<◌};
 
-use cap_codec::{Blob, Decoder, FaultKind, read_blob, write_changes, write_patches};
+use cap_codec::{Contents, Decoder, FaultKind, read_blob, write_changes, write_patches};
 use cap_value::Fault;
 use std::alloc::{AllocError, Global};
 use std::process::ExitCode;
@@ -84,15 +84,15 @@ fn fault_number(kind: FaultKind) -> usize
     }
 }
 
-fn write(alloc: Global, blob: &Blob<Global>) -> Result<Vec<u8>, AllocError> {
+fn write(alloc: Global, blob: &Contents<Global>) -> Result<Vec<u8>, AllocError> {
     match blob {
-        Blob::Changes(list) => write_changes(alloc, list),
-        Blob::Patches(list) => write_patches(alloc, list),
+        Contents::Changes(list) => write_changes(alloc, list),
+        Contents::Patches(list) => write_patches(alloc, list),
     }
 }
 
 /// Whether the blob reads the same when it is written and read.
-fn reads_again(alloc: Global, blob: &Blob<Global>) -> Result<bool, AllocError> {
+fn reads_again(alloc: Global, blob: &Contents<Global>) -> Result<bool, AllocError> {
     let written = write(alloc, blob)?;
     match read_blob(alloc, &written) {
         Ok(again) => Ok(write(alloc, &again)?.as_slice() == written.as_slice()),
@@ -102,7 +102,7 @@ fn reads_again(alloc: Global, blob: &Blob<Global>) -> Result<bool, AllocError> {
 }
 
 /// The answer for a blob that is fed byte by byte.
-fn read_slowly(alloc: Global, bytes: &[u8]) -> Result<Blob<Global>, Fault<cap_codec::BlobFault>> {
+fn read_slowly(alloc: Global, bytes: &[u8]) -> Result<Contents<Global>, Fault<cap_codec::BlobFault>> {
     let mut decoder = Decoder::new(alloc);
     for byte in bytes {
         decoder.feed(&[*byte])?;

@@ -3,7 +3,7 @@
 #![tactic(auto)]
 
 use cap_changes::{Change, ChangeList, Group, Record};
-use cap_codec::{Blob, Decoder, read_blob, write_changes};
+use cap_codec::{Contents, Decoder, read_blob, write_changes};
 use cap_row::Schema;
 use cap_value::{Name, Value};
 use std::alloc::Global;
@@ -41,7 +41,7 @@ fn inserts(alloc: Global) -> Option<ChangeList<Global>> {
     Some(list)
 }
 
-fn in_pieces(alloc: Global, bytes: &[u8]) -> Option<Blob<Global>> {
+fn in_pieces(alloc: Global, bytes: &[u8]) -> Option<Contents<Global>> {
     let mut decoder = Decoder::new(alloc);
     for piece in bytes.chunks(PIECE_LEN) {
         decoder.feed(piece).ok()?;
@@ -49,10 +49,10 @@ fn in_pieces(alloc: Global, bytes: &[u8]) -> Option<Blob<Global>> {
     decoder.finish().ok()
 }
 
-fn is_written_so(alloc: Global, blob: &Blob<Global>, bytes: &[u8]) -> Option<bool> {
+fn is_written_so(alloc: Global, blob: &Contents<Global>, bytes: &[u8]) -> Option<bool> {
     match blob {
-        Blob::Changes(list) => Some(write_changes(alloc, list).ok()?.as_slice() == bytes),
-        Blob::Patches(_) => Some(false),
+        Contents::Changes(list) => Some(write_changes(alloc, list).ok()?.as_slice() == bytes),
+        Contents::Patches(_) => Some(false),
     }
 }
 

@@ -1,6 +1,6 @@
 use Rattle.std.proofs.Common.{rules}
 use Rattle.std.proofs.lemmas.Result.{err_from_is_err_and}
-use Rattle.cap_codec.specs.declared.read.Blob.{Blob}
+use Rattle.cap_codec.specs.declared.read.Contents.{Contents}
 use Rattle.cap_codec.proofs.StreamLemmas.{reads_whole, reads_fault, kept_fed, more_fed, counted_more, all_went, ends_err}
 use Rattle.cap_codec.proofs.stream.read_from.Goals as goal
 
@@ -15,7 +15,7 @@ returns-then-count-eq0-clause-told g c =
 pub returns-in_err-finish-clause-told : goal.returns-in_err-finish-clause-told
 returns-in_err-finish-clause-told g c =
     let p = err_from_is_err_and c.from_residual.result c.from_residual.ensures.1 in
-    rw (p.1, p.2) (ends_err g.R.Source.gave g.R.Source.failed (Blob g.row.A.Denot) c.in_err-finish.field-0.0 c.args.reader.now c.read_some.new.self
+    rw (p.1, p.2) (ends_err g.R.Source.gave g.R.Source.failed (Contents g.row.A.Denot) c.in_err-finish.field-0.0 c.args.reader.now c.read_some.new.self
     (all_went g.R.Source.gave g.R.Source.failed c.loop.counter c.args.reader.now c.loop.reader c.read_some.new.self c.loop.invariant.went c.in-Ok.ensures.told))
 
 pub returns-in_err-feed-clause-blob : goal.returns-in_err-feed-clause-blob
@@ -26,7 +26,7 @@ returns-in_err-feed-clause-blob g c =
 pub returns-in_err-feed-clause-told : goal.returns-in_err-feed-clause-told
 returns-in_err-feed-clause-told g c =
     let p = err_from_is_err_and c.from_residual-in_err-feed.result c.from_residual-in_err-feed.ensures.1 in
-    rw (p.1, p.2) (ends_err g.R.Source.gave g.R.Source.failed (Blob g.row.A.Denot) c.in_err-feed.field-0.0 c.args.reader.now c.read_some.new.self
+    rw (p.1, p.2) (ends_err g.R.Source.gave g.R.Source.failed (Contents g.row.A.Denot) c.in_err-feed.field-0.0 c.args.reader.now c.read_some.new.self
     (all_went g.R.Source.gave g.R.Source.failed c.loop.counter c.args.reader.now c.loop.reader c.read_some.new.self c.loop.invariant.went c.in-Ok.ensures.told))
 
 pub loop-preserved : goal.loop-preserved

@@ -1,6 +1,6 @@
 use Rattle.std.proofs.Common.{subst}
 use Rattle.std.specs.Prelude.{All}
-use Rattle.cap_codec.specs.declared.read.Blob.TheVariants.{Changes}
+use Rattle.cap_codec.specs.declared.read.Contents.TheVariants.{Changes}
 use Rattle.cap_codec.specs.Writable.{IsGroup}
 use Rattle.cap_codec.proofs.BlobAgain.{written_again}
 use Rattle.cap_codec.proofs.WritableLemmas.{all_more, all_of}

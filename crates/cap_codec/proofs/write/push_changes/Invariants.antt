@@ -1,7 +1,6 @@
 use Rattle.std.proofs.Common.{◌≡◌, ◌++◌, take}
 use Rattle.std.specs.List.{flat_map}
-use Rattle.cap_codec.specs.Changeset.{change_bytes}
 use Rattle.cap_codec.proofs.write.push_changes.Given as goal
 
 abbrev pub invariant-loop-change : goal.invariant-loop-change
-invariant-loop-change g l = l.out.items ≡ l.fn.out.items ++ flat_map change_bytes (take l.change-index l.changes)
+invariant-loop-change g l = l.out.items ≡ l.fn.out.items ++ flat_map g.C.Encode.bytes (take l.change-index l.changes)
