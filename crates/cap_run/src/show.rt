@@ -5,7 +5,7 @@ ghost use Rattle.cap_run.specs.Show.{show_fault};
 use crate::RunFault;
 use crate::input::read_whole;
 use crate::script::{write_changeset, write_patchset};
-use cap_codec::{Blob, read_blob};
+use cap_codec::{Contents, read_blob};
 use cap_value::{AllocHandle, Fault};
 use hex::FromHexError;
 use std::io::{BufWriter, Read, Write};
@@ -31,7 +31,7 @@ pub fn show_blob<A: AllocHandle, R: Read, W: Write>(
 }
 
 /// The blob that the reader gives.
-fn take_blob<A: AllocHandle, R: Read>(alloc: A, reader: &mut R) -> Result<Blob<A>, RunFault>
+fn take_blob<A: AllocHandle, R: Read>(alloc: A, reader: &mut R) -> Result<Contents<A>, RunFault>
     ensures refused { IfSome (R.remaining reader.old) (λ given. IfSome (show_fault A given)
         (λ fault. IsErrAnd result (λ f. (f ≡ fault) ⊎ IsUnread f))) }
     ensures just { IfSome (R.remaining reader.old) (λ given. IfErr result (λ fault. exit_status fault ≡ 1 → show_fault A given ≡ Some fault)) }
@@ -41,7 +41,7 @@ fn take_blob<A: AllocHandle, R: Read>(alloc: A, reader: &mut R) -> Result<Blob<A
 }
 
 /// The blob whose hex digits these are.
-fn blob_of<A: AllocHandle>(alloc: A, text: &[u8]) -> Result<Blob<A>, RunFault>
+fn blob_of<A: AllocHandle>(alloc: A, text: &[u8]) -> Result<Contents<A>, RunFault>
     ensures refused { IfSome (show_fault A text.now) (λ fault. IsErrAnd result (λ f. (f ≡ fault) ⊎ IsUnread f)) }
     ensures just { IfErr result (λ fault. exit_status fault ≡ 1 → show_fault A text.now ≡ Some fault) }
 {
@@ -59,15 +59,15 @@ fn blob_of<A: AllocHandle>(alloc: A, text: &[u8]) -> Result<Blob<A>, RunFault>
 /// Writes what is in the blob, through a buffer.
 fn write_blob<A: AllocHandle, W: Write>(
     alloc: A,
-    blob: &Blob<A>,
+    blob: &Contents<A>,
     writer: &mut W,
 ) -> Result<(), RunFault>
     ensures { IfErr result (λ fault. exit_status fault ≡ 3) }
 {
     let mut output = BufWriter::new(alloc, writer).map_err(|_| RunFault::Memory)?;
     let written = match blob {
-        Blob::Changes(changes) => write_changeset(changes, &mut output),
-        Blob::Patches(patches) => write_patchset(patches, &mut output),
+        Contents::Changes(changes) => write_changeset(changes, &mut output),
+        Contents::Patches(patches) => write_patchset(patches, &mut output),
     };
     written.map_err(|_| RunFault::Write)?;
     output.flush().map_err(|_| RunFault::Write)
