@@ -88,22 +88,30 @@ module _ {A : Type 0} where
   group_again : (total : ℕ) (group : TableChanges A) (front : List ℕ) → SpellsChanges group front
       → (behind : List ℕ) × (front ≡ 0x54 ∷ behind) × ((rest : List ℕ) → NoChange rest → group_at total (behind ++ rest) ≡ Ok (group, rest))
   unfolding group_at
-  group_again total group front is = (varint_bytes (length group.schema) ++ is.flags ++ group.table ++ 0 ∷ is.rest, is.parts, λ rest stops.
-      ap (group_at total) (append_assoc (varint_bytes (length group.schema) ++ is.flags ++ group.table) (0 ∷ is.rest) rest)
-      ∙ rw (
-        header_again total group.table group.schema is.flags (is.rest ++ rest) is.named is.flagged,
-        each_again change_at total group.schema (SpellsChange group.schema) (change_again total group.schema) (length (is.rest ++ rest)) group.changes is.rest rest (omega arith) is.each stops,
-      ) refl)
+  group_again total group front is = (
+    varint_bytes (length group.schema) ++ is.flags ++ group.table ++ 0 ∷ is.rest,
+    is.parts,
+    λ rest stops.
+        ap (group_at total) (append_assoc (varint_bytes (length group.schema) ++ is.flags ++ group.table) (0 ∷ is.rest) rest)
+        ∙ rw (
+          header_again total group.table group.schema is.flags (is.rest ++ rest) is.named is.flagged,
+          each_again change_at total group.schema (SpellsChange group.schema) (change_again total group.schema) (length (is.rest ++ rest)) group.changes is.rest rest (omega arith) is.each stops,
+        ) refl,
+  )
 
   patch_group_again : (total : ℕ) (group : TablePatches A) (front : List ℕ) → SpellsPatches group front
       → (behind : List ℕ) × (front ≡ 0x50 ∷ behind) × ((rest : List ℕ) → NoChange rest → patch_group_at total (behind ++ rest) ≡ Ok (group, rest))
   unfolding patch_group_at
-  patch_group_again total group front is = (varint_bytes (length group.schema) ++ is.flags ++ group.table ++ 0 ∷ is.rest, is.parts, λ rest stops.
-      ap (patch_group_at total) (append_assoc (varint_bytes (length group.schema) ++ is.flags ++ group.table) (0 ∷ is.rest) rest)
-      ∙ rw (
-        header_again total group.table group.schema is.flags (is.rest ++ rest) is.named is.flagged,
-        each_again patch_at total group.schema (SpellsPatch group.schema) (patch_again total group.schema) (length (is.rest ++ rest)) group.changes is.rest rest (omega arith) is.each stops,
-      ) refl)
+  patch_group_again total group front is = (
+    varint_bytes (length group.schema) ++ is.flags ++ group.table ++ 0 ∷ is.rest,
+    is.parts,
+    λ rest stops.
+        ap (patch_group_at total) (append_assoc (varint_bytes (length group.schema) ++ is.flags ++ group.table) (0 ∷ is.rest) rest)
+        ∙ rw (
+          header_again total group.table group.schema is.flags (is.rest ++ rest) is.named is.flagged,
+          each_again patch_at total group.schema (SpellsPatch group.schema) (patch_again total group.schema) (length (is.rest ++ rest)) group.changes is.rest rest (omega arith) is.each stops,
+        ) refl,
+  )
 
 -- ---- the groups of a blob
 
@@ -250,8 +258,8 @@ module _ {A : Type 0} where
   groups_written [] is = tt
   groups_written (group ∷ groups) is = (
     by_entries 0x54 change_bytes (SpellsChange group.schema) group.table group.schema group.changes (under_header 0x54 group.table group.schema (SpellsChange group.schema) group.changes (flat_map change_bytes group.changes) is.0.table
-    (each_written (SpellsChange group.schema) change_bytes group.changes
-    (changes_written group.schema group.changes (recursion_from_All (λ change. IsTrue (change_fits group.schema change)) group.changes is.0.fit) (recursion_from_All HasValues group.changes is.0.values)))),
+        (each_written (SpellsChange group.schema) change_bytes group.changes
+        (changes_written group.schema group.changes (recursion_from_All (λ change. IsTrue (change_fits group.schema change)) group.changes is.0.fit) (recursion_from_All HasValues group.changes is.0.values)))),
     groups_written groups is.1,
   )
 
@@ -259,8 +267,8 @@ module _ {A : Type 0} where
   patch_groups_written [] is = tt
   patch_groups_written (group ∷ groups) is = (
     by_entries 0x50 patch_bytes (SpellsPatch group.schema) group.table group.schema group.changes (under_header 0x50 group.table group.schema (SpellsPatch group.schema) group.changes (flat_map patch_bytes group.changes) is.0.table
-    (each_written (SpellsPatch group.schema) patch_bytes group.changes
-    (patches_written group.schema group.changes (recursion_from_All (λ patch. IsTrue (patch_fits group.schema patch)) group.changes is.0.fit) (recursion_from_All PatchHasValues group.changes is.0.values)))),
+        (each_written (SpellsPatch group.schema) patch_bytes group.changes
+        (patches_written group.schema group.changes (recursion_from_All (λ patch. IsTrue (patch_fits group.schema patch)) group.changes is.0.fit) (recursion_from_All PatchHasValues group.changes is.0.values)))),
     patch_groups_written groups is.1,
   )
 

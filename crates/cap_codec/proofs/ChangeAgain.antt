@@ -127,9 +127,14 @@ module _ {A : Type 0} where
   change_again total flags (changed.Insert indirect new) front (fits, values, (mark, marked, parts)) =
       (0x12, mark ∷ record_bytes new, parts, refl, λ rest. rw (full_again total flags new rest fits values, marked) refl)
   change_again total flags (changed.Update indirect old new) front (fits, values, (mark, marked, parts)) =
-      let met = meets_update flags old new fits in
-      (0x17, mark ∷ (record_bytes old ++ record_bytes new), parts, refl, λ rest.
-      rw (append_assoc (record_bytes old) (record_bytes new) rest, keyed_again total flags old (record_bytes new ++ rest) met.0 values.0, new_again total flags old new rest met.1 values.1, marked) refl)
+      let met = meets_update flags old new fits in (
+        0x17,
+        mark ∷ (record_bytes old ++ record_bytes new),
+        parts,
+        refl,
+        λ rest.
+            rw (append_assoc (record_bytes old) (record_bytes new) rest, keyed_again total flags old (record_bytes new ++ rest) met.0 values.0, new_again total flags old new rest met.1 values.1, marked) refl,
+      )
   change_again total flags (changed.Delete indirect old) front (fits, values, (mark, marked, parts)) =
       (0x09, mark ∷ record_bytes old, parts, refl, λ rest. rw (full_again total flags old rest fits values, marked) refl)
 

@@ -225,9 +225,10 @@ sized_spelled total at bytes x low e =
     let small = guard_ok (nat_lt BYTES_MAX count.0.0) _ _ x count.2 in
     let parts = bytes_spelled total count.0.0 count.0.1 x small.1 in
     let low' = low_front x.0 x.1 (subst AreLow parts.0 (low_behind bytes (varint_bytes count.0.0) count.0.1 number.1 low)) in
-    let limit : count.0.0 ≤ 1000000000 = ltb-false BYTES_MAX count.0.0 small.0 in
-    ((are_bytes x.0 low', subst (λ (k : ℕ). k ≤ 1000000000) (sym parts.1) limit),
-    number.1 ∙ ap (λ (r : List ℕ). varint_bytes count.0.0 ++ r) parts.0 ∙ sym (append_assoc (varint_bytes count.0.0) x.0 x.1) ∙ ap (λ (k : ℕ). (varint_bytes k ++ x.0) ++ x.1) (sym parts.1))
+    let limit : count.0.0 ≤ 1000000000 = ltb-false BYTES_MAX count.0.0 small.0 in (
+      (are_bytes x.0 low', subst (λ (k : ℕ). k ≤ 1000000000) (sym parts.1) limit),
+      number.1 ∙ ap (λ (r : List ℕ). varint_bytes count.0.0 ++ r) parts.0 ∙ sym (append_assoc (varint_bytes count.0.0) x.0 x.1) ∙ ap (λ (k : ℕ). (varint_bytes k ++ x.0) ++ x.1) (sym parts.1),
+    )
 
 text_spelled : (total at : ℕ) (bytes : List ℕ) (x : List ℕ × List ℕ) → AreLow bytes → text_at total at bytes ≡ Ok x → IsUtf8 x.0 × IsSized bytes x
 unfolding text_at

@@ -92,26 +92,31 @@ module _ {A : Type 0} where
     | inl (insert, h) ↦
         let new = bind_ok (record_at total (demands rules.Full flags) bytes) (λ new. Ok (changed.Insert (is_set mark) new.0, new.1)) x h in
         let is = full_spelled total flags bytes new.0 low.1 new.1 in
-        subst (Begins (SpellsChange flags) op (mark ∷ bytes)) (ok_is (changed.Insert (is_set mark) new.0.0, new.0.1) x new.2)
-        (mark ∷ record_bytes new.0.0, ap (λ (b : List ℕ). mark ∷ b) is.1,
-        (full_fits total flags bytes new.0 new.1, is.0, (mark, refl, ap (λ (k : ℕ). k ∷ mark ∷ record_bytes new.0.0) (eqb-true op 0x12 insert))))
+        subst (Begins (SpellsChange flags) op (mark ∷ bytes)) (ok_is (changed.Insert (is_set mark) new.0.0, new.0.1) x new.2) (
+          mark ∷ record_bytes new.0.0,
+          ap (λ (b : List ℕ). mark ∷ b) is.1,
+          (full_fits total flags bytes new.0 new.1, is.0, (mark, refl, ap (λ (k : ℕ). k ∷ mark ∷ record_bytes new.0.0) (eqb-true op 0x12 insert))),
+        )
     | inr (no_insert, h0) ↦ elim (chosen (op == 0x17) _ _ _ h0) [
       | inl (update, h) ↦
           let old = bind_ok (record_at total (demands rules.Keyed flags) bytes) (λ old. record_at total (new_demands flags old.0) old.1 >>= (λ new. Ok (changed.Update (is_set mark) old.0 new.0, new.1))) x h in
           let new = bind_ok (record_at total (new_demands flags old.0.0) old.0.1) (λ new. Ok (changed.Update (is_set mark) old.0.0 new.0, new.1)) x old.2 in
           let first = keyed_spelled total flags bytes old.0 low.1 old.1 in
           let second = new_spelled total flags old.0.0 old.0.1 new.0 (low_behind bytes (record_bytes old.0.0) old.0.1 first.1 low.1) new.1 in
-          subst (Begins (SpellsChange flags) op (mark ∷ bytes)) (ok_is (changed.Update (is_set mark) old.0.0 new.0.0, new.0.1) x new.2)
-          (mark ∷ (record_bytes old.0.0 ++ record_bytes new.0.0),
-          ap (λ (b : List ℕ). mark ∷ b) (first.1 ∙ ap (λ (b : List ℕ). record_bytes old.0.0 ++ b) second.1 ∙ sym (append_assoc (record_bytes old.0.0) (record_bytes new.0.0) new.0.1)),
-          (update_fits total flags bytes old.0 new.0 old.1 new.1, (first.0, second.0), (mark, refl, ap (λ (k : ℕ). k ∷ mark ∷ (record_bytes old.0.0 ++ record_bytes new.0.0)) (eqb-true op 0x17 update))))
+          subst (Begins (SpellsChange flags) op (mark ∷ bytes)) (ok_is (changed.Update (is_set mark) old.0.0 new.0.0, new.0.1) x new.2) (
+            mark ∷ (record_bytes old.0.0 ++ record_bytes new.0.0),
+            ap (λ (b : List ℕ). mark ∷ b) (first.1 ∙ ap (λ (b : List ℕ). record_bytes old.0.0 ++ b) second.1 ∙ sym (append_assoc (record_bytes old.0.0) (record_bytes new.0.0) new.0.1)),
+            (update_fits total flags bytes old.0 new.0 old.1 new.1, (first.0, second.0), (mark, refl, ap (λ (k : ℕ). k ∷ mark ∷ (record_bytes old.0.0 ++ record_bytes new.0.0)) (eqb-true op 0x17 update))),
+          )
       | inr (no_update, h) ↦
           let old = bind_ok (record_at total (demands rules.Full flags) bytes) (λ old. Ok (changed.Delete (is_set mark) old.0, old.1)) x h in
           let is = full_spelled total flags bytes old.0 low.1 old.1 in
           let delete = third (op == 0x12) (op == 0x17) (op == 0x09) operation no_insert no_update in
-          subst (Begins (SpellsChange flags) op (mark ∷ bytes)) (ok_is (changed.Delete (is_set mark) old.0.0, old.0.1) x old.2)
-          (mark ∷ record_bytes old.0.0, ap (λ (b : List ℕ). mark ∷ b) is.1,
-          (full_fits total flags bytes old.0 old.1, is.0, (mark, refl, ap (λ (k : ℕ). k ∷ mark ∷ record_bytes old.0.0) (eqb-true op 0x09 delete))))
+          subst (Begins (SpellsChange flags) op (mark ∷ bytes)) (ok_is (changed.Delete (is_set mark) old.0.0, old.0.1) x old.2) (
+            mark ∷ record_bytes old.0.0,
+            ap (λ (b : List ℕ). mark ∷ b) is.1,
+            (full_fits total flags bytes old.0 old.1, is.0, (mark, refl, ap (λ (k : ℕ). k ∷ mark ∷ record_bytes old.0.0) (eqb-true op 0x09 delete))),
+          )
     ]
   ]
 
@@ -122,23 +127,29 @@ module _ {A : Type 0} where
     | inl (insert, h) ↦
         let new = bind_ok (record_at total (demands rules.Full flags) bytes) (λ new. Ok (patched.Insert (is_set mark) new.0, new.1)) x h in
         let is = full_spelled total flags bytes new.0 low.1 new.1 in
-        subst (Begins (SpellsPatch flags) op (mark ∷ bytes)) (ok_is (patched.Insert (is_set mark) new.0.0, new.0.1) x new.2)
-        (mark ∷ record_bytes new.0.0, ap (λ (b : List ℕ). mark ∷ b) is.1,
-        (full_fits total flags bytes new.0 new.1, is.0, (mark, refl, ap (λ (k : ℕ). k ∷ mark ∷ record_bytes new.0.0) (eqb-true op 0x12 insert))))
+        subst (Begins (SpellsPatch flags) op (mark ∷ bytes)) (ok_is (patched.Insert (is_set mark) new.0.0, new.0.1) x new.2) (
+          mark ∷ record_bytes new.0.0,
+          ap (λ (b : List ℕ). mark ∷ b) is.1,
+          (full_fits total flags bytes new.0 new.1, is.0, (mark, refl, ap (λ (k : ℕ). k ∷ mark ∷ record_bytes new.0.0) (eqb-true op 0x12 insert))),
+        )
     | inr (no_insert, h0) ↦ elim (chosen (op == 0x17) _ _ _ h0) [
       | inl (update, h) ↦
           let new = bind_ok (record_at total (demands rules.Keyed flags) bytes) (λ new. Ok (patched.Update (is_set mark) new.0, new.1)) x h in
           let is = keyed_spelled total flags bytes new.0 low.1 new.1 in
-          subst (Begins (SpellsPatch flags) op (mark ∷ bytes)) (ok_is (patched.Update (is_set mark) new.0.0, new.0.1) x new.2)
-          (mark ∷ record_bytes new.0.0, ap (λ (b : List ℕ). mark ∷ b) is.1,
-          (patch_record_fits total flags bytes new.0 new.1, is.0, (mark, refl, ap (λ (k : ℕ). k ∷ mark ∷ record_bytes new.0.0) (eqb-true op 0x17 update))))
+          subst (Begins (SpellsPatch flags) op (mark ∷ bytes)) (ok_is (patched.Update (is_set mark) new.0.0, new.0.1) x new.2) (
+            mark ∷ record_bytes new.0.0,
+            ap (λ (b : List ℕ). mark ∷ b) is.1,
+            (patch_record_fits total flags bytes new.0 new.1, is.0, (mark, refl, ap (λ (k : ℕ). k ∷ mark ∷ record_bytes new.0.0) (eqb-true op 0x17 update))),
+          )
       | inr (no_update, h) ↦
           let key = bind_ok (record_at total (demands rules.KeyAlone flags) bytes) (λ key. Ok (patched.Delete (is_set mark) key.0, key.1)) x h in
           let is = key_spelled total flags bytes key.0 low.1 key.1 in
           let delete = third (op == 0x12) (op == 0x17) (op == 0x09) operation no_insert no_update in
-          subst (Begins (SpellsPatch flags) op (mark ∷ bytes)) (ok_is (patched.Delete (is_set mark) key.0.0, key.0.1) x key.2)
-          (mark ∷ key_bytes key.0.0, ap (λ (b : List ℕ). mark ∷ b) is.1,
-          (key_fits total flags bytes key.0 key.1, is.0, (mark, refl, ap (λ (k : ℕ). k ∷ mark ∷ key_bytes key.0.0) (eqb-true op 0x09 delete))))
+          subst (Begins (SpellsPatch flags) op (mark ∷ bytes)) (ok_is (patched.Delete (is_set mark) key.0.0, key.0.1) x key.2) (
+            mark ∷ key_bytes key.0.0,
+            ap (λ (b : List ℕ). mark ∷ b) is.1,
+            (key_fits total flags bytes key.0 key.1, is.0, (mark, refl, ap (λ (k : ℕ). k ∷ mark ∷ key_bytes key.0.0) (eqb-true op 0x09 delete))),
+          )
     ]
   ]
 
@@ -161,10 +172,11 @@ module _ {X : Type 0} (one_at : ℕ → List Bool → ℕ → List ℕ → Resul
         let others = bind_ok (changes_at one_at most total flags first.0.1) (λ others. Ok (first.0.0 ∷ others.0, others.1)) x first.2 in
         let is = spelled op bytes first.0 low.1 operation first.1 in
         let are = each_spelled spelled most first.0.1 others.0 (low_behind bytes is.0 first.0.1 is.1 low.1) others.1 in
-        subst (Front (op ∷ bytes)) (ok_is (first.0.0 ∷ others.0.0, others.0.1) x others.2)
-        ((op ∷ is.0) ++ are.0,
-        ap (λ (b : List ℕ). op ∷ b) (is.1 ∙ ap (λ (b : List ℕ). is.0 ++ b) are.1 ∙ sym (append_assoc is.0 are.0 others.0.1)),
-        (op ∷ is.0, are.0, refl, is.2, are.2))
+        subst (Front (op ∷ bytes)) (ok_is (first.0.0 ∷ others.0.0, others.0.1) x others.2) (
+          (op ∷ is.0) ++ are.0,
+          ap (λ (b : List ℕ). op ∷ b) (is.1 ∙ ap (λ (b : List ℕ). is.0 ++ b) are.1 ∙ sym (append_assoc is.0 are.0 others.0.1)),
+          (op ∷ is.0, are.0, refl, is.2, are.2),
+        )
     | inr (other, h) ↦ subst (Front (op ∷ bytes)) (ok_is ([], op ∷ bytes) x h) ([], refl, refl)
   ]
 
@@ -270,10 +282,11 @@ of_group : {X : Type 0} (kind : ℕ) (one : X → List ℕ → Type 0) (bytes : 
     → (front : List ℕ) → behind ≡ front ++ left → SpellsEach one changes front
     → (all : List ℕ) × (bytes ≡ all ++ left) × SpellsGroup kind header.table header.flags one changes (kind ∷ all)
 of_group kind one bytes header behind changes left (table, (flags, flagged, parts)) front is spelled =
-    let start = varint_bytes (length header.flags) ++ flags ++ header.table in
-    (start ++ 0 ∷ front,
-    parts ∙ ap (λ (b : List ℕ). start ++ 0 ∷ b) is ∙ sym (append_assoc start (0 ∷ front) left),
-    record { named = table; flags = flags; flagged = flagged; rest = front; parts = refl; each = spelled })
+    let start = varint_bytes (length header.flags) ++ flags ++ header.table in (
+      start ++ 0 ∷ front,
+      parts ∙ ap (λ (b : List ℕ). start ++ 0 ∷ b) is ∙ sym (append_assoc start (0 ∷ front) left),
+      record { named = table; flags = flags; flagged = flagged; rest = front; parts = refl; each = spelled },
+    )
 
 module _ {A : Type 0} where
   group_spelled : (total : ℕ) (bytes : List ℕ) (x : TableChanges A × List ℕ) → AreLow bytes → group_at total bytes ≡ Ok x → BeginsGroup SpellsChanges 0x54 bytes x

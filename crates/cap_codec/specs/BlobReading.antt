@@ -59,16 +59,19 @@ wrong_kind kind at = if is_kind kind then record { at = at; kind = Mixed } else 
 abbrev pub with_changes : {X : Type 0} → TableEntries X → Result (List X × List ℕ) BlobFault → Result (TableEntries X × List ℕ) BlobFault
 with_changes group read = read >>= (λ changes. Ok (record group { changes = group.changes ++ changes.0 }, changes.1))
 
+-- a group behind its kind byte, whose changes are read so
+abbrev pub entries_at : {X : Type 0} → (ℕ → List Bool → ℕ → List ℕ → Result (X × List ℕ) BlobFault) → ℕ → List ℕ → Result (TableEntries X × List ℕ) BlobFault
+entries_at {X} one_at total bytes = header_at total bytes >>= (λ header.
+    with_changes {X = X} (record { table = header.0.table; schema = header.0.flags; changes = [] }) (changes_at one_at (length header.1) total header.0.flags header.1))
+
 module _ {A : Type 0} where
   -- a group of a changeset, behind its kind byte
   unfoldable pub group_at : ℕ → List ℕ → Result (TableChanges A × List ℕ) BlobFault
-  group_at total bytes = header_at total bytes >>= (λ header.
-      with_changes {X = Change A} (record { table = header.0.table; schema = header.0.flags; changes = [] }) (changes_at change_at (length header.1) total header.0.flags header.1))
+  group_at total bytes = entries_at change_at total bytes
 
   -- a group of a patchset, behind its kind byte
   unfoldable pub patch_group_at : ℕ → List ℕ → Result (TablePatches A × List ℕ) BlobFault
-  patch_group_at total bytes = header_at total bytes >>= (λ header.
-      with_changes {X = Patch A} (record { table = header.0.table; schema = header.0.flags; changes = [] }) (changes_at patch_at (length header.1) total header.0.flags header.1))
+  patch_group_at total bytes = entries_at patch_at total bytes
 
 module _ {X : Type 0} where
   -- Groups of one kind up to the end, at most `most` of them.

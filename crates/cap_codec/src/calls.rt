@@ -29,7 +29,9 @@ impl<R: Read> Source for R {
     ghost use Rattle.std.specs.Prelude.{⊤};
 
     ghost remaining = { λ reader. R.Read.remaining reader };
+
     ghost gave = { λ _ _. ⊤ };
+
     ghost failed = { λ _ _. ⊤ };
 
     fn read_some(&mut self, piece: &mut [u8]) -> io::Result<usize> {
@@ -59,7 +61,9 @@ impl<W: Write> Sink for W {
     ghost use Rattle.std.specs.Prelude.{⊤};
 
     ghost contents = { λ writer. W.Write.contents writer };
+
     ghost took = { λ _ _. ⊤ };
+
     ghost failed = { λ _ _. ⊤ };
 
     fn write_some(&mut self, bytes: &[u8]) -> io::Result<usize> {

@@ -1,6 +1,7 @@
 //! The changes of a group.
 
-ghost use Rattle.std.specs.Prelude.{◌≡◌, ◌≤◌, length, IfOk, IsTrue};
+ghost use Rattle.std.specs.Prelude.{◌≡◌, ◌≤◌, ℕ, Bool, List, Result, length, IfOk, IsTrue};
+ghost use Rattle.cap_codec.specs.declared.fault.BlobFault.{BlobFault};
 ghost use Rattle.cap_changes.specs.Fits.{change_fits, patch_fits};
 ghost use Rattle.cap_codec.specs.Reading.{Gives};
 ghost use Rattle.cap_codec.specs.BlobReading as blob;
@@ -10,7 +11,7 @@ use crate::fault::BlobFault;
 use crate::lent::take_byte;
 use crate::record::{take_new_record, take_record};
 use crate::rule::Rule;
-use crate::write::{DELETE, INSERT, UPDATE};
+use crate::write::{DELETE, Encode, INSERT, UPDATE};
 use cap_changes::{Change, Patch};
 use cap_row::Schema;
 use cap_value::{AllocHandle, Fault};
@@ -24,7 +25,7 @@ pub fn is_operation(op: u8) -> bool
 
 /// A change of a changeset, behind its operation byte.
 #[tactic(auto, unfolding(crate::specs::BlobReading::change_at))]
-pub fn take_change<'a, A: AllocHandle>(
+fn take_change<'a, A: AllocHandle>(
     alloc: A,
     total: usize,
     schema: &Schema<A>,
@@ -57,7 +58,7 @@ pub fn take_change<'a, A: AllocHandle>(
 
 /// A change of a patchset, behind its operation byte.
 #[tactic(auto, unfolding(crate::specs::BlobReading::patch_at))]
-pub fn take_patch<'a, A: AllocHandle>(
+fn take_patch<'a, A: AllocHandle>(
     alloc: A,
     total: usize,
     schema: &Schema<A>,
@@ -84,5 +85,57 @@ pub fn take_patch<'a, A: AllocHandle>(
             let (key, rest) = take_record(alloc, total, Rule::KeyAlone, flags, rest)?;
             Ok((Patch::Delete { indirect, key }, rest))
         }
+    }
+}
+
+/// What a group holds, read from bytes.
+pub trait Decode<A: AllocHandle>: Encode<A> {
+    // One behind its operation byte, and what stands behind it.
+    ghost one_at: { ℕ → List Bool → ℕ → List ℕ → Result (Self × List ℕ) BlobFault };
+
+    /// One behind its operation byte.
+    fn take<'a>(
+        alloc: A,
+        total: usize,
+        schema: &Schema<A>,
+        op: u8,
+        bytes: &'a [u8],
+    ) -> Result<(Self, &'a [u8]), Fault<BlobFault>>
+    where
+        Self: Sized,
+        ensures gives { Gives (λ x. (x.0, x.1.now)) result (one_at total schema.now op bytes.now) }
+        ensures behind { IfOk result (λ x. length x.1.now ≤ length bytes.now) }
+        ensures fits { IfOk result (λ x. IsTrue (Self.fits_in schema.now x.0)) };
+}
+
+impl<A: AllocHandle> Decode<A> for Change<A> {
+    ghost use Rattle.cap_codec.specs.BlobReading.{change_at};
+
+    ghost one_at = { λ total flags op bytes. change_at total flags op bytes };
+
+    fn take<'a>(
+        alloc: A,
+        total: usize,
+        schema: &Schema<A>,
+        op: u8,
+        bytes: &'a [u8],
+    ) -> Result<(Self, &'a [u8]), Fault<BlobFault>> {
+        take_change(alloc, total, schema, op, bytes)
+    }
+}
+
+impl<A: AllocHandle> Decode<A> for Patch<A> {
+    ghost use Rattle.cap_codec.specs.BlobReading.{patch_at};
+
+    ghost one_at = { λ total flags op bytes. patch_at total flags op bytes };
+
+    fn take<'a>(
+        alloc: A,
+        total: usize,
+        schema: &Schema<A>,
+        op: u8,
+        bytes: &'a [u8],
+    ) -> Result<(Self, &'a [u8]), Fault<BlobFault>> {
+        take_patch(alloc, total, schema, op, bytes)
     }
 }

@@ -7,13 +7,12 @@ ghost use Rattle.cap_row.specs.Schema.{has_key};
 ghost use Rattle.cap_row.specs.declared.schema.TheConstants.{COLUMNS_MAX};
 ghost use Rattle.cap_codec.specs.Reading.{Gives};
 ghost use Rattle.cap_codec.specs.HeaderReading.{is_set};
-ghost use Rattle.cap_codec.specs.BlobReading.{change_at, patch_at, changes_at};
-ghost use Rattle.cap_codec.specs.BlobReading.{group_at, patch_group_at, with_changes};
+ghost use Rattle.cap_codec.specs.BlobReading.{changes_at, entries_at, with_changes};
 
-use crate::change::{is_operation, take_change, take_patch};
+use crate::change::{Decode, is_operation};
 use crate::fault::BlobFault;
 use crate::header::{LentHeader, take_header};
-use cap_changes::{Group, PatchGroup};
+use cap_changes::TableGroup;
 use cap_row::Schema;
 use cap_value::{AllocHandle, Fault, Name, OutOfMemory};
 
@@ -49,14 +48,14 @@ pub fn own_schema<A: AllocHandle>(alloc: A, flags: &[u8]) -> Result<Schema<A>, F
     }
 }
 
-fn take_changes<'a, A: AllocHandle>(
+fn take_changes<'a, C: Decode<A> + Drop, A: AllocHandle>(
     alloc: A,
     total: usize,
-    mut group: Group<A>,
+    mut group: TableGroup<C, A>,
     bytes: &'a [u8],
-) -> Result<(Group<A>, &'a [u8]), Fault<BlobFault>>
+) -> Result<(TableGroup<C, A>, &'a [u8]), Fault<BlobFault>>
     ensures gives { Gives (λ x. (x.0, x.1.now)) result
-        (with_changes group (changes_at change_at (length bytes.now) total group.schema bytes.now)) }
+        (with_changes group (changes_at C.one_at (length bytes.now) total group.schema bytes.now)) }
     ensures behind { IfOk result (λ x. length x.1.now ≤ length bytes.now) }
 {
     let mut rest = bytes;
@@ -64,63 +63,24 @@ fn take_changes<'a, A: AllocHandle>(
         if !is_operation(*op) {
             break;
         }
-        let (change, after) = take_change(alloc, total, group.schema(), *op, behind)?;
+        let (change, after) = C::take(alloc, total, group.schema(), *op, behind)?;
         group.push(change)?;
         rest = after;
     }
     Ok((group, rest))
 }
 
-fn take_patches<'a, A: AllocHandle>(
-    alloc: A,
-    total: usize,
-    mut group: PatchGroup<A>,
-    bytes: &'a [u8],
-) -> Result<(PatchGroup<A>, &'a [u8]), Fault<BlobFault>>
-    ensures gives { Gives (λ x. (x.0, x.1.now)) result
-        (with_changes group (changes_at patch_at (length bytes.now) total group.schema bytes.now)) }
-    ensures behind { IfOk result (λ x. length x.1.now ≤ length bytes.now) }
-{
-    let mut rest = bytes;
-    while let [op, behind @ ..] = rest {
-        if !is_operation(*op) {
-            break;
-        }
-        let (patch, after) = take_patch(alloc, total, group.schema(), *op, behind)?;
-        group.push(patch)?;
-        rest = after;
-    }
-    Ok((group, rest))
-}
-
-/// A group of a changeset, behind its kind byte.
-#[tactic(auto, unfolding(crate::specs::BlobReading::group_at))]
-pub fn take_group<A: AllocHandle>(
+/// A group behind its kind byte.
+pub fn take_group<C: Decode<A> + Drop, A: AllocHandle>(
     alloc: A,
     total: usize,
     bytes: &[u8],
-) -> Result<(Group<A>, &[u8]), Fault<BlobFault>>
-    ensures gives { Gives (λ x. (x.0, x.1.now)) result (group_at total bytes.now) }
+) -> Result<(TableGroup<C, A>, &[u8]), Fault<BlobFault>>
+    ensures gives { Gives (λ x. (x.0, x.1.now)) result (entries_at C.one_at total bytes.now) }
     ensures behind { IfOk result (λ x. length x.1.now ≤ length bytes.now) }
 {
     let (header, rest) = take_header(total, bytes)?;
     let table = own_name(alloc, header.table)?;
     let schema = own_schema(alloc, header.flags)?;
-    take_changes(alloc, total, Group::new(alloc, table, schema), rest)
-}
-
-/// A group of a patchset, behind its kind byte.
-#[tactic(auto, unfolding(crate::specs::BlobReading::patch_group_at))]
-pub fn take_patch_group<A: AllocHandle>(
-    alloc: A,
-    total: usize,
-    bytes: &[u8],
-) -> Result<(PatchGroup<A>, &[u8]), Fault<BlobFault>>
-    ensures gives { Gives (λ x. (x.0, x.1.now)) result (patch_group_at total bytes.now) }
-    ensures behind { IfOk result (λ x. length x.1.now ≤ length bytes.now) }
-{
-    let (header, rest) = take_header(total, bytes)?;
-    let table = own_name(alloc, header.table)?;
-    let schema = own_schema(alloc, header.flags)?;
-    take_patches(alloc, total, PatchGroup::new(alloc, table, schema), rest)
+    take_changes(alloc, total, TableGroup::new(alloc, table, schema), rest)
 }

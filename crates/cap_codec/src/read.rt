@@ -5,14 +5,15 @@ ghost use Rattle.cap_value.specs.Memory.{AnswersUnlessMemory};
 ghost use Rattle.cap_codec.specs.Reading.{Gives};
 ghost use Rattle.cap_codec.specs.declared.read.Contents.{Contents as Spelled};
 ghost use Rattle.cap_codec.specs.BlobReading as blob;
-ghost use Rattle.cap_codec.specs.BlobReading.{group_at, patch_group_at, groups_at, blob_at};
+ghost use Rattle.cap_codec.specs.BlobReading.{entries_at, group_at, patch_group_at, groups_at, blob_at};
 ghost use Rattle.cap_codec.specs.Spelling.{Spells};
 
+use crate::change::Decode;
 use crate::fault::{BlobFault, FaultKind};
-use crate::group::{take_group, take_patch_group};
+use crate::group::take_group;
 use crate::lent::place_of;
 use crate::write::{CHANGESET, PATCHSET};
-use cap_changes::{ChangeList, PatchList};
+use cap_changes::{ChangeList, GroupList, PatchList};
 use cap_value::{AllocHandle, Fault};
 
 /// What is in a blob.
@@ -41,44 +42,45 @@ pub fn wrong_kind(kind: u8, at: usize) -> BlobFault
     }
 }
 
-fn take_groups<A: AllocHandle>(
+fn take_groups<C: Decode<A> + Drop, A: AllocHandle>(
     alloc: A,
     total: usize,
     bytes: &[u8],
-) -> Result<ChangeList<A>, Fault<BlobFault>>
-    ensures { Gives (λ list. list) result (groups_at group_at 0x54 (length bytes.now) total bytes.now) }
+) -> Result<GroupList<C, A>, Fault<BlobFault>>
+    ensures { Gives (λ list. list) result
+        (groups_at (entries_at C.one_at) C.kind (length bytes.now) total bytes.now) }
 {
-    let mut list = ChangeList::new(alloc);
+    let mut list = GroupList::new(alloc);
     let mut rest = bytes;
     while let [kind, behind @ ..] = rest {
-        if *kind != CHANGESET {
+        if *kind != C::kind() {
             return Err(Fault::Refused(wrong_kind(*kind, place_of(total, rest))));
         }
-        let (group, after) = take_group(alloc, total, behind)?;
+        let (group, after) = take_group::<C, A>(alloc, total, behind)?;
         list.push(group)?;
         rest = after;
     }
     Ok(list)
 }
 
-fn take_patch_groups<A: AllocHandle>(
+fn take_changeset<A: AllocHandle>(
+    alloc: A,
+    total: usize,
+    bytes: &[u8],
+) -> Result<ChangeList<A>, Fault<BlobFault>>
+    ensures { Gives (λ list. list) result (groups_at group_at 0x54 (length bytes.now) total bytes.now) }
+{
+    take_groups(alloc, total, bytes)
+}
+
+fn take_patchset<A: AllocHandle>(
     alloc: A,
     total: usize,
     bytes: &[u8],
 ) -> Result<PatchList<A>, Fault<BlobFault>>
     ensures { Gives (λ list. list) result (groups_at patch_group_at 0x50 (length bytes.now) total bytes.now) }
 {
-    let mut list = PatchList::new(alloc);
-    let mut rest = bytes;
-    while let [kind, behind @ ..] = rest {
-        if *kind != PATCHSET {
-            return Err(Fault::Refused(wrong_kind(*kind, place_of(total, rest))));
-        }
-        let (group, after) = take_patch_group(alloc, total, behind)?;
-        list.push(group)?;
-        rest = after;
-    }
-    Ok(list)
+    take_groups(alloc, total, bytes)
 }
 
 #[tactic(auto, unfolding(crate::specs::BlobReading::blob_at))]
@@ -87,8 +89,8 @@ fn take_blob<A: AllocHandle>(alloc: A, bytes: &[u8]) -> Result<Contents<A>, Faul
 {
     match bytes {
         [] => Ok(Contents::Changes(ChangeList::new(alloc))),
-        [CHANGESET, ..] => Ok(Contents::Changes(take_groups(alloc, bytes.len(), bytes)?)),
-        [PATCHSET, ..] => Ok(Contents::Patches(take_patch_groups(alloc, bytes.len(), bytes)?)),
+        [CHANGESET, ..] => Ok(Contents::Changes(take_changeset(alloc, bytes.len(), bytes)?)),
+        [PATCHSET, ..] => Ok(Contents::Patches(take_patchset(alloc, bytes.len(), bytes)?)),
         _ => Err(Fault::Refused(BlobFault {
             at: 0,
             kind: FaultKind::BadHeader,

@@ -72,7 +72,10 @@ fn is_interrupted(error: &io::Error) -> bool
 
 /// What is in the bytes that the reader gives, read in pieces of at most 4,096 bytes: to the end, or to the piece
 /// that shows a fault, and then the rest is left unread. A read that was interrupted is tried again.
-pub fn read_from<A: AllocHandle, R: Source>(alloc: A, reader: &mut R) -> Result<Contents<A>, ReadFault>
+pub fn read_from<A: AllocHandle, R: Source>(
+    alloc: A,
+    reader: &mut R,
+) -> Result<Contents<A>, ReadFault>
     ensures blob { IfSome (R.remaining reader.old) (λ given. IsBlobOf result (blob_at given)) }
     // Which answer is given where, as far as the reader tells its reads.
     ensures told { EndsReads R.gave R.failed result reader.old reader.new }

@@ -80,6 +80,7 @@ impl<A: AllocHandle> Encode<A> for Change<A> {
     ghost use Rattle.cap_codec.specs.Changeset.{change_bytes};
 
     ghost kind = { 0x54 };
+
     ghost bytes = { λ change. change_bytes change };
 
     fn kind() -> u8 {
@@ -110,6 +111,7 @@ impl<A: AllocHandle> Encode<A> for Patch<A> {
     ghost use Rattle.cap_codec.specs.Patchset.{patch_bytes};
 
     ghost kind = { 0x50 };
+
     ghost bytes = { λ patch. patch_bytes patch };
 
     fn kind() -> u8 {
