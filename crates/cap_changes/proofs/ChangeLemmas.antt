@@ -1,5 +1,5 @@
 -- The change of a touched key fits its table.
-use Rattle.std.proofs.Common.{◌≡◌, ℕ, List, [], ◌∷◌, length, map, Bool, true, false, not, ◌&&◌, ◌||◌, Option, Some, None, is_some, cond, refl, ◌==◌, nat_le, is_none, arith}
+use Rattle.std.proofs.Common.{◌≡◌, ℕ, List, [], ◌∷◌, length, Bool, true, false, not, ◌&&◌, ◌||◌, Some, None, is_some, cond, refl, ◌==◌, nat_le, arith}
 use Rattle.std.proofs.lemmas.Bool.Decides.{nat_tests}
 use Rattle.std.proofs.lemmas.List.{length-map}
 use Rattle.std.specs.declared.cmp.Ordering.{Ordering}
@@ -10,7 +10,7 @@ use Rattle.cap_value.specs.declared.value.Value.{Value}
 use Rattle.cap_value.specs.Value.{is_null, value_eq, value_eq_decides}
 use Rattle.cap_row.specs.Fields.{Fields}
 use Rattle.cap_row.specs.Key.{key_of, key_fields, is_key, fields_cmp, fields_cmp-Equal}
-use Rattle.cap_changes.specs.Fits.{is_full, is_update, are_update_fields, is_full_field, is_update_field}
+use Rattle.cap_changes.specs.Fits.{is_full, is_update, are_update_fields, is_update_field}
 use Rattle.cap_changes.specs.Column.{by_column}
 use Rattle.cap_changes.specs.Change.{IsKeyedRow, full_record, old_field, new_field, change_of}
 use Rattle.cap_changes.specs.declared.change.Change.TheVariants.{Update}

@@ -1,10 +1,10 @@
 -- The patch of a change that fits its table fits it too.
-use Rattle.std.proofs.Common.{◌≡◌, List, [], ◌∷◌, length, Bool, true, false, ◌&&◌, ◌==◌, Option, Some, None, map, cond, is_none, refl}
+use Rattle.std.proofs.Common.{◌≡◌, List, [], ◌∷◌, length, Bool, true, false, ◌&&◌, ◌==◌, Option, map, cond, is_none, refl}
 use Rattle.std.specs.List.{zip}
 use Rattle.cap_value.specs.declared.value.Value.{Value}
 use Rattle.cap_changes.specs.Record.{RecordFields}
-use Rattle.cap_changes.specs.Fits.{change_fits, patch_fits, is_full, is_patch, is_key, is_update, are_update_fields, is_full_field}
-use Rattle.cap_changes.specs.Patch.{patch_of, update_record, key_record}
+use Rattle.cap_changes.specs.Fits.{change_fits, patch_fits, is_full, is_patch, is_key, are_update_fields, is_full_field}
+use Rattle.cap_changes.specs.Patch.{patch_of, key_record}
 use Rattle.cap_changes.specs.declared.change.Change.{Change}
 use Rattle.cap_changes.specs.declared.change.Change.TheVariants.{Insert, Update, Delete}
 

@@ -1,7 +1,6 @@
 -- A changeset as a patchset (The Session Extension, "sqlite3session_patchset").
-use Rattle.std.specs.Prelude.{Bool, List, Option, None, map, if◌then◌else◌}
+use Rattle.std.specs.Prelude.{Bool, List, None, map, if◌then◌else◌}
 use Rattle.std.specs.List.{zip}
-use Rattle.cap_value.specs.declared.value.Value.{Value}
 use Rattle.cap_changes.specs.Column.{by_column}
 use Rattle.cap_changes.specs.Record.{RecordFields}
 use Rattle.cap_changes.specs.Group.{TableChanges}

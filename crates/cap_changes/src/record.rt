@@ -1,4 +1,4 @@
-ghost use Rattle.std.specs.Prelude.{◌≡◌, ℕ, List, Option, length, slice_get};
+ghost use Rattle.std.specs.Prelude.{◌≡◌, Option, length, slice_get};
 ghost use Rattle.std.specs.Option.{option_copied, option_flatten};
 
 use cap_value::{AllocHandle, Value};

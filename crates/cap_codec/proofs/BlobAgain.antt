@@ -1,5 +1,5 @@
 -- Groups and blobs are read as what their bytes spell, and what was written for a blob spells it.
-use Rattle.std.proofs.Common.{◌≡◌, ℕ, zero, suc, ◌+◌, ◌<◌, ◌≤◌, ◌⊎◌, inl, inr, Bool, true, false, nat_lt, nat_le, ◌&&◌, List, [], ◌∷◌, ◌++◌, length, take, drop, map, filter, flat_map, position, Some, Result, Ok, Err, IsTrue, IsUtf8, refl, sym, ap, ◌∙◌, append_assoc, arith, length-append, length-take, drop-drop, eq-eqb, take_at, drop_at, le-ltb, lt-ltb, ne_eqb, leb-true}
+use Rattle.std.proofs.Common.{◌≡◌, ℕ, zero, suc, ◌+◌, ◌<◌, ◌≤◌, ◌⊎◌, inl, inr, Bool, true, false, nat_lt, nat_le, ◌&&◌, List, [], ◌∷◌, ◌++◌, length, take, drop, map, filter, flat_map, position, Some, Result, Ok, IsTrue, IsUtf8, refl, sym, ap, ◌∙◌, append_assoc, arith, length-append, length-take, drop-drop, eq-eqb, take_at, drop_at, le-ltb, lt-ltb, ne_eqb, leb-true}
 use Rattle.std.specs.List.{AllByRecursion, list_any, position_or_len}
 use Rattle.std.proofs.lemmas.Bool.{and_parts, or_parts, not-true}
 use Rattle.std.proofs.lemmas.List.{length-map}
@@ -17,8 +17,7 @@ use Rattle.cap_changes.specs.declared.patch.Patch.TheVariants as patched
 use Rattle.cap_codec.specs.declared.fault.BlobFault.{BlobFault}
 use Rattle.cap_codec.specs.declared.read.Contents.{Contents}
 use Rattle.cap_codec.specs.declared.read.Contents.TheVariants.{Changes, Patches}
-use Rattle.cap_codec.specs.Changeset.{mark, flags_bytes, header_bytes, change_bytes, changes_under, group_bytes, list_bytes}
-use Rattle.cap_codec.specs.Field.{record_bytes, key_bytes}
+use Rattle.cap_codec.specs.Changeset.{mark, flags_bytes, header_bytes, change_bytes, changes_under, group_bytes}
 use Rattle.cap_codec.specs.HeaderReading.{is_zero, is_set, count_at, flags_at, name_at, header_at}
 use Rattle.cap_codec.specs.Patchset.{patch_bytes, patch_group_bytes, patch_list_bytes}
 use Rattle.cap_codec.specs.Varint.{varint_bytes}

@@ -1,5 +1,5 @@
 -- Changes are read as what their bytes spell, whatever follows them that is no change.
-use Rattle.std.proofs.Common.{◌≡◌, ℕ, zero, suc, ◌≤◌, Bool, true, false, List, [], ◌∷◌, ◌++◌, length, flat_map, Option, Some, None, IfSome, Result, Ok, IsTrue, All, refl, sym, ap, subst, ◌∙◌, append_assoc, arith, length-append}
+use Rattle.std.proofs.Common.{◌≡◌, ℕ, zero, suc, ◌≤◌, Bool, true, false, List, [], ◌∷◌, ◌++◌, length, Option, Some, None, IfSome, Result, Ok, refl, sym, ap, subst, ◌∙◌, append_assoc, arith, length-append}
 use Rattle.std.specs.List.{AllByRecursion}
 use Rattle.std.specs.Cmp.Lexicographic.{pointwise}
 use Rattle.std.proofs.lemmas.Bool.{and_parts}
@@ -7,7 +7,7 @@ use Rattle.std.proofs.lemmas.List.Elements.{recursion_from_All}
 use Rattle.cap_value.specs.declared.value.Value.{Value}
 use Rattle.cap_value.specs.Value.{IsValue}
 use Rattle.cap_changes.specs.Record.{RecordFields}
-use Rattle.cap_changes.specs.Fits.{is_full, is_key, change_fits, patch_fits, AllChangesFit, AllPatchesFit}
+use Rattle.cap_changes.specs.Fits.{is_full, is_key}
 use Rattle.cap_changes.specs.declared.change.Change.{Change}
 use Rattle.cap_changes.specs.declared.change.Change.TheVariants as changed
 use Rattle.cap_changes.specs.declared.patch.Patch.{Patch}
@@ -16,11 +16,9 @@ use Rattle.cap_codec.specs.declared.demand.Demand.{Demand}
 use Rattle.cap_codec.specs.declared.fault.BlobFault.{BlobFault}
 use Rattle.cap_codec.specs.declared.rule.Rule.{Rule}
 use Rattle.cap_codec.specs.declared.rule.Rule.TheVariants as rules
-use Rattle.cap_codec.specs.Changeset.{mark, change_bytes}
+use Rattle.cap_codec.specs.Changeset.{mark}
 use Rattle.cap_codec.specs.Demands.{demand_of, demands, new_demand, new_demands}
 use Rattle.cap_codec.specs.Field.{field_bytes, record_bytes, defined_bytes, key_bytes}
-use Rattle.cap_codec.specs.HeaderReading.{is_set}
-use Rattle.cap_codec.specs.Patchset.{patch_bytes}
 use Rattle.cap_codec.specs.RecordReading.{record_at}
 use Rattle.cap_codec.specs.BlobReading.{is_operation, change_at, patch_at, changes_at}
 use Rattle.cap_codec.specs.Spelling.{SpellsEach, SpellsChange, SpellsPatch}

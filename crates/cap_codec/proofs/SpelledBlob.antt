@@ -1,7 +1,6 @@
 -- What was read is spelled by the bytes that were read: changes, headers, groups and blobs.
 use Rattle.std.proofs.Common.{◌≡◌, ℕ, zero, suc, ◌+◌, ◌<◌, ◌≤◌, inl, inr, Bool, true, false, cond, nat_lt, nat_le, ◌==◌, ◌&&◌, ◌||◌, List, [], ◌∷◌, ◌++◌, length, take, drop, map, position, Option, Some, None, IfSome, IfOk, Result, Ok, Err, IsTrue, IsUtf8, refl, sym, ap, subst, ◌∙◌, append_assoc, arith, lt-ltb, le-ltb, length-take, length-append}
-use Rattle.std.specs.List.{AllByRecursion, list_any, position_or_len}
-use Rattle.std.specs.Cmp.Lexicographic.{pointwise}
+use Rattle.std.specs.List.{list_any, position_or_len}
 use Rattle.std.specs.Str.{is_utf8}
 use Rattle.std.proofs.lemmas.Bool.{and_parts, or_parts, ltb-true, ltb-false, eqb-true, eqb-false, cases_lt}
 use Rattle.std.proofs.lemmas.List.{length-map}
@@ -12,7 +11,6 @@ use Rattle.cap_value.specs.Memory.{AnswersUnlessMemory}
 use Rattle.cap_value.specs.Value.{IsValue}
 use Rattle.cap_value.specs.Bytes.{AreBytes, is_name}
 use Rattle.cap_row.specs.declared.schema.TheConstants.{COLUMNS_MAX}
-use Rattle.cap_row.specs.Schema.{has_key}
 use Rattle.cap_changes.specs.Group.{TableChanges}
 use Rattle.cap_changes.specs.PatchGroup.{TablePatches}
 use Rattle.cap_changes.specs.Record.{RecordFields}
@@ -29,14 +27,14 @@ use Rattle.cap_codec.specs.Demands.{demands, new_demands}
 use Rattle.cap_codec.specs.Field.{record_bytes, key_bytes}
 use Rattle.cap_codec.specs.HeaderReading.{Header, is_zero, is_set, count_at, flags_at, named_at, name_at, header_at}
 use Rattle.cap_codec.specs.Pieces.{lasting}
-use Rattle.cap_codec.specs.Reading.{◌>>=◌, place, byte_at, bytes_at, varint_at}
+use Rattle.cap_codec.specs.Reading.{◌>>=◌, bytes_at, varint_at}
 use Rattle.cap_codec.specs.RecordReading.{record_at}
 use Rattle.cap_codec.specs.Varint.{varint_bytes}
 use Rattle.cap_codec.specs.BlobReading.{is_operation, change_at, patch_at, changes_at, group_at, patch_group_at, groups_at, blob_at}
 use Rattle.cap_codec.specs.Spelling.{SpellsEach, SpellsGroup, SpellsChange, SpellsPatch, SpellsChanges, SpellsPatches, Spells}
 use Rattle.cap_codec.specs.Writable.{IsTable, AreValues}
 use Rattle.cap_codec.proofs.Binds.{bind_ok, guard_ok, check_ok, chosen, ok_is}
-use Rattle.cap_codec.proofs.FitLemmas.{meets, record_meets, full_fits, patch_record_fits, key_fits, update_fits}
+use Rattle.cap_codec.proofs.FitLemmas.{record_meets, full_fits, patch_record_fits, key_fits, update_fits}
 use Rattle.cap_codec.proofs.ChangeAgain.{asked_record, all_asked, of_full, of_keyed, keys_asked, new_asked}
 use Rattle.cap_codec.proofs.HeaderLemmas.{key_is_set, is_schema_of, name_before}
 use Rattle.cap_codec.proofs.Spelled.{AreLow, low_behind, varint_spelled, bytes_spelled, record_spelled}

@@ -1,6 +1,6 @@
 -- What bytes may be read as (The Session Extension, "Changeset Format"): the written form of a blob, where any byte
 -- but zero flags a key column, any byte but zero marks a change as indirect, and a group may have no change.
-use Rattle.std.specs.Prelude.{◌≡◌, ◌<◌, ℕ, Bool, List, [], ◌∷◌, ◌++◌, length, map, IsTrue}
+use Rattle.std.specs.Prelude.{◌≡◌, ℕ, Bool, List, [], ◌∷◌, ◌++◌, length, map, IsTrue}
 use Rattle.cap_changes.specs.Group.{TableChanges}
 use Rattle.cap_changes.specs.PatchGroup.{TablePatches}
 use Rattle.cap_changes.specs.Fits.{change_fits, patch_fits}

@@ -11,7 +11,7 @@ ghost use Rattle.cap_codec.specs.BlobReading.{changes_at, entries_at, with_chang
 
 use crate::change::{Decode, is_operation};
 use crate::fault::BlobFault;
-use crate::header::{LentHeader, take_header};
+use crate::header::take_header;
 use cap_changes::TableGroup;
 use cap_row::Schema;
 use cap_value::{AllocHandle, Fault, Name, OutOfMemory};

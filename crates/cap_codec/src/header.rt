@@ -1,17 +1,17 @@
 //! The header of a group.
 
-ghost use Rattle.std.specs.Prelude.{◌≡◌, ◌<◌, ◌≤◌, ◌+◌, ℕ, Bool, List};
+ghost use Rattle.std.specs.Prelude.{◌≡◌, ◌<◌, ◌≤◌, ◌+◌};
 ghost use Rattle.std.specs.Prelude.{Option, length, take, position, IfSome, IfOk, IsTrue};
 ghost use Rattle.cap_value.specs.Bytes.{is_name};
 ghost use Rattle.std.specs.List.{list_any};
-ghost use Rattle.cap_codec.specs.Reading.{place, Reads, Gives};
+ghost use Rattle.cap_codec.specs.Reading.{place, Reads};
 ghost use Rattle.cap_codec.specs.HeaderReading.{is_zero, is_set, count_at};
 ghost use Rattle.cap_codec.specs.HeaderReading.{flags_at, name_at, header_at, header_of};
 
 use crate::fault::{BlobFault, FaultKind};
 use crate::lent::{place_of, take_bytes, take_varint, text_in};
-use cap_row::{COLUMNS_MAX, Schema};
-use cap_value::{AllocHandle, Fault, NAME_MAX, Name};
+use cap_row::COLUMNS_MAX;
+use cap_value::NAME_MAX;
 
 /// A header as it stands in a blob: a byte a column, zero where it is not in the key, and the table's name.
 #[derive(Clone, Copy)]

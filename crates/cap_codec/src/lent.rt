@@ -1,9 +1,8 @@
 //! The parts of a blob from left to right, read without memory: numbers, texts and fields.
 
-ghost use Rattle.std.specs.Prelude.{◌≡◌, ◌^◌, ◌<◌, ◌≤◌, ℕ, List, Option, Some, None, length, IfOk};
+ghost use Rattle.std.specs.Prelude.{◌≡◌, ◌<◌, ◌≤◌, Option, Some, None, length, IfOk};
 ghost use Rattle.std.specs.Option.{option_map};
 ghost use Rattle.cap_value.specs.declared.text.TheConstants.{BYTES_MAX};
-ghost use Rattle.std.specs.Str.{is_utf8};
 ghost use Rattle.cap_codec.specs.Reading.{place, Reads, byte_at, bytes_at, varint_at};
 ghost use Rattle.cap_codec.specs.FieldReading.{allows, text_of, number_at, sized_at};
 ghost use Rattle.cap_codec.specs.FieldReading.{text_at, content_at, field_at, value_of, IsWithin};

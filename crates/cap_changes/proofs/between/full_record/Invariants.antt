@@ -1,4 +1,4 @@
-use Rattle.std.proofs.Common.{◌≡◌, ◌++◌, take}
+use Rattle.std.proofs.Common.{◌≡◌, take}
 use Rattle.cap_changes.specs.Change.{full_record}
 use Rattle.cap_changes.proofs.between.full_record.Given as goal
 
