@@ -57,7 +57,8 @@ pub(crate) fn touch_tables<A: AllocHandle>(
     changes: &[RowChange<A>],
 ) -> Result<(), OutOfMemory>
     ensures same { tables_of tables.new ≡ tables_of tables.old }
-    ensures waiting { OnOk result (waiting_tables tables.new ≡ touch_session before.now changes.now (tables_of tables.old)) }
+    ensures waiting { OnOk result (waiting_tables tables.new
+        ≡ touch_session before.now changes.now (tables_of tables.old)) }
 {
     for table in tables.iter_mut() {
         table.waiting = touched_after(&table.name, &table.touched, before, changes)?;
@@ -76,14 +77,16 @@ pub(crate) fn take_over_tables<A: AllocHandle>(tables: &mut [AttachedTable<A>])
     }
 }
 
-// The touched rows of the table of this name after changes to rows of any table, or none where they stay the same.
+// The touched rows of the table of this name after changes to rows of any table, or none where they stay the
+// same.
 fn touched_after<A: AllocHandle>(
     name: &Name<A>,
     touched: &TouchedRows<A>,
     before: &Database<A>,
     changes: &[RowChange<A>],
 ) -> Result<Option<TouchedRows<A>>, OutOfMemory>
-    ensures { IfOk result (λ rows. unwrap_or rows touched.now ≡ fold (touch_table before.now name.now) touched.now changes.now) }
+    ensures { IfOk result (λ rows. unwrap_or rows touched.now
+        ≡ fold (touch_table before.now name.now) touched.now changes.now) }
 {
     let mut rows = None;
     for change in changes {
@@ -100,7 +103,8 @@ fn touch_table<A: AllocHandle>(
     before: &Database<A>,
     change: &RowChange<A>,
 ) -> Result<Option<TouchedRows<A>>, OutOfMemory>
-    ensures { IfOk result (λ after. unwrap_or after touched.now ≡ touch_table before.now name.now (unwrap_or rows touched.now) change.now) }
+    ensures { IfOk result (λ after. unwrap_or after touched.now
+        ≡ touch_table before.now name.now (unwrap_or rows touched.now) change.now) }
 {
     if *name != change.table {
         return Ok(rows);
@@ -114,8 +118,8 @@ fn touch_table<A: AllocHandle>(
     }
 }
 
-// The touched rows after a direct touch of a key, or none where they stay the same: where each touch of the key was
-// direct nothing is written anew.
+// The touched rows after a direct touch of a key, or none where they stay the same: where each touch of the
+// key was direct nothing is written anew.
 fn touch_key<A: AllocHandle>(
     rows: &TouchedRows<A>,
     before: &Database<A>,
@@ -142,7 +146,8 @@ fn touch_again<A: AllocHandle>(
     before: Option<&TouchedRow<A>>,
     image: Option<&Row<A>>,
 ) -> Result<TouchedRow<A>, OutOfMemory>
-    ensures { IfOk result (λ r. r ≡ touch_again (option_copied before.entry) (option_copied image.entry) false) }
+    ensures { IfOk result (λ r. r
+        ≡ touch_again (option_copied before.entry) (option_copied image.entry) false) }
 {
     let image = match before {
         Some(touched) => touched.image.as_ref(),

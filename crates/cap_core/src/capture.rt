@@ -107,8 +107,10 @@ fn changes_of_table<A: AllocHandle>(
     attached: &AttachedTable<A>,
     table: Option<&Table<A>>,
 ) -> Result<Option<Group<A>>, OutOfMemory>
-    requires { IsTrue (touched_stand (option_map (λ t. t.schema) (option_copied table)) attached.now.touched) }
-    ensures { IfOk result (λ group. group ≡ table_changes (attached.now.name, attached.now.touched) (option_copied table.entry)) }
+    requires { IsTrue (touched_stand (option_map
+        (λ t. t.schema) (option_copied table)) attached.now.touched) }
+    ensures { IfOk result (λ group. group
+        ≡ table_changes (attached.now.name, attached.now.touched) (option_copied table.entry)) }
 {
     match table {
         Some(table) => group_of(alloc, &attached.name, &attached.touched, table),
@@ -143,7 +145,8 @@ fn change_now<A: AllocHandle>(
 ) -> Result<Option<Change<A>>, OutOfMemory>
     requires { IsTrue (image_stands (Some table.now.schema) key.now touched.now.image) }
     ensures change { IfOk result (λ change. change ≡ change_now table.now (key.now, touched.now)) }
-    ensures fits { IfOk result (λ change. IfSome change (λ made. IsTrue (change_fits table.now.schema made))) }
+    ensures fits { IfOk result (λ change. IfSome change
+        (λ made. IsTrue (change_fits table.now.schema made))) }
     ensures keyed { IfOk result (λ change. IfSome change (λ _. IsTrue (has_key table.now.schema))) }
 {
     change_between(
@@ -166,7 +169,8 @@ fn with_change<A: AllocHandle>(
     requires keyed { IsTrue (has_key schema.now) }
     requires fits { IsTrue (change_fits schema.now change) }
     requires same { ForSome group (IsGroupOf name.now schema.now) }
-    ensures { IfOk result (λ g. g ≡ record { table = name.now; schema = schema.now; changes = changes_in group ++ change ∷ [] }) }
+    ensures { IfOk result (λ g. g
+        ≡ record { table = name.now; schema = schema.now; changes = changes_in group ++ change ∷ [] }) }
 {
     match group {
         Some(mut group) => {

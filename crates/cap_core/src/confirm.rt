@@ -5,8 +5,8 @@ ghost use Rattle.cap_core.specs.Confirm.{MatchFault};
 use crate::Reply;
 use cap_value::{AllocHandle, Fault};
 
-/// A step outside the server that belongs to a command: it is told the reply when all memory was found and nothing
-/// has changed yet, and agrees or refuses. Where it refuses, the command was not made.
+/// A step outside the server that belongs to a command: it is told the reply when all memory was found and
+/// nothing has changed yet, and agrees or refuses. Where it refuses, the command was not made.
 pub trait Confirm<A: AllocHandle> {
     /// Why it refuses.
     type Refusal: Drop;
@@ -52,7 +52,8 @@ pub(crate) fn ask<A: AllocHandle, C: Confirm<A>>(
 ) -> Result<(), Fault<C::Refusal>>
     requires { C.can_confirm confirm.old reply.now }
     ensures ok { OnOk result (C.gives confirm.old reply.now (Ok tt) confirm.new) }
-    ensures err { IfErr result (λ fault. MatchFault fault (confirm.new ≡ confirm.old) (λ why. C.gives confirm.old reply.now (Err why) confirm.new)) }
+    ensures err { IfErr result (λ fault. MatchFault fault (confirm.new ≡ confirm.old)
+        (λ why. C.gives confirm.old reply.now (Err why) confirm.new)) }
 {
     match confirm.confirm(reply) {
         Ok(()) => Ok(()),

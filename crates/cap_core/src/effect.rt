@@ -103,7 +103,8 @@ fn insert<A: AllocHandle>(
     name: &Name<A>,
     row: &Row<A>,
 ) -> Result<Effect<A>, Fault<Refusal>>
-    ensures answer { AnswersUnlessMemory result (insert_row database.now name.now row.now (table_of database.now name.now)) }
+    ensures answer { AnswersUnlessMemory result
+        (insert_row database.now name.now row.now (table_of database.now name.now)) }
     ensures sound { IfOk result (IsSoundEffect database.now) }
 {
     let Some(table) = database.get(name) else {
@@ -135,7 +136,8 @@ fn update<A: AllocHandle>(
     row: &RowRef<A>,
     assignments: &Assignments<A>,
 ) -> Result<Effect<A>, Fault<Refusal>>
-    ensures answer { AnswersUnlessMemory result (update_row database.now name.now row.now assignments.now (table_of database.now name.now)) }
+    ensures answer { AnswersUnlessMemory result
+        (update_row database.now name.now row.now assignments.now (table_of database.now name.now)) }
     ensures sound { IfOk result (IsSoundEffect database.now) }
 {
     let Some(table) = database.get(name) else {
@@ -163,7 +165,8 @@ fn set_fields<A: AllocHandle>(
     requires found { get fields_cmp table.now.rows key.now ≡ Some row.now }
     requires stands { IsTrue (stands table.now.schema key.now row.now) }
     requires assignable { IsTrue (is_assignable table.now.schema assignments.now) }
-    ensures answer { AnswersUnlessMemory result (update_keyed database.now name.now table.now assignments.now (Some (key.now, row.now))) }
+    ensures answer { AnswersUnlessMemory result
+        (update_keyed database.now name.now table.now assignments.now (Some (key.now, row.now))) }
     ensures sound { IfOk result (IsSoundEffect database.now) }
 {
     let row = row.with_fields(alloc, table.schema(), assignments.fields())?;
@@ -183,7 +186,8 @@ fn delete<A: AllocHandle>(
     name: &Name<A>,
     row: &RowRef<A>,
 ) -> Result<Effect<A>, Fault<Refusal>>
-    ensures answer { AnswersUnlessMemory result (delete_row database.now name.now row.now (table_of database.now name.now)) }
+    ensures answer { AnswersUnlessMemory result
+        (delete_row database.now name.now row.now (table_of database.now name.now)) }
     ensures sound { IfOk result (IsSoundEffect database.now) }
 {
     let Some(table) = database.get(name) else {
@@ -206,7 +210,8 @@ fn take_row<A: AllocHandle>(
     requires there { table_of database.now name.now ≡ Some table.now }
     requires found { get fields_cmp table.now.rows key.now ≡ Some _row.now }
     requires stands { IsTrue (stands table.now.schema key.now _row.now) }
-    ensures answer { AnswersUnlessMemory result (delete_keyed database.now name.now table.now (Some (key.now, _row.now))) }
+    ensures answer { AnswersUnlessMemory result
+        (delete_keyed database.now name.now table.now (Some (key.now, _row.now))) }
     ensures sound { IfOk result (IsSoundEffect database.now) }
 {
     let changed = table.take(key)?;
@@ -224,7 +229,8 @@ fn find_row<'a, A: AllocHandle>(
     table: &'a Table<A>,
     row: &'a RowRef<A>,
 ) -> Option<(&'a Key<A>, &'a Row<A>)>
-    ensures row { MatchOption result (row_named table.now row.now ≡ None) (λ found. row_named table.now row.now ≡ Some (found.0.now, found.1.now)) }
+    ensures row { MatchOption result (row_named table.now row.now ≡ None)
+        (λ found. row_named table.now row.now ≡ Some (found.0.now, found.1.now)) }
     ensures there { IfSome result (λ found. get fields_cmp table.now.rows found.0.now ≡ Some found.1.now) }
     ensures stands { IfSome result (λ found. IsTrue (stands table.now.schema found.0.now found.1.now)) }
 {
@@ -266,7 +272,8 @@ fn effect_of_change<A: AllocHandle>(
     requires there { table_of database.now name.now ≡ Some old.now }
     requires same { new.schema ≡ old.now.schema }
     requires images { IsTrue (list_all (change_stands database.now) changes.items) }
-    ensures step { IfOk result (λ s. s ≡ record { database = put_entry bytes_cmp database.now name.now new; changes = changes.items }) }
+    ensures step { IfOk result (λ s. s
+        ≡ record { database = put_entry bytes_cmp database.now name.now new; changes = changes.items }) }
     ensures sound { IfOk result (IsSoundEffect database.now) }
 {
     Ok(Effect {
@@ -297,7 +304,8 @@ fn two_changes<A: AllocHandle>(
     name: &Name<A>,
     key: &Key<A>,
 ) -> Result<Vec<RowChange<A>, A>, OutOfMemory>
-    ensures { IfOk result (λ v. v.items ≡ record { table = name.now; key = key.now } ∷ record { table = name.now; key = key.now } ∷ []) }
+    ensures { IfOk result (λ v. v.items
+        ≡ record { table = name.now; key = key.now } ∷ record { table = name.now; key = key.now } ∷ []) }
 {
     let mut changes = one_change(alloc, name, key.copy()?)?;
     changes.push(RowChange {

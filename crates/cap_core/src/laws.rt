@@ -21,11 +21,12 @@ ghost use Rattle.cap_core.specs.Transition.{next};
 
 use cap_value::AllocHandle;
 
-/// The empty history is legal, and a legal history stays legal with an event whose reply is that of its command.
-/// What it leaves is then the next state, which counts the events.
+/// The empty history is legal, and a legal history stays legal with an event whose reply is that of its
+/// command. What it leaves is then the next state, which counts the events.
 pub fn legal_histories_grow<A: AllocHandle>()
     ensures none { IsLegal {A = A} [] }
-    ensures more { (h : List (Event A)) (by : ℕ) (command : Command A) → IsLegal h → IsLegal (h ++ event_by by command (reply_of h command) ∷ []) }
+    ensures more { (h : List (Event A)) (by : ℕ) (command : Command A) → IsLegal h
+        → IsLegal (h ++ event_by by command (reply_of h command) ∷ []) }
     ensures next { (h : List (Event A)) (by : ℕ) (command : Command A) → IsLegal h
         → state (h ++ event_by by command (reply_of h command) ∷ []) ≡ next (state h) command }
     ensures count { (h : List (Event A)) → (state h).events ≡ length h }
@@ -33,34 +34,42 @@ pub fn legal_histories_grow<A: AllocHandle>()
 
 /// A session without touches captures nothing.
 pub fn untouched_captures_nothing<A: AllocHandle>()
-    ensures { (past : Past A) (session : ℕ) → touches session past ≡ [] → session_changes (main past) (session_of past session) ≡ [] }
+    ensures { (past : Past A) (session : ℕ) → touches session past ≡ []
+        → session_changes (main past) (session_of past session) ≡ [] }
 {}
 
-/// After an accepted insert into an attached table, of a key that had no row when the session saw it first, a capture
-/// has that INSERT as the key's one change, whatever the session holds of other keys and tables.
+/// After an accepted insert into an attached table, of a key that had no row when the session saw it first, a
+/// capture has that INSERT as the key's one change, whatever the session holds of other keys and tables.
 pub fn insert_is_captured<A: AllocHandle>()
-    ensures { (past : Past A) (event : Event A) (session : ℕ) (name : List ℕ) (table : TableState A) (key : Fields A) (row : Fields A)
+    ensures { (past : Past A) (event : Event A) (session : ℕ) (name : List ℕ) (table : TableState A)
+        (key : Fields A) (row : Fields A)
         → IsInsertOfAbsent past event session name table key row
-        → HasChange (session_changes (main (event ∷ past)) (session_of (event ∷ past) session)) name table.schema
-        (changes_by_key (record table { rows = put_entry fields_cmp table.rows key row }) (touched_rows (touches_of name (touches session (event ∷ past)))))
+        → HasChange (session_changes (main (event ∷ past)) (session_of (event ∷ past) session))
+        name table.schema
+        (changes_by_key (record table { rows = put_entry fields_cmp table.rows key row })
+        (touched_rows (touches_of name (touches session (event ∷ past)))))
         key (Change.Insert false (full_record row)) }
 {}
 
 /// However often a key is touched, the session keeps one row of it, with the image of the key's first touch.
 pub fn one_touched_row_a_key<A: AllocHandle>()
-    ensures once { (touched : List (Fields A × Touch A)) → IsTrue (is_sorted fields_cmp (touched_rows touched)) }
+    ensures once { (touched : List (Fields A × Touch A))
+        → IsTrue (is_sorted fields_cmp (touched_rows touched)) }
     ensures first { (touched : List (Fields A × Touch A)) (key : Fields A) →
         get fields_cmp (touched_rows touched) key
-        ≡ option_map (λ touch. record { image = touch.image; indirect = is_indirect touched key }) (get fields_cmp touched key) }
+        ≡ option_map (λ touch. record { image = touch.image; indirect = is_indirect touched key })
+        (get fields_cmp touched key) }
 {}
 
 /// A key whose row is again as it was when it was touched first has no change, though it was touched.
 pub fn restored_row_is_no_change<A: AllocHandle>()
-    ensures { (table : TableState A) (key : Fields A) (touched : TouchedRow A) → touched.image ≡ get fields_cmp table.rows key → change_now table (key, touched) ≡ None }
+    ensures { (table : TableState A) (key : Fields A) (touched : TouchedRow A) → touched.image
+        ≡ get fields_cmp table.rows key → change_now table (key, touched) ≡ None }
 {}
 
 /// A refused command changes no later reply, whatever commands follow.
 pub fn refusal_changes_no_reply<A: AllocHandle>()
     ensures { (past : Past A) (event : Event A) → IsLegalPast (event ∷ past) → is_accepted event.reply ≡ false
-        → (commands : List (Command A)) → replies_after (event ∷ past) commands ≡ replies_after past commands }
+        → (commands : List (Command A)) → replies_after (event ∷ past) commands
+        ≡ replies_after past commands }
 {}

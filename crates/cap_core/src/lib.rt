@@ -16,6 +16,8 @@ mod row_change;
 mod server;
 mod session;
 mod table;
+#[cfg(test)]
+mod tests;
 mod touched_row;
 
 pub use capture::Capture;

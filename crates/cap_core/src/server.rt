@@ -18,8 +18,8 @@ use cap_tree::Tree;
 use cap_value::{AllocHandle, Fault, Name, OutOfMemory, Refusal};
 use std::marker::Model;
 
-/// The sequential server at one moment: the tables, their version, the live sessions, and how many commands were
-/// answered so far.
+/// The sequential server at one moment: the tables, their version, the live sessions, and how many commands
+/// were answered so far.
 #[derive(Drop)]
 pub struct Core<A: AllocHandle> {
     alloc: A,
@@ -39,9 +39,16 @@ impl<A: AllocHandle> Model for Core<A> {
     ghost use Rattle.cap_core.specs.Code.Attached.{sessions_of};
     ghost use Rattle.cap_core.specs.Code.Sound.{sessions_stand};
 
-    ghost view = { λ c. record { events = c.events; main = c.main; version = c.version; sessions_made = c.sessions_made; sessions = sessions_of c.sessions.items } };
+    ghost view = { λ c. record {
+      events = c.events;
+      main = c.main;
+      version = c.version;
+      sessions_made = c.sessions_made;
+      sessions = sessions_of c.sessions.items;
+    } };
 
-    ghost invariant = { λ c. (c.version ≤ c.events) × (c.sessions_made ≤ c.events) × IsTrue (sessions_stand c.main (sessions_of c.sessions.items)) };
+    ghost invariant = { λ c. (c.version ≤ c.events) × (c.sessions_made ≤ c.events)
+        × IsTrue (sessions_stand c.main (sessions_of c.sessions.items)) };
 }
 
 impl<A: AllocHandle> Core<A> {
@@ -66,8 +73,8 @@ impl<A: AllocHandle> Core<A> {
         self.events
     }
 
-    /// Carries out a command once the step outside agrees to its reply. The step is asked once, when all memory was
-    /// found, or not at all. Where there is no memory, or the step refuses, nothing has changed.
+    /// Carries out a command once the step outside agrees to its reply. The step is asked once, when all
+    /// memory was found, or not at all. Where there is no memory, or the step refuses, nothing has changed.
     pub fn step<C: Confirm<A>>(
         &mut self,
         command: &Command<A>,
@@ -91,15 +98,17 @@ impl<A: AllocHandle> Core<A> {
         }
     }
 
-    /// The reply to a command, and the server after it; this one stays as it was. Where there is no memory, nothing
-    /// has changed.
+    /// The reply to a command, and the server after it; this one stays as it was. Where there is no memory,
+    /// nothing has changed.
     pub fn prepare(&self, command: &Command<A>) -> Result<(Core<A>, Reply<A>), OutOfMemory>
         requires room { self.now.events + 1 < 2 ^ 63 }
         ensures history { (h : List (Event A)) (by : ℕ) → IsLegal h → state h ≡ self.now →
-            IfOk result (λ r. (r.1 ≡ reply_of h command.now) × (r.0 ≡ state (h ++ event_by by command.now r.1 ∷ []))) }
+            IfOk result (λ r. (r.1 ≡ reply_of h command.now)
+            × (r.0 ≡ state (h ++ event_by by command.now r.1 ∷ []))) }
         ensures legal { (h : List (Event A)) (by : ℕ) → IsLegal h → state h ≡ self.now →
             IfOk result (λ r. IsLegal (h ++ event_by by command.now r.1 ∷ [])) }
-        ensures step { IfOk result (λ r. (r.0 ≡ next self.now command.now) × (r.1 ≡ answer self.now command.now)) }
+        ensures step { IfOk result (λ r. (r.0 ≡ next self.now command.now)
+            × (r.1 ≡ answer self.now command.now)) }
     {
         let mut core = self.copy()?;
         let reply = core.run_command(command)?;
@@ -128,7 +137,8 @@ impl<A: AllocHandle> Core<A> {
     // A command that no step outside belongs to.
     fn run_command(&mut self, command: &Command<A>) -> Result<Reply<A>, OutOfMemory>
         requires room { self.old.events + 1 < 2 ^ 63 }
-        ensures { IfOk result (λ reply. (self.new ≡ next self.old command.now) × (reply ≡ answer self.old command.now)) }
+        ensures { IfOk result (λ reply. (self.new ≡ next self.old command.now)
+            × (reply ≡ answer self.old command.now)) }
     {
         match self.step(command, &mut Agree) {
             Ok(reply) => Ok(reply),
@@ -158,11 +168,16 @@ impl<A: AllocHandle> Core<A> {
         confirm: &mut C,
     ) -> Result<Reply<A>, Fault<C::Refusal>>
         requires room { self.old.events + 1 < 2 ^ 63 }
-        requires can_confirm { C.can_confirm confirm.old (write_reply self.old (refused_at None (create self.old.main name.now schema.now))) }
-        ensures ok { IfOk result (λ reply. let made = refused_at None (create self.old.main name.now schema.now) in
-            (reply ≡ write_reply self.old made) × (self.new ≡ after_write self.old made) × C.gives confirm.old (write_reply self.old made) (Ok tt) confirm.new) }
-        ensures err { IfErr result (λ fault. let made = refused_at None (create self.old.main name.now schema.now) in
-            (self.new ≡ self.old) × MatchFault fault (confirm.new ≡ confirm.old) (λ why. C.gives confirm.old (write_reply self.old made) (Err why) confirm.new)) }
+        requires can_confirm { C.can_confirm confirm.old
+            (write_reply self.old (refused_at None (create self.old.main name.now schema.now))) }
+        ensures ok { IfOk result (λ reply.
+            let made = refused_at None (create self.old.main name.now schema.now) in
+            (reply ≡ write_reply self.old made) × (self.new ≡ after_write self.old made)
+            × C.gives confirm.old (write_reply self.old made) (Ok tt) confirm.new) }
+        ensures err { IfErr result
+            (λ fault. let made = refused_at None (create self.old.main name.now schema.now) in
+            (self.new ≡ self.old) × MatchFault fault (confirm.new ≡ confirm.old)
+            (λ why. C.gives confirm.old (write_reply self.old made) (Err why) confirm.new)) }
     {
         match create_table(self.alloc, &self.main, name, schema) {
             Ok(effect) => self.write(effect, confirm),
@@ -177,11 +192,16 @@ impl<A: AllocHandle> Core<A> {
         confirm: &mut C,
     ) -> Result<Reply<A>, Fault<C::Refusal>>
         requires room { self.old.events + 1 < 2 ^ 63 }
-        requires can_confirm { C.can_confirm confirm.old (write_reply self.old (refused_at (Some 0) (step self.old.main operation.now))) }
-        ensures ok { IfOk result (λ reply. let made = refused_at (Some 0) (step self.old.main operation.now) in
-            (reply ≡ write_reply self.old made) × (self.new ≡ after_write self.old made) × C.gives confirm.old (write_reply self.old made) (Ok tt) confirm.new) }
-        ensures err { IfErr result (λ fault. let made = refused_at (Some 0) (step self.old.main operation.now) in
-            (self.new ≡ self.old) × MatchFault fault (confirm.new ≡ confirm.old) (λ why. C.gives confirm.old (write_reply self.old made) (Err why) confirm.new)) }
+        requires can_confirm { C.can_confirm confirm.old
+            (write_reply self.old (refused_at (Some 0) (step self.old.main operation.now))) }
+        ensures ok { IfOk result (λ reply.
+            let made = refused_at (Some 0) (step self.old.main operation.now) in
+            (reply ≡ write_reply self.old made) × (self.new ≡ after_write self.old made)
+            × C.gives confirm.old (write_reply self.old made) (Ok tt) confirm.new) }
+        ensures err { IfErr result
+            (λ fault. let made = refused_at (Some 0) (step self.old.main operation.now) in
+            (self.new ≡ self.old) × MatchFault fault (confirm.new ≡ confirm.old)
+            (λ why. C.gives confirm.old (write_reply self.old made) (Err why) confirm.new)) }
     {
         match step(self.alloc, &self.main, operation) {
             Ok(effect) => self.write(effect, confirm),
@@ -199,10 +219,12 @@ impl<A: AllocHandle> Core<A> {
         requires room { self.old.events + 1 < 2 ^ 63 }
         requires sound { IsSoundEffect self.old.main effect }
         requires can_confirm { C.can_confirm confirm.old (Reply.Written (self.old.version + 1)) }
-        ensures ok { IfOk result (λ reply. (reply ≡ Reply.Written (self.old.version + 1)) × (self.new ≡ after_write self.old (Ok effect))
+        ensures ok { IfOk result (λ reply. (reply ≡ Reply.Written (self.old.version + 1))
+            × (self.new ≡ after_write self.old (Ok effect))
             × C.gives confirm.old (Reply.Written (self.old.version + 1)) (Ok tt) confirm.new) }
         ensures err { IfErr result (λ fault. (self.new ≡ self.old)
-            × MatchFault fault (confirm.new ≡ confirm.old) (λ why. C.gives confirm.old (Reply.Written (self.old.version + 1)) (Err why) confirm.new)) }
+            × MatchFault fault (confirm.new ≡ confirm.old)
+            (λ why. C.gives confirm.old (Reply.Written (self.old.version + 1)) (Err why) confirm.new)) }
     {
         touch_sessions(self.sessions.as_mut_slice(), &self.main, effect.changes())?;
         let version = self.version + 1;
@@ -218,10 +240,12 @@ impl<A: AllocHandle> Core<A> {
     fn new_session<C: Confirm<A>>(&mut self, confirm: &mut C) -> Result<Reply<A>, Fault<C::Refusal>>
         requires room { self.old.events + 1 < 2 ^ 63 }
         requires can_confirm { C.can_confirm confirm.old (session_reply self.old) }
-        ensures ok { IfOk result (λ reply. (reply ≡ session_reply self.old) × (self.new ≡ after_new_session self.old)
+        ensures ok { IfOk result (λ reply. (reply ≡ session_reply self.old)
+            × (self.new ≡ after_new_session self.old)
             × C.gives confirm.old (session_reply self.old) (Ok tt) confirm.new) }
         ensures err { IfErr result (λ fault. (self.new ≡ self.old)
-            × MatchFault fault (confirm.new ≡ confirm.old) (λ why. C.gives confirm.old (session_reply self.old) (Err why) confirm.new)) }
+            × MatchFault fault (confirm.new ≡ confirm.old)
+            (λ why. C.gives confirm.old (session_reply self.old) (Err why) confirm.new)) }
     {
         if self.sessions.len() >= SESSIONS_MAX {
             let why = Refusal::TooMany;
@@ -245,12 +269,15 @@ impl<A: AllocHandle> Core<A> {
         confirm: &mut C,
     ) -> Result<Reply<A>, Fault<C::Refusal>>
         requires room { self.old.events + 1 < 2 ^ 63 }
-        requires can_confirm { C.can_confirm confirm.old (attach_reply (session_numbered self.old.sessions number)) }
+        requires can_confirm { C.can_confirm confirm.old
+            (attach_reply (session_numbered self.old.sessions number)) }
         ensures ok { IfOk result (λ reply. let session = session_numbered self.old.sessions number in
             (reply ≡ attach_reply session) × (self.new ≡ after_attach self.old number name.now session)
             × C.gives confirm.old (attach_reply session) (Ok tt) confirm.new) }
-        ensures err { IfErr result (λ fault. (self.new ≡ self.old) × MatchFault fault (confirm.new ≡ confirm.old)
-            (λ why. C.gives confirm.old (attach_reply (session_numbered self.old.sessions number)) (Err why) confirm.new)) }
+        ensures err { IfErr result (λ fault. (self.new ≡ self.old) × MatchFault fault (confirm.new
+            ≡ confirm.old)
+            (λ why. C.gives confirm.old (attach_reply (session_numbered self.old.sessions number)) (Err why)
+            confirm.new)) }
     {
         let Some((place, _session)) = find_session(&self.sessions, number) else {
             let why = Refusal::NoSession;
@@ -271,12 +298,15 @@ impl<A: AllocHandle> Core<A> {
         confirm: &mut C,
     ) -> Result<Reply<A>, Fault<C::Refusal>>
         requires room { self.old.events + 1 < 2 ^ 63 }
-        requires can_confirm { C.can_confirm confirm.old (capture_reply self.old.main (session_numbered self.old.sessions number)) }
+        requires can_confirm { C.can_confirm confirm.old
+            (capture_reply self.old.main (session_numbered self.old.sessions number)) }
         ensures ok { IfOk result (λ reply. let session = session_numbered self.old.sessions number in
             (reply ≡ capture_reply self.old.main session) × (self.new ≡ one_more self.old)
             × C.gives confirm.old (capture_reply self.old.main session) (Ok tt) confirm.new) }
-        ensures err { IfErr result (λ fault. (self.new ≡ self.old) × MatchFault fault (confirm.new ≡ confirm.old)
-            (λ why. C.gives confirm.old (capture_reply self.old.main (session_numbered self.old.sessions number)) (Err why) confirm.new)) }
+        ensures err { IfErr result (λ fault. (self.new ≡ self.old) × MatchFault fault (confirm.new
+            ≡ confirm.old)
+            (λ why. C.gives confirm.old (capture_reply self.old.main (session_numbered self.old.sessions number))
+            (Err why) confirm.new)) }
     {
         let Some((_place, session)) = find_session(&self.sessions, number) else {
             let why = Refusal::NoSession;
@@ -294,9 +324,11 @@ impl<A: AllocHandle> Core<A> {
     ) -> Result<Reply<A>, Fault<C::Refusal>>
         requires room { self.old.events + 1 < 2 ^ 63 }
         requires can_confirm { C.can_confirm confirm.old reply }
-        ensures ok { IfOk result (λ r. (r ≡ reply) × (self.new ≡ one_more self.old) × C.gives confirm.old reply (Ok tt) confirm.new) }
+        ensures ok { IfOk result (λ r. (r ≡ reply) × (self.new ≡ one_more self.old)
+            × C.gives confirm.old reply (Ok tt) confirm.new) }
         ensures err { IfErr result (λ fault. (self.new ≡ self.old)
-            × MatchFault fault (confirm.new ≡ confirm.old) (λ why. C.gives confirm.old reply (Err why) confirm.new)) }
+            × MatchFault fault (confirm.new ≡ confirm.old)
+            (λ why. C.gives confirm.old reply (Err why) confirm.new)) }
     {
         ask(confirm, &reply)?;
         self.events += 1;

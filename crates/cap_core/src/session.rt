@@ -53,10 +53,13 @@ impl<A: AllocHandle> Session<A> {
     ) -> Result<Reply<A>, Fault<C::Refusal>>
         requires { C.can_confirm confirm.old Reply.Done }
         ensures number { self.new.number ≡ self.old.number }
-        ensures ok { IfOk result (λ reply. (reply ≡ Reply.Done) × C.gives confirm.old Reply.Done (Ok tt) confirm.new
+        ensures ok { IfOk result (λ reply. (reply ≡ Reply.Done)
+            × C.gives confirm.old Reply.Done (Ok tt) confirm.new
             × (tables_of self.new.tables.items ≡ attach name.now (tables_of self.old.tables.items))) }
-        ensures err { IfErr result (λ fault. (tables_of self.new.tables.items ≡ tables_of self.old.tables.items)
-            × MatchFault fault (confirm.new ≡ confirm.old) (λ why. C.gives confirm.old Reply.Done (Err why) confirm.new)) }
+        ensures err { IfErr result (λ fault. (tables_of self.new.tables.items
+            ≡ tables_of self.old.tables.items)
+            × MatchFault fault (confirm.new ≡ confirm.old)
+            (λ why. C.gives confirm.old Reply.Done (Err why) confirm.new)) }
     {
         let reply = Reply::Done;
         if is_attached(&self.tables, name) {
@@ -116,9 +119,11 @@ pub(crate) fn find_session<A: AllocHandle>(
     number: u64,
 ) -> Option<(usize, &Session<A>)>
     ensures none { IsNone result → session_numbered (sessions_of sessions.now) number ≡ None }
-    ensures place { IfSome result (λ found. position (λ session. nat_eq number session.number) sessions.now ≡ Some found.0) }
+    ensures place { IfSome result (λ found. position (λ session. nat_eq number session.number) sessions.now
+        ≡ Some found.0) }
     ensures within { IfSome result (λ found. found.0 < length sessions.now) }
-    ensures some { IfSome result (λ found. session_numbered (sessions_of sessions.now) number ≡ Some (tables_of found.1.now.tables.items)) }
+    ensures some { IfSome result (λ found. session_numbered (sessions_of sessions.now) number
+        ≡ Some (tables_of found.1.now.tables.items)) }
 {
     let place = place_of(sessions, number)?;
     Some((place, &sessions[place]))
@@ -130,14 +135,16 @@ fn place_of<A: AllocHandle>(sessions: &[Session<A>], number: u64) -> Option<usiz
     sessions.iter().position(|session| number == session.number)
 }
 
-/// Makes the touched rows of each session after these changes to these tables, which wait until they are taken over.
+/// Makes the touched rows of each session after these changes to these tables, which wait until they are
+/// taken over.
 pub(crate) fn touch_sessions<A: AllocHandle>(
     sessions: &mut [Session<A>],
     before: &Database<A>,
     changes: &[RowChange<A>],
 ) -> Result<(), OutOfMemory>
     ensures same { sessions_of sessions.new ≡ sessions_of sessions.old }
-    ensures waiting { OnOk result (waiting_sessions sessions.new ≡ touch_sessions before.now changes.now (sessions_of sessions.old)) }
+    ensures waiting { OnOk result (waiting_sessions sessions.new
+        ≡ touch_sessions before.now changes.now (sessions_of sessions.old)) }
 {
     for session in sessions.iter_mut() {
         touch_tables(session.tables.as_mut_slice(), before, changes)?;

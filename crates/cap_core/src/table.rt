@@ -54,7 +54,8 @@ impl<A: AllocHandle> Table<A> {
 
     pub(crate) fn put(&self, key: Key<A>, row: Row<A>) -> Result<Self, OutOfMemory>
         requires { IsTrue (stands self.now.schema key row) }
-        ensures { IfOk result (λ t. t ≡ record self.now { rows = put_entry fields_cmp self.now.rows key row }) }
+        ensures { IfOk result (λ t. t
+            ≡ record self.now { rows = put_entry fields_cmp self.now.rows key row }) }
     {
         Ok(Table {
             schema: self.schema.copy()?,
@@ -63,7 +64,8 @@ impl<A: AllocHandle> Table<A> {
     }
 
     pub(crate) fn take(&self, key: &Key<A>) -> Result<Self, OutOfMemory>
-        ensures { IfOk result (λ t. t ≡ record self.now { rows = take_entry fields_cmp self.now.rows key.now }) }
+        ensures { IfOk result (λ t. t
+            ≡ record self.now { rows = take_entry fields_cmp self.now.rows key.now }) }
     {
         Ok(Table {
             schema: self.schema.copy()?,

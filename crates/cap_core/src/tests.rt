@@ -1,0 +1,226 @@
+use crate::{Assignments, Command, Confirm, Core, Operation, Reply, RowRef};
+use cap_row::{Key, Row, Schema};
+use cap_value::{AllocHandle, Fault, Name, OutOfMemory, Refusal, Value};
+use linked_list_allocator::LocalHeap;
+use std::test::Fail;
+
+// What a test's values may meet: want of memory, or a refusal.
+type Outcome<T> = Result<T, Fault<Refusal>>;
+
+fn add<T: Drop, A: AllocHandle>(items: &mut Vec<T, A>, item: T) -> Result<(), OutOfMemory> {
+    items.push(item)?;
+    Ok(())
+}
+
+fn numbers<A: AllocHandle>(alloc: A, numbers: &[i64]) -> Result<Vec<Value<A>, A>, OutOfMemory> {
+    let mut values = Vec::new(alloc);
+    for number in numbers {
+        values.push(Value::Int(*number))?;
+    }
+    Ok(values)
+}
+
+fn create<A: AllocHandle>(alloc: A, table: &str) -> Outcome<Command<A>> {
+    Ok(Command::CreateTable {
+        table: Name::new(alloc, table)?,
+        schema: Schema::new(alloc, &[true, false])?,
+    })
+}
+
+fn attach<A: AllocHandle>(alloc: A, session: u64, table: &str) -> Outcome<Command<A>> {
+    Ok(Command::Attach {
+        session,
+        table: Name::new(alloc, table)?,
+    })
+}
+
+fn insert<A: AllocHandle>(alloc: A, table: &str, row: &[i64]) -> Outcome<Command<A>> {
+    Ok(Command::Commit(Operation::Insert {
+        table: Name::new(alloc, table)?,
+        row: Row::new(numbers(alloc, row)?)?,
+    }))
+}
+
+fn row_of_key<A: AllocHandle>(alloc: A, key: i64) -> Outcome<RowRef<A>> {
+    match Key::new(alloc, numbers(alloc, &[key])?)? {
+        Some(key) => Ok(RowRef::Key(key)),
+        None => Ok(RowRef::Loose(1)),
+    }
+}
+
+fn update<A: AllocHandle>(alloc: A, table: &str, key: i64, value: i64) -> Outcome<Command<A>> {
+    let mut fields = Vec::new(alloc);
+    add(&mut fields, (1, Value::Int(value)))?;
+    Ok(Command::Commit(Operation::Update {
+        table: Name::new(alloc, table)?,
+        row: row_of_key(alloc, key)?,
+        assignments: Assignments::new(fields),
+    }))
+}
+
+fn delete<A: AllocHandle>(alloc: A, table: &str, key: i64) -> Outcome<Command<A>> {
+    Ok(Command::Commit(Operation::Delete {
+        table: Name::new(alloc, table)?,
+        row: row_of_key(alloc, key)?,
+    }))
+}
+
+// A table, a session that sees it, and a change of each kind.
+fn workload<A: AllocHandle>(alloc: A) -> Outcome<Vec<Command<A>, A>> {
+    let mut commands = Vec::new(alloc);
+    add(&mut commands, create(alloc, "t")?)?;
+    add(&mut commands, insert(alloc, "t", &[1, 10])?)?;
+    add(&mut commands, insert(alloc, "t", &[2, 20])?)?;
+    add(&mut commands, Command::NewSession)?;
+    add(&mut commands, attach(alloc, 1, "t")?)?;
+    add(&mut commands, update(alloc, "t", 1, 11)?)?;
+    add(&mut commands, update(alloc, "t", 1, 12)?)?;
+    add(&mut commands, delete(alloc, "t", 2)?)?;
+    add(&mut commands, insert(alloc, "t", &[3, 30])?)?;
+    add(&mut commands, Command::Capture { session: 1 })?;
+    Ok(commands)
+}
+
+// A reply in a few words.
+fn shown<A: AllocHandle>(alloc: A, reply: &Reply<A>) -> Result<String<A>, OutOfMemory> {
+    match reply {
+        Reply::Done => String::from_str(alloc, "done"),
+        Reply::Written { version } => format!(in alloc; "version {version}"),
+        Reply::Session(number) => format!(in alloc; "session {number}"),
+        Reply::Capture(capture) => {
+            let bytes = capture.changeset(alloc)?;
+            format!(in alloc; "{:?}", bytes.as_slice())
+        }
+        Reply::Refused { at, why } => format!(in alloc; "refused {at:?} {why:?}"),
+    }
+}
+
+// The texts of the replies to commands, run one after the other.
+fn run_shown<A: AllocHandle>(alloc: A, commands: &[Command<A>]) -> Outcome<Vec<String<A>, A>> {
+    let mut texts = Vec::new(alloc);
+    if (commands.len() as u64) < 1 << 63 {
+        let (_core, replies) = Core::run(alloc, commands)?;
+        for reply in &replies {
+            add(&mut texts, shown(alloc, reply)?)?;
+        }
+    }
+    Ok(texts)
+}
+
+#[test]
+fn a_run_answers_each_command(rt: HostRuntime) -> Result<(), Fail> {
+    let alloc = rt.alloc();
+    let Ok(commands) = workload(alloc) else {
+        assert!(rt; false, "there is memory, and no value is refused");
+        return Ok(());
+    };
+    let Ok(texts) = run_shown(alloc, &commands) else {
+        assert!(rt; false, "there is memory");
+        return Ok(());
+    };
+    let expected = [
+        "version 1",
+        "version 2",
+        "version 3",
+        "session 1",
+        "done",
+        "version 4",
+        "version 5",
+        "version 6",
+        "version 7",
+    ];
+    for (place, text) in expected.iter().enumerate() {
+        assert_eq!(rt; texts[place].as_str(), *text);
+    }
+    let update = "23, 0, 1, 0, 0, 0, 0, 0, 0, 0, 1, 1, 0, 0, 0, 0, 0, 0, 0, 10, \
+        0, 1, 0, 0, 0, 0, 0, 0, 0, 12";
+    let delete = "9, 0, 1, 0, 0, 0, 0, 0, 0, 0, 2, 1, 0, 0, 0, 0, 0, 0, 0, 20";
+    let insert = "18, 0, 1, 0, 0, 0, 0, 0, 0, 0, 3, 1, 0, 0, 0, 0, 0, 0, 0, 30";
+    let changeset = format!(in alloc; "[84, 2, 1, 0, 116, 0, {update}, {delete}, {insert}]")?;
+    assert_eq!(rt; texts[9].as_str(), changeset.as_str());
+    Ok(())
+}
+
+// A step outside that counts how often it is asked, and agrees or refuses.
+#[derive(Drop)]
+struct Counted {
+    agrees: bool,
+    asked: u8,
+}
+
+impl<A: AllocHandle> Confirm<A> for Counted {
+    type Refusal = ();
+
+    ghost can_confirm = { λ confirm reply. Unit {0} };
+
+    ghost gives = { λ old reply answer new. Unit {0} };
+
+    fn confirm(&mut self, _reply: &Reply<A>) -> Result<(), ()> {
+        self.asked = self.asked.saturating_add(1);
+        if self.agrees { Ok(()) } else { Err(()) }
+    }
+}
+
+// Runs each command twice: refused by the step outside, and then agreed to. Answers how many events there
+// were, and how often the step was asked.
+fn step_twice<A: AllocHandle>(alloc: A, commands: &[Command<A>]) -> Outcome<(u64, u8)> {
+    let mut core = Core::new(alloc);
+    let mut confirm = Counted {
+        agrees: true,
+        asked: 0,
+    };
+    for command in commands {
+        if core.events() >= 1000 {
+            break;
+        }
+        confirm.agrees = false;
+        if let Err(Fault::OutOfMemory) = core.step(command, &mut confirm) {
+            return Err(Fault::OutOfMemory);
+        }
+        confirm.agrees = true;
+        if let Err(Fault::OutOfMemory) = core.step(command, &mut confirm) {
+            return Err(Fault::OutOfMemory);
+        }
+    }
+    Ok((core.events(), confirm.asked))
+}
+
+#[test]
+fn a_refused_step_is_no_event(rt: HostRuntime) -> Result<(), Fail> {
+    let alloc = rt.alloc();
+    let Ok(commands) = workload(alloc) else {
+        assert!(rt; false, "there is memory, and no value is refused");
+        return Ok(());
+    };
+    match step_twice(alloc, &commands) {
+        Ok(counts) => assert_eq!(rt; counts, (10, 20)),
+        Err(_) => assert!(rt; false, "there is memory"),
+    }
+    Ok(())
+}
+
+#[test]
+fn each_allocation_may_be_refused(rt: HostRuntime) -> Result<(), Fail> {
+    let mut enough = 0;
+    for size in 0..400usize {
+        let heap = LocalHeap::new(rt.alloc(), 64 * size)?;
+        match made_in(&heap) {
+            Ok(replies) => {
+                assert_eq!(rt; replies, 10);
+                enough = size;
+                break;
+            }
+            Err(fault) => assert_eq!(rt; fault, Fault::OutOfMemory),
+        }
+        assert_eq!(rt; heap.used(), 0);
+    }
+    assert!(rt; enough > 10, "{enough} blocks of 64 bytes were enough");
+    Ok(())
+}
+
+// How many replies a run of the workload has, in as much memory as the heap has.
+fn made_in(heap: &LocalHeap) -> Outcome<usize> {
+    let commands = workload(heap)?;
+    let texts = run_shown(heap, &commands)?;
+    Ok(texts.len())
+}
