@@ -2,6 +2,7 @@
 #![tactic(auto)]
 
 mod change;
+mod laws;
 mod replaced;
 mod row_name;
 mod row_ref;
@@ -10,6 +11,7 @@ mod table;
 #[cfg(test)]
 mod tests;
 
+pub use laws::{delete_undoes_insert, insert_takes_next_id};
 pub use replaced::Replaced;
 pub use row_name::RowName;
 pub use row_ref::RowRef;
