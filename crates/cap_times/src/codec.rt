@@ -1,13 +1,12 @@
-//! The program `cap_codec_times`: how long 100,000 changes of one row each take to write and to read, whole and in
-//! pieces. Standard output says what was checked, and standard error how long it took.
-#![tactic(auto)]
+//! How long the changes of 100,000 rows take to write and to read, whole and in pieces.
 
+use crate::clock::Stopwatch;
+use anyhow::{Context, Result, bail};
 use cap_changes::{Change, ChangeList, Group, Record};
 use cap_codec::{Contents, Decoder, read_blob, write_changes};
 use cap_row::Schema;
 use cap_value::{Name, Value};
 use std::alloc::Global;
-use std::process::ExitCode;
 use std::time::CpuClock;
 
 /// How many changes there are.
@@ -56,35 +55,31 @@ fn is_written_so(alloc: Global, blob: &Contents<Global>, bytes: &[u8]) -> Option
     }
 }
 
-/// Microseconds of processor time, in which other processes do not count.
-fn now(clock: &impl CpuClock) -> Option<u128> {
-    Some(clock.thread_cpu_time().ok()?.as_micros())
-}
-
-fn measure(rt: &(impl Print + Eprint + CpuClock + AllocGlobal)) -> Option<bool> {
+/// Writes and reads the changeset, and says how long each took.
+pub(crate) fn report(rt: &(impl Print + Eprint + CpuClock + AllocGlobal)) -> Result<()> {
     let alloc = rt.alloc();
-    let list = inserts(alloc)?;
-    let start = now(rt)?;
-    let bytes = write_changes(alloc, &list).ok()?;
-    let written = now(rt)?;
-    let blob = read_blob(alloc, &bytes).ok()?;
-    let read = now(rt)?;
-    let pieced = in_pieces(alloc, &bytes)?;
-    let fed = now(rt)?;
+    let list = inserts(alloc).context("the changes are not made")?;
+    let watch = Stopwatch::start(rt)?;
+    let bytes = write_changes(alloc, &list)?;
+    let written = watch.read(rt)?;
+    let watch = Stopwatch::start(rt)?;
+    let blob = read_blob(alloc, &bytes).ok().context("not read")?;
+    let read = watch.read(rt)?;
+    let watch = Stopwatch::start(rt)?;
+    let pieced = in_pieces(alloc, &bytes).context("not read in pieces")?;
+    let fed = watch.read(rt)?;
+    let changes = CHANGES.unsigned_abs() as u128;
     eprintln!(rt;
-        "written in {} us, read in {} us, in pieces in {} us",
-        written.saturating_sub(start),
-        read.saturating_sub(written),
-        fed.saturating_sub(read)
-    )
-    .ok()?;
-    println!(rt; "{CHANGES} changes, {} bytes", bytes.len()).ok()?;
-    Some(is_written_so(alloc, &blob, &bytes)? && is_written_so(alloc, &pieced, &bytes)?)
-}
-
-fn main(rt: HostRuntime) -> ExitCode {
-    match measure(&rt) {
-        Some(true) => ExitCode::SUCCESS,
-        _ => ExitCode::FAILURE,
+        "ns a change: written {}, read {}, read in pieces {}",
+        written / changes,
+        read / changes,
+        fed / changes
+    )?;
+    println!(rt; "{CHANGES} changes, {} bytes", bytes.len())?;
+    for blob in [blob, pieced] {
+        if is_written_so(alloc, &blob, &bytes) != Some(true) {
+            bail!("what was read is not what was written");
+        }
     }
+    Ok(())
 }

@@ -1,7 +1,7 @@
 //! The memory that a key takes, as a heap of a fixed size counts it.
 
+use super::table::{Map, Numbers, Table};
 use crate::keys::{Order, keys};
-use crate::table::{Map, Numbers, Table};
 use linked_list_allocator::LocalHeap;
 use std::io;
 

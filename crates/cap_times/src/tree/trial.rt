@@ -1,8 +1,8 @@
 //! One number of keys in one order.
 
-use crate::clock::{Stopwatch, Times};
+use super::table::{Map, Numbers, Table};
+use crate::clock::Stopwatch;
 use crate::keys::{Order, keys};
-use crate::table::{Map, Numbers, Table};
 use cap_tree::Tree;
 use std::alloc::Global;
 use std::io;
@@ -13,6 +13,36 @@ const PUTS: u32 = 200_000;
 
 // How often a tree is copied for one time.
 const COPIES: u32 = 1000;
+
+/// The nanoseconds of each kind of call, summed over all keys.
+#[derive(Clone, Copy)]
+struct Times {
+    put: u128,
+    get: u128,
+    iterate: u128,
+    take: u128,
+}
+
+impl Times {
+    fn none() -> Self {
+        Times {
+            put: 0,
+            get: 0,
+            iterate: 0,
+            take: 0,
+        }
+    }
+
+    /// The sum of both.
+    fn and(self, other: Times) -> Self {
+        Times {
+            put: self.put.saturating_add(other.put),
+            get: self.get.saturating_add(other.get),
+            iterate: self.iterate.saturating_add(other.iterate),
+            take: self.take.saturating_add(other.take),
+        }
+    }
+}
 
 // What the calls of one table took, and what they answered.
 #[derive(Clone, Copy)]
