@@ -4,7 +4,7 @@ use Rattle.std.specs.Result.{result_map_both}
 use Rattle.cap_value.specs.declared.refusal.Refusal.TheVariants.{BadFilter, TooDeep}
 use Rattle.cap_filter.specs.Faults.{Fits, StopsAt, IsUnfitAt, IsPastLimits}
 use Rattle.cap_filter.specs.Grammar.{Begins, BeginsWord, Spelled, SpelledMembers, SpelledMore}
-use Rattle.cap_filter.specs.Reading.{Frame, negated, listed, Next, a_filter, a_text, a_list, a_member, more, an_end, placed, list_of, begun, Move, on, unfit, too_deep, within, started, start, compared, step, ended, resumed, run, keyword_of, refusal, filter_of}
+use Rattle.cap_filter.specs.Reading.{Frame, negated, listed, Next, a_filter, a_text, a_list, a_member, more, an_end, behind_filter, list_of, behind_keyword, Move, on, unfit, too_deep, within, at_keyword, start, behind_text, step, whole_filter, next_run, run, keyword_of, refusal, filter_of}
 use Rattle.cap_filter.specs.Rule.{Rule, all, nothing, is, starts, ends, negation, conjunction, disjunction, Rules, no_rules, rule}
 use Rattle.cap_filter.specs.Tokens.{Token, word, quoted, opening, closing, comma, other, Tokens, tokens_of, text_of}
 use Rattle.cap_filter.specs.declared.filter.TheConstants.{DEPTH_MAX, NODES_MAX}
@@ -24,7 +24,7 @@ Allowed (on n room) P = P n
 Allowed unfit P = ⊥
 Allowed too_deep P = Unit {0}
 
-placed_means : (q : Rule) (frames : List Frame) (tokens : Tokens) (r : Rule) → Closes q frames tokens r → Means (placed q frames) tokens r
+placed_means : (q : Rule) (frames : List Frame) (tokens : Tokens) (r : Rule) → Closes q frames tokens r → Means (behind_filter q frames) tokens r
 placed_means q [] tokens r h = h
 placed_means q (negated ∷ frames) tokens r h = placed_means (negation q) frames tokens r h
 placed_means q (listed every before ∷ frames) tokens r h =
@@ -33,7 +33,7 @@ placed_means q (listed every before ∷ frames) tokens r h =
 -- the keyword of a filter, and what stands behind it
 abbrev Opened : Rule → Tokens → Tokens → Type 0
 Opened q tokens rest =
-    (k : Keyword) × (after : Tokens) × BeginsWord tokens (word_of k) after × ((frames : List Frame) (r : Rule) → Closes q frames rest r → Means (begun k frames) after r)
+    (k : Keyword) × (after : Tokens) × BeginsWord tokens (word_of k) after × ((frames : List Frame) (r : Rule) → Closes q frames rest r → Means (behind_keyword k frames) after r)
 
 opened : (q : Rule) (tokens rest : Tokens) → Spelled q tokens rest → Opened q tokens rest
 opened all tokens rest h = (keywords.All, rest, h, λ frames r c. placed_means all frames rest r c)
@@ -69,9 +69,9 @@ module _ (left : ℕ) (t : Token) (tokens : Tokens) (r : Rule) where
   filter_back frames room m =
       let o = opened m.0 Here m.1 m.2 in
       let same = begins_as (word (word_of o.0)) o.1 o.2 in
-      let next : Means (begun o.0 frames) tokens r = subst (λ (l : Tokens). Means (begun o.0 frames) l r) (sym same.1) (o.3 frames r m.3) in
+      let next : Means (behind_keyword o.0 frames) tokens r = subst (λ (l : Tokens). Means (behind_keyword o.0 frames) l r) (sym same.1) (o.3 frames r m.3) in
       let known : Allowed (start frames room (word (word_of o.0))) Behind =
-      subst (λ (k : Option Keyword). Allowed (started frames room k) Behind) (sym (keyword_of-word o.0)) (within_allowed frames room (begun o.0 frames) next)
+      subst (λ (k : Option Keyword). Allowed (at_keyword frames room k) Behind) (sym (keyword_of-word o.0)) (within_allowed frames room (behind_keyword o.0 frames) next)
       in
       subst (λ (u : Token). Allowed (start frames room u) Behind) (sym same.0) known
 
@@ -80,7 +80,7 @@ module _ (left : ℕ) (t : Token) (tokens : Tokens) (r : Rule) where
       let same = begins_as m.1 m.2 m.4 in
       let text : text_of t ≡ Some m.0 = ap text_of same.0 ∙ m.3 in
       let next = placed_means (make m.0) frames tokens r (subst (λ (l : Tokens). Closes (make m.0) frames l r) (sym same.1) m.5) in
-      subst (λ (o : Option (List ℕ)). Allowed (compared make frames room o) Behind) (sym text) next
+      subst (λ (o : Option (List ℕ)). Allowed (behind_text make frames room o) Behind) (sym text) next
 
   list_back : (every : Bool) (frames : List Frame) (room : ℕ) → Means (a_list every frames) Here r → Allowed (step (a_list every frames) room t) Behind
   list_back every frames room m =
@@ -137,7 +137,7 @@ no_more : (rs : Rules) (rest : Tokens) → SpelledMore rs [] rest → ⊥
 no_more no_rules rest h = no_first closing rest h
 no_more (rule q rs) rest h = no_first comma h.0 h.1
 
-end_back : (next : Next) (r : Rule) → Means next [] r → ended next ≡ gave r
+end_back : (next : Next) (r : Rule) → Means next [] r → whole_filter next ≡ gave r
 end_back (a_filter frames) r m = absurd (no_filter m.0 m.1 m.2)
 end_back (a_text make frames) r m = absurd (no_first m.1 m.2 m.4)
 end_back (a_list every frames) r m = absurd (no_first opening m.1 m.3)
@@ -166,10 +166,10 @@ means_some (an_end q) = ([], q, (refl, refl))
 abbrev GoesOn : Next → ℕ → Token → Type 0
 GoesOn next left t = (tokens : Tokens) × (r : Rule) × Means next ((left, t) ∷ tokens) r
 
-started_goes_on : (frames : List Frame) (room left : ℕ) (w : List ℕ) (o : Option Keyword) → keyword_of w ≡ o → started frames room o ≡ too_deep → GoesOn (a_filter frames) left (word w)
+started_goes_on : (frames : List Frame) (room left : ℕ) (w : List ℕ) (o : Option Keyword) → keyword_of w ≡ o → at_keyword frames room o ≡ too_deep → GoesOn (a_filter frames) left (word w)
 started_goes_on frames room left w None e h = absurd cc
 started_goes_on frames room left w (Some k) e h =
-    let c = means_some (begun k frames) in
+    let c = means_some (behind_keyword k frames) in
     let known : (left, word w) ∷ c.0 ≡ (left, word (word_of k)) ∷ c.0 = ap (λ (l : List ℕ). (left, word l) ∷ c.0) (keyword_word w k e) in
     (c.0, c.1, begun_means k frames ((left, word w) ∷ c.0) c.0 c.1 (left, known) c.2)
 
@@ -252,10 +252,10 @@ Fits-reached front next room reached = let c = means_some next in (c.0, c.1, rea
 abbrev UnfitIn : Tokens → ℕ → Type 0
 UnfitIn tokens left = (front : Tokens) × (rest : Tokens) × (tokens ≡ front ++ rest) × Fits front × StopsAt front rest left
 
-not_gave : (next : Next) (left : ℕ) (r : Rule) → ended next ≡ refused (Unfit left) → ended next ≡ gave r → ⊥
+not_gave : (next : Next) (left : ℕ) (r : Rule) → whole_filter next ≡ refused (Unfit left) → whole_filter next ≡ gave r → ⊥
 not_gave next left r h e = let both : gave r ≡ refused (Unfit left) = sym e ∙ h in absurd cc
 
-ends_at_zero : (next : Next) (left : ℕ) → ended next ≡ refused (Unfit left) → left ≡ 0
+ends_at_zero : (next : Next) (left : ℕ) → whole_filter next ≡ refused (Unfit left) → left ≡ 0
 ends_at_zero (a_filter frames) left h = cc
 ends_at_zero (a_text make frames) left h = cc
 ends_at_zero (a_list every frames) left h = cc
@@ -263,7 +263,7 @@ ends_at_zero (a_member every frames) left h = cc
 ends_at_zero (more every before frames) left h = cc
 ends_at_zero (an_end q) left h = absurd cc
 
-unfit_end : (front : Tokens) (next : Next) (room left : ℕ) → IsReached front next room → ended next ≡ refused (Unfit left) → UnfitIn (front ++ []) left
+unfit_end : (front : Tokens) (next : Next) (room left : ℕ) → IsReached front next room → whole_filter next ≡ refused (Unfit left) → UnfitIn (front ++ []) left
 unfit_end front next room left reached h = (
   front,
   [],
@@ -288,7 +288,7 @@ unfit_token front next room left t rest reached e = (
 
 unfit_step : (m : Move) (front : Tokens) (next : Next) (room left place : ℕ) (t : Token) (rest : Tokens) → IsReached front next room → step next room t ≡ m →
     ((n : Next) (q : ℕ) → IsReached (front ++ (place, t) ∷ []) n q → run n q rest ≡ refused (Unfit left) → UnfitIn ((front ++ (place, t) ∷ []) ++ rest) left) →
-    resumed place m (λ n q. run n q rest) ≡ refused (Unfit left) → UnfitIn (front ++ (place, t) ∷ rest) left
+    next_run place m (λ n q. run n q rest) ≡ refused (Unfit left) → UnfitIn (front ++ (place, t) ∷ rest) left
 unfit_step (on n q) front next room left place t rest reached e others h =
     subst (λ (l : Tokens). UnfitIn l left) (one_more front (place, t) rest) (others n q (IsReached-on front next room place t n q reached e) h)
 unfit_step unfit front next room left place t rest reached e others h =
@@ -324,13 +324,13 @@ deep_token front next room left t rest reached e =
 
 deep_step : (m : Move) (front : Tokens) (next : Next) (room place : ℕ) (t : Token) (rest : Tokens) → IsReached front next room → step next room t ≡ m →
     ((n : Next) (q : ℕ) → IsReached (front ++ (place, t) ∷ []) n q → run n q rest ≡ refused Deep → DeepIn ((front ++ (place, t) ∷ []) ++ rest)) →
-    resumed place m (λ n q. run n q rest) ≡ refused Deep → DeepIn (front ++ (place, t) ∷ rest)
+    next_run place m (λ n q. run n q rest) ≡ refused Deep → DeepIn (front ++ (place, t) ∷ rest)
 deep_step (on n q) front next room place t rest reached e others h =
     subst DeepIn (one_more front (place, t) rest) (others n q (IsReached-on front next room place t n q reached e) h)
 deep_step unfit front next room place t rest reached e others h = absurd cc
 deep_step too_deep front next room place t rest reached e others h = deep_token front next room place t rest reached e
 
-no_deep_end : (next : Next) → ended next ≡ refused Deep → ⊥
+no_deep_end : (next : Next) → whole_filter next ≡ refused Deep → ⊥
 no_deep_end (a_filter frames) h = absurd cc
 no_deep_end (a_text make frames) h = absurd cc
 no_deep_end (a_list every frames) h = absurd cc

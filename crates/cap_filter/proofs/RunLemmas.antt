@@ -4,7 +4,7 @@ use Rattle.std.specs.Result.{result_map_both}
 use Rattle.std.proofs.lemmas.Bool.{lt-ltb, le-ltb}
 use Rattle.cap_value.specs.declared.memory.Fault.{Fault}
 use Rattle.cap_value.specs.declared.memory.Fault.TheVariants.{Refused, OutOfMemory}
-use Rattle.cap_filter.specs.Reading.{Frame, listed, Next, a_filter, a_text, a_list, a_member, more, an_end, list_of, placed, begun, within, started, resumed, run, keyword_of, keyword_read, keyword_at, text_at, opening_at, closing_at, separator_at, end_at, Refuses, refusal, filter_of}
+use Rattle.cap_filter.specs.Reading.{Frame, listed, Next, a_filter, a_text, a_list, a_member, more, an_end, list_of, behind_filter, behind_keyword, within, at_keyword, next_run, run, keyword_of, keyword_read, keyword_at, text_at, opening_at, closing_at, separator_at, end_at, Refuses, refusal, filter_of}
 use Rattle.cap_filter.specs.Rule.{Rule}
 use Rattle.cap_filter.specs.Tokens.{word, quoted, opening, closing, comma, other, Tokens, tokens_of}
 use Rattle.cap_filter.specs.declared.filter.TheConstants.{DEPTH_MAX, NODES_MAX}
@@ -31,7 +31,7 @@ ok_parts {X} {Y} a c b d h = let e : ◌≡◌ {A = X × Y} (a, b) (c, d) = cc i
 -- ---- a filter
 
 no_keyword_started : (frames : List Frame) (room left : ℕ) (rest : Tokens) (e : Stop) (next : Next → ℕ → Answer) (o : Option Keyword) →
-    keyword_read left rest o ≡ Err e → resumed left (started frames room o) next ≡ Err e
+    keyword_read left rest o ≡ Err e → next_run left (at_keyword frames room o) next ≡ Err e
 no_keyword_started frames room left rest e next None h = same_refusal (Unfit left) e h
 no_keyword_started frames room left rest e next (Some k) h = absurd cc
 
@@ -45,28 +45,28 @@ run-no_keyword frames room e ((left, closing) ∷ ts) h = same_refusal (Unfit le
 run-no_keyword frames room e ((left, comma) ∷ ts) h = same_refusal (Unfit left) e h
 run-no_keyword frames room e ((left, other) ∷ ts) h = same_refusal (Unfit left) e h
 
-is_within : (frames : List Frame) (room left : ℕ) (n : Next) (next : Next → ℕ → Answer) → 0 < room → length frames < DEPTH_MAX → resumed left (within frames room n) next ≡ next n (room - 1)
+is_within : (frames : List Frame) (room left : ℕ) (n : Next) (next : Next → ℕ → Answer) → 0 < room → length frames < DEPTH_MAX → next_run left (within frames room n) next ≡ next n (room - 1)
 is_within frames zero left n next positive shallow = absurd (omega arith)
 is_within frames (suc room) left n next positive shallow = rw (lt-ltb (length frames) DEPTH_MAX shallow, sub-one) refl
 
-is_past : (frames : List Frame) (room left : ℕ) (n : Next) (next : Next → ℕ → Answer) → (room ≡ 0) ⊎ (DEPTH_MAX ≤ length frames) → resumed left (within frames room n) next ≡ Err Deep
+is_past : (frames : List Frame) (room left : ℕ) (n : Next) (next : Next → ℕ → Answer) → (room ≡ 0) ⊎ (DEPTH_MAX ≤ length frames) → next_run left (within frames room n) next ≡ Err Deep
 is_past frames zero left n next past = refl
 is_past frames (suc room) left n next (inl none) = absurd (omega arith)
 is_past frames (suc room) left n next (inr deep) = rw (le-ltb (length frames) DEPTH_MAX deep) refl
 
 keyword_started : (frames : List Frame) (room left : ℕ) (rest after : Tokens) (k : Keyword) (o : Option Keyword) → keyword_read left rest o ≡ Ok (k, after) →
-    0 < room → length frames < DEPTH_MAX → resumed left (started frames room o) (λ n r. run n r rest) ≡ run (begun k frames) (room - 1) after
+    0 < room → length frames < DEPTH_MAX → next_run left (at_keyword frames room o) (λ n r. run n r rest) ≡ run (behind_keyword k frames) (room - 1) after
 keyword_started frames room left rest after k None h positive shallow = absurd cc
 keyword_started frames room left rest after k (Some j) h positive shallow =
     let same = ok_parts j k rest after h in
-    is_within frames room left (begun j frames) (λ n r. run n r rest) positive shallow ∙ rw (same.0, same.1) refl
+    is_within frames room left (behind_keyword j frames) (λ n r. run n r rest) positive shallow ∙ rw (same.0, same.1) refl
 
 keyword_past : (frames : List Frame) (room left : ℕ) (rest : Tokens) (x : Keyword × Tokens) (next : Next → ℕ → Answer) (o : Option Keyword) → keyword_read left rest o ≡ Ok x →
-    (room ≡ 0) ⊎ (DEPTH_MAX ≤ length frames) → resumed left (started frames room o) next ≡ Err Deep
+    (room ≡ 0) ⊎ (DEPTH_MAX ≤ length frames) → next_run left (at_keyword frames room o) next ≡ Err Deep
 keyword_past frames room left rest x next None h past = absurd cc
-keyword_past frames room left rest x next (Some j) h past = is_past frames room left (begun j frames) next past
+keyword_past frames room left rest x next (Some j) h past = is_past frames room left (behind_keyword j frames) next past
 
-pub run-keyword : (frames : List Frame) (room : ℕ) (k : Keyword) (after tokens : Tokens) → keyword_at tokens ≡ Ok (k, after) → 0 < room → length frames < DEPTH_MAX → run (a_filter frames) room tokens ≡ run (begun k frames) (room - 1) after
+pub run-keyword : (frames : List Frame) (room : ℕ) (k : Keyword) (after tokens : Tokens) → keyword_at tokens ≡ Ok (k, after) → 0 < room → length frames < DEPTH_MAX → run (a_filter frames) room tokens ≡ run (behind_keyword k frames) (room - 1) after
 unfolding run
 run-keyword frames room k after [] h positive shallow = absurd cc
 run-keyword frames room k after ((left, (word w)) ∷ ts) h positive shallow = keyword_started frames room left ts after k (keyword_of w) h positive shallow
@@ -98,7 +98,7 @@ run-no_text make frames room e ((left, closing) ∷ ts) h = same_refusal (Unfit 
 run-no_text make frames room e ((left, comma) ∷ ts) h = same_refusal (Unfit left) e h
 run-no_text make frames room e ((left, other) ∷ ts) h = same_refusal (Unfit left) e h
 
-pub run-text : (make : List ℕ → Rule) (frames : List Frame) (room : ℕ) (text : List ℕ) (after tokens : Tokens) → text_at tokens ≡ Ok (text, after) → run (a_text make frames) room tokens ≡ run (placed (make text) frames) room after
+pub run-text : (make : List ℕ → Rule) (frames : List Frame) (room : ℕ) (text : List ℕ) (after tokens : Tokens) → text_at tokens ≡ Ok (text, after) → run (a_text make frames) room tokens ≡ run (behind_filter (make text) frames) room after
 unfolding run
 run-text make frames room text after [] h = absurd cc
 run-text make frames room text after ((left, (word w)) ∷ ts) h = let same = ok_parts w text ts after h in rw (same.0, same.1) refl
@@ -130,7 +130,7 @@ run-opening every frames room after ((left, closing) ∷ ts) h = absurd cc
 run-opening every frames room after ((left, comma) ∷ ts) h = absurd cc
 run-opening every frames room after ((left, other) ∷ ts) h = absurd cc
 
-pub run-closing : (every : Bool) (frames : List Frame) (room : ℕ) (after tokens : Tokens) → closing_at tokens ≡ Some after → run (a_member every frames) room tokens ≡ run (placed (list_of every []) frames) room after
+pub run-closing : (every : Bool) (frames : List Frame) (room : ℕ) (after tokens : Tokens) → closing_at tokens ≡ Some after → run (a_member every frames) room tokens ≡ run (behind_filter (list_of every []) frames) room after
 unfolding run
 run-closing every frames room after [] h = absurd cc
 run-closing every frames room after ((left, (word w)) ∷ ts) h = absurd cc
@@ -170,7 +170,7 @@ run-comma every members frames room after ((left, closing) ∷ ts) h = absurd (t
 run-comma every members frames room after ((left, comma) ∷ ts) h = rw (ok_parts true true ts after h).1 refl
 run-comma every members frames room after ((left, other) ∷ ts) h = absurd cc
 
-pub run-last : (every : Bool) (members : List Rule) (frames : List Frame) (room : ℕ) (after tokens : Tokens) → separator_at tokens ≡ Ok (false, after) → run (more every members frames) room tokens ≡ run (placed (list_of every members) frames) room after
+pub run-last : (every : Bool) (members : List Rule) (frames : List Frame) (room : ℕ) (after tokens : Tokens) → separator_at tokens ≡ Ok (false, after) → run (more every members frames) room tokens ≡ run (behind_filter (list_of every members) frames) room after
 unfolding run
 run-last every members frames room after [] h = absurd cc
 run-last every members frames room after ((left, (word w)) ∷ ts) h = absurd cc
@@ -205,10 +205,10 @@ run-end r room u ((left, other) ∷ ts) h = absurd cc
 -- ---- what the reader's calls lead to
 
 -- behind a keyword that stands within the limits
-pub run-begun : (frames : List Frame) (room levels : ℕ) (k j : Keyword) (after tokens : Tokens) → keyword_at tokens ≡ Ok (k, after) → k ≡ j → (room ≡ 0 → ⊥) → (levels ≡ 0 → ⊥) →
-    length frames + levels ≡ DEPTH_MAX → run (a_filter frames) room tokens ≡ run (begun j frames) (room - 1) after
-run-begun frames room levels k j after tokens h same some_room some_level fits =
-    run-keyword frames room k after tokens h (omega arith) (omega arith) ∙ ap (λ (i : Keyword). run (begun i frames) (room - 1) after) same
+pub run-behind_keyword : (frames : List Frame) (room levels : ℕ) (k j : Keyword) (after tokens : Tokens) → keyword_at tokens ≡ Ok (k, after) → k ≡ j → (room ≡ 0 → ⊥) → (levels ≡ 0 → ⊥) →
+    length frames + levels ≡ DEPTH_MAX → run (a_filter frames) room tokens ≡ run (behind_keyword j frames) (room - 1) after
+run-behind_keyword frames room levels k j after tokens h same some_room some_level fits =
+    run-keyword frames room k after tokens h (omega arith) (omega arith) ∙ ap (λ (i : Keyword). run (behind_keyword i frames) (room - 1) after) same
 
 -- a refusal of a part is the answer where the part decides it
 pub refused_by : {Y : Type 0} (f : Fault Stop) (read : Result Y Stop) (answer : Answer) → Refuses f read → ((e : Stop) → read ≡ Err e → answer ≡ Err e) → Refuses f answer

@@ -8,7 +8,7 @@ use Rattle.cap_value.specs.Memory.{AnswersUnlessMemory}
 use Rattle.cap_value.specs.declared.memory.Fault.{Fault}
 use Rattle.cap_value.specs.declared.refusal.Refusal.{Refusal}
 use Rattle.cap_filter.specs.Grammar.{Begins, BeginsWord, Spelled, SpelledMembers, SpelledMore, Spells}
-use Rattle.cap_filter.specs.Reading.{Frame, negated, listed, Next, a_filter, a_text, a_list, a_member, more, an_end, placed, list_of, begun, Move, on, unfit, too_deep, within, started, step, ended, resumed, run, keyword_of, refusal, filter_of}
+use Rattle.cap_filter.specs.Reading.{Frame, negated, listed, Next, a_filter, a_text, a_list, a_member, more, an_end, behind_filter, list_of, behind_keyword, Move, on, unfit, too_deep, within, at_keyword, step, whole_filter, next_run, run, keyword_of, refusal, filter_of}
 use Rattle.cap_filter.specs.Rule.{Rule, all, nothing, is, starts, ends, negation, conjunction, disjunction, Rules, no_rules, rule}
 use Rattle.cap_filter.specs.Tokens.{Token, word, quoted, opening, closing, comma, other, Tokens, tokens_of, text_of}
 use Rattle.cap_filter.specs.declared.filter.TheConstants.{DEPTH_MAX, NODES_MAX}
@@ -37,14 +37,14 @@ Means (more every before frames) tokens r =
     (rs : Rules) × (rest : Tokens) × SpelledMore rs tokens rest × Closes (list_of every (before ++ list rs)) frames rest r
 Means (an_end q) tokens r = (tokens ≡ []) × (q ≡ r)
 
-closes : (q : Rule) (frames : List Frame) (tokens : Tokens) (r : Rule) → Means (placed q frames) tokens r → Closes q frames tokens r
+closes : (q : Rule) (frames : List Frame) (tokens : Tokens) (r : Rule) → Means (behind_filter q frames) tokens r → Closes q frames tokens r
 closes q [] tokens r h = h
 closes q (negated ∷ frames) tokens r h = closes (negation q) frames tokens r h
 closes q (listed every before ∷ frames) tokens r h =
     (h.0, h.1, h.2, subst (λ (l : List Rule). Closes (list_of every l) frames h.1 r) (append_assoc before (q ∷ []) (list h.0)) h.3)
 
 -- behind a keyword
-pub begun_means : (k : Keyword) (frames : List Frame) (tokens rest : Tokens) (r : Rule) → BeginsWord tokens (word_of k) rest → Means (begun k frames) rest r → Means (a_filter frames) tokens r
+pub begun_means : (k : Keyword) (frames : List Frame) (tokens rest : Tokens) (r : Rule) → BeginsWord tokens (word_of k) rest → Means (behind_keyword k frames) rest r → Means (a_filter frames) tokens r
 begun_means keywords.All frames tokens rest r h m = (all, rest, h, closes all frames rest r m)
 begun_means keywords.Nothing frames tokens rest r h m = (nothing, rest, h, closes nothing frames rest r m)
 begun_means keywords.Is frames tokens rest r h m = (is m.0, m.2, (rest, h, m.1, m.3, m.4), m.5)
@@ -104,14 +104,14 @@ module _ (tokens : Tokens) (r : Rule) where
   goes_on true n room h = h
   goes_on false n room h = absurd h
 
-  within_means : (frames : List Frame) (room left : ℕ) (w : List ℕ) (k : Keyword) → keyword_of w ≡ Some k → Moved (within frames room (begun k frames)) Behind →
+  within_means : (frames : List Frame) (room left : ℕ) (w : List ℕ) (k : Keyword) → keyword_of w ≡ Some k → Moved (within frames room (behind_keyword k frames)) Behind →
       Means (a_filter frames) ((left, word w) ∷ tokens) r
   within_means frames zero left w k e h = absurd h
   within_means frames (suc room) left w k e h =
       let known : (left, word w) ∷ tokens ≡ (left, word (word_of k)) ∷ tokens = ap (λ (l : List ℕ). (left, word l) ∷ tokens) (keyword_word w k e) in
-      begun_means k frames ((left, word w) ∷ tokens) tokens r (left, known) (goes_on (ltb (length frames) DEPTH_MAX) (begun k frames) room h)
+      begun_means k frames ((left, word w) ∷ tokens) tokens r (left, known) (goes_on (ltb (length frames) DEPTH_MAX) (behind_keyword k frames) room h)
 
-  word_means : (frames : List Frame) (room left : ℕ) (w : List ℕ) (o : Option Keyword) → keyword_of w ≡ o → Moved (started frames room o) Behind →
+  word_means : (frames : List Frame) (room left : ℕ) (w : List ℕ) (o : Option Keyword) → keyword_of w ≡ o → Moved (at_keyword frames room o) Behind →
       Means (a_filter frames) ((left, word w) ∷ tokens) r
   word_means frames room left w None e h = absurd h
   word_means frames room left w (Some k) e h = within_means frames room left w k e h
@@ -156,12 +156,12 @@ module _ (tokens : Tokens) (r : Rule) where
   step_means (an_end q) room left comma h = absurd h
   step_means (an_end q) room left other h = absurd h
 
-moved : (m : Move) (left : ℕ) (P : Next → Type 0) (f : Next → ℕ → Answer) (r : Rule) → ((n : Next) (room : ℕ) → f n room ≡ gave r → P n) → resumed left m f ≡ gave r → Moved m P
+moved : (m : Move) (left : ℕ) (P : Next → Type 0) (f : Next → ℕ → Answer) (r : Rule) → ((n : Next) (room : ℕ) → f n room ≡ gave r → P n) → next_run left m f ≡ gave r → Moved m P
 moved (on n room) left P f r behind h = behind n room h
 moved unfit left P f r behind h = absurd cc
 moved too_deep left P f r behind h = absurd cc
 
-ends_means : (next : Next) (r : Rule) → ended next ≡ gave r → Means next [] r
+ends_means : (next : Next) (r : Rule) → whole_filter next ≡ gave r → Means next [] r
 ends_means (a_filter frames) r h = absurd cc
 ends_means (a_text make frames) r h = absurd cc
 ends_means (a_list every frames) r h = absurd cc
@@ -184,8 +184,8 @@ pub filter_of-Spells : (text : List ℕ) (r : Rule) → filter_of text ≡ Ok r 
 unfolding filter_of Spells
 filter_of-Spells text r h =
     let m = is_spelled (tokens_of text) r (a_filter []) NODES_MAX (answered text (run (a_filter []) NODES_MAX (tokens_of text)) r h) in
-    let at_end : Spelled m.0 (tokens_of text) [] = subst (λ (rest : Tokens). Spelled m.0 (tokens_of text) rest) m.3.0 m.2 in
-    subst (λ (q : Rule). Spelled q (tokens_of text) []) m.3.1 at_end
+    let whole_filter : Spelled m.0 (tokens_of text) [] = subst (λ (rest : Tokens). Spelled m.0 (tokens_of text) rest) m.3.0 m.2 in
+    subst (λ (q : Rule). Spelled q (tokens_of text) []) m.3.1 whole_filter
 
 pub answer_is_spelled : (text : List ℕ) (result : Result Rule (Fault Refusal)) → AnswersUnlessMemory result (filter_of text) → IfOk result (λ r. Spells text r)
 answer_is_spelled text (Ok r) h = filter_of-Spells text r h

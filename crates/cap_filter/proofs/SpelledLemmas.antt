@@ -5,7 +5,7 @@ use Rattle.std.proofs.lemmas.Bool.{and_parts, leb-true}
 use Rattle.cap_filter.specs.Grammar.{Begins, BeginsWord, BeginsWith, BeginsList, Spelled, SpelledMembers, SpelledMore, Spells}
 use Rattle.cap_filter.specs.Limits.{is_within_limits, depth, nodes, depth_of_all, nodes_of_all}
 use Rattle.cap_filter.specs.Plain.{rules}
-use Rattle.cap_filter.specs.Reading.{Frame, negated, listed, Next, a_filter, a_text, a_list, a_member, more, placed, list_of, begun, run, keyword_of, keyword_read, keyword_at, text_read, text_at, opening_at, closing_at, separator_at, filter_of}
+use Rattle.cap_filter.specs.Reading.{Frame, negated, listed, Next, a_filter, a_text, a_list, a_member, more, behind_filter, list_of, behind_keyword, run, keyword_of, keyword_read, keyword_at, text_read, text_at, opening_at, closing_at, separator_at, filter_of}
 use Rattle.cap_filter.specs.Rule.{Rule, all, nothing, is, starts, ends, negation, conjunction, disjunction, Rules, no_rules, rule}
 use Rattle.cap_filter.specs.Tokens.{Token, Tokens, tokens_of, text_of}
 use Rattle.cap_filter.specs.declared.filter.TheConstants.{DEPTH_MAX, NODES_MAX}
@@ -52,16 +52,16 @@ at_text t w tokens rest e h = ap text_at h.1 ∙ ap (text_read h.0 rest) e
 
 -- behind a keyword
 after_keyword : (k : Keyword) (frames : List Frame) (room : ℕ) (tokens rest : Tokens) → BeginsWord tokens (word_of k) rest → length frames + 1 ≤ DEPTH_MAX → 1 ≤ room →
-    run (a_filter frames) room tokens ≡ run (begun k frames) (room - 1) rest
+    run (a_filter frames) room tokens ≡ run (behind_keyword k frames) (room - 1) rest
 after_keyword k frames room tokens rest h shallow some = run-keyword frames room k rest tokens (at_keyword k tokens rest h) (omega arith) (omega arith)
 
-compared : (k : Keyword) (make : List ℕ → Rule) → ((frames : List Frame) → begun k frames ≡ a_text make frames) → (frames : List Frame) (room : ℕ) (w : List ℕ) (tokens rest : Tokens) →
-    BeginsWith tokens (word_of k) w rest → length frames + 1 ≤ DEPTH_MAX → 1 ≤ room → run (a_filter frames) room tokens ≡ run (placed (make w) frames) (room - 1) rest
-compared k make same frames room w tokens rest h shallow some =
+behind_text : (k : Keyword) (make : List ℕ → Rule) → ((frames : List Frame) → behind_keyword k frames ≡ a_text make frames) → (frames : List Frame) (room : ℕ) (w : List ℕ) (tokens rest : Tokens) →
+    BeginsWith tokens (word_of k) w rest → length frames + 1 ≤ DEPTH_MAX → 1 ≤ room → run (a_filter frames) room tokens ≡ run (behind_filter (make w) frames) (room - 1) rest
+behind_text k make same frames room w tokens rest h shallow some =
     after_keyword k frames room tokens h.0 h.1 shallow some ∙ ap (λ (n : Next). run n (room - 1) h.0) (same frames)
     ∙ run-text make frames (room - 1) w rest h.0 (at_text h.2 w h.0 rest h.3 h.4)
 
-in_list : (k : Keyword) (every : Bool) → ((frames : List Frame) → begun k frames ≡ a_list every frames) → (frames : List Frame) (room : ℕ) (tokens rest : Tokens) →
+in_list : (k : Keyword) (every : Bool) → ((frames : List Frame) → behind_keyword k frames ≡ a_list every frames) → (frames : List Frame) (room : ℕ) (tokens rest : Tokens) →
     BeginsList tokens (word_of k) rest → length frames + 1 ≤ DEPTH_MAX → 1 ≤ room → run (a_filter frames) room tokens ≡ run (a_member every frames) (room - 1) rest
 in_list k every same frames room tokens rest h shallow some =
     after_keyword k frames room tokens h.0 h.1 shallow some ∙ ap (λ (n : Next). run n (room - 1) h.0) (same frames)
@@ -84,17 +84,17 @@ first_word (disjunction rs) tokens rest h = (codes "or", h.1.0, h.1.1)
 no_closing_first : (tokens : Tokens) → FirstWord tokens → closing_at tokens ≡ None
 no_closing_first tokens h = ap closing_at h.2.1
 
-same_run : (r s : Rule) (frames : List Frame) (m n : ℕ) (rest : Tokens) → r ≡ s → m ≡ n → run (placed r frames) m rest ≡ run (placed s frames) n rest
+same_run : (r s : Rule) (frames : List Frame) (m n : ℕ) (rest : Tokens) → r ≡ s → m ≡ n → run (behind_filter r frames) m rest ≡ run (behind_filter s frames) n rest
 same_run r s frames m n rest e f = rw (e, f) refl
 
 mutual
   pub is_read : (r : Rule) (frames : List Frame) (room : ℕ) (tokens rest : Tokens) → Spelled r tokens rest → length frames + depth r ≤ DEPTH_MAX → nodes r ≤ room →
-      run (a_filter frames) room tokens ≡ run (placed r frames) (room - nodes r) rest
+      run (a_filter frames) room tokens ≡ run (behind_filter r frames) (room - nodes r) rest
   is_read all frames room tokens rest h shallow some = after_keyword keywords.All frames room tokens rest h shallow some
   is_read nothing frames room tokens rest h shallow some = after_keyword keywords.Nothing frames room tokens rest h shallow some
-  is_read (is w) frames room tokens rest h shallow some = compared keywords.Is is (λ f. refl) frames room w tokens rest h shallow some
-  is_read (starts w) frames room tokens rest h shallow some = compared keywords.Starts starts (λ f. refl) frames room w tokens rest h shallow some
-  is_read (ends w) frames room tokens rest h shallow some = compared keywords.Ends ends (λ f. refl) frames room w tokens rest h shallow some
+  is_read (is w) frames room tokens rest h shallow some = behind_text keywords.Is is (λ f. refl) frames room w tokens rest h shallow some
+  is_read (starts w) frames room tokens rest h shallow some = behind_text keywords.Starts starts (λ f. refl) frames room w tokens rest h shallow some
+  is_read (ends w) frames room tokens rest h shallow some = behind_text keywords.Ends ends (λ f. refl) frames room w tokens rest h shallow some
   is_read (negation r) frames room tokens rest h shallow some =
       after_keyword keywords.Not frames room tokens h.0 h.1 (omega arith) (omega arith)
       ∙ is_read r (negated ∷ frames) (room - 1) h.0 rest h.2 (omega arith) (omega arith)
@@ -110,7 +110,7 @@ mutual
 
   pub members_are_read : (rs : Rules) (every : Bool) (frames : List Frame) (room : ℕ) (tokens rest : Tokens) → SpelledMembers rs tokens rest →
       length frames + 1 + depth_of_all rs ≤ DEPTH_MAX → nodes_of_all rs ≤ room →
-      run (a_member every frames) room tokens ≡ run (placed (list_of every (list rs)) frames) (room - nodes_of_all rs) rest
+      run (a_member every frames) room tokens ≡ run (behind_filter (list_of every (list rs)) frames) (room - nodes_of_all rs) rest
   members_are_read no_rules every frames room tokens rest h shallow some =
       run-closing every frames room rest tokens (ap closing_at h.1) ∙ same_run _ _ frames room (room - 0) rest refl (omega arith)
   members_are_read (rule r rs) every frames room tokens rest h shallow some =
@@ -121,7 +121,7 @@ mutual
 
   pub more_are_read : (rs : Rules) (every : Bool) (before : List Rule) (frames : List Frame) (room : ℕ) (tokens rest : Tokens) → SpelledMore rs tokens rest →
       length frames + 1 + depth_of_all rs ≤ DEPTH_MAX → nodes_of_all rs ≤ room →
-      run (more every before frames) room tokens ≡ run (placed (list_of every (before ++ list rs)) frames) (room - nodes_of_all rs) rest
+      run (more every before frames) room tokens ≡ run (behind_filter (list_of every (before ++ list rs)) frames) (room - nodes_of_all rs) rest
   more_are_read no_rules every before frames room tokens rest h shallow some =
       run-last every before frames room rest tokens (ap separator_at h.1)
       ∙ same_run (list_of every before) (list_of every (before ++ [])) frames room (room - 0) rest (ap (list_of every) (sym (append-nil before))) (omega arith)
@@ -132,16 +132,16 @@ mutual
       ∙ same_run (list_of every ((before ++ r ∷ []) ++ list rs)) (list_of every (before ++ r ∷ list rs)) frames (room - nodes r - nodes_of_all rs) (room - (nodes r + nodes_of_all rs)) rest
       (ap (list_of every) (append_assoc before (r ∷ []) (list rs))) (omega arith)
 
-ended : (r : Rule) (room : ℕ) → run (placed r []) room [] ≡ gave r
+whole_filter : (r : Rule) (room : ℕ) → run (behind_filter r []) room [] ≡ gave r
 unfolding run
-ended r room = refl
+whole_filter r room = refl
 
 pub within_is_read : (r : Rule) (tokens : Tokens) → Spelled r tokens [] → is_within_limits r ≡ true → run (a_filter []) NODES_MAX tokens ≡ gave r
 within_is_read r tokens h fits =
     let limits = and_parts (leb (depth r) DEPTH_MAX) (leb (nodes r) NODES_MAX) fits in
     let deep = leb-true (depth r) DEPTH_MAX limits.0 in
     let many = leb-true (nodes r) NODES_MAX limits.1 in
-    is_read r [] NODES_MAX tokens [] h (omega arith) many ∙ ended r (NODES_MAX - nodes r)
+    is_read r [] NODES_MAX tokens [] h (omega arith) many ∙ whole_filter r (NODES_MAX - nodes r)
 
 -- what the whole text spells
 pub Spells-read : (text : List ℕ) (r : Rule) → Spells text r → is_within_limits r ≡ true → filter_of text ≡ Ok r

@@ -5,7 +5,7 @@ use Rattle.cap_filter.specs.Limits.{is_within_limits}
 use Rattle.cap_filter.specs.Rule.{Rule}
 use Rattle.cap_filter.specs.Tokens.{Tokens, tokens_of}
 
--- the tokens begin a spelling of some filter
+-- the tokens begin a spelling of some filter, which may pass the limits
 abbrev pub Fits : Tokens → Type 0
 Fits tokens = (rest : Tokens) × (r : Rule) × Spelled r (tokens ++ rest) []
 
@@ -19,7 +19,7 @@ unfoldable pub IsUnfitAt : List ℕ → ℕ → Type 0
 IsUnfitAt text at =
     (left : ℕ) × (at ≡ length text - left) × (front : Tokens) × (rest : Tokens) × (tokens_of text ≡ front ++ rest) × Fits front × StopsAt front rest left
 
--- the text's first tokens begin a spelling, and every filter that they begin passes a limit
+-- the text's first tokens begin a spelling of some filter, and every filter whose spelling they begin passes a limit
 unfoldable pub IsPastLimits : List ℕ → Type 0
 IsPastLimits text =
     (front : Tokens) × (rest : Tokens) × (tokens_of text ≡ front ++ rest) × Fits front

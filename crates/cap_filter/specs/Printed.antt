@@ -6,30 +6,30 @@ abbrev pub quote : ℕ
 quote = 39
 
 -- the word with each quote doubled
-abbrev pub doubled : List ℕ → List ℕ
-doubled [] = []
-doubled (byte ∷ rest) = if byte == quote then quote ∷ quote ∷ doubled rest else byte ∷ doubled rest
+abbrev pub double_quotes : List ℕ → List ℕ
+double_quotes [] = []
+double_quotes (byte ∷ rest) = if byte == quote then quote ∷ quote ∷ double_quotes rest else byte ∷ double_quotes rest
 
 -- between quotes
 abbrev pub quoted : List ℕ → List ℕ
-quoted word = quote ∷ doubled word ++ quote ∷ []
+quoted word = quote ∷ double_quotes word ++ quote ∷ []
 
 abbrev mutual
-  pub printed : Rule → List ℕ
-  printed all = codes "all"
-  printed nothing = codes "nothing"
-  printed (is w) = codes "is " ++ quoted w
-  printed (starts w) = codes "starts " ++ quoted w
-  printed (ends w) = codes "ends " ++ quoted w
-  printed (negation r) = codes "not " ++ printed r
-  printed (conjunction rs) = codes "and(" ++ printed_list rs ++ codes ")"
-  printed (disjunction rs) = codes "or(" ++ printed_list rs ++ codes ")"
+  pub filter_text : Rule → List ℕ
+  filter_text all = codes "all"
+  filter_text nothing = codes "nothing"
+  filter_text (is w) = codes "is " ++ quoted w
+  filter_text (starts w) = codes "starts " ++ quoted w
+  filter_text (ends w) = codes "ends " ++ quoted w
+  filter_text (negation r) = codes "not " ++ filter_text r
+  filter_text (conjunction rs) = codes "and(" ++ members_text rs ++ codes ")"
+  filter_text (disjunction rs) = codes "or(" ++ members_text rs ++ codes ")"
 
   -- with a comma between each and the next
-  pub printed_list : Rules → List ℕ
-  printed_list no_rules = []
-  printed_list (rule r rs) = printed r ++ printed_rest rs
+  pub members_text : Rules → List ℕ
+  members_text no_rules = []
+  members_text (rule r rs) = filter_text r ++ more_text rs
 
-  pub printed_rest : Rules → List ℕ
-  printed_rest no_rules = []
-  printed_rest (rule r rs) = codes "," ++ printed r ++ printed_rest rs
+  pub more_text : Rules → List ℕ
+  more_text no_rules = []
+  more_text (rule r rs) = codes "," ++ filter_text r ++ more_text rs

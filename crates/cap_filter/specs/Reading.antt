@@ -53,21 +53,21 @@ list_of true rs = conjunction (rules rs)
 list_of false rs = disjunction (rules rs)
 
 -- behind a whole filter inside these
-abbrev pub placed : Rule → List Frame → Next
-placed r [] = an_end r
-placed r (negated ∷ frames) = placed (negation r) frames
-placed r (listed every members ∷ frames) = more every (members ++ r ∷ []) frames
+abbrev pub behind_filter : Rule → List Frame → Next
+behind_filter r [] = an_end r
+behind_filter r (negated ∷ frames) = behind_filter (negation r) frames
+behind_filter r (listed every members ∷ frames) = more every (members ++ r ∷ []) frames
 
 -- behind a keyword
-abbrev pub begun : Keyword → List Frame → Next
-begun keywords.All frames = placed all frames
-begun keywords.Nothing frames = placed nothing frames
-begun keywords.Is frames = a_text is frames
-begun keywords.Starts frames = a_text starts frames
-begun keywords.Ends frames = a_text ends frames
-begun keywords.Not frames = a_filter (negated ∷ frames)
-begun keywords.And frames = a_list true frames
-begun keywords.Or frames = a_list false frames
+abbrev pub behind_keyword : Keyword → List Frame → Next
+behind_keyword keywords.All frames = behind_filter all frames
+behind_keyword keywords.Nothing frames = behind_filter nothing frames
+behind_keyword keywords.Is frames = a_text is frames
+behind_keyword keywords.Starts frames = a_text starts frames
+behind_keyword keywords.Ends frames = a_text ends frames
+behind_keyword keywords.Not frames = a_filter (negated ∷ frames)
+behind_keyword keywords.And frames = a_list true frames
+behind_keyword keywords.Or frames = a_list false frames
 
 -- what a token does: it leads on, with room for so many more filters, it does not fit, or it passes a limit
 pub data Move : Type 0 where
@@ -79,43 +79,43 @@ abbrev pub within : List Frame → ℕ → Next → Move
 within frames zero next = too_deep
 within frames (suc room) next = if nat_lt (length frames) DEPTH_MAX then on next room else too_deep
 
-abbrev pub started : List Frame → ℕ → Option Keyword → Move
-started frames room None = unfit
-started frames room (Some keyword) = within frames room (begun keyword frames)
+abbrev pub at_keyword : List Frame → ℕ → Option Keyword → Move
+at_keyword frames room None = unfit
+at_keyword frames room (Some keyword) = within frames room (behind_keyword keyword frames)
 
 abbrev pub start : List Frame → ℕ → Token → Move
-start frames room (word w) = started frames room (keyword_of w)
+start frames room (word w) = at_keyword frames room (keyword_of w)
 start frames room t = unfit
 
-abbrev pub compared : (List ℕ → Rule) → List Frame → ℕ → Option (List ℕ) → Move
-compared make frames room None = unfit
-compared make frames room (Some text) = on (placed (make text) frames) room
+abbrev pub behind_text : (List ℕ → Rule) → List Frame → ℕ → Option (List ℕ) → Move
+behind_text make frames room None = unfit
+behind_text make frames room (Some text) = on (behind_filter (make text) frames) room
 
 abbrev pub step : Next → ℕ → Token → Move
 step (a_filter frames) room t = start frames room t
-step (a_text make frames) room t = compared make frames room (text_of t)
+step (a_text make frames) room t = behind_text make frames room (text_of t)
 step (a_list every frames) room opening = on (a_member every frames) room
 step (a_list every frames) room t = unfit
-step (a_member every frames) room closing = on (placed (list_of every []) frames) room
+step (a_member every frames) room closing = on (behind_filter (list_of every []) frames) room
 step (a_member every frames) room t = start (listed every [] ∷ frames) room t
 step (more every members frames) room comma = on (a_filter (listed every members ∷ frames)) room
-step (more every members frames) room closing = on (placed (list_of every members) frames) room
+step (more every members frames) room closing = on (behind_filter (list_of every members) frames) room
 step (more every members frames) room t = unfit
 step (an_end r) room t = unfit
 
 -- where the text ends
-abbrev pub ended : Next → Result Rule Stop
-ended (an_end r) = Ok r
-ended _ = Err (Unfit 0)
+abbrev pub whole_filter : Next → Result Rule Stop
+whole_filter (an_end r) = Ok r
+whole_filter _ = Err (Unfit 0)
 
-abbrev pub resumed : ℕ → Move → (Next → ℕ → Result Rule Stop) → Result Rule Stop
-resumed left (on next room) rest = rest next room
-resumed left unfit rest = Err (Unfit left)
-resumed left too_deep rest = Err Deep
+abbrev pub next_run : ℕ → Move → (Next → ℕ → Result Rule Stop) → Result Rule Stop
+next_run left (on next room) rest = rest next room
+next_run left unfit rest = Err (Unfit left)
+next_run left too_deep rest = Err Deep
 
 unfoldable pub run : Next → ℕ → Tokens → Result Rule Stop
-run next room [] = ended next
-run next room ((left, t) ∷ rest) = resumed left (step next room t) (λ n r. run n r rest)
+run next room [] = whole_filter next
+run next room ((left, t) ∷ rest) = next_run left (step next room t) (λ n r. run n r rest)
 
 abbrev pub refusal : List ℕ → Stop → Refusal
 refusal text (Unfit left) = BadFilter (length text - left)
@@ -170,7 +170,8 @@ abbrev pub Refuses : {Y E : Type 0} → Fault E → Result Y E → Type 0
 Refuses (Refused e) answer = answer ≡ Err e
 Refuses OutOfMemory answer = Unit {0}
 
--- the answer is what follows from what the call gave, or its refusal
+-- The answer of the whole reading is what follows from what one call gave, or its refusal. `AnswersUnlessMemory` says what
+-- a call answers itself; what follows from it may be a refusal too, so it cannot say this.
 abbrev pub Leads : {X Y E : Type 0} → (X → Result Y E) → Result X (Fault E) → Result Y E → Type 0
 Leads next (Ok x) answer = answer ≡ next x
 Leads next (Err fault) answer = Refuses fault answer

@@ -36,7 +36,7 @@ impl<A: AllocHandle> Filter<A> {
     ghost use Rattle.cap_filter.specs.Plain.{rule_of, rules};
     ghost use Rattle.cap_filter.specs.Accepts.{accepts, all_accept, any_accepts};
     ghost use Rattle.cap_filter.specs.Limits.{depth, nodes, depth_of_all, nodes_of_all};
-    ghost use Rattle.cap_filter.specs.Printed.{printed, printed_list};
+    ghost use Rattle.cap_filter.specs.Printed.{filter_text, members_text};
 
     #[cycle(accepts)]
     pub(crate) fn accepts(&self, name: &[u8]) -> bool
@@ -145,7 +145,7 @@ impl<A: AllocHandle> Filter<A> {
     /// Writes the filter's text at the end of `out`.
     #[cycle(write)]
     pub(crate) fn write(&self, out: &mut String<A>) -> Result<(), OutOfMemory>
-        ensures { OnOk result (string_bytes out.new ≡ string_bytes out.old ++ printed (rule_of self.now)) }
+        ensures { OnOk result (string_bytes out.new ≡ string_bytes out.old ++ filter_text (rule_of self.now)) }
     {
         match self {
             Filter::All => out.push_str("all"),
@@ -184,7 +184,7 @@ impl<A: AllocHandle> Filter<A> {
     #[cycle(write)]
     fn write_list(filters: &[Self], out: &mut String<A>) -> Result<(), OutOfMemory>
         ensures { OnOk result
-            (string_bytes out.new ≡ string_bytes out.old ++ printed_list (rules (map rule_of filters.now))) }
+            (string_bytes out.new ≡ string_bytes out.old ++ members_text (rules (map rule_of filters.now))) }
     {
         let Some((first, rest)) = filters.split_first() else {
             return Ok(());

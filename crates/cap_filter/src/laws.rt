@@ -3,7 +3,7 @@ ghost use Rattle.std.specs.Prelude.{◌≡◌, ℕ, List, Ok, Err, IsTrue};
 ghost use Rattle.cap_filter.specs.Faults.{IsUnfitAt, IsPastLimits};
 ghost use Rattle.cap_filter.specs.Grammar.{Spells};
 ghost use Rattle.cap_filter.specs.Limits.{is_within_limits};
-ghost use Rattle.cap_filter.specs.Printed.{printed};
+ghost use Rattle.cap_filter.specs.Printed.{filter_text};
 ghost use Rattle.cap_filter.specs.Reading.{filter_of};
 ghost use Rattle.cap_filter.specs.Rule.{Rule};
 
@@ -27,18 +27,19 @@ pub fn one_filter()
 
 /// What `print` writes spells its filter.
 pub fn printed_is_spelled()
-    ensures { (r : Rule) → Spells (printed r) r }
+    ensures { (r : Rule) → Spells (filter_text r) r }
 {}
 
-/// A text is refused with `BadFilter` at the first token that does not fit: what stands before it begins a
-/// filter's text, and with it no filter's text begins so.
+/// A text is refused with `BadFilter` at the first token that does not fit, or at its end: what stands before it begins
+/// the text of a filter, which may pass the limits, and no filter's text, of any size, begins with that token too or
+/// ends there.
 pub fn unfit_place()
     ensures { (text : List ℕ) (at : ℕ) → filter_of text ≡ Err (Refusal.BadFilter at) →
         IsUnfitAt text at }
 {}
 
-/// A text is refused with `TooDeep` where it begins as a filter's text, and every filter that begins so
-/// passes a limit.
+/// A text is refused with `TooDeep` where its first tokens begin the text of a filter, and every filter whose text
+/// begins with them passes a limit.
 pub fn too_deep_text()
     ensures { (text : List ℕ) → filter_of text ≡ Err Refusal.TooDeep → IsPastLimits text }
 {}

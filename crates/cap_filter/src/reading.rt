@@ -3,7 +3,7 @@ ghost use Rattle.std.specs.Prelude.{◌≡◌, ◌+◌, ◌≤◌, ℕ, Bool, Li
 ghost use Rattle.cap_filter.specs.declared.filter.TheConstants.{DEPTH_MAX, NODES_MAX};
 ghost use Rattle.cap_filter.specs.Limits.{is_within_limits, depth, nodes, depth_of_all, nodes_of_all};
 ghost use Rattle.cap_filter.specs.Plain.{rule_of, rules};
-ghost use Rattle.cap_filter.specs.Reading.{Frame, Leads, run, a_filter, a_list, placed, list_of, keyword_of, keyword_at, text_at, opening_at, closing_at, separator_at, end_at, refusal};
+ghost use Rattle.cap_filter.specs.Reading.{Frame, Leads, run, a_filter, a_list, behind_filter, list_of, keyword_of, keyword_at, text_at, opening_at, closing_at, separator_at, end_at, refusal};
 ghost use Rattle.cap_filter.specs.Tokens.{tokens_of, tokens_from, inside};
 
 use crate::token::{Token, after, next_token, split_at_quote};
@@ -190,7 +190,7 @@ pub(crate) fn read_filter<'a, A: AllocHandle>(
     room: u32,
 ) -> Result<Parsed<'a, Filter<A>>, Fault<Stop>>
     ensures reads { (frames : List Frame) → length frames + levels ≡ DEPTH_MAX →
-        Leads (λ p. run (placed (rule_of p.value) frames) p.room (tokens_of p.rest.now)) result
+        Leads (λ p. run (behind_filter (rule_of p.value) frames) p.room (tokens_of p.rest.now)) result
         (run (a_filter frames) room (tokens_of text.now)) }
     ensures limits { IfOk result
         (λ p. (depth (rule_of p.value) ≤ levels) × (p.room + nodes (rule_of p.value) ≡ room)) }
@@ -237,7 +237,7 @@ pub(crate) fn read_filter<'a, A: AllocHandle>(
         }
         Keyword::Not => {
             let Parsed { value, rest, room } = read_filter(alloc, rest, levels, room)?;
-            let value = Filter::Not(boxed(alloc, value)?);
+            let value = Filter::Not(box_of(alloc, value)?);
             Ok(Parsed { value, rest, room })
         }
         Keyword::And => {
@@ -268,7 +268,7 @@ fn read_members<'a, A: AllocHandle>(
     room: u32,
 ) -> Result<Parsed<'a, Vec<Filter<A>, A>>, Fault<Stop>>
     ensures reads { (every : Bool) (frames : List Frame) → length frames + 1 + levels ≡ DEPTH_MAX →
-        Leads (λ p. run (placed (list_of every (map rule_of p.value.items)) frames) p.room (tokens_of p.rest.now)) result
+        Leads (λ p. run (behind_filter (list_of every (map rule_of p.value.items)) frames) p.room (tokens_of p.rest.now)) result
         (run (a_list every frames) room (tokens_of text.now)) }
     ensures limits { IfOk result (λ p.
         (depth_of_all (rules (map rule_of p.value.items)) ≤ levels)
@@ -300,7 +300,7 @@ fn read_members<'a, A: AllocHandle>(
     }
 }
 
-fn boxed<A: AllocHandle>(alloc: A, filter: Filter<A>) -> Result<Box<Filter<A>, A>, OutOfMemory>
+fn box_of<A: AllocHandle>(alloc: A, filter: Filter<A>) -> Result<Box<Filter<A>, A>, OutOfMemory>
     ensures { IfOk result (λ made. made.value ≡ filter) }
 {
     Ok(Box::new(alloc, filter)?)

@@ -35,7 +35,7 @@ impl<A: AllocHandle> TableFilter<A> {
     ghost use Rattle.cap_filter.specs.Rule.{Rule};
     ghost use Rattle.cap_filter.specs.Accepts.{accepts};
     ghost use Rattle.cap_filter.specs.Limits.{is_within_limits};
-    ghost use Rattle.cap_filter.specs.Printed.{printed};
+    ghost use Rattle.cap_filter.specs.Printed.{filter_text};
 
     /// The filter, or the refusal `TooDeep` with the filter handed back where it passes a limit. Takes no memory.
     pub fn new(filter: Filter<A>) -> Result<Self, (Filter<A>, Refusal)>
@@ -88,7 +88,7 @@ impl<A: AllocHandle> TableFilter<A> {
     /// The filter's text, which is read as the same filter: each word quoted, one space after `is`, `starts`,
     /// `ends` and `not`, and no other space.
     pub fn print(&self, alloc: A) -> Result<String<A>, OutOfMemory>
-        ensures { IfOk result (λ text. string_bytes text ≡ printed self.now) }
+        ensures { IfOk result (λ text. string_bytes text ≡ filter_text self.now) }
     {
         let mut text = String::new(alloc);
         self.filter.write(&mut text)?;

@@ -6,14 +6,14 @@ use std::process::Abort;
 use std::test::Fail;
 
 /// The text that the filter of a text is printed as, or why there is none.
-fn printed<A: AllocHandle>(alloc: A, text: &str) -> Result<String<A>, Fault<Refusal>> {
+fn reprint<A: AllocHandle>(alloc: A, text: &str) -> Result<String<A>, Fault<Refusal>> {
     Ok(TableFilter::parse(alloc, text)?.print(alloc)?)
 }
 
 fn prints(rt: &impl Abort, alloc: Global, text: &str, expected: &str) -> Result<(), Fail> {
-    let printed = printed(alloc, text)?;
+    let printed = reprint(alloc, text)?;
     assert_eq!(rt; printed.as_str(), expected, "{text}");
-    let again = self::printed(alloc, expected)?;
+    let again = reprint(alloc, expected)?;
     assert_eq!(rt; again.as_str(), expected);
     Ok(())
 }
@@ -32,7 +32,7 @@ fn accepts(alloc: Global, text: &str, name: &str) -> Result<bool, Fail> {
 }
 
 /// `front` so many times, and `end`.
-fn repeated(alloc: Global, front: &str, times: usize, end: &str) -> Result<String, Fail> {
+fn repeat_text(alloc: Global, front: &str, times: usize, end: &str) -> Result<String, Fail> {
     let mut text = String::new(alloc);
     for _ in 0..times {
         text.push_str(front)?;
@@ -85,8 +85,8 @@ fn each_filter(rt: HostRuntime) -> Result<(), Fail> {
 #[test]
 fn a_word_longer_than_names(rt: HostRuntime) -> Result<(), Fail> {
     let alloc = rt.alloc();
-    let text = repeated(alloc, "a", 1000, "")?;
-    let filter = repeated(alloc, "starts ", 1, text.as_str())?;
+    let text = repeat_text(alloc, "a", 1000, "")?;
+    let filter = repeat_text(alloc, "starts ", 1, text.as_str())?;
     assert!(rt; !accepts(alloc, filter.as_str(), "a")?);
     Ok(())
 }
@@ -166,7 +166,7 @@ fn the_first_token_that_does_not_fit(rt: HostRuntime) -> Result<(), Fail> {
 #[test]
 fn levels(rt: HostRuntime) -> Result<(), Fail> {
     let alloc = rt.alloc();
-    let deepest = repeated(alloc, "not ", 31, "all")?;
+    let deepest = repeat_text(alloc, "not ", 31, "all")?;
     prints(&rt, alloc, deepest.as_str(), deepest.as_str())?;
     for (front, times, end, expected) in [
         ("not ", 32, "all", Refusal::TooDeep),
@@ -178,7 +178,7 @@ fn levels(rt: HostRuntime) -> Result<(), Fail> {
         ("and(", 33, "", Refusal::TooDeep),
         ("and(", 100_000, "", Refusal::TooDeep),
     ] {
-        let text = repeated(alloc, front, times, end)?;
+        let text = repeat_text(alloc, front, times, end)?;
         assert_eq!(rt; answer(alloc, text.as_str())?, Some(expected));
     }
     Ok(())
@@ -187,13 +187,13 @@ fn levels(rt: HostRuntime) -> Result<(), Fail> {
 #[test]
 fn nodes(rt: HostRuntime) -> Result<(), Fail> {
     let alloc = rt.alloc();
-    let most = repeated(alloc, "all,", 998, "all)")?;
-    let text = repeated(alloc, "or(", 1, most.as_str())?;
+    let most = repeat_text(alloc, "all,", 998, "all)")?;
+    let text = repeat_text(alloc, "or(", 1, most.as_str())?;
     prints(&rt, alloc, text.as_str(), text.as_str())?;
-    let more = repeated(alloc, "or(all,", 1, most.as_str())?;
+    let more = repeat_text(alloc, "or(all,", 1, most.as_str())?;
     assert_eq!(rt; answer(alloc, more.as_str())?, Some(Refusal::TooDeep));
-    let open = repeated(alloc, "all,", 999, "")?;
-    let open = repeated(alloc, "or(", 1, open.as_str())?;
+    let open = repeat_text(alloc, "all,", 999, "")?;
+    let open = repeat_text(alloc, "or(", 1, open.as_str())?;
     let length = open.len() as u64;
     assert_eq!(rt;
         answer(alloc, open.as_str())?,
@@ -203,7 +203,7 @@ fn nodes(rt: HostRuntime) -> Result<(), Fail> {
 }
 
 /// `not` so many times around `all`.
-fn nested(alloc: Global, times: usize) -> Result<Filter<Global>, Fail> {
+fn nest(alloc: Global, times: usize) -> Result<Filter<Global>, Fail> {
     let mut filter = Filter::All;
     for _ in 0..times {
         filter = Filter::Not(Box::new(alloc, filter)?);
@@ -232,8 +232,8 @@ fn made_of_a_filter(rt: HostRuntime) -> Result<(), Fail> {
 #[test]
 fn a_filter_past_a_limit_is_handed_back(rt: HostRuntime) -> Result<(), Fail> {
     let alloc = rt.alloc();
-    assert!(rt; TableFilter::new(nested(alloc, 31)?).is_ok());
-    let Err((filter, refusal)) = TableFilter::new(nested(alloc, 32)?) else {
+    assert!(rt; TableFilter::new(nest(alloc, 31)?).is_ok());
+    let Err((filter, refusal)) = TableFilter::new(nest(alloc, 32)?) else {
         return Err("not too deep".into());
     };
     assert_eq!(rt; refusal, Refusal::TooDeep);

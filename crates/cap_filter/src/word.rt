@@ -29,6 +29,7 @@ impl<A: AllocHandle> Word<A> {
         })
     }
 
+    /// The word's text.
     pub fn as_str(&self) -> &str
         ensures { result.now ≡ self.now }
     {

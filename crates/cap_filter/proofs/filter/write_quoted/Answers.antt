@@ -1,5 +1,5 @@
 use Rattle.std.proofs.Common.{◌++◌, ◌∷◌, string_bytes, sym, ap, ◌∙◌, rules}
-use Rattle.cap_filter.specs.Printed.{quote, doubled}
+use Rattle.cap_filter.specs.Printed.{quote, double_quotes}
 use Rattle.cap_filter.proofs.PrintedLemmas.{one_piece_more, last_piece}
 use Rattle.cap_filter.proofs.filter.write_quoted.Goals as goal
 
@@ -8,8 +8,8 @@ loop-piece-preserved g c =
     let out = string_bytes c.loop-piece.out in
     let piece = c.in-Some.piece.now in
     let after = c.in-Some.after.now in
-    let so_far = ap (λ l. out ++ doubled l) (sym c.in-Some.ensures.1) ∙ c.loop-piece.invariant.1 in
-    (search rules, one_piece_more out piece after (quote ∷ doubled c.args.word.now) (string_bytes c.args.out.now) _ _ c.in-Some.ensures.0 so_far c.in_ok-push_str-2.ensures.bytes c.in_ok-push_str-3.ensures.bytes)
+    let so_far = ap (λ l. out ++ double_quotes l) (sym c.in-Some.ensures.1) ∙ c.loop-piece.invariant.1 in
+    (search rules, one_piece_more out piece after (quote ∷ double_quotes c.args.word.now) (string_bytes c.args.out.now) _ _ c.in-Some.ensures.0 so_far c.in_ok-push_str-2.ensures.bytes c.in_ok-push_str-3.ensures.bytes)
 
 pub returns : goal.returns
 returns g c =
