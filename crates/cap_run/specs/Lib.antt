@@ -1,3 +1,5 @@
 pub mod Hex
+pub mod ReplyText
+pub mod Run
 pub mod RunFault
 pub mod Show

@@ -6,7 +6,7 @@ use Rattle.cap_run.specs.declared.fault.RunFault.{RunFault}
 use Rattle.cap_run.specs.declared.fault.RunFault.TheVariants.{Script, NotUtf8, NotHex, Blob, Call, Read, Write, Memory}
 use Rattle.cap_run.specs.declared.script.fault.ScriptFault.{ScriptFault}
 
--- the exit status: 1 where the input is refused, and 3 where a call, a read or a write failed, or there was no memory
+-- the exit status: 1 where the input is refused, and 3 where a call, a read or a write failed, or for want of memory
 abbrev pub exit_status : RunFault → ℕ
 exit_status (Script fault) = 1
 exit_status NotUtf8 = 1
@@ -21,7 +21,13 @@ exit_status Memory = 3
 abbrev pub IsUnread : RunFault → Type 0
 IsUnread fault = (fault ≡ Read) ⊎ (fault ≡ Memory)
 
--- the run's fault where its text cannot be had
-abbrev pub text_fault : Fault ScriptFault → RunFault
-text_fault (Refused fault) = Script fault
-text_fault OutOfMemory = Memory
+-- nothing was run
+abbrev pub RunsNothing : RunFault → Type 0
+RunsNothing (Call fault) = ⊥
+RunsNothing Write = ⊥
+RunsNothing fault = Unit {0}
+
+-- how a run ends whose input is refused, or for which there is no memory
+abbrev pub input_fault : Fault RunFault → RunFault
+input_fault (Refused fault) = fault
+input_fault OutOfMemory = Memory

@@ -48,15 +48,15 @@ impl RunFault {
     }
 }
 
-impl From<Fault<ScriptFault>> for RunFault {
+impl From<Fault<RunFault>> for RunFault {
     ghost use Rattle.std.specs.Prelude.{◌≡◌};
-    ghost use Rattle.cap_run.specs.RunFault.{text_fault};
+    ghost use Rattle.cap_run.specs.RunFault.{input_fault};
 
-    ghost from_gives = { λ fault ended. ended ≡ text_fault fault };
+    ghost from_gives = { λ fault ended. ended ≡ input_fault fault };
 
-    fn from(fault: Fault<ScriptFault>) -> RunFault {
+    fn from(fault: Fault<RunFault>) -> RunFault {
         match fault {
-            Fault::Refused(fault) => RunFault::Script(fault),
+            Fault::Refused(fault) => fault,
             Fault::OutOfMemory => RunFault::Memory,
         }
     }

@@ -13,7 +13,8 @@ const PIECE_LEN: usize = 8192;
 
 /// All that a reader gives. A reader that has not ended after `READS_MAX` reads has failed.
 pub fn read_whole<A: AllocHandle, R: Read>(alloc: A, reader: &mut R) -> Result<Vec<u8, A>, RunFault>
-    ensures whole { IfOk result (λ bytes. IfSome (R.remaining reader.old) (λ given. bytes.items ≡ given)) }
+    ensures whole { IfOk result (λ bytes.
+        IfSome (R.remaining reader.old) (λ given. bytes.items ≡ given)) }
     ensures unread { IfErr result IsUnread }
 {
     let mut piece = [0u8; PIECE_LEN];

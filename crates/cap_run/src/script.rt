@@ -6,6 +6,8 @@ mod fault;
 mod line;
 mod operation;
 mod reply;
+#[cfg(test)]
+mod reply_tests;
 mod text;
 mod value;
 mod workload;
@@ -13,5 +15,5 @@ mod workload;
 pub use blob::{write_changeset, write_patchset};
 pub use fault::ScriptFault;
 pub use line::{Line, Show};
-pub use reply::reply_text;
+pub use reply::reply_line;
 pub use workload::Workload;

@@ -1,6 +1,7 @@
-ghost use Rattle.std.specs.Prelude.{◌≡◌, ◌⊎◌, Some, IfSome, IfErr, IsErrAnd};
+ghost use Rattle.std.specs.Prelude.{◌≡◌, ◌⊎◌, IfSome, IfErr, IsErrAnd};
+ghost use Rattle.cap_value.specs.Memory.{AnswersUnlessMemory};
 ghost use Rattle.cap_run.specs.RunFault.{exit_status, IsUnread};
-ghost use Rattle.cap_run.specs.Show.{show_fault};
+ghost use Rattle.cap_run.specs.Show.{contents_at};
 
 use crate::RunFault;
 use crate::input::read_whole;
@@ -13,16 +14,19 @@ use std::io::{BufWriter, Read, Write};
 /// Writes what is in the blob that the reader gives as hex digits, in either case, with at most one line feed at
 /// their end: a line for the blob, for each group and for each change, or `empty`.
 ///
-/// The whole blob is read before anything is written.
+/// The whole blob is read before anything is written. Its contracts say which input is refused, and with which fault:
+/// exactly, but for a read that failed and want of memory, which may come before any other answer, and for readers of
+/// which it is not known what they give. What is written is said nowhere but here, and tested.
 pub fn show_blob<A: AllocHandle, R: Read, W: Write>(
     alloc: A,
     reader: &mut R,
     writer: &mut W,
 ) -> Result<(), RunFault>
     // What is no hex text, or no blob, is refused with its fault, where it is known what the reader gives.
-    ensures refused { IfSome (R.remaining reader.old) (λ given. IfSome (show_fault A given)
+    ensures refused { IfSome (R.remaining reader.old) (λ given. IfErr (contents_at A given)
         (λ fault. IsErrAnd result (λ f. (f ≡ fault) ⊎ IsUnread f))) }
-    ensures just { IfSome (R.remaining reader.old) (λ given. IfErr result (λ fault. exit_status fault ≡ 1 → show_fault A given ≡ Some fault)) }
+    ensures just { IfSome (R.remaining reader.old) (λ given. IfErr result (λ fault.
+        exit_status fault ≡ 1 → contents_at A given ≡ Err fault)) }
     // Nothing is written where the input is refused.
     ensures silent { IfErr result (λ fault. exit_status fault ≡ 1 → writer.new ≡ writer.old) }
 {
@@ -32,27 +36,27 @@ pub fn show_blob<A: AllocHandle, R: Read, W: Write>(
 
 /// The blob that the reader gives.
 fn take_blob<A: AllocHandle, R: Read>(alloc: A, reader: &mut R) -> Result<Contents<A>, RunFault>
-    ensures refused { IfSome (R.remaining reader.old) (λ given. IfSome (show_fault A given)
+    ensures refused { IfSome (R.remaining reader.old) (λ given. IfErr (contents_at A given)
         (λ fault. IsErrAnd result (λ f. (f ≡ fault) ⊎ IsUnread f))) }
-    ensures just { IfSome (R.remaining reader.old) (λ given. IfErr result (λ fault. exit_status fault ≡ 1 → show_fault A given ≡ Some fault)) }
+    ensures just { IfSome (R.remaining reader.old) (λ given. IfErr result (λ fault.
+        exit_status fault ≡ 1 → contents_at A given ≡ Err fault)) }
 {
     let text = read_whole(alloc, reader)?;
-    blob_of(alloc, text.as_slice())
+    Ok(blob_of(alloc, text.as_slice())?)
 }
 
 /// The blob whose hex digits these are.
-fn blob_of<A: AllocHandle>(alloc: A, text: &[u8]) -> Result<Contents<A>, RunFault>
-    ensures refused { IfSome (show_fault A text.now) (λ fault. IsErrAnd result (λ f. (f ≡ fault) ⊎ IsUnread f)) }
-    ensures just { IfErr result (λ fault. exit_status fault ≡ 1 → show_fault A text.now ≡ Some fault) }
+fn blob_of<A: AllocHandle>(alloc: A, text: &[u8]) -> Result<Contents<A>, Fault<RunFault>>
+    ensures { AnswersUnlessMemory result (contents_at A text.now) }
 {
     let digits = text.strip_suffix(b"\n").unwrap_or(text);
     let bytes = hex::decode(alloc, digits).map_err(|error| match error {
-        FromHexError::OutOfMemory => RunFault::Memory,
-        _ => RunFault::NotHex,
+        FromHexError::OutOfMemory => Fault::OutOfMemory,
+        _ => Fault::Refused(RunFault::NotHex),
     })?;
     read_blob(alloc, bytes.as_slice()).map_err(|fault| match fault {
-        Fault::Refused(fault) => RunFault::Blob(fault),
-        Fault::OutOfMemory => RunFault::Memory,
+        Fault::Refused(fault) => Fault::Refused(RunFault::Blob(fault)),
+        Fault::OutOfMemory => Fault::OutOfMemory,
     })
 }
 

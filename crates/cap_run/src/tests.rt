@@ -129,7 +129,11 @@ fn faults(rt: HostRuntime) -> Result<(), Fail> {
     Ok(())
 }
 
-fn repeated(alloc: Global, parts: (&str, &str, &str), count: usize) -> Result<String, AllocError> {
+fn repeat_text(
+    alloc: Global,
+    parts: (&str, &str, &str),
+    count: usize,
+) -> Result<String, AllocError> {
     let mut text = String::from_str(alloc, parts.0)?;
     for _ in 0..count {
         text.push_str(parts.1)?;
@@ -149,13 +153,25 @@ fn limits(rt: HostRuntime) -> Result<(), Fail> {
         (("create ", "n", " x"), 256, "line 1: G2 E17 BadName"),
     ];
     for (parts, count, shown) in table {
-        let text = repeated(rt.alloc(), parts, count)?;
+        let text = repeat_text(rt.alloc(), parts, count)?;
         let mut written = Vec::new(rt.alloc());
         match run(rt.alloc(), text.as_bytes(), &mut written) {
             Ok(()) => assert_eq!(rt; str::from_utf8(written.as_slice())?, shown),
             Err(found) => assert_eq!(rt; format!(in rt.alloc(); "{found}")?.as_str(), shown),
         }
     }
+    Ok(())
+}
+
+// More output than is held back for one write.
+#[test]
+fn many_replies(rt: HostRuntime) -> Result<(), Fail> {
+    let workload = repeat_text(rt.alloc(), ("", "attach 1 t\n", ""), 1_000)?;
+    let replies = repeat_text(rt.alloc(), ("", "refused: E18 NoSession\n", ""), 1_000)?;
+    let mut written = Vec::new(rt.alloc());
+    let outcome = run(rt.alloc(), workload.as_bytes(), &mut written);
+    assert_eq!(rt; outcome, Ok(()));
+    assert_eq!(rt; str::from_utf8(written.as_slice())?, replies.as_str());
     Ok(())
 }
 

@@ -1,0 +1,238 @@
+-- What one more reply makes of a run, and what was written of it.
+use Rattle.std.proofs.Common.{◌≡◌, ℕ, suc, ◌+◌, ◌<◌, ◌≤◌, List, [], ◌∷◌, ◌++◌, Option, Result, Ok, Err, IfOk, MatchResult, Bool, true, cond, map, length, get_or, take, drop, take-append-drop, refl, sym, ap, ap₂, subst, ◌∙◌, append_assoc, append-nil, length-append, arith}
+use Rattle.std.specs.Prelude.{reverse}
+use Rattle.std.specs.Io.KnownBytes.{Appends, Keeps}
+use Rattle.std.proofs.KnownBytes.{Appends-trans, Appends-kept, Keeps-refl}
+use Rattle.std.proofs.lemmas.List.{reverse-append, length-reverse}
+use Rattle.cap_core.specs.declared.command.Command.{Command}
+use Rattle.cap_core.specs.declared.event.Event.{Event}
+use Rattle.cap_core.specs.declared.fault.CallFault.{CallFault}
+use Rattle.cap_core.specs.declared.fault.CallFault.TheVariants as call
+use Rattle.cap_core.specs.declared.reply.Reply.{Reply}
+use Rattle.cap_core.specs.Answer.{State, IsLegal, IsLegalPast, event_by, history_of, reply_of, state}
+use Rattle.cap_run.specs.declared.script.line.Line.{Line}
+use Rattle.cap_run.specs.declared.fault.RunFault.{RunFault}
+use Rattle.cap_run.specs.declared.fault.RunFault.TheVariants.{Script, NotUtf8, NotHex, Blob, Call, Read, Write, Memory}
+use Rattle.cap_run.specs.ReplyText.{reply_text}
+use Rattle.cap_run.specs.Run.{AppendsFront, BeginsRun, Ended, EndsAt, IsRun, MatchFault, Writes, WritesRun, commands_of, ending, events_max, on_a_line, reply_lines, run_outcome}
+use Rattle.cap_run.specs.RunFault.{RunsNothing}
+
+-- ---- what of the bytes was written
+
+-- a write took some more of the bytes
+pub writes_more : (a b c : Option (List ℕ)) (bytes rest : List ℕ) (count : ℕ) → ((front : List ℕ) × (bytes ≡ front ++ rest) × Appends a b front) → Appends b c (take count rest)
+    → (front : List ℕ) × (bytes ≡ front ++ drop count rest) × Appends a c front
+writes_more a b c bytes rest count (front, parts, before) taken = (
+  front ++ take count rest,
+  parts ∙ ap (λ (r : List ℕ). front ++ r) (sym (take-append-drop count rest)) ∙ sym (append_assoc front (take count rest) (drop count rest)),
+  Appends-trans a b c front (take count rest) before taken,
+)
+
+-- all before these bytes was written, and a beginning of them
+pub front_more : (a b c : Option (List ℕ)) (before bytes : List ℕ) → Appends a b before → AppendsFront b c bytes → AppendsFront a c (before ++ bytes)
+front_more a b c before bytes wrote (front, rest, parts, more) =
+    (before ++ front, rest, ap (λ (r : List ℕ). before ++ r) parts ∙ sym (append_assoc before front rest), Appends-trans a b c before front wrote more)
+
+-- the line that has no reply
+pub ends_at : (fault : CallFault) (lines count events : ℕ) → events ≡ count → count < lines → count ≤ events_max → MatchFault fault (events < events_max) (events_max ≤ events)
+    → EndsAt (Err fault) lines count
+ends_at call.OutOfMemory lines count events same less few met = (less, omega arith)
+ends_at call.HistoryFull lines count events same less few met = (less, omega arith)
+
+-- a call's answer that was passed on
+abbrev value_or : {X D : Type 0} → X → Result X D → X
+value_or x (Ok y) = y
+value_or x (Err e) = x
+
+pub ok_through : {X E : Type 0} (D : Type 0) (P : X → Type 0) (r : Result X E) (x : X) → MatchResult r (λ y. let passed : Result X D = Ok x in passed ≡ Ok y) (λ e. ⊥) → IfOk r P → P x
+ok_through {X} D P (Ok y) x same met = let is : x ≡ y = ap (value_or {X = X} {D = D} x) same in subst P (sym is) met
+ok_through D P (Err e) x same met = absurd same
+
+IsLegal-none : (A : Type 0) → IsLegal {A = A} []
+unfolding IsLegal
+IsLegal-none A = tt
+
+module _ {A : Type 0} where
+  -- ---- histories
+
+  history_of-none : (commands : List (Command A)) → history_of commands [] ≡ []
+  history_of-none [] = refl
+  history_of-none (c ∷ commands) = refl
+
+  history_of-push : (lines : List (Line A)) (replies : List (Reply A)) (line : Line A) (reply : Reply A) → length replies < length lines → line ≡ get_or lines (length replies) line
+      → history_of (commands_of lines) (replies ++ reply ∷ []) ≡ history_of (commands_of lines) replies ++ event_by 0 line.command reply ∷ []
+  history_of-push [] replies line reply less is = absurd (omega arith)
+  history_of-push (x ∷ lines) [] line reply less is =
+      ap₂ (λ (l : Line A) (h : List (Event A)). event_by 0 l.command reply ∷ h) (sym is) (history_of-none (commands_of lines))
+      ∙ ap (λ (h : List (Event A)). h ++ event_by 0 line.command reply ∷ []) (sym (history_of-none (commands_of (x ∷ lines))))
+  history_of-push (x ∷ lines) (y ∷ replies) line reply less is =
+      ap (λ (h : List (Event A)). event_by 0 x.command y ∷ h) (history_of-push lines replies line reply (omega arith) is)
+
+  length-history_of : (lines : List (Line A)) (replies : List (Reply A)) → length replies ≤ length lines → length (history_of (commands_of lines) replies) ≡ length replies
+  length-history_of [] [] few = refl
+  length-history_of [] (y ∷ replies) few = absurd (omega arith)
+  length-history_of (x ∷ lines) [] few = refl
+  length-history_of (x ∷ lines) (y ∷ replies) few = ap suc (length-history_of lines replies (omega arith))
+
+  IsLegal-push : (h : List (Event A)) (c : Command A) → IsLegal h → IsLegal (h ++ event_by 0 c (reply_of h c) ∷ [])
+  unfolding IsLegal reply_of state
+  IsLegal-push h c legal = subst IsLegalPast (sym (reverse-append h (event_by 0 c (reply_of h c) ∷ []))) (refl, legal)
+
+  events-state : (h : List (Event A)) → (state h).events ≡ length h
+  unfolding state
+  events-state h = length-reverse h
+
+  -- ---- the text of replies
+
+  reply_lines-none : (lines : List (Line A)) → reply_lines lines [] ≡ []
+  reply_lines-none [] = refl
+  reply_lines-none (x ∷ lines) = refl
+
+  reply_lines-push : (lines : List (Line A)) (replies : List (Reply A)) (line : Line A) (reply : Reply A) → length replies < length lines → line ≡ get_or lines (length replies) line
+      → reply_lines lines (replies ++ reply ∷ []) ≡ reply_lines lines replies ++ on_a_line (reply_text line.show reply)
+  reply_lines-push [] replies line reply less is = absurd (omega arith)
+  reply_lines-push (x ∷ lines) [] line reply less is =
+      ap₂ (λ (l : Line A) (t : List ℕ). on_a_line (reply_text l.show reply) ++ t) (sym is) (reply_lines-none lines) ∙ append-nil (on_a_line (reply_text line.show reply))
+  reply_lines-push (x ∷ lines) (y ∷ replies) line reply less is =
+      let first = on_a_line (reply_text x.show y) in
+      ap (λ (t : List ℕ). first ++ t) (reply_lines-push lines replies line reply (omega arith) is)
+      ∙ sym (append_assoc first (reply_lines lines replies) (on_a_line (reply_text line.show reply)))
+
+  -- ---- a run so far
+
+  -- the first `count` lines have replies, which left this server and have this text
+  pub record IsReached (lines : List (Line A)) (core : State A) (count : ℕ) (text : List ℕ) : Type 0 where
+    pub replies : List (Reply A)
+    pub counted : length replies ≡ count
+    pub legal : IsLegal (history_of (commands_of lines) replies)
+    pub leaves : state (history_of (commands_of lines) replies) ≡ core
+    pub text_is : text ≡ reply_lines lines replies
+
+  pub reached-none : (lines : List (Line A)) (core : State A) → core ≡ state [] → (text : List ℕ) → text ≡ [] → IsReached lines core 0 text
+  reached-none lines core is text none = record {
+    replies = [];
+    counted = refl;
+    legal = subst IsLegal (sym (history_of-none (commands_of lines))) (IsLegal-none A);
+    leaves = ap state (history_of-none (commands_of lines)) ∙ sym is;
+    text_is = none ∙ sym (reply_lines-none lines);
+  }
+
+  -- as many events as replies
+  pub reached-events : (lines : List (Line A)) (core : State A) (count : ℕ) (text : List ℕ) → IsReached lines core count text → count ≤ length lines → core.events ≡ count
+  reached-events lines core count text so few =
+      let within : length so.replies ≤ length lines = omega (arith, so.counted) in
+      ap (λ (s : State A). s.events) (sym so.leaves) ∙ events-state (history_of (commands_of lines) so.replies)
+      ∙ length-history_of lines so.replies within ∙ so.counted
+
+  -- what a line makes of the server and the text, after each legal history that left the server
+  abbrev pub IsStep : State A → Line A → List ℕ → State A → List ℕ → Type 0
+  IsStep core line old next new = (h : List (Event A)) → IsLegal h → state h ≡ core →
+      (next ≡ state (h ++ event_by 0 line.command (reply_of h line.command) ∷ [])) × (new ≡ old ++ on_a_line (reply_text line.show (reply_of h line.command)))
+
+  pub reached-push : (lines : List (Line A)) (core next : State A) (count : ℕ) (written old new : List ℕ) (line : Line A) → IsReached lines core count (written ++ old)
+      → count < length lines → line ≡ get_or lines count line → IsStep core line old next new → IsReached lines next (count + 1) (written ++ new)
+  reached-push lines core next count written old new line so less is step =
+      let h = history_of (commands_of lines) so.replies in
+      let reply = reply_of h line.command in
+      let met = step h so.legal so.leaves in
+      let few : length so.replies < length lines = omega (arith, so.counted) in
+      let here : line ≡ get_or lines (length so.replies) line = is ∙ ap (λ n. get_or lines n line) (sym so.counted) in
+      let pushed = history_of-push lines so.replies line reply few here in
+      record {
+        replies = so.replies ++ reply ∷ [];
+        counted = omega (arith, length-append so.replies (reply ∷ []), so.counted);
+        legal = subst IsLegal (sym pushed) (IsLegal-push h line.command so.legal);
+        leaves = ap state pushed ∙ sym met.0;
+        text_is = ap (λ (t : List ℕ). written ++ t) met.1 ∙ sym (append_assoc written old (on_a_line (reply_text line.show reply)))
+            ∙ ap (λ (t : List ℕ). t ++ on_a_line (reply_text line.show reply)) so.text_is
+            ∙ sym (reply_lines-push lines so.replies line reply few here);
+      }
+
+  pub reached-run : (lines : List (Line A)) (core : State A) (count : ℕ) (text : List ℕ) → IsReached lines core count text → IsRun lines count (Ok tt) text
+  reached-run lines core count text so = record {
+    replies = so.replies;
+    counted = so.counted;
+    legal = so.legal;
+    text_is = so.text_is ∙ sym (append-nil (reply_lines lines so.replies));
+  }
+
+  -- the same replies, and the fault after them
+  pub run-ending : (lines : List (Line A)) (count : ℕ) (text : List ℕ) (ended : Result (Unit {0}) CallFault) → IsRun lines count (Ok tt) text → IsRun lines count ended (text ++ ending ended)
+  run-ending lines count text ended so = record {
+    replies = so.replies;
+    counted = so.counted;
+    legal = so.legal;
+    text_is = ap (λ (t : List ℕ). t ++ ending ended) (so.text_is ∙ append-nil (reply_lines lines so.replies));
+  }
+
+  -- ---- what a run wrote
+
+  -- nothing, where it did not begin
+  pub writes_nothing : (fault : RunFault) (a : Option (List ℕ)) → RunsNothing fault → (lines : List (Line A)) → Writes lines (Err fault) a a
+  writes_nothing (Script fault) a early lines = Keeps-refl a
+  writes_nothing NotUtf8 a early lines = Keeps-refl a
+  writes_nothing NotHex a early lines = Keeps-refl a
+  writes_nothing (Blob fault) a early lines = Keeps-refl a
+  writes_nothing (Call fault) a early lines = absurd early
+  writes_nothing Read a early lines = Keeps-refl a
+  writes_nothing Write a early lines = absurd early
+  writes_nothing Memory a early lines = Keeps-refl a
+
+  -- a beginning, where the last replies were not all written
+  pub begins_front : (lines : List (Line A)) (a b c : Option (List ℕ)) (count : ℕ) (written pending : List ℕ) → IsRun lines count (Ok tt) (written ++ pending)
+      → Appends a b written → AppendsFront b c pending → BeginsRun lines a c
+  begins_front lines a b c count written pending so wrote front = (count, Ok tt, written ++ pending, so, front_more a b c written pending wrote front)
+
+  -- all of it
+  pub writes_run : (lines : List (Line A)) (ended : Result (Unit {0}) CallFault) (a b c d : Option (List ℕ)) (count : ℕ) (written pending : List ℕ)
+      → EndsAt ended (length lines) count → IsRun lines count (Ok tt) (written ++ pending) → Appends a b written → Appends b c pending → Appends c d (ending ended)
+      → WritesRun lines ended a d
+  writes_run lines ended a b c d count written pending ends so wrote more last = (
+    count,
+    (written ++ pending) ++ ending ended,
+    ends,
+    run-ending lines count (written ++ pending) ended so,
+    Appends-trans a c d (written ++ pending) (ending ended) (Appends-trans a b c written pending wrote more) last,
+  )
+
+  pub begins_last : (lines : List (Line A)) (ended : Result (Unit {0}) CallFault) (a b c d : Option (List ℕ)) (count : ℕ) (written pending : List ℕ)
+      → IsRun lines count (Ok tt) (written ++ pending) → Appends a b written → Appends b c pending → AppendsFront c d (ending ended)
+      → BeginsRun lines a d
+  begins_last lines ended a b c d count written pending so wrote more front = (
+    count,
+    ended,
+    (written ++ pending) ++ ending ended,
+    run-ending lines count (written ++ pending) ended so,
+    front_more a c d (written ++ pending) (ending ended) (Appends-trans a b c written pending wrote more) front,
+  )
+
+  -- a write failed
+  pub writes_front : (lines : List (Line A)) (fault : RunFault) (a b : Option (List ℕ)) → fault ≡ Write → BeginsRun lines a b → Writes lines (Err fault) a b
+  writes_front lines fault a b is begun = subst (λ (f : RunFault). Writes lines (Err f) a b) (sym is) begun
+
+  pub run_same : (lines : List (Line A)) (count : ℕ) (text other : List ℕ) → text ≡ other → IsRun lines count (Ok tt) text → IsRun lines count (Ok tt) other
+  run_same lines count text other same so = subst (λ (t : List ℕ). IsRun lines count (Ok tt) t) same so
+
+  -- a front of the text was written
+  pub reached_regroup : (lines : List (Line A)) (core : State A) (count : ℕ) (written old front new : List ℕ) → old ≡ front ++ new → IsReached lines core count (written ++ old)
+      → IsReached lines core count ((written ++ front) ++ new)
+  reached_regroup lines core count written old front new parts so =
+      subst (λ (t : List ℕ). IsReached lines core count t) (ap (λ (t : List ℕ). written ++ t) parts ∙ sym (append_assoc written front new)) so
+
+  -- the server and the reply after a command
+  abbrev pub IsPrepared : List (Event A) → Command A → State A × Reply A → Type 0
+  IsPrepared h command prepared = (prepared.1 ≡ reply_of h command) × (prepared.0 ≡ state (h ++ event_by 0 command prepared.1 ∷ []))
+
+  pub step_met : (h : List (Event A)) (line : Line A) (next : State A) (reply : Reply A) (old text new : List ℕ) (b : Bool) → IsPrepared h line.command (next, reply)
+      → text ≡ on_a_line (reply_text line.show reply) → true ≡ b → new ≡ cond b (old ++ text) old
+      → (next ≡ state (h ++ event_by 0 line.command (reply_of h line.command) ∷ [])) × (new ≡ old ++ on_a_line (reply_text line.show (reply_of h line.command)))
+  step_met h line next reply old text new b met texted went appended =
+      let pushed : new ≡ old ++ text = subst (λ (v : Bool). new ≡ cond v (old ++ text) old) (sym went) appended in (
+        met.1 ∙ ap (λ (r : Reply A). state (h ++ event_by 0 line.command r ∷ [])) met.0,
+        pushed ∙ ap (λ (t : List ℕ). old ++ t) (texted ∙ ap (λ (r : Reply A). on_a_line (reply_text line.show r)) met.0),
+      )
+
+  -- how the run of the lines ended, as the run's own outcome
+  pub writes_ended : (lines : List (Line A)) (ended : Ended) (a b : Option (List ℕ)) → WritesRun lines ended a b → Writes lines (run_outcome ended) a b
+  writes_ended lines (Ok done) a b wrote = wrote
+  writes_ended lines (Err fault) a b wrote = wrote

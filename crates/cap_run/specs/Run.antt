@@ -1,0 +1,97 @@
+-- What a run writes: the text of each reply on a line, and then that of the fault at which it ended.
+use Rattle.std.specs.Prelude.{◌≡◌, ℕ, ◌-◌, ◌^◌, ◌<◌, List, [], ◌∷◌, ◌++◌, Option, Result, Ok, Err, map, length, codes}
+use Rattle.std.specs.Io.KnownBytes.{Appends, Keeps}
+use Rattle.cap_core.specs.declared.command.Command.{Command}
+use Rattle.cap_core.specs.declared.fault.CallFault.{CallFault}
+use Rattle.cap_core.specs.declared.fault.CallFault.TheVariants as call
+use Rattle.cap_core.specs.declared.reply.Reply.{Reply}
+use Rattle.cap_core.specs.Answer.{IsLegal, history_of}
+use Rattle.cap_run.specs.declared.fault.RunFault.{RunFault}
+use Rattle.cap_run.specs.declared.fault.RunFault.TheVariants.{Call, Write}
+use Rattle.cap_run.specs.declared.script.line.Line.{Line}
+use Rattle.cap_run.specs.ReplyText.{reply_text}
+
+-- what a writer holds, where it is known
+abbrev pub Known : Type 0
+Known = Option (List ℕ)
+
+-- how a run of lines ended: behind the last, or with the fault of one that has no reply
+abbrev pub Ended : Type 0
+Ended = Result (Unit {0}) CallFault
+
+-- a beginning of the bytes was written
+abbrev pub AppendsFront : Known → Known → List ℕ → Type 0
+AppendsFront old new bytes =
+    (front : List ℕ) × (rest : List ℕ) × (bytes ≡ front ++ rest) × Appends old new front
+
+-- a text, on a line of its own
+abbrev pub on_a_line : List ℕ → List ℕ
+on_a_line text = text ++ 10 ∷ []
+
+unfoldable pub call_fault_text : CallFault → List ℕ
+call_fault_text call.OutOfMemory = codes "refused for memory"
+call_fault_text call.HistoryFull = codes "history full"
+
+-- the most events of a history
+abbrev pub events_max : ℕ
+events_max = 2 ^ 63 - 1
+
+-- the fault of the line at which a run ended, where it did
+abbrev pub ending : Ended → List ℕ
+ending (Ok done) = []
+ending (Err fault) = on_a_line (call_fault_text fault)
+
+-- the outcome of a run whose lines ended so
+abbrev pub run_outcome : Ended → Result (Unit {0}) RunFault
+run_outcome (Ok done) = Ok done
+run_outcome (Err fault) = Err (Call fault)
+
+-- A run without a fault ends behind the last line. Want of memory may end it before any line, and a full history
+-- ends it before the line that would be an event too many.
+abbrev pub EndsAt : Ended → ℕ → ℕ → Type 0
+EndsAt (Ok done) lines count = count ≡ lines
+EndsAt (Err call.OutOfMemory) lines count = (count < lines) × (count < events_max)
+EndsAt (Err call.HistoryFull) lines count = (count < lines) × (count ≡ events_max)
+
+-- the one where memory was refused, and the other where the history is full
+abbrev pub MatchFault : CallFault → Type 0 → Type 0 → Type 0
+MatchFault call.OutOfMemory refused full = refused
+MatchFault call.HistoryFull refused full = full
+
+module _ {A : Type 0} where
+  abbrev pub commands_of : List (Line A) → List (Command A)
+  commands_of lines = map (λ line. line.command) lines
+
+  -- the replies to the first lines, each on a line of its own
+  abbrev pub reply_lines : List (Line A) → List (Reply A) → List ℕ
+  reply_lines [] replies = []
+  reply_lines (line ∷ lines) [] = []
+  reply_lines (line ∷ lines) (reply ∷ replies) =
+      on_a_line (reply_text line.show reply) ++ reply_lines lines replies
+
+  -- The text is that of the replies to the first `count` lines and of what ended the run there. The replies are
+  -- those of a legal history of the lines' commands.
+  pub record IsRun (lines : List (Line A)) (count : ℕ) (ended : Ended) (text : List ℕ) : Type 0 where
+    pub replies : List (Reply A)
+    pub counted : length replies ≡ count
+    pub legal : IsLegal (history_of (commands_of lines) replies)
+    pub text_is : text ≡ reply_lines lines replies ++ ending ended
+
+  -- all of a run's text was written
+  abbrev pub WritesRun : List (Line A) → Ended → Known → Known → Type 0
+  WritesRun lines ended old new =
+      (count : ℕ) × (text : List ℕ) × EndsAt ended (length lines) count × IsRun lines count ended text
+      × Appends old new text
+
+  -- a beginning of a run's text was written
+  abbrev pub BeginsRun : List (Line A) → Known → Known → Type 0
+  BeginsRun lines old new =
+      (count : ℕ) × (ended : Ended) × (text : List ℕ) × IsRun lines count ended text × AppendsFront old new text
+
+  -- What a run of the lines wrote: all of its text, or where a write failed a beginning, or nothing where it did not
+  -- begin.
+  abbrev pub Writes : List (Line A) → Result (Unit {0}) RunFault → Known → Known → Type 0
+  Writes lines (Ok done) old new = WritesRun lines (Ok done) old new
+  Writes lines (Err (Call fault)) old new = WritesRun lines (Err fault) old new
+  Writes lines (Err Write) old new = BeginsRun lines old new
+  Writes lines (Err fault) old new = Keeps old new
