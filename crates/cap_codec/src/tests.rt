@@ -312,3 +312,29 @@ fn the_text_of_a_fault(rt: HostRuntime) -> Result<(), Fail> {
     );
     Ok(())
 }
+
+// How many rows a changeset inserts. It stands in README.md too.
+fn inserted_rows(alloc: Global, bytes: &[u8]) -> Result<usize, Fault<BlobFault>> {
+    let Contents::Changes(list) = read_blob(alloc, bytes)? else {
+        return Ok(0);
+    };
+    let mut inserted = 0usize;
+    for group in list.groups() {
+        for change in group.changes() {
+            if let Change::Insert { .. } = change {
+                inserted = inserted.saturating_add(1);
+            }
+        }
+    }
+    Ok(inserted)
+}
+
+#[test]
+fn a_changeset_of_one_insert(rt: HostRuntime) -> Result<(), Fail> {
+    let bytes = [
+        0x54, 2, 1, 0, 0x74, 0, 0x12, 0, 1, 0, 0, 0, 0, 0, 0, 0, 1, 3, 1, 0x78,
+    ];
+    assert!(rt; inserted_rows(rt.alloc(), &bytes) == Ok(1));
+    assert!(rt; inserted_rows(rt.alloc(), &bytes[..8]) != Ok(0));
+    Ok(())
+}

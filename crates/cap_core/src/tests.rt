@@ -224,3 +224,38 @@ fn made_in(heap: &LocalHeap) -> Outcome<usize> {
     let texts = run_shown(heap, &commands)?;
     Ok(texts.len())
 }
+
+// It stands in README.md too.
+#[test]
+fn a_session_that_saw_an_insert(rt: HostRuntime) -> Result<(), Fail> {
+    let alloc = rt.alloc();
+    let table = Name::new(alloc, "t")?;
+    let row = vec![in alloc; Value::Int(1), Value::text(alloc, "x")?]?;
+    let commands = vec![in alloc;
+        Command::CreateTable {
+            table: table.copy()?,
+            schema: Schema::new(alloc, &[true, false])?
+        },
+        Command::NewSession,
+        Command::Attach {
+            session: 1,
+            table: table.copy()?
+        },
+        Command::Commit(Operation::Insert {
+            table,
+            row: Row::new(row)?
+        }),
+        Command::Capture { session: 1 },
+    ]?;
+    let (_core, replies) = Core::run(alloc, &commands)?;
+    let known = [
+        0x54, 2, 1, 0, 0x74, 0, 0x12, 0, 1, 0, 0, 0, 0, 0, 0, 0, 1, 3, 1, 0x78,
+    ];
+    match replies.last() {
+        Some(Reply::Capture(capture)) => {
+            assert!(rt; capture.changeset(alloc)?.as_slice() == &known[..])
+        }
+        _ => assert!(rt; false),
+    }
+    Ok(())
+}

@@ -234,3 +234,17 @@ fn three_trees_change_together_or_not_at_all(rt: HostRuntime) -> Result<(), Fail
     assert!(rt; 4 < starved && starved < 64, "{starved}");
     Ok(())
 }
+
+// It stands in README.md too.
+#[test]
+fn a_snapshot_keeps_what_it_had(rt: HostRuntime) -> Result<(), Fail> {
+    let mut scores: Tree<u64, u64, Global> = Tree::empty(rt.alloc());
+    scores.insert(7, 70)?;
+    scores.insert(9, 90)?;
+    let before = scores.snapshot()?;
+    scores.insert(7, 71)?;
+    scores.remove(&9)?;
+    assert_eq!(rt; (scores.get(&7), scores.len()), (Some(&71), 1));
+    assert_eq!(rt; before.seek(&8).next(), Some((&9, &90)));
+    Ok(())
+}
