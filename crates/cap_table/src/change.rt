@@ -50,7 +50,8 @@ impl<A: AllocHandle> Table<A> {
         ensures table { LeavesUnlessMemory result (update_row self.old name.now fields.now) self.new }
         ensures kept { OnErr result (self.new ≡ self.old) }
         ensures row { IfOk result (λ replaced. row_of self.old name.now ≡ Some replaced.row) }
-        ensures key { IfOk result (λ replaced. replaced.key ≡ key_of self.old.schema (row_with fields.now replaced.row)) }
+        ensures key { IfOk result (λ replaced. replaced.key
+            ≡ key_of self.old.schema (row_with fields.now replaced.row)) }
         ensures first { RefusesFirst (refused_update self.old name.now fields.now) result }
     {
         if !are_columns(self.schema.width(), fields) {
@@ -131,7 +132,8 @@ impl<A: AllocHandle> Table<A> {
     fn put_new(&mut self, key: Key<A>, row: Row<A>) -> Result<(), Fault<Refusal>>
         requires width { length row ≡ length self.old.schema }
         requires key { key_of self.old.schema row ≡ Some key }
-        ensures table { LeavesUnlessMemory result (under_key (is_some (get fields_cmp self.old.keyed key)) self.old key row) self.new }
+        ensures table { LeavesUnlessMemory result
+            (under_key (is_some (get fields_cmp self.old.keyed key)) self.old key row) self.new }
         ensures kept { OnErr result (self.new ≡ self.old) }
     {
         if self.keyed.get(&key).is_some() {
@@ -181,7 +183,8 @@ impl<A: AllocHandle> Table<A> {
     fn loosen(&mut self, old: &Key<A>, row: Row<A>) -> Result<(), Fault<Refusal>>
         requires width { length row ≡ length self.old.schema }
         requires key { key_of self.old.schema row ≡ None }
-        ensures table { LeavesUnlessMemory result (under_next_id (without self.old (RowRef.Key old.now)) row) self.new }
+        ensures table { LeavesUnlessMemory result (under_next_id
+            (without self.old (RowRef.Key old.now)) row) self.new }
         ensures kept { OnErr result (self.new ≡ self.old) }
     {
         if self.next_id >= IDS_END {
@@ -199,7 +202,8 @@ impl<A: AllocHandle> Table<A> {
     fn give_up(&mut self, id: u64, new: Key<A>, row: Row<A>) -> Result<(), Fault<Refusal>>
         requires width { length row ≡ length self.old.schema }
         requires key { key_of self.old.schema row ≡ Some new }
-        ensures table { LeavesUnlessMemory result (under_key (is_some (get fields_cmp self.old.keyed new)) (without self.old (RowRef.Loose id)) new row) self.new }
+        ensures table { LeavesUnlessMemory result (under_key (is_some (get fields_cmp self.old.keyed new))
+            (without self.old (RowRef.Loose id)) new row) self.new }
         ensures kept { OnErr result (self.new ≡ self.old) }
     {
         if self.keyed.get(&new).is_some() {

@@ -18,6 +18,7 @@ pub fn delete_undoes_insert<A: AllocHandle>()
 
 /// A new row without a key stands under the next id, which is never the next one again.
 pub fn insert_takes_next_id<A: AllocHandle>()
-    ensures { (before after : TableState A) (row : Fields A) → key_of before.schema row ≡ None → insert_row before row ≡ Ok after →
+    ensures { (before after : TableState A) (row : Fields A) → key_of before.schema row ≡ None
+        → insert_row before row ≡ Ok after →
         (after.next_id ≡ before.next_id + 1) × (get nat_cmp after.loose before.next_id ≡ Some row) }
 {}

@@ -34,7 +34,12 @@ impl<A: AllocHandle> Model for Table<A> {
 
     ghost view = { λ t. record { schema = t.schema; keyed = t.keyed; loose = t.loose; next_id = t.next_id } };
 
-    ghost invariant = { λ t. IsTable (record { schema = t.schema; keyed = t.keyed; loose = t.loose; next_id = t.next_id }) };
+    ghost invariant = { λ t. IsTable (record {
+      schema = t.schema;
+      keyed = t.keyed;
+      loose = t.loose;
+      next_id = t.next_id;
+    }) };
 }
 
 // A derived `Drop` would be opened in each caller's loop.

@@ -1,8 +1,6 @@
-//! The program `cap_times`: how long the calls of the libraries take, by the processor's time of one thread.
-//!
-//! `cap_times tree [N..]` tries trees of N keys beside std's map, `cap_times codec` writes and reads a changeset, and
-//! `cap_times core` commits, updates and captures under a session. Standard output says what was checked, and standard
-//! error how long it took.
+//! How long the calls of the libraries take, by the processor's time of one thread: `cap_times tree [N..]` tries trees
+//! of N keys beside std's map, `cap_times codec` a changeset, `cap_times core` commits under a session. Standard output
+//! says what was checked, and standard error how long it took.
 #![tactic(auto)]
 
 mod clock;

@@ -20,5 +20,8 @@ pub fn first_refusal_ends_the_list<A: AllocHandle>()
 pub fn last_operation_adds_its_changes<A: AllocHandle>()
     ensures { (tables after : Tables A) (front : List (Op A)) (op : Op A) (left : OutcomeState A) →
         run tables front ≡ Ok left → step left.database op ≡ Ok after →
-        run tables (front ++ op ∷ []) ≡ Ok (record { database = after; changes = left.changes ++ changes left.database op }) }
+        run tables (front ++ op ∷ []) ≡ Ok (record {
+          database = after;
+          changes = left.changes ++ changes left.database op;
+        }) }
 {}

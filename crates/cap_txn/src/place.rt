@@ -20,10 +20,13 @@ pub(crate) fn place_of<A: AllocHandle>(
     requires { IsOrdered bytes_cmp tables.now }
     ensures within { MatchResult result (λ i. i < length tables.now) (λ i. i ≤ length tables.now) }
     ensures put { MatchResult result
-        (λ i. (d : List ℕ × TableState A) (t : TableState A) → put_entry bytes_cmp tables.now name.now t ≡ slice_set tables.now i ((slice_index_or tables.now i d).0, t))
-        (λ i. (t : TableState A) → put_entry bytes_cmp tables.now name.now t ≡ insert tables.now i (name.now, t)) }
+        (λ i. (d : List ℕ × TableState A) (t : TableState A) → put_entry bytes_cmp tables.now name.now t
+        ≡ slice_set tables.now i ((slice_index_or tables.now i d).0, t))
+        (λ i. (t : TableState A) → put_entry bytes_cmp tables.now name.now t
+        ≡ insert tables.now i (name.now, t)) }
     ensures get { MatchResult result
-        (λ i. (d : List ℕ × TableState A) → get bytes_cmp tables.now name.now ≡ Some (slice_index_or tables.now i d).1)
+        (λ i. (d : List ℕ × TableState A) → get bytes_cmp tables.now name.now ≡ Some
+        (slice_index_or tables.now i d).1)
         (λ i. get bytes_cmp tables.now name.now ≡ None) }
     ensures there { MatchResult result
         (λ i. is_some (get bytes_cmp tables.now name.now) ≡ true)
@@ -62,8 +65,11 @@ pub(crate) fn step_at<A: AllocHandle>(
     op: &Op<A>,
 ) -> Result<Step<A>, Fault<Refusal>>
     requires within { place < length tables.old }
-    requires get { (d : List ℕ × TableState A) → get bytes_cmp tables.old op.now.table ≡ Some (slice_index_or tables.old place d).1 }
-    requires put { (d : List ℕ × TableState A) (t : TableState A) → put_entry bytes_cmp tables.old op.now.table t ≡ slice_set tables.old place ((slice_index_or tables.old place d).0, t) }
+    requires get { (d : List ℕ × TableState A) → get bytes_cmp tables.old op.now.table ≡ Some
+        (slice_index_or tables.old place d).1 }
+    requires put { (d : List ℕ × TableState A) (t : TableState A)
+        → put_entry bytes_cmp tables.old op.now.table t
+        ≡ slice_set tables.old place ((slice_index_or tables.old place d).0, t) }
     ensures tables { LeavesUnlessMemory result (step tables.old op.now) tables.new }
     ensures kept { OnErr result (tables.new ≡ tables.old) }
     ensures changes { IfOk result (λ step. changes_told step ≡ changes tables.old op.now) }

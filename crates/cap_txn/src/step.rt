@@ -24,7 +24,8 @@ impl<A: AllocHandle> Step<A> {
     pub(crate) fn make(table: &mut Table<A>, op: &Op<A>) -> Result<Self, Fault<Refusal>>
         ensures table { LeavesUnlessMemory result (act table.old op.now.action) table.new }
         ensures kept { OnErr result (table.new ≡ table.old) }
-        ensures changes { IfOk result (λ step. changes_told step ≡ changes_to op.now.table op.now.cause (changed_keys table.old op.now.action)) }
+        ensures changes { IfOk result (λ step. changes_told step ≡ changes_to op.now.table op.now.cause
+            (changed_keys table.old op.now.action)) }
         ensures row { IfOk result (λ step. step.row ≡ old_row table.old op.now.action) }
     {
         match &op.action {
@@ -42,7 +43,8 @@ fn insert<A: AllocHandle>(
 ) -> Result<Step<A>, Fault<Refusal>>
     ensures table { LeavesUnlessMemory result (act table.old (Action.Insert row.now)) table.new }
     ensures kept { OnErr result (table.new ≡ table.old) }
-    ensures changes { IfOk result (λ step. changes_told step ≡ changes_to op.now.table op.now.cause (changed_keys table.old (Action.Insert row.now))) }
+    ensures changes { IfOk result (λ step. changes_told step ≡ changes_to op.now.table op.now.cause
+        (changed_keys table.old (Action.Insert row.now))) }
     ensures row { IfOk result (λ step. step.row ≡ old_row table.old (Action.Insert row.now)) }
 {
     let name = op.table.copy()?;
@@ -62,7 +64,8 @@ fn update<A: AllocHandle>(
 ) -> Result<Step<A>, Fault<Refusal>>
     ensures table { LeavesUnlessMemory result (act table.old (Action.Update name.now fields.now)) table.new }
     ensures kept { OnErr result (table.new ≡ table.old) }
-    ensures changes { IfOk result (λ step. changes_told step ≡ changes_to op.now.table op.now.cause (changed_keys table.old (Action.Update name.now fields.now))) }
+    ensures changes { IfOk result (λ step. changes_told step ≡ changes_to op.now.table op.now.cause
+        (changed_keys table.old (Action.Update name.now fields.now))) }
     ensures row { IfOk result (λ step. step.row ≡ old_row table.old (Action.Update name.now fields.now)) }
 {
     let first = change(op.table.copy()?, key_named(name)?, op.cause);
@@ -82,7 +85,8 @@ fn delete<A: AllocHandle>(
 ) -> Result<Step<A>, Fault<Refusal>>
     ensures table { LeavesUnlessMemory result (act table.old (Action.Delete name.now)) table.new }
     ensures kept { OnErr result (table.new ≡ table.old) }
-    ensures changes { IfOk result (λ step. changes_told step ≡ changes_to op.now.table op.now.cause (changed_keys table.old (Action.Delete name.now))) }
+    ensures changes { IfOk result (λ step. changes_told step ≡ changes_to op.now.table op.now.cause
+        (changed_keys table.old (Action.Delete name.now))) }
     ensures row { IfOk result (λ step. step.row ≡ old_row table.old (Action.Delete name.now)) }
 {
     let first = change(op.table.copy()?, key_named(name)?, op.cause);

@@ -31,7 +31,13 @@ impl<A: AllocHandle> Model for Txn<A> {
 
     ghost Value = { TxnState A };
 
-    ghost view = { λ t. record { base = t.base; database = t.database; ops = t.ops.items; savepoints = t.savepoints.items; made = t.made } };
+    ghost view = { λ t. record {
+      base = t.base;
+      database = t.database;
+      ops = t.ops.items;
+      savepoints = t.savepoints.items;
+      made = t.made;
+    } };
 
     ghost invariant = { λ t. length t.ops.items ≤ 10000 };
 }
@@ -156,9 +162,12 @@ impl<A: AllocHandle> Txn<A> {
 
 // The place of the savepoint of this number.
 fn place_of<A: AllocHandle>(savepoints: &[Savepoint<A>], number: u64) -> Option<usize>
-    ensures within { MatchOption result (numbered number savepoints.now ≡ None) (λ i. i < length savepoints.now) }
-    ensures found { MatchOption result (numbered number savepoints.now ≡ None) (λ i. (d : saved.Savepoint A) → numbered number savepoints.now ≡ Some (slice_index_or savepoints.now i d)) }
-    ensures front { MatchOption result (numbered number savepoints.now ≡ None) (λ i. up_to number savepoints.now ≡ take (i + 1) savepoints.now) }
+    ensures within { MatchOption result (numbered number savepoints.now ≡ None)
+        (λ i. i < length savepoints.now) }
+    ensures found { MatchOption result (numbered number savepoints.now ≡ None) (λ i. (d : saved.Savepoint A)
+        → numbered number savepoints.now ≡ Some (slice_index_or savepoints.now i d)) }
+    ensures front { MatchOption result (numbered number savepoints.now ≡ None)
+        (λ i. up_to number savepoints.now ≡ take (i + 1) savepoints.now) }
 {
     for (place, savepoint) in savepoints.iter().enumerate() {
         if savepoint.number == number {
