@@ -1,7 +1,6 @@
 -- The change of a touched key fits its table.
-use Rattle.std.proofs.Common.{◌≡◌, ℕ, List, [], ◌∷◌, length, Bool, true, false, not, ◌&&◌, ◌||◌, Some, None, is_some, cond, refl, ◌==◌, nat_le, arith}
-use Rattle.std.proofs.lemmas.Bool.Decides.{nat_tests}
-use Rattle.std.proofs.lemmas.List.{length-map}
+use Rattle.std.proofs.Common.{◌≡◌, List, [], ◌∷◌, length, Bool, true, false, not, ◌&&◌, ◌||◌, Some, None, is_some, cond, refl, nat_le}
+use Rattle.std.proofs.lemmas.Bool.{and_from}
 use Rattle.std.specs.declared.cmp.Ordering.{Ordering}
 use Rattle.std.specs.declared.cmp.Ordering.TheVariants.{Less, Equal, Greater}
 use Rattle.std.specs.Ordering.{is_eq}
@@ -10,10 +9,12 @@ use Rattle.cap_value.specs.declared.value.Value.{Value}
 use Rattle.cap_value.specs.Value.{is_null, value_eq, value_eq_decides}
 use Rattle.cap_row.specs.Fields.{Fields}
 use Rattle.cap_row.specs.Key.{key_of, key_fields, is_key, fields_cmp, fields_cmp-Equal}
-use Rattle.cap_changes.specs.Fits.{is_full, is_update, are_update_fields, is_update_field}
+use Rattle.cap_changes.specs.Demands.{demands, new_demands, new_demand, meets, meet}
+use Rattle.cap_changes.specs.Fits.{change_fits}
 use Rattle.cap_changes.specs.Column.{by_column}
 use Rattle.cap_changes.specs.Change.{IsKeyedRow, full_record, old_field, new_field, change_of}
 use Rattle.cap_changes.specs.declared.change.Change.TheVariants.{Update}
+use Rattle.cap_changes.specs.declared.rule.Rule.TheVariants as rules
 
 kept_if : {X : Type 0} (some_key has_null : Bool) (x : X) → is_some (cond (some_key && not has_null) (Some x) None) ≡ true → has_null ≡ false
 kept_if true true x e = cc
@@ -30,9 +31,6 @@ true_unless : (b : Bool) → (b ≡ false → ⊥) → b ≡ true
 true_unless true other = refl
 true_unless false other = absurd (other refl)
 
-nat_eq-same : (n : ℕ) → (n == n) ≡ true
-nat_eq-same n = grind (arith, nat_tests)
-
 full_field_from : (null rest_null rest : Bool) → (null || rest_null) ≡ false → rest ≡ true → (not null && rest) ≡ true
 full_field_from true rest_null rest e h = cc
 full_field_from false rest_null rest e h = h
@@ -41,16 +39,12 @@ rest_from : (null rest_null : Bool) → (null || rest_null) ≡ false → rest_n
 rest_from true rest_null e = cc
 rest_from false rest_null e = e
 
-key_field_fits : (null rest_null rest : Bool) → (null || rest_null) ≡ false → rest ≡ true → ((not null && true) && rest) ≡ true
-key_field_fits true rest_null rest e h = cc
-key_field_fits false rest_null rest e h = h
-
 module _ {A : Type 0} where
   no_null_key : (flags : List Bool) (row : Fields A) → is_some (key_of flags row) ≡ true → list_any is_null (key_fields flags row) ≡ false
   no_null_key flags row e = kept_if (nat_le 1 (length (key_fields flags row))) (list_any is_null (key_fields flags row)) (key_fields flags row) e
 
   full_fits_from : (flags : List Bool) (row : Fields A) → length row ≡ length flags → list_any is_null (key_fields flags row) ≡ false →
-      is_full flags (full_record row) ≡ true
+      meet (demands rules.Full flags) (full_record row) ≡ true
   full_fits_from [] [] wide keyed = refl
   full_fits_from [] (value ∷ row) wide keyed = cc
   full_fits_from (key ∷ flags) [] wide keyed = cc
@@ -59,37 +53,43 @@ module _ {A : Type 0} where
       (full_fits_from flags row (cc) (rest_from (is_null value) _ keyed))
   full_fits_from (false ∷ flags) (value ∷ row) wide keyed = full_fits_from flags row (cc) keyed
 
-  pub full_fits : (flags : List Bool) (row : Fields A) → IsKeyedRow flags row → is_full flags (full_record row) ≡ true
+  pub full_fits : (flags : List Bool) (row : Fields A) → IsKeyedRow flags row → meet (demands rules.Full flags) (full_record row) ≡ true
   full_fits flags row h = full_fits_from flags row h.wide (no_null_key flags row h.keyed)
 
+  old_fits_from : (flags : List Bool) (image now : Fields A) → length image ≡ length flags → length now ≡ length flags →
+      list_any is_null (key_fields flags image) ≡ false → meet (demands rules.Keyed flags) (by_column old_field flags image now) ≡ true
+  old_fits_from [] [] [] wide wide' keyed = refl
+  old_fits_from [] (old ∷ image) now wide wide' keyed = cc
+  old_fits_from [] [] (new ∷ now) wide wide' keyed = cc
+  old_fits_from (key ∷ flags) [] now wide wide' keyed = cc
+  old_fits_from (key ∷ flags) (old ∷ image) [] wide wide' keyed = cc
+  old_fits_from (true ∷ flags) (old ∷ image) (new ∷ now) wide wide' keyed =
+      full_field_from (is_null old) (list_any is_null (key_fields flags image)) _ keyed
+      (old_fits_from flags image now (cc) (cc) (rest_from (is_null old) _ keyed))
+  old_fits_from (false ∷ flags) (old ∷ image) (new ∷ now) wide wide' keyed = old_fits_from flags image now (cc) (cc) keyed
+
   other_field_fits : (same : Bool) (old new : Value A) {rest : Bool} → rest ≡ true →
-      (is_update_field false (cond (not same) (Some old) None) (cond (not same) (Some new) None) && rest) ≡ true
+      (meets (new_demand (false, cond (not same) (Some old) None)) (cond (not same) (Some new) None) && rest) ≡ true
   other_field_fits true old new h = h
   other_field_fits false old new h = h
 
-  update_fits_from : (flags : List Bool) (image now : Fields A) → length image ≡ length flags → length now ≡ length flags →
-      list_any is_null (key_fields flags image) ≡ false →
-      are_update_fields flags (zip (by_column old_field flags image now) (by_column new_field flags image now)) ≡ true
-  update_fits_from [] [] [] wide wide' keyed = refl
-  update_fits_from [] (old ∷ image) now wide wide' keyed = cc
-  update_fits_from [] [] (new ∷ now) wide wide' keyed = cc
-  update_fits_from (key ∷ flags) [] now wide wide' keyed = cc
-  update_fits_from (key ∷ flags) (old ∷ image) [] wide wide' keyed = cc
-  update_fits_from (true ∷ flags) (old ∷ image) (new ∷ now) wide wide' keyed =
-      key_field_fits (is_null old) (list_any is_null (key_fields flags image)) _ keyed
-      (update_fits_from flags image now (cc) (cc) (rest_from (is_null old) _ keyed))
-  update_fits_from (false ∷ flags) (old ∷ image) (new ∷ now) wide wide' keyed =
-      other_field_fits (value_eq old new) old new (update_fits_from flags image now (cc) (cc) keyed)
+  new_fits_from : (flags : List Bool) (image now : Fields A) → length image ≡ length flags → length now ≡ length flags →
+      meet (new_demands flags (by_column old_field flags image now)) (by_column new_field flags image now) ≡ true
+  new_fits_from [] [] [] wide wide' = refl
+  new_fits_from [] (old ∷ image) now wide wide' = cc
+  new_fits_from [] [] (new ∷ now) wide wide' = cc
+  new_fits_from (key ∷ flags) [] now wide wide' = cc
+  new_fits_from (key ∷ flags) (old ∷ image) [] wide wide' = cc
+  new_fits_from (true ∷ flags) (old ∷ image) (new ∷ now) wide wide' = new_fits_from flags image now (cc) (cc)
+  new_fits_from (false ∷ flags) (old ∷ image) (new ∷ now) wide wide' =
+      other_field_fits (value_eq old new) old new (new_fits_from flags image now (cc) (cc))
 
-  pub update_fits : (flags : List Bool) (image now : Fields A) → IsKeyedRow flags image → IsKeyedRow flags now →
-      is_update flags (by_column old_field flags image now) (by_column new_field flags image now) ≡ true
-  update_fits flags image now h h' =
-      rw (
-        length-map (zip flags (zip image now)) (λ column. old_field column.0 column.1.0 column.1.1),
-        length-map (zip flags (zip image now)) (λ column. new_field column.0 column.1.0 column.1.1),
-        nat_eq-same (length (zip flags (zip image now))),
-      )
-      (update_fits_from flags image now h.wide h'.wide (no_null_key flags image h.keyed))
+  pub update_fits : (flags : List Bool) (indirect : Bool) (image now : Fields A) → IsKeyedRow flags image → IsKeyedRow flags now →
+      change_fits flags (Update indirect (by_column old_field flags image now) (by_column new_field flags image now)) ≡ true
+  update_fits flags indirect image now h h' =
+      and_from (meet (demands rules.Keyed flags) (by_column old_field flags image now)) _
+      (old_fits_from flags image now h.wide h'.wide (no_null_key flags image h.keyed))
+      (new_fits_from flags image now h.wide h'.wide)
 
   -- equal rows are no change
   pub change_of-same : (flags : List Bool) (indirect : Bool) (image now : Fields A) → image ≡ now →

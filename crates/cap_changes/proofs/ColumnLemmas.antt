@@ -1,5 +1,5 @@
 -- Lists side by side, one element of each a column.
-use Rattle.std.proofs.Common.{◌≡◌, List, [], ◌∷◌, length, Bool, true, false, ◌&&◌, Option, None, Bor, Iter, refl, ap, suc, subst, inl, inr, ◌⊎◌}
+use Rattle.std.proofs.Common.{◌≡◌, List, [], ◌∷◌, length, Bool, true, false, ◌&&◌, map, Option, None, Bor, Iter, refl, ap, suc, subst, inl, inr, ◌⊎◌}
 use Rattle.std.specs.declared.iter.Zip.{Zip}
 use Rattle.std.proofs.iter.Yields.{fronts}
 use Rattle.std.proofs.lemmas.Iterator.{zips}
@@ -21,6 +21,14 @@ pointwise-zip test [] [] e = refl
 pointwise-zip test [] (y ∷ ys) e = cc
 pointwise-zip test (x ∷ xs) [] e = cc
 pointwise-zip test (x ∷ xs) (y ∷ ys) e = ap (λ rest. test x y && rest) (pointwise-zip test xs ys cc)
+
+-- a test of what is made of each
+pub pointwise-map : {X Y Z : Type 0} (test : Y → Z → Bool) (f : X → Y) (xs : List X) (zs : List Z) →
+    pointwise test (map f xs) zs ≡ pointwise (λ x z. test (f x) z) xs zs
+pointwise-map test f [] [] = refl
+pointwise-map test f [] (z ∷ zs) = refl
+pointwise-map test f (x ∷ xs) [] = refl
+pointwise-map test f (x ∷ xs) (z ∷ zs) = ap (λ rest. test (f x) z && rest) (pointwise-map test f xs zs)
 
 and_false : (b : Bool) → (b && false) ≡ false
 and_false true = refl

@@ -1,5 +1,6 @@
 pub mod Change
 pub mod Column
+pub mod Demands
 pub mod Entries
 pub mod Fits
 pub mod Group

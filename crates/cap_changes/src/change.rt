@@ -1,6 +1,6 @@
 ghost use Rattle.std.specs.Prelude.{◌≡◌};
 
-use crate::{Record, fits};
+use crate::{Record, Rule, fits};
 use cap_row::Schema;
 use cap_value::AllocHandle;
 
@@ -43,13 +43,13 @@ impl<A: AllocHandle> Change<A> {
         ensures { result ≡ change_fits schema.now self.now }
     {
         match self {
-            Change::Insert { new, .. } => fits::is_full(schema.flags(), new.fields()),
+            Change::Insert { new, .. } => fits::is_record(Rule::Full, schema.flags(), new.fields()),
             Change::Update { old, new, .. } => fits::is_update(
                 schema.flags(),
                 old.fields(),
                 new.fields(),
             ),
-            Change::Delete { old, .. } => fits::is_full(schema.flags(), old.fields()),
+            Change::Delete { old, .. } => fits::is_record(Rule::Full, schema.flags(), old.fields()),
         }
     }
 }

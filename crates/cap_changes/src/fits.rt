@@ -1,104 +1,55 @@
-ghost use Rattle.std.specs.Prelude.{◌≡◌, length};
-ghost use Rattle.std.specs.List.{zip};
-ghost use Rattle.cap_changes.specs.Fits as fit;
+ghost use Rattle.std.specs.Prelude.{◌≡◌, ◌&&◌, length};
+ghost use Rattle.cap_changes.specs.Demands as asked;
+ghost use Rattle.cap_changes.specs.declared.rule.Rule.TheVariants as rules;
 
+use crate::{Rule, demand_beside};
 use cap_value::{AllocHandle, Value};
 
-/// Whether there is a field a column, each defined.
-pub(crate) fn is_full<A: AllocHandle>(flags: &[bool], fields: &[Option<Value<A>>]) -> bool
-    ensures { result ≡ fit.is_full flags.now fields.now }
+/// Whether there is a field a column, each as the rule asks.
+pub(crate) fn is_record<A: AllocHandle>(
+    rule: Rule,
+    flags: &[bool],
+    fields: &[Option<Value<A>>],
+) -> bool
+    ensures { result ≡ asked.meet (asked.demands rule flags.now) fields.now }
 {
     flags.len() == fields.len()
         && flags
             .iter()
             .zip(fields)
-            .all(|(key, field)| is_full_field(*key, field))
+            .all(|(key, field)| rule.demand(*key).is_met_by(field))
 }
 
-fn is_full_field<A: AllocHandle>(key: bool, field: &Option<Value<A>>) -> bool
-    ensures { result ≡ fit.is_full_field key field.now }
-{
-    match field {
-        None => false,
-        Some(value) => !(key && value.is_null()),
-    }
-}
-
-/// Whether there is a field a column in both, the key in the old record alone.
+/// Whether there is a field a column in both, each of the new record as its old field asks.
 pub(crate) fn is_update<A: AllocHandle>(
     flags: &[bool],
     old: &[Option<Value<A>>],
     new: &[Option<Value<A>>],
 ) -> bool
-    ensures { result ≡ fit.is_update flags.now old.now new.now }
+    ensures { result ≡ asked.meet (asked.demands rules.Keyed flags.now) old.now
+        && asked.meet (asked.new_demands flags.now old.now) new.now }
 {
-    old.len() == new.len() && are_update_fields(flags, old, new)
+    is_record(Rule::Keyed, flags, old) && is_new_record(flags, old, new)
 }
 
-fn are_update_fields<A: AllocHandle>(
+fn is_new_record<A: AllocHandle>(
     flags: &[bool],
     old: &[Option<Value<A>>],
     new: &[Option<Value<A>>],
 ) -> bool
-    requires { length old.now ≡ length new.now }
-    ensures { result ≡ fit.are_update_fields flags.now (zip old.now new.now) }
+    requires { length flags.now ≡ length old.now }
+    ensures { result ≡ asked.meet (asked.new_demands flags.now old.now) new.now }
 {
-    let pairs = old.iter().zip(new);
-    flags.len() == old.len()
+    flags.len() == new.len()
         && flags
             .iter()
-            .zip(pairs)
-            .all(|(key, (old, new))| is_update_field(*key, old, new))
+            .zip(old)
+            .zip(new)
+            .all(|((key, old), new)| is_new_field(*key, old, new))
 }
 
-fn is_update_field<A: AllocHandle>(
-    key: bool,
-    old: &Option<Value<A>>,
-    new: &Option<Value<A>>,
-) -> bool
-    ensures { result ≡ fit.is_update_field key old.now new.now }
+fn is_new_field<A: AllocHandle>(key: bool, old: &Option<Value<A>>, new: &Option<Value<A>>) -> bool
+    ensures { result ≡ asked.meets (asked.new_demand (key, old.now)) new.now }
 {
-    if key {
-        is_full_field(true, old) && new.is_none()
-    } else {
-        old.is_some() == new.is_some()
-    }
-}
-
-/// Whether there is a field a column, each key field defined.
-pub(crate) fn is_patch<A: AllocHandle>(flags: &[bool], fields: &[Option<Value<A>>]) -> bool
-    ensures { result ≡ fit.is_patch flags.now fields.now }
-{
-    flags.len() == fields.len()
-        && flags
-            .iter()
-            .zip(fields)
-            .all(|(key, field)| is_patch_field(*key, field))
-}
-
-fn is_patch_field<A: AllocHandle>(key: bool, field: &Option<Value<A>>) -> bool
-    ensures { result ≡ fit.is_patch_field key field.now }
-{
-    !key || is_full_field(true, field)
-}
-
-/// Whether there is a field a column, the key fields alone defined.
-pub(crate) fn is_key<A: AllocHandle>(flags: &[bool], fields: &[Option<Value<A>>]) -> bool
-    ensures { result ≡ fit.is_key flags.now fields.now }
-{
-    flags.len() == fields.len()
-        && flags
-            .iter()
-            .zip(fields)
-            .all(|(key, field)| is_key_field(*key, field))
-}
-
-fn is_key_field<A: AllocHandle>(key: bool, field: &Option<Value<A>>) -> bool
-    ensures { result ≡ fit.is_key_field key field.now }
-{
-    if key {
-        is_full_field(true, field)
-    } else {
-        field.is_none()
-    }
+    demand_beside(key, old).is_met_by(new)
 }

@@ -1,6 +1,6 @@
 ghost use Rattle.std.specs.Prelude.{◌≡◌};
 
-use crate::{Record, fits};
+use crate::{Record, Rule, fits};
 use cap_row::Schema;
 use cap_value::AllocHandle;
 
@@ -40,9 +40,13 @@ impl<A: AllocHandle> Patch<A> {
         ensures { result ≡ patch_fits schema.now self.now }
     {
         match self {
-            Patch::Insert { new, .. } => fits::is_full(schema.flags(), new.fields()),
-            Patch::Update { new, .. } => fits::is_patch(schema.flags(), new.fields()),
-            Patch::Delete { key, .. } => fits::is_key(schema.flags(), key.fields()),
+            Patch::Insert { new, .. } => fits::is_record(Rule::Full, schema.flags(), new.fields()),
+            Patch::Update { new, .. } => fits::is_record(Rule::Keyed, schema.flags(), new.fields()),
+            Patch::Delete { key, .. } => fits::is_record(
+                Rule::KeyAlone,
+                schema.flags(),
+                key.fields(),
+            ),
         }
     }
 }

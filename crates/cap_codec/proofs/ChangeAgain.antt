@@ -1,29 +1,26 @@
 -- Changes are read as what their bytes spell, whatever follows them that is no change.
 use Rattle.std.proofs.Common.{◌≡◌, ℕ, zero, suc, ◌≤◌, Bool, true, false, List, [], ◌∷◌, ◌++◌, length, Option, Some, None, IfSome, Result, Ok, refl, sym, ap, subst, ◌∙◌, append_assoc, arith, length-append}
 use Rattle.std.specs.List.{AllByRecursion}
-use Rattle.std.specs.Cmp.Lexicographic.{pointwise}
 use Rattle.std.proofs.lemmas.Bool.{and_parts}
 use Rattle.std.proofs.lemmas.List.Elements.{recursion_from_All}
 use Rattle.cap_value.specs.declared.value.Value.{Value}
 use Rattle.cap_value.specs.Value.{IsValue}
 use Rattle.cap_changes.specs.Record.{RecordFields}
-use Rattle.cap_changes.specs.Fits.{is_full, is_key}
 use Rattle.cap_changes.specs.declared.change.Change.{Change}
 use Rattle.cap_changes.specs.declared.change.Change.TheVariants as changed
 use Rattle.cap_changes.specs.declared.patch.Patch.{Patch}
 use Rattle.cap_changes.specs.declared.patch.Patch.TheVariants as patched
-use Rattle.cap_codec.specs.declared.demand.Demand.{Demand}
+use Rattle.cap_changes.specs.declared.demand.Demand.{Demand}
 use Rattle.cap_codec.specs.declared.fault.BlobFault.{BlobFault}
-use Rattle.cap_codec.specs.declared.rule.Rule.{Rule}
-use Rattle.cap_codec.specs.declared.rule.Rule.TheVariants as rules
+use Rattle.cap_changes.specs.declared.rule.Rule.{Rule}
+use Rattle.cap_changes.specs.declared.rule.Rule.TheVariants as rules
 use Rattle.cap_codec.specs.Changeset.{mark}
-use Rattle.cap_codec.specs.Demands.{demand_of, demands, new_demand, new_demands}
+use Rattle.cap_changes.specs.Demands.{demand_of, demands, new_demand, new_demands, meets, meet}
 use Rattle.cap_codec.specs.Field.{field_bytes, record_bytes, defined_bytes, key_bytes}
 use Rattle.cap_codec.specs.RecordReading.{record_at}
 use Rattle.cap_codec.specs.BlobReading.{is_operation, change_at, patch_at, changes_at}
 use Rattle.cap_codec.specs.Spelling.{SpellsEach, SpellsChange, SpellsPatch}
 use Rattle.cap_codec.specs.Writable.{AreValues}
-use Rattle.cap_codec.proofs.FitLemmas.{meets, meets_full, meets_patch, meets_key, meets_update}
 use Rattle.cap_codec.proofs.FieldAgain.{asked_bytes, field_again}
 
 module _ {A : Type 0} where
@@ -34,25 +31,25 @@ module _ {A : Type 0} where
   asked_record (demand ∷ demands) [] = []
   asked_record (demand ∷ demands) (field ∷ fields) = asked_bytes demand field ++ asked_record demands fields
 
-  fields_again : (total : ℕ) (demands : List Demand) (fields : RecordFields A) (rest : List ℕ) → pointwise meets demands fields ≡ true → AllByRecursion (λ field. IfSome field IsValue) fields
+  fields_again : (total : ℕ) (demands : List Demand) (fields : RecordFields A) (rest : List ℕ) → meet demands fields ≡ true → AllByRecursion (λ field. IfSome field IsValue) fields
       → record_at total demands (asked_record demands fields ++ rest) ≡ Ok (fields, rest)
   unfolding record_at
   fields_again total [] [] rest met fits = refl
   fields_again total [] (field ∷ fields) rest met fits = absurd cc
   fields_again total (demand ∷ demands) [] rest met fits = absurd cc
   fields_again total (demand ∷ demands) (field ∷ fields) rest met fits =
-      let parts = and_parts (meets demand field) (pointwise meets demands fields) met in
+      let parts = and_parts (meets demand field) (meet demands fields) met in
       ap (record_at total (demand ∷ demands)) (append_assoc (asked_bytes demand field) (asked_record demands fields) rest)
       ∙ rw (field_again total demand field (asked_record demands fields ++ rest) parts.0 fits.0, fields_again total demands fields rest parts.1 fits.1) refl
 
   -- where no field is left out
   pub all_asked : (rule : Rule) → ((key : Bool) (field : Option (Value A)) → asked_bytes (demand_of rule key) field ≡ field_bytes field)
-      → (flags : List Bool) (fields : RecordFields A) → pointwise meets (demands rule flags) fields ≡ true → asked_record (demands rule flags) fields ≡ record_bytes fields
+      → (flags : List Bool) (fields : RecordFields A) → meet (demands rule flags) fields ≡ true → asked_record (demands rule flags) fields ≡ record_bytes fields
   all_asked rule each [] [] met = refl
   all_asked rule each [] (field ∷ fields) met = absurd cc
   all_asked rule each (key ∷ flags) [] met = refl
   all_asked rule each (key ∷ flags) (field ∷ fields) met =
-      let parts = and_parts (meets (demand_of rule key) field) (pointwise meets (demands rule flags) fields) met in
+      let parts = and_parts (meets (demand_of rule key) field) (meet (demands rule flags) fields) met in
       rw (each key field, all_asked rule each flags fields parts.1) refl
 
   pub of_full : (key : Bool) (field : Option (Value A)) → asked_bytes (demand_of rules.Full key) field ≡ field_bytes field
@@ -69,12 +66,12 @@ module _ {A : Type 0} where
   of_key false None met = refl
   of_key false (Some value) met = absurd cc
 
-  pub keys_asked : (flags : List Bool) (fields : RecordFields A) → pointwise meets (demands rules.KeyAlone flags) fields ≡ true → asked_record (demands rules.KeyAlone flags) fields ≡ key_bytes fields
+  pub keys_asked : (flags : List Bool) (fields : RecordFields A) → meet (demands rules.KeyAlone flags) fields ≡ true → asked_record (demands rules.KeyAlone flags) fields ≡ key_bytes fields
   keys_asked [] [] met = refl
   keys_asked [] (field ∷ fields) met = absurd cc
   keys_asked (key ∷ flags) [] met = refl
   keys_asked (key ∷ flags) (field ∷ fields) met =
-      let parts = and_parts (meets (demand_of rules.KeyAlone key) field) (pointwise meets (demands rules.KeyAlone flags) fields) met in
+      let parts = and_parts (meets (demand_of rules.KeyAlone key) field) (meet (demands rules.KeyAlone flags) fields) met in
       rw (of_key key field parts.0, keys_asked flags fields parts.1) refl
 
   of_new : (key : Bool) (old field : Option (Value A)) → asked_bytes (new_demand (key, old)) field ≡ field_bytes field
@@ -82,37 +79,35 @@ module _ {A : Type 0} where
   of_new false None field = refl
   of_new false (Some value) field = refl
 
-  pub new_asked : (flags : List Bool) (old new : RecordFields A) → pointwise meets (new_demands flags old) new ≡ true → asked_record (new_demands flags old) new ≡ record_bytes new
+  pub new_asked : (flags : List Bool) (old new : RecordFields A) → meet (new_demands flags old) new ≡ true → asked_record (new_demands flags old) new ≡ record_bytes new
   new_asked [] old [] met = refl
   new_asked [] old (field ∷ fields) met = absurd cc
   new_asked (key ∷ flags) [] [] met = refl
   new_asked (key ∷ flags) [] (field ∷ fields) met = absurd cc
   new_asked (key ∷ flags) (before ∷ old) [] met = refl
   new_asked (key ∷ flags) (before ∷ old) (field ∷ fields) met =
-      let parts = and_parts (meets (new_demand (key, before)) field) (pointwise meets (new_demands flags old) fields) met in
+      let parts = and_parts (meets (new_demand (key, before)) field) (meet (new_demands flags old) fields) met in
       rw (of_new key before field, new_asked flags old fields parts.1) refl
 
   values_each : (fields : RecordFields A) → AreValues fields → AllByRecursion (λ field. IfSome field IsValue) fields
   values_each fields values = recursion_from_All (λ field. IfSome field IsValue) fields values
 
-  full_again : (total : ℕ) (flags : List Bool) (fields : RecordFields A) (rest : List ℕ) → is_full flags fields ≡ true → AreValues fields → record_at total (demands rules.Full flags) (record_bytes fields ++ rest) ≡ Ok (fields, rest)
-  full_again total flags fields rest full values =
-      let met = meets_full flags fields full in
+  full_again : (total : ℕ) (flags : List Bool) (fields : RecordFields A) (rest : List ℕ) → meet (demands rules.Full flags) fields ≡ true → AreValues fields → record_at total (demands rules.Full flags) (record_bytes fields ++ rest) ≡ Ok (fields, rest)
+  full_again total flags fields rest met values =
       ap (λ (bytes : List ℕ). record_at total (demands rules.Full flags) (bytes ++ rest)) (sym (all_asked rules.Full of_full flags fields met))
       ∙ fields_again total (demands rules.Full flags) fields rest met (values_each fields values)
 
-  keyed_again : (total : ℕ) (flags : List Bool) (fields : RecordFields A) (rest : List ℕ) → pointwise meets (demands rules.Keyed flags) fields ≡ true → AreValues fields → record_at total (demands rules.Keyed flags) (record_bytes fields ++ rest) ≡ Ok (fields, rest)
+  keyed_again : (total : ℕ) (flags : List Bool) (fields : RecordFields A) (rest : List ℕ) → meet (demands rules.Keyed flags) fields ≡ true → AreValues fields → record_at total (demands rules.Keyed flags) (record_bytes fields ++ rest) ≡ Ok (fields, rest)
   keyed_again total flags fields rest met values =
       ap (λ (bytes : List ℕ). record_at total (demands rules.Keyed flags) (bytes ++ rest)) (sym (all_asked rules.Keyed of_keyed flags fields met))
       ∙ fields_again total (demands rules.Keyed flags) fields rest met (values_each fields values)
 
-  key_again : (total : ℕ) (flags : List Bool) (fields : RecordFields A) (rest : List ℕ) → is_key flags fields ≡ true → AreValues fields → record_at total (demands rules.KeyAlone flags) (key_bytes fields ++ rest) ≡ Ok (fields, rest)
-  key_again total flags fields rest key values =
-      let met = meets_key flags fields key in
+  key_again : (total : ℕ) (flags : List Bool) (fields : RecordFields A) (rest : List ℕ) → meet (demands rules.KeyAlone flags) fields ≡ true → AreValues fields → record_at total (demands rules.KeyAlone flags) (key_bytes fields ++ rest) ≡ Ok (fields, rest)
+  key_again total flags fields rest met values =
       ap (λ (bytes : List ℕ). record_at total (demands rules.KeyAlone flags) (bytes ++ rest)) (sym (keys_asked flags fields met))
       ∙ fields_again total (demands rules.KeyAlone flags) fields rest met (values_each fields values)
 
-  new_again : (total : ℕ) (flags : List Bool) (old new : RecordFields A) (rest : List ℕ) → pointwise meets (new_demands flags old) new ≡ true → AreValues new → record_at total (new_demands flags old) (record_bytes new ++ rest) ≡ Ok (new, rest)
+  new_again : (total : ℕ) (flags : List Bool) (old new : RecordFields A) (rest : List ℕ) → meet (new_demands flags old) new ≡ true → AreValues new → record_at total (new_demands flags old) (record_bytes new ++ rest) ≡ Ok (new, rest)
   new_again total flags old new rest met values =
       ap (λ (bytes : List ℕ). record_at total (new_demands flags old) (bytes ++ rest)) (sym (new_asked flags old new met))
       ∙ fields_again total (new_demands flags old) new rest met (values_each new values)
@@ -125,7 +120,7 @@ module _ {A : Type 0} where
   change_again total flags (changed.Insert indirect new) front (fits, values, (mark, marked, parts)) =
       (0x12, mark ∷ record_bytes new, parts, refl, λ rest. rw (full_again total flags new rest fits values, marked) refl)
   change_again total flags (changed.Update indirect old new) front (fits, values, (mark, marked, parts)) =
-      let met = meets_update flags old new fits in (
+      let met = and_parts (meet (demands rules.Keyed flags) old) (meet (new_demands flags old) new) fits in (
         0x17,
         mark ∷ (record_bytes old ++ record_bytes new),
         parts,
@@ -142,7 +137,7 @@ module _ {A : Type 0} where
   patch_again total flags (patched.Insert indirect new) front (fits, values, (mark, marked, parts)) =
       (0x12, mark ∷ record_bytes new, parts, refl, λ rest. rw (full_again total flags new rest fits values, marked) refl)
   patch_again total flags (patched.Update indirect new) front (fits, values, (mark, marked, parts)) =
-      (0x17, mark ∷ record_bytes new, parts, refl, λ rest. rw (keyed_again total flags new rest (meets_patch flags new fits) values, marked) refl)
+      (0x17, mark ∷ record_bytes new, parts, refl, λ rest. rw (keyed_again total flags new rest fits values, marked) refl)
   patch_again total flags (patched.Delete indirect key) front (fits, values, (mark, marked, parts)) =
       (0x09, mark ∷ key_bytes key, parts, refl, λ rest. rw (key_again total flags key rest fits values, marked) refl)
 

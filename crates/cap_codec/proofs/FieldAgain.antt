@@ -9,14 +9,14 @@ use Rattle.cap_value.specs.declared.value.Value.{Value}
 use Rattle.cap_value.specs.declared.value.Value.TheVariants.{Null, Int, Text, Blob}
 use Rattle.cap_value.specs.declared.text.TheConstants.{BYTES_MAX}
 use Rattle.cap_value.specs.Value.{IsValue}
-use Rattle.cap_codec.specs.declared.demand.Demand.{Demand}
-use Rattle.cap_codec.specs.declared.demand.Demand.TheVariants as asks
+use Rattle.cap_changes.specs.Demands.{meets}
+use Rattle.cap_changes.specs.declared.demand.Demand.{Demand}
+use Rattle.cap_changes.specs.declared.demand.Demand.TheVariants as asks
 use Rattle.cap_codec.specs.declared.fault.BlobFault.{BlobFault}
 use Rattle.cap_codec.specs.Reading.{◌>>=◌, place, byte_at, bytes_at, varint_from, varint_at}
 use Rattle.cap_codec.specs.Varint.{varint_bytes}
 use Rattle.cap_codec.specs.Field.{number_bytes, sized_bytes, field_bytes}
 use Rattle.cap_codec.specs.FieldReading.{allows, number_at, sized_at, text_at, content_at, typed_at, field_at}
-use Rattle.cap_codec.proofs.FitLemmas.{meets}
 
 -- ---- numbers
 

@@ -8,16 +8,16 @@ use Rattle.cap_value.specs.declared.value.Value.{Value}
 use Rattle.cap_changes.specs.Record.{RecordFields}
 use Rattle.cap_changes.specs.declared.change.Change.TheVariants.{Insert, Update, Delete}
 use Rattle.cap_changes.specs.declared.patch.Patch.TheVariants as patched
-use Rattle.cap_codec.specs.declared.demand.Demand.{Demand}
+use Rattle.cap_changes.specs.declared.demand.Demand.{Demand}
 use Rattle.cap_codec.specs.declared.fault.BlobFault.{BlobFault}
 use Rattle.cap_codec.specs.declared.kind.Kind.{Kind}
 use Rattle.cap_codec.specs.declared.kind.Kind.TheVariants as kinds
-use Rattle.cap_codec.specs.declared.rule.Rule.{Rule}
-use Rattle.cap_codec.specs.declared.rule.Rule.TheVariants as rules
+use Rattle.cap_changes.specs.declared.rule.Rule.{Rule}
+use Rattle.cap_changes.specs.declared.rule.Rule.TheVariants as rules
 use Rattle.cap_codec.specs.declared.within.Within.{Within}
 use Rattle.cap_codec.specs.ChangeLeft.{left_at, past_at, next_demand, IsPast, IsEntered}
 use Rattle.cap_codec.specs.BlobReading.{change_at, patch_at}
-use Rattle.cap_codec.specs.Demands.{demand_of, demands, new_demand, new_demands}
+use Rattle.cap_changes.specs.Demands.{demand_of, demands, new_demand, new_demands}
 use Rattle.cap_codec.specs.FieldReading.{field_at}
 use Rattle.cap_codec.specs.HeaderReading.{is_set}
 use Rattle.cap_codec.specs.Reading.{◌>>=◌}

@@ -1,20 +1,18 @@
--- A record that was read has just the fields that were asked for, so that its change fits the schema.
-use Rattle.std.proofs.Common.{◌≡◌, ℕ, suc, Bool, true, false, not, ◌==◌, nat_lt, List, [], ◌∷◌, length, Option, Some, None, is_none, Ok, refl, sym, ap, ◌∙◌, inl, inr, arith}
-use Rattle.std.specs.List.{zip}
-use Rattle.std.specs.Cmp.Lexicographic.{pointwise, as_long}
-use Rattle.std.proofs.lemmas.Bool.{and_parts, and_from, not-false, eqb-true, eqb-false, ltb-false, eq-eqb}
+-- A record that was read has just the fields that were asked for.
+use Rattle.std.proofs.Common.{◌≡◌, ℕ, Bool, true, false, not, ◌==◌, nat_lt, List, [], ◌∷◌, length, Option, Some, None, Ok, refl, sym, ap, ◌∙◌, inl, inr, arith}
+use Rattle.std.specs.Cmp.Lexicographic.{as_long}
+use Rattle.std.proofs.lemmas.Bool.{and_parts, and_from, not-false, eqb-false, ltb-false, eq-eqb}
+use Rattle.std.proofs.lemmas.List.{length-map}
 use Rattle.cap_value.specs.declared.value.Value.{Value}
 use Rattle.cap_value.specs.declared.value.Value.TheVariants.{Null, Int, Text, Blob}
 use Rattle.cap_value.specs.Value.{is_null}
 use Rattle.cap_changes.specs.Record.{RecordFields}
-use Rattle.cap_changes.specs.Fits.{is_full_field, is_patch_field, is_key_field, is_update_field, is_full, is_patch, is_key, is_update, are_update_fields}
-use Rattle.cap_codec.specs.declared.demand.Demand.{Demand}
-use Rattle.cap_codec.specs.declared.demand.Demand.TheVariants as asks
-use Rattle.cap_codec.specs.declared.rule.Rule.{Rule}
-use Rattle.cap_codec.specs.declared.rule.Rule.TheVariants as rules
+use Rattle.cap_changes.specs.declared.demand.Demand.{Demand}
+use Rattle.cap_changes.specs.declared.demand.Demand.TheVariants as asks
+use Rattle.cap_changes.specs.declared.rule.Rule.TheVariants as rules
 use Rattle.cap_codec.specs.Reading.{◌>>=◌, place, byte_at}
 use Rattle.cap_codec.specs.FieldReading.{allows, number_at, text_at, sized_at, content_at, typed_at, field_at}
-use Rattle.cap_codec.specs.Demands.{demand_of, demands, new_demand, new_demands}
+use Rattle.cap_changes.specs.Demands.{demand_of, demands, meets, meet}
 use Rattle.cap_codec.specs.RecordReading.{record_at}
 use Rattle.cap_codec.proofs.Binds.{bind_ok, guard_ok, chosen, ok_is}
 
@@ -25,14 +23,6 @@ five kind e2 below e0 e1 e3 e4 =
     eq-eqb kind 5 (omega arith)
 
 module _ {A : Type 0} where
-  -- what a demand asks of the field that is read
-  abbrev pub meets : Demand → Option (Value A) → Bool
-  meets asks.Key field = is_full_field true field
-  meets asks.Defined field = is_full_field false field
-  meets asks.Any field = true
-  meets asks.Undefined field = is_none field
-  meets asks.Omitted field = is_none field
-
   allowed_none : (demand : Demand) (kind : ℕ) (field : Option (Value A)) → None ≡ field → allows demand kind ≡ true → (kind == 0) ≡ true → meets demand field ≡ true
   allowed_none asks.Key kind field is allowed zero_kind = absurd (let e = (and_parts (not (kind == 0)) (not (kind == 5)) allowed).0 in cc (rw zero_kind at e))
   allowed_none asks.Defined kind field is allowed zero_kind = absurd (cc (rw zero_kind at allowed))
@@ -93,113 +83,15 @@ module _ {A : Type 0} where
   field_meets total asks.Any bytes x e = present_meets total asks.Any bytes x e
   field_meets total asks.Undefined bytes x e = present_meets total asks.Undefined bytes x e
 
-  pub record_meets : (total : ℕ) (demands : List Demand) (bytes : List ℕ) (x : RecordFields A × List ℕ) → record_at total demands bytes ≡ Ok x → pointwise meets demands x.0 ≡ true
+  pub record_meets : (total : ℕ) (demands : List Demand) (bytes : List ℕ) (x : RecordFields A × List ℕ) → record_at total demands bytes ≡ Ok x → meet demands x.0 ≡ true
   unfolding record_at
   record_meets total [] bytes x e = rw (← ok_is ([], bytes) x e) refl
   record_meets total (demand ∷ demands) bytes x e =
       let b = bind_ok (field_at total demand bytes) (λ field. record_at total demands field.1 >>= (λ others. Ok (field.0 ∷ others.0, others.1))) x e in
       let c = bind_ok (record_at total demands b.0.1) (λ others. Ok (b.0.0 ∷ others.0, others.1)) x b.2 in
-      rw (← ok_is (b.0.0 ∷ c.0.0, c.0.1) x c.2) (and_from (meets demand b.0.0) (pointwise meets demands c.0.0) (field_meets total demand bytes b.0 b.1) (record_meets total demands b.0.1 c.0 c.1))
-
-  full_is : (key : Bool) (field : Option (Value A)) → meets (demand_of rules.Full key) field ≡ is_full_field key field
-  full_is true field = refl
-  full_is false field = refl
-
-  patch_is : (key : Bool) (field : Option (Value A)) → meets (demand_of rules.Keyed key) field ≡ is_patch_field key field
-  patch_is true field = refl
-  patch_is false field = refl
-
-  key_is : (key : Bool) (field : Option (Value A)) → meets (demand_of rules.KeyAlone key) field ≡ is_key_field key field
-  key_is true field = refl
-  key_is false field = refl
-
-  -- column by column, a demand is what the schema asks
-  by_column : (rule : Rule) (fits : Bool → Option (Value A) → Bool) → ((key : Bool) (field : Option (Value A)) → meets (demand_of rule key) field ≡ fits key field)
-      → (flags : List Bool) (fields : RecordFields A) → pointwise meets (demands rule flags) fields ≡ pointwise fits flags fields
-  by_column rule fits is [] [] = refl
-  by_column rule fits is [] (field ∷ fields) = refl
-  by_column rule fits is (key ∷ flags) [] = refl
-  by_column rule fits is (key ∷ flags) (field ∷ fields) = rw (is key field, by_column rule fits is flags fields) refl
-
-  pub full_fits : (total : ℕ) (flags : List Bool) (bytes : List ℕ) (x : RecordFields A × List ℕ) → record_at total (demands rules.Full flags) bytes ≡ Ok x → is_full flags x.0 ≡ true
-  full_fits total flags bytes x e = sym (by_column rules.Full is_full_field full_is flags x.0) ∙ record_meets total (demands rules.Full flags) bytes x e
-
-  pub patch_record_fits : (total : ℕ) (flags : List Bool) (bytes : List ℕ) (x : RecordFields A × List ℕ) → record_at total (demands rules.Keyed flags) bytes ≡ Ok x → is_patch flags x.0 ≡ true
-  patch_record_fits total flags bytes x e = sym (by_column rules.Keyed is_patch_field patch_is flags x.0) ∙ record_meets total (demands rules.Keyed flags) bytes x e
-
-  pub key_fits : (total : ℕ) (flags : List Bool) (bytes : List ℕ) (x : RecordFields A × List ℕ) → record_at total (demands rules.KeyAlone flags) bytes ≡ Ok x → is_key flags x.0 ≡ true
-  key_fits total flags bytes x e = sym (by_column rules.KeyAlone is_key_field key_is flags x.0) ∙ record_meets total (demands rules.KeyAlone flags) bytes x e
+      rw (← ok_is (b.0.0 ∷ c.0.0, c.0.1) x c.2) (and_from (meets demand b.0.0) (meet demands c.0.0) (field_meets total demand bytes b.0 b.1) (record_meets total demands b.0.1 c.0 c.1))
 
   -- an old record has a field a column
   pub old_is_wide : (total : ℕ) (flags : List Bool) (bytes : List ℕ) (x : RecordFields A × List ℕ) → record_at total (demands rules.Keyed flags) bytes ≡ Ok x → length x.0 ≡ length flags
-  old_is_wide total flags bytes x e = sym (as_long is_patch_field flags x.0 (patch_record_fits total flags bytes x e))
-
-  pair_fits : (key : Bool) (old new : Option (Value A)) → meets (demand_of rules.Keyed key) old ≡ true → meets (new_demand (key, old)) new ≡ true → is_update_field key old new ≡ true
-  pair_fits true old new h n = and_from (is_full_field true old) (is_none new) h n
-  pair_fits false None new h n = n
-  pair_fits false (Some value) None h n = n
-  pair_fits false (Some value) (Some other) h n = refl
-
-  pairs_fit : (flags : List Bool) (old new : RecordFields A) → pointwise meets (demands rules.Keyed flags) old ≡ true → pointwise meets (new_demands flags old) new ≡ true
-      → are_update_fields flags (zip old new) ≡ true
-  pairs_fit [] [] new h n = refl
-  pairs_fit [] (o ∷ old) new h n = cc
-  pairs_fit (key ∷ flags) [] new h n = cc
-  pairs_fit (key ∷ flags) (o ∷ old) [] h n = cc
-  pairs_fit (key ∷ flags) (o ∷ old) (w ∷ new) h n =
-      let a = and_parts (meets (demand_of rules.Keyed key) o) (pointwise meets (demands rules.Keyed flags) old) h in
-      let b = and_parts (meets (new_demand (key, o)) w) (pointwise meets (new_demands flags old) new) n in
-      and_from (is_update_field key o w) (are_update_fields flags (zip old new)) (pair_fits key o w a.0 b.0) (pairs_fit flags old new a.1 b.1)
-
-  new_is_long : (flags : List Bool) (old new : RecordFields A) → pointwise meets (demands rules.Keyed flags) old ≡ true → pointwise meets (new_demands flags old) new ≡ true → length old ≡ length new
-  new_is_long [] [] [] h n = refl
-  new_is_long [] [] (w ∷ new) h n = cc
-  new_is_long [] (o ∷ old) new h n = cc
-  new_is_long (key ∷ flags) [] new h n = cc
-  new_is_long (key ∷ flags) (o ∷ old) [] h n = cc
-  new_is_long (key ∷ flags) (o ∷ old) (w ∷ new) h n =
-      let a = and_parts (meets (demand_of rules.Keyed key) o) (pointwise meets (demands rules.Keyed flags) old) h in
-      let b = and_parts (meets (new_demand (key, o)) w) (pointwise meets (new_demands flags old) new) n in
-      ap suc (new_is_long flags old new a.1 b.1)
-
-  pub update_fits : (total : ℕ) (flags : List Bool) (bytes : List ℕ) (old new : RecordFields A × List ℕ) → record_at total (demands rules.Keyed flags) bytes ≡ Ok old
-      → record_at total (new_demands flags old.0) old.1 ≡ Ok new → is_update flags old.0 new.0 ≡ true
-  update_fits total flags bytes old new e f =
-      let h = record_meets total (demands rules.Keyed flags) bytes old e in
-      let n = record_meets total (new_demands flags old.0) old.1 new f in
-      and_from (length old.0 == length new.0) _ (eq-eqb (length old.0) (length new.0) (new_is_long flags old.0 new.0 h n)) (pairs_fit flags old.0 new.0 h n)
-
-  -- ---- and a change that fits the schema has just those fields
-
-  pub meets_full : (flags : List Bool) (fields : RecordFields A) → is_full flags fields ≡ true → pointwise meets (demands rules.Full flags) fields ≡ true
-  meets_full flags fields full = by_column rules.Full is_full_field full_is flags fields ∙ full
-
-  pub meets_patch : (flags : List Bool) (fields : RecordFields A) → is_patch flags fields ≡ true → pointwise meets (demands rules.Keyed flags) fields ≡ true
-  meets_patch flags fields patch = by_column rules.Keyed is_patch_field patch_is flags fields ∙ patch
-
-  pub meets_key : (flags : List Bool) (fields : RecordFields A) → is_key flags fields ≡ true → pointwise meets (demands rules.KeyAlone flags) fields ≡ true
-  meets_key flags fields key = by_column rules.KeyAlone is_key_field key_is flags fields ∙ key
-
-  pair_meets : (key : Bool) (old new : Option (Value A)) → is_update_field key old new ≡ true → (meets (demand_of rules.Keyed key) old ≡ true) × (meets (new_demand (key, old)) new ≡ true)
-  pair_meets true old new fits = and_parts (is_full_field true old) (is_none new) fits
-  pair_meets false None new fits = (refl, fits)
-  pair_meets false (Some value) None fits = absurd cc
-  pair_meets false (Some value) (Some other) fits = (refl, refl)
-
-  pairs_meet : (flags : List Bool) (old new : RecordFields A) → length old ≡ length new → are_update_fields flags (zip old new) ≡ true
-      → (pointwise meets (demands rules.Keyed flags) old ≡ true) × (pointwise meets (new_demands flags old) new ≡ true)
-  pairs_meet [] [] [] same fit = (refl, refl)
-  pairs_meet flags [] (w ∷ new) same fit = absurd (omega arith)
-  pairs_meet flags (o ∷ old) [] same fit = absurd (omega arith)
-  pairs_meet [] (o ∷ old) (w ∷ new) same fit = absurd cc
-  pairs_meet (key ∷ flags) [] [] same fit = absurd cc
-  pairs_meet (key ∷ flags) (o ∷ old) (w ∷ new) same fit =
-      let parts = and_parts (is_update_field key o w) (are_update_fields flags (zip old new)) fit in
-      let one = pair_meets key o w parts.0 in
-      let others = pairs_meet flags old new (omega arith) parts.1 in
-      (and_from (meets (demand_of rules.Keyed key) o) (pointwise meets (demands rules.Keyed flags) old) one.0 others.0, and_from (meets (new_demand (key, o)) w) (pointwise meets (new_demands flags old) new) one.1 others.1)
-
-  pub meets_update : (flags : List Bool) (old new : RecordFields A) → is_update flags old new ≡ true → (pointwise meets (demands rules.Keyed flags) old ≡ true) × (pointwise meets (new_demands flags old) new ≡ true)
-  meets_update flags old new fits =
-      let parts = and_parts (length old == length new) (are_update_fields flags (zip old new)) fits in
-      pairs_meet flags old new (eqb-true (length old) (length new) parts.0) parts.1
+  old_is_wide total flags bytes x e =
+      sym (as_long meets (demands rules.Keyed flags) x.0 (record_meets total (demands rules.Keyed flags) bytes x e)) ∙ length-map flags (demand_of rules.Keyed)

@@ -5,7 +5,7 @@ use Rattle.std.proofs.lemmas.List.{drop-append-le}
 use Rattle.cap_value.specs.declared.memory.Fault.{Fault}
 use Rattle.cap_value.specs.declared.memory.Fault.TheVariants.{Refused, OutOfMemory}
 use Rattle.cap_value.specs.declared.value.Value.{Value}
-use Rattle.cap_codec.specs.declared.demand.Demand.{Demand}
+use Rattle.cap_changes.specs.declared.demand.Demand.{Demand}
 use Rattle.cap_codec.specs.declared.fault.BlobFault.{BlobFault}
 use Rattle.cap_codec.specs.declared.fault.FaultKind.TheVariants.{Truncated}
 use Rattle.cap_codec.specs.declared.kind.Kind.{Kind}

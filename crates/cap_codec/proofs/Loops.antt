@@ -4,10 +4,10 @@ use Rattle.std.specs.Prelude.{Option}
 use Rattle.std.proofs.lemmas.List.{append-nil, drop_all}
 use Rattle.cap_value.specs.declared.value.Value.{Value}
 use Rattle.cap_changes.specs.Record.{RecordFields}
-use Rattle.cap_codec.specs.declared.demand.Demand.{Demand}
+use Rattle.cap_changes.specs.declared.demand.Demand.{Demand}
 use Rattle.cap_codec.specs.declared.fault.BlobFault.{BlobFault}
-use Rattle.cap_codec.specs.declared.rule.Rule.{Rule}
-use Rattle.cap_codec.specs.Demands.{demand_of, demands, new_demand, new_demands}
+use Rattle.cap_changes.specs.declared.rule.Rule.{Rule}
+use Rattle.cap_changes.specs.Demands.{demand_of, demands, new_demand, new_demands}
 use Rattle.cap_codec.specs.Reading.{◌>>=◌, place}
 use Rattle.cap_codec.specs.BlobReading.{is_operation, wrong_kind, changes_at, groups_at}
 use Rattle.cap_codec.specs.FieldReading.{field_at}

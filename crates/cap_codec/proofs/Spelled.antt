@@ -16,8 +16,8 @@ use Rattle.cap_value.specs.declared.value.Value.TheVariants.{Null, Int, Text, Bl
 use Rattle.cap_value.specs.Bytes.{AreBytes}
 use Rattle.cap_value.specs.Value.{IsValue}
 use Rattle.cap_changes.specs.Record.{RecordFields}
-use Rattle.cap_codec.specs.declared.demand.Demand.{Demand}
-use Rattle.cap_codec.specs.declared.demand.Demand.TheVariants as asks
+use Rattle.cap_changes.specs.declared.demand.Demand.{Demand}
+use Rattle.cap_changes.specs.declared.demand.Demand.TheVariants as asks
 use Rattle.cap_codec.specs.Reading.{◌>>=◌, place, byte_at, bytes_at, varint_from, varint_at}
 use Rattle.cap_codec.specs.Varint.{varint_bytes}
 use Rattle.cap_codec.specs.Field.{number_bytes, sized_bytes, field_bytes}

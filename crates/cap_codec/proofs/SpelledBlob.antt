@@ -2,7 +2,7 @@
 use Rattle.std.proofs.Common.{◌≡◌, ℕ, zero, suc, ◌+◌, ◌<◌, ◌≤◌, inl, inr, Bool, true, false, cond, nat_lt, nat_le, ◌==◌, ◌&&◌, ◌||◌, List, [], ◌∷◌, ◌++◌, length, take, drop, map, position, Option, Some, None, IfSome, IfOk, Result, Ok, Err, IsTrue, IsUtf8, refl, sym, ap, subst, ◌∙◌, append_assoc, arith, lt-ltb, le-ltb, length-take, length-append}
 use Rattle.std.specs.List.{list_any, position_or_len}
 use Rattle.std.specs.Str.{is_utf8}
-use Rattle.std.proofs.lemmas.Bool.{and_parts, or_parts, ltb-true, ltb-false, eqb-true, eqb-false, cases_lt}
+use Rattle.std.proofs.lemmas.Bool.{and_parts, and_from, or_parts, ltb-true, ltb-false, eqb-true, eqb-false, cases_lt}
 use Rattle.std.proofs.lemmas.List.{length-map}
 use Rattle.std.proofs.lemmas.List.Elements.{All-from_recursion}
 use Rattle.std.proofs.lemmas.Str.{IsUtf8-from_is_utf8}
@@ -18,12 +18,12 @@ use Rattle.cap_changes.specs.declared.change.Change.{Change}
 use Rattle.cap_changes.specs.declared.change.Change.TheVariants as changed
 use Rattle.cap_changes.specs.declared.patch.Patch.{Patch}
 use Rattle.cap_changes.specs.declared.patch.Patch.TheVariants as patched
-use Rattle.cap_codec.specs.declared.demand.Demand.{Demand}
+use Rattle.cap_changes.specs.declared.demand.Demand.{Demand}
 use Rattle.cap_codec.specs.declared.fault.BlobFault.{BlobFault}
 use Rattle.cap_codec.specs.declared.read.Contents.{Contents}
 use Rattle.cap_codec.specs.declared.read.Contents.TheVariants.{Changes, Patches}
-use Rattle.cap_codec.specs.declared.rule.Rule.TheVariants as rules
-use Rattle.cap_codec.specs.Demands.{demands, new_demands}
+use Rattle.cap_changes.specs.declared.rule.Rule.TheVariants as rules
+use Rattle.cap_changes.specs.Demands.{demands, new_demands, meet}
 use Rattle.cap_codec.specs.Field.{record_bytes, key_bytes}
 use Rattle.cap_codec.specs.HeaderReading.{Header, is_zero, is_set, count_at, flags_at, named_at, name_at, header_at}
 use Rattle.cap_codec.specs.Pieces.{lasting}
@@ -34,7 +34,7 @@ use Rattle.cap_codec.specs.BlobReading.{is_operation, change_at, patch_at, chang
 use Rattle.cap_codec.specs.Spelling.{SpellsEach, SpellsGroup, SpellsChange, SpellsPatch, SpellsChanges, SpellsPatches, Spells}
 use Rattle.cap_codec.specs.Writable.{IsTable, AreValues}
 use Rattle.cap_codec.proofs.Binds.{bind_ok, guard_ok, check_ok, chosen, ok_is}
-use Rattle.cap_codec.proofs.FitLemmas.{record_meets, full_fits, patch_record_fits, key_fits, update_fits}
+use Rattle.cap_codec.proofs.FitLemmas.{record_meets}
 use Rattle.cap_codec.proofs.ChangeAgain.{asked_record, all_asked, of_full, of_keyed, keys_asked, new_asked}
 use Rattle.cap_codec.proofs.HeaderLemmas.{key_is_set, is_schema_of, name_before}
 use Rattle.cap_codec.proofs.Spelled.{AreLow, low_behind, varint_spelled, bytes_spelled, record_spelled}
@@ -93,7 +93,7 @@ module _ {A : Type 0} where
         subst (Begins (SpellsChange flags) op (mark ∷ bytes)) (ok_is (changed.Insert (is_set mark) new.0.0, new.0.1) x new.2) (
           mark ∷ record_bytes new.0.0,
           ap (λ (b : List ℕ). mark ∷ b) is.1,
-          (full_fits total flags bytes new.0 new.1, is.0, (mark, refl, ap (λ (k : ℕ). k ∷ mark ∷ record_bytes new.0.0) (eqb-true op 0x12 insert))),
+          (record_meets total (demands rules.Full flags) bytes new.0 new.1, is.0, (mark, refl, ap (λ (k : ℕ). k ∷ mark ∷ record_bytes new.0.0) (eqb-true op 0x12 insert))),
         )
     | inr (no_insert, h0) ↦ elim (chosen (op == 0x17) _ _ _ h0) [
       | inl (update, h) ↦
@@ -104,7 +104,7 @@ module _ {A : Type 0} where
           subst (Begins (SpellsChange flags) op (mark ∷ bytes)) (ok_is (changed.Update (is_set mark) old.0.0 new.0.0, new.0.1) x new.2) (
             mark ∷ (record_bytes old.0.0 ++ record_bytes new.0.0),
             ap (λ (b : List ℕ). mark ∷ b) (first.1 ∙ ap (λ (b : List ℕ). record_bytes old.0.0 ++ b) second.1 ∙ sym (append_assoc (record_bytes old.0.0) (record_bytes new.0.0) new.0.1)),
-            (update_fits total flags bytes old.0 new.0 old.1 new.1, (first.0, second.0), (mark, refl, ap (λ (k : ℕ). k ∷ mark ∷ (record_bytes old.0.0 ++ record_bytes new.0.0)) (eqb-true op 0x17 update))),
+            (and_from (meet (demands rules.Keyed flags) old.0.0) (meet (new_demands flags old.0.0) new.0.0) (record_meets total (demands rules.Keyed flags) bytes old.0 old.1) (record_meets total (new_demands flags old.0.0) old.0.1 new.0 new.1), (first.0, second.0), (mark, refl, ap (λ (k : ℕ). k ∷ mark ∷ (record_bytes old.0.0 ++ record_bytes new.0.0)) (eqb-true op 0x17 update))),
           )
       | inr (no_update, h) ↦
           let old = bind_ok (record_at total (demands rules.Full flags) bytes) (λ old. Ok (changed.Delete (is_set mark) old.0, old.1)) x h in
@@ -113,7 +113,7 @@ module _ {A : Type 0} where
           subst (Begins (SpellsChange flags) op (mark ∷ bytes)) (ok_is (changed.Delete (is_set mark) old.0.0, old.0.1) x old.2) (
             mark ∷ record_bytes old.0.0,
             ap (λ (b : List ℕ). mark ∷ b) is.1,
-            (full_fits total flags bytes old.0 old.1, is.0, (mark, refl, ap (λ (k : ℕ). k ∷ mark ∷ record_bytes old.0.0) (eqb-true op 0x09 delete))),
+            (record_meets total (demands rules.Full flags) bytes old.0 old.1, is.0, (mark, refl, ap (λ (k : ℕ). k ∷ mark ∷ record_bytes old.0.0) (eqb-true op 0x09 delete))),
           )
     ]
   ]
@@ -128,7 +128,7 @@ module _ {A : Type 0} where
         subst (Begins (SpellsPatch flags) op (mark ∷ bytes)) (ok_is (patched.Insert (is_set mark) new.0.0, new.0.1) x new.2) (
           mark ∷ record_bytes new.0.0,
           ap (λ (b : List ℕ). mark ∷ b) is.1,
-          (full_fits total flags bytes new.0 new.1, is.0, (mark, refl, ap (λ (k : ℕ). k ∷ mark ∷ record_bytes new.0.0) (eqb-true op 0x12 insert))),
+          (record_meets total (demands rules.Full flags) bytes new.0 new.1, is.0, (mark, refl, ap (λ (k : ℕ). k ∷ mark ∷ record_bytes new.0.0) (eqb-true op 0x12 insert))),
         )
     | inr (no_insert, h0) ↦ elim (chosen (op == 0x17) _ _ _ h0) [
       | inl (update, h) ↦
@@ -137,7 +137,7 @@ module _ {A : Type 0} where
           subst (Begins (SpellsPatch flags) op (mark ∷ bytes)) (ok_is (patched.Update (is_set mark) new.0.0, new.0.1) x new.2) (
             mark ∷ record_bytes new.0.0,
             ap (λ (b : List ℕ). mark ∷ b) is.1,
-            (patch_record_fits total flags bytes new.0 new.1, is.0, (mark, refl, ap (λ (k : ℕ). k ∷ mark ∷ record_bytes new.0.0) (eqb-true op 0x17 update))),
+            (record_meets total (demands rules.Keyed flags) bytes new.0 new.1, is.0, (mark, refl, ap (λ (k : ℕ). k ∷ mark ∷ record_bytes new.0.0) (eqb-true op 0x17 update))),
           )
       | inr (no_update, h) ↦
           let key = bind_ok (record_at total (demands rules.KeyAlone flags) bytes) (λ key. Ok (patched.Delete (is_set mark) key.0, key.1)) x h in
@@ -146,7 +146,7 @@ module _ {A : Type 0} where
           subst (Begins (SpellsPatch flags) op (mark ∷ bytes)) (ok_is (patched.Delete (is_set mark) key.0.0, key.0.1) x key.2) (
             mark ∷ key_bytes key.0.0,
             ap (λ (b : List ℕ). mark ∷ b) is.1,
-            (key_fits total flags bytes key.0 key.1, is.0, (mark, refl, ap (λ (k : ℕ). k ∷ mark ∷ key_bytes key.0.0) (eqb-true op 0x09 delete))),
+            (record_meets total (demands rules.KeyAlone flags) bytes key.0 key.1, is.0, (mark, refl, ap (λ (k : ℕ). k ∷ mark ∷ key_bytes key.0.0) (eqb-true op 0x09 delete))),
           )
     ]
   ]

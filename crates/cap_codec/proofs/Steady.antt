@@ -6,12 +6,12 @@ use Rattle.std.proofs.lemmas.Bool.{cases_Bool, cases_lt, lt-leb}
 use Rattle.std.proofs.lemmas.List.{take-append-le, drop-append-le}
 use Rattle.cap_value.specs.declared.text.TheConstants.{BYTES_MAX}
 use Rattle.cap_row.specs.declared.schema.TheConstants.{COLUMNS_MAX}
-use Rattle.cap_codec.specs.declared.demand.Demand.{Demand}
-use Rattle.cap_codec.specs.declared.demand.Demand.TheVariants as asks
+use Rattle.cap_changes.specs.declared.demand.Demand.{Demand}
+use Rattle.cap_changes.specs.declared.demand.Demand.TheVariants as asks
 use Rattle.cap_codec.specs.declared.fault.BlobFault.{BlobFault}
 use Rattle.cap_codec.specs.declared.fault.FaultKind.TheVariants.{BadName}
-use Rattle.cap_codec.specs.declared.rule.Rule.TheVariants as rules
-use Rattle.cap_codec.specs.Demands.{demands, new_demands}
+use Rattle.cap_changes.specs.declared.rule.Rule.TheVariants as rules
+use Rattle.cap_changes.specs.Demands.{demands, new_demands}
 use Rattle.cap_codec.specs.FieldReading.{allows, number_at, sized_at, text_at, content_at, typed_at, field_at}
 use Rattle.cap_codec.specs.HeaderReading.{is_zero, is_set, count_at, flags_at, named_at, name_at, header_at}
 use Rattle.cap_codec.specs.Pieces.{is_cut}

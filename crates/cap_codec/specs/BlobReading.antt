@@ -11,9 +11,9 @@ use Rattle.cap_codec.specs.declared.fault.BlobFault.{BlobFault}
 use Rattle.cap_codec.specs.declared.fault.FaultKind.TheVariants.{BadHeader, BadOp, Mixed}
 use Rattle.cap_codec.specs.declared.read.Contents.{Contents}
 use Rattle.cap_codec.specs.declared.read.Contents.TheVariants.{Changes, Patches}
-use Rattle.cap_codec.specs.declared.rule.Rule.TheVariants as rules
+use Rattle.cap_changes.specs.declared.rule.Rule.TheVariants as rules
 use Rattle.cap_codec.specs.Reading.{◌>>=◌, fault, place, byte_at}
-use Rattle.cap_codec.specs.Demands.{demands, new_demands}
+use Rattle.cap_changes.specs.Demands.{demands, new_demands}
 use Rattle.cap_codec.specs.RecordReading.{record_at}
 use Rattle.cap_codec.specs.HeaderReading.{is_set, header_at}
 

@@ -5,8 +5,8 @@ use Rattle.std.specs.Str.{is_utf8}
 use Rattle.cap_value.specs.declared.text.TheConstants.{BYTES_MAX}
 use Rattle.cap_value.specs.declared.value.Value.{Value}
 use Rattle.cap_value.specs.declared.value.Value.TheVariants.{Null, Int, Text, Blob}
-use Rattle.cap_codec.specs.declared.demand.Demand.{Demand}
-use Rattle.cap_codec.specs.declared.demand.Demand.TheVariants as asks
+use Rattle.cap_changes.specs.declared.demand.Demand.{Demand}
+use Rattle.cap_changes.specs.declared.demand.Demand.TheVariants as asks
 use Rattle.cap_codec.specs.declared.fault.BlobFault.{BlobFault}
 use Rattle.cap_codec.specs.declared.fault.FaultKind.TheVariants.{BadField, Real, BadText, BadRecord}
 use Rattle.cap_codec.specs.declared.lent.Lent.{Lent}

@@ -5,7 +5,6 @@ pub mod Patchset
 pub mod Reading
 pub mod FieldReading
 pub mod HeaderReading
-pub mod Demands
 pub mod RecordReading
 pub mod BlobReading
 pub mod ChangeLeft

@@ -1,7 +1,7 @@
 -- Reading the records of a change.
 use Rattle.std.specs.Prelude.{ℕ, List, [], ◌∷◌, Result, Ok}
 use Rattle.cap_changes.specs.Record.{RecordFields}
-use Rattle.cap_codec.specs.declared.demand.Demand.{Demand}
+use Rattle.cap_changes.specs.declared.demand.Demand.{Demand}
 use Rattle.cap_codec.specs.declared.fault.BlobFault.{BlobFault}
 use Rattle.cap_codec.specs.Reading.{◌>>=◌}
 use Rattle.cap_codec.specs.FieldReading.{field_at}

@@ -10,9 +10,8 @@ ghost use Rattle.cap_codec.specs.BlobReading.{change_at, patch_at};
 use crate::fault::BlobFault;
 use crate::lent::take_byte;
 use crate::record::{take_new_record, take_record};
-use crate::rule::Rule;
 use crate::write::{DELETE, Encode, INSERT, UPDATE};
-use cap_changes::{Change, Patch};
+use cap_changes::{Change, Patch, Rule};
 use cap_row::Schema;
 use cap_value::{AllocHandle, Fault};
 

@@ -7,9 +7,9 @@ ghost use Rattle.cap_codec.specs.Reading.{place, Reads, byte_at, bytes_at, varin
 ghost use Rattle.cap_codec.specs.FieldReading.{allows, text_of, number_at, sized_at};
 ghost use Rattle.cap_codec.specs.FieldReading.{text_at, content_at, field_at, value_of, IsWithin};
 
-use crate::demand::Demand;
 use crate::fault::{BlobFault, FaultKind};
 use crate::field::{BLOB, INTEGER, NULL, REAL, TEXT, UNDEFINED};
+use cap_changes::Demand;
 use cap_value::{AllocHandle, BYTES_MAX};
 
 /// A field of a record as it stands in a blob.

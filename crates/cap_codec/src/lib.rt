@@ -5,7 +5,6 @@
 mod calls;
 mod change;
 mod decoder;
-mod demand;
 mod fault;
 mod field;
 mod group;
@@ -15,7 +14,6 @@ mod laws;
 mod lent;
 mod read;
 mod record;
-mod rule;
 mod scan;
 mod stream;
 mod varint;

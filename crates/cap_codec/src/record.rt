@@ -4,13 +4,12 @@ ghost use Rattle.std.specs.Prelude.{◌≡◌, ◌≤◌, ◌++◌, ◌∷◌, [
 ghost use Rattle.cap_value.specs.declared.text.TheConstants.{BYTES_MAX};
 ghost use Rattle.cap_codec.specs.Reading.{Gives};
 ghost use Rattle.cap_codec.specs.FieldReading.{value_of, IsWithin};
-ghost use Rattle.cap_codec.specs.Demands.{demands, new_demands};
+ghost use Rattle.cap_changes.specs.Demands.{demands, new_demands};
 ghost use Rattle.cap_codec.specs.RecordReading.{record_at};
 
 use crate::fault::BlobFault;
 use crate::lent::{Lent, take_field};
-use crate::rule::{Rule, demand_beside};
-use cap_changes::Record;
+use cap_changes::{Record, Rule, demand_beside};
 use cap_value::{AllocHandle, Blob, Fault, OutOfMemory, Text, Value};
 
 fn text_value<A: AllocHandle>(alloc: A, text: &str) -> Result<Value<A>, Fault<BlobFault>>

@@ -1,15 +1,14 @@
 //! Inside a change: which field comes next, and what is asked of it.
 
 ghost use Rattle.std.specs.Prelude.{◌≡◌, IsSome, OnOk};
-ghost use Rattle.cap_codec.specs.Demands.{new_demand};
+ghost use Rattle.cap_changes.specs.Demands.{new_demand};
 ghost use Rattle.cap_codec.specs.FieldReading.{value_of};
 ghost use Rattle.cap_codec.specs.ChangeLeft.{next_demand, IsPast, IsEntered};
 
-use crate::demand::Demand;
 use crate::kind::Kind;
 use crate::lent::Lent;
-use crate::rule::Rule;
 use crate::write::{INSERT, UPDATE};
+use cap_changes::{Demand, Rule};
 use cap_value::{AllocHandle, OutOfMemory};
 
 /// How far into a change its fields were passed.

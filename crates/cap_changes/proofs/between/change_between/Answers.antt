@@ -40,7 +40,7 @@ returns-in_ok-old-in-Some-Some-clause-fits g c =
       c.fields-in-Some-Some.ensures,
       c.fields-in-Some-Some-2.ensures,
     )
-    (update_fits c.args.schema.now c.in-Some-Some.image.now c.in-Some-Some.now.now
+    (update_fits c.args.schema.now c.args.indirect c.in-Some-Some.image.now c.in-Some-Some.now.now
     (c.requires.image_keyed c.in-Some-Some.image.now (rw c.in-Some-Some.is-0))
     (c.requires.now_keyed c.in-Some-Some.now.now (rw c.in-Some-Some.is-1)))
 

@@ -1,16 +1,24 @@
-use Rattle.cap_codec.proofs.FitLemmas.{full_fits, old_is_wide, update_fits}
+use Rattle.std.proofs.lemmas.Bool.{and_from}
+use Rattle.cap_changes.specs.Demands.{demands, new_demands, meet}
+use Rattle.cap_changes.specs.declared.rule.Rule.TheVariants as rules
+use Rattle.cap_codec.proofs.FitLemmas.{record_meets, old_is_wide}
 use Rattle.cap_codec.proofs.change.take_change.Goals as goal
 
 pub take_new_record-requires : goal.take_new_record-requires
 take_new_record-requires g c = rw c.fields.ensures (old_is_wide c.args.total c.flags-flags.result.now c.in_ok-mark.rest.now (c.in_ok-old-in-23.old, c.in_ok-old-in-23.rest.now) c.in_ok-old-in-23.ensures.gives)
 
 pub returns-in_ok-new-in-18-clause-fits : goal.returns-in_ok-new-in-18-clause-fits
-returns-in_ok-new-in-18-clause-fits g c = rw (← c.flags-flags.ensures.flags) (full_fits c.args.total c.flags-flags.result.now c.in_ok-mark.rest.now (c.in_ok-new-in-18.new, c.in_ok-new-in-18.rest.now) c.in_ok-new-in-18.ensures.gives)
+returns-in_ok-new-in-18-clause-fits g c = rw (← c.flags-flags.ensures.flags) (record_meets c.args.total (demands rules.Full c.flags-flags.result.now) c.in_ok-mark.rest.now (c.in_ok-new-in-18.new, c.in_ok-new-in-18.rest.now) c.in_ok-new-in-18.ensures.gives)
 
 pub returns-in_ok-new-in-23-clause-fits : goal.returns-in_ok-new-in-23-clause-fits
 returns-in_ok-new-in-23-clause-fits g c =
-    rw (← c.flags-flags.ensures.flags) (update_fits c.args.total c.flags-flags.result.now c.in_ok-mark.rest.now (c.in_ok-old-in-23.old, c.in_ok-old-in-23.rest.now) (c.in_ok-new-in-23.new, c.in_ok-new-in-23.rest.now)
-    c.in_ok-old-in-23.ensures.gives (rw c.fields.ensures at c.in_ok-new-in-23.ensures.gives))
+    let flags = c.flags-flags.result.now in
+    let old = c.in_ok-old-in-23.old in
+    rw (← c.flags-flags.ensures.flags)
+    (and_from (meet (demands rules.Keyed flags) old) (meet (new_demands flags old) c.in_ok-new-in-23.new)
+    (record_meets c.args.total (demands rules.Keyed flags) c.in_ok-mark.rest.now (old, c.in_ok-old-in-23.rest.now) c.in_ok-old-in-23.ensures.gives)
+    (record_meets c.args.total (new_demands flags old) c.in_ok-old-in-23.rest.now (c.in_ok-new-in-23.new, c.in_ok-new-in-23.rest.now)
+    (rw c.fields.ensures at c.in_ok-new-in-23.ensures.gives)))
 
 pub returns-in_ok-old-in_default-clause-fits : goal.returns-in_ok-old-in_default-clause-fits
-returns-in_ok-old-in_default-clause-fits g c = rw (← c.flags-flags.ensures.flags) (full_fits c.args.total c.flags-flags.result.now c.in_ok-mark.rest.now (c.in_ok-old-in_default.old, c.in_ok-old-in_default.rest.now) c.in_ok-old-in_default.ensures.gives)
+returns-in_ok-old-in_default-clause-fits g c = rw (← c.flags-flags.ensures.flags) (record_meets c.args.total (demands rules.Full c.flags-flags.result.now) c.in_ok-mark.rest.now (c.in_ok-old-in_default.old, c.in_ok-old-in_default.rest.now) c.in_ok-old-in_default.ensures.gives)

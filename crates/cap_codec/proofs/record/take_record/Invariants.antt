@@ -1,5 +1,5 @@
 use Rattle.std.proofs.Common.{◌≡◌, ◌≤◌, drop, length}
-use Rattle.cap_codec.specs.Demands.{demands}
+use Rattle.cap_changes.specs.Demands.{demands}
 use Rattle.cap_codec.specs.RecordReading.{record_at}
 use Rattle.cap_codec.proofs.Loops.{with_front}
 use Rattle.cap_codec.proofs.record.take_record.Given as goal

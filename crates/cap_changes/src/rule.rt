@@ -1,12 +1,9 @@
-//! What each kind of record asks of its fields.
+ghost use Rattle.std.specs.Prelude.{◌≡◌};
+ghost use Rattle.cap_changes.specs.Demands.{demand_of};
 
-ghost use Rattle.std.specs.Prelude.{◌≡◌, Option};
-ghost use Rattle.cap_codec.specs.Demands.{demand_of, new_demand};
+use crate::Demand;
 
-use crate::demand::Demand;
-use cap_value::{AllocHandle, Value};
-
-/// The kinds of records that are read by the schema alone.
+/// The kinds of records whose fields the schema alone tells (The Session Extension, "Changeset Format").
 #[derive(Clone, Copy)]
 pub enum Rule {
     /// Every field is defined: an INSERT, and a changeset's DELETE.
@@ -18,6 +15,7 @@ pub enum Rule {
 }
 
 impl Rule {
+    /// What it asks of a column's field, by whether the column is in the key.
     pub fn demand(self, key: bool) -> Demand
         ensures { result ≡ demand_of self key }
     {
@@ -29,16 +27,5 @@ impl Rule {
             Rule::Keyed => Demand::Any,
             Rule::KeyAlone => Demand::Omitted,
         }
-    }
-}
-
-/// What the new record of an UPDATE asks of the field whose old field this is.
-pub fn demand_beside<A: AllocHandle>(key: bool, old: &Option<Value<A>>) -> Demand
-    ensures { result ≡ new_demand (key, old.now) }
-{
-    if key || old.is_none() {
-        Demand::Undefined
-    } else {
-        Demand::Defined
     }
 }
