@@ -1,5 +1,5 @@
 -- Sessions and attached tables as the code has them: a session's place, and loops that change each.
-use Rattle.std.proofs.Common.{◌≡◌, ◌<◌, ◌≤◌, ◌+◌, ℕ, zero, suc, Bool, true, false, cond, Option, Some, None, List, [], ◌∷◌, ◌++◌, ◌&&◌, ◌||◌, append_assoc, map, length, set, get_or, take, refl, sym, ap, ap₂, subst, ◌∙◌, arith, nat_eq, nat_lt, add-one}
+use Rattle.std.proofs.Common.{◌≡◌, ◌<◌, ◌+◌, ℕ, zero, suc, Bool, true, false, cond, Option, Some, None, List, [], ◌∷◌, ◌++◌, ◌&&◌, ◌||◌, append_assoc, map, length, set, get_or, take, refl, sym, ap, ap₂, subst, ◌∙◌, arith, nat_eq, nat_lt, add-one}
 use Rattle.std.proofs.lemmas.Bool.Decides.{nat_tests}
 use Rattle.std.proofs.lemmas.List.{map-append, get_or-map, length-map}
 use Rattle.std.proofs.Math.Seq.{take-suc, take-suc-set}
@@ -13,7 +13,7 @@ use Rattle.cap_core.specs.Answer.{session_numbered}
 use Rattle.cap_core.specs.Code.Attached.{attached_changes, table_stands, tables_of, sessions_of}
 use Rattle.cap_core.specs.Code.Sound.{session_stands}
 use Rattle.cap_core.specs.Database.{Database}
-use Rattle.cap_core.specs.Session.{SessionState, session_changes}
+use Rattle.cap_core.specs.Session.{session_changes}
 use Rattle.cap_core.specs.Transition.{with_session}
 
 module _ {X Y : Type 0} (f : X → Y) where

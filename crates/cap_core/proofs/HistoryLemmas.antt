@@ -3,16 +3,15 @@ use Rattle.std.proofs.lemmas.List.{append-nil, map-append}
 use Rattle.std.proofs.lemmas.List.Elements.{filter-append}
 use Rattle.std.proofs.lemmas.List.Folds.{list_all-append}
 use Rattle.std.proofs.lemmas.Bool.Decides.{nat_tests}
-use Rattle.std.proofs.Common.{◌≡◌, ◌≤◌, ℕ, suc, ◌+◌, Bool, true, false, cond, List, [], ◌∷◌, ◌++◌, ◌&&◌, ◌||◌, not, map, length, refl, sym, ap, ap₂, subst, ◌∙◌, arith}
+use Rattle.std.proofs.Common.{◌≡◌, ◌≤◌, ℕ, ◌+◌, true, false, cond, List, [], ◌∷◌, ◌++◌, ◌&&◌, ◌||◌, not, map, length, refl, sym, ap, ap₂, subst, ◌∙◌, arith}
 use Rattle.std.specs.Prelude.{filter, fold, nat_eq, nat_le, nat_lt}
-use Rattle.std.specs.List.{list_all, list_any, range_with_len, enumerate_from}
+use Rattle.std.specs.List.{list_all, list_any, enumerate_from}
 use Rattle.std.proofs.Math.Bool.{or-true}
 use Rattle.std.specs.Cmp.Lexicographic.{bytes_decides, nat_list_eq_equiv}
 use Rattle.cap_value.specs.Bytes.{bytes_eq}
-use Rattle.cap_row.specs.Fields.{Fields}
 use Rattle.cap_core.specs.declared.event.Event.{Event}
 use Rattle.cap_core.specs.declared.row_change.RowChange.{RowChange}
-use Rattle.cap_core.specs.Database.{Database, row_at}
+use Rattle.cap_core.specs.Database.{row_at}
 use Rattle.cap_core.specs.History.{Past, is_accepted, main, event_effect, session_of, names_attached, attachings, event_attachings, attach_list, event_touches, touches, touch_of}
 use Rattle.cap_core.specs.Session.{SessionState, TouchedRows, is_listed, first_of_each, touched_rows}
 use Rattle.cap_core.specs.Touch.{Attaching, Touch, is_in_time, is_recorded, touches_of}

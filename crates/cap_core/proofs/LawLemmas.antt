@@ -25,7 +25,7 @@ use Rattle.cap_core.specs.Replies.{replies_after}
 use Rattle.cap_core.specs.Session.{SessionState, TouchedRows, session_changes, table_changes, change_now, is_indirect, touched_rows}
 use Rattle.cap_core.specs.Table.{TableState}
 use Rattle.cap_core.specs.Touch.{Touch, touches_of}
-use Rattle.cap_core.specs.Transition.{next, one_more, after_write, after_attach, after_new_session}
+use Rattle.cap_core.specs.Transition.{next, one_more, after_write, after_attach}
 use Rattle.cap_core.proofs.NextLemmas.{IsLegal-push, after_refusal, next-is, state-push}
 use Rattle.cap_core.proofs.TouchedLemmas.{get-find, find-touched_rows, touched_at, touched_rows-none}
 

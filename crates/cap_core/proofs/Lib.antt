@@ -2,6 +2,7 @@ pub mod AttachedLemmas
 pub mod GroupLemmas
 pub mod HistoryLemmas
 pub mod InsertLemmas
+pub mod KeyedLemmas
 pub mod LawLemmas
 pub mod NextLemmas
 pub mod PrepareLemmas

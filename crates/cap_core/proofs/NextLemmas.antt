@@ -1,8 +1,8 @@
 -- The state after one more event is what its command makes of the state before.
 use Rattle.std.proofs.lemmas.List.{map-append, reverse-append, length-reverse}
-use Rattle.std.proofs.Common.{◌≡◌, ℕ, suc, zero, ◌+◌, ◌<◌, ◌≤◌, Bool, true, false, cond, Option, Some, None, Result, Ok, Err, List, [], ◌∷◌, ◌++◌, ◌&&◌, ◌||◌, map, length, refl, sym, ap, ap₂, subst, ◌∙◌, arith, nat_eq, nat_le, add-one, add-zero}
-use Rattle.std.specs.Prelude.{reverse, filter}
-use Rattle.std.specs.List.{range_with_len, enumerate_from, list_any}
+use Rattle.std.proofs.Common.{◌≡◌, ℕ, suc, zero, ◌+◌, ◌<◌, ◌≤◌, Bool, true, false, cond, Some, None, Ok, Err, List, [], ◌∷◌, ◌++◌, ◌&&◌, map, length, refl, sym, ap, ap₂, subst, ◌∙◌, arith, nat_eq, nat_le, add-one, add-zero}
+use Rattle.std.specs.Prelude.{reverse}
+use Rattle.std.specs.List.{range_with_len}
 use Rattle.std.specs.Map.{lookup}
 use Rattle.std.proofs.lemmas.Bool.Decides.{nat_tests}
 use Rattle.cap_value.specs.declared.refusal.Refusal.TheVariants.{TooMany, NoSession}
@@ -13,15 +13,13 @@ use Rattle.cap_core.specs.declared.command.Command.{Command}
 use Rattle.cap_core.specs.declared.command.Command.TheVariants as command
 use Rattle.cap_core.specs.declared.reply.Reply.{Reply}
 use Rattle.cap_core.specs.declared.reply.Reply.TheVariants.{Done, Written, Session as SessionMade, Capture, Refused}
-use Rattle.cap_core.specs.declared.row_change.RowChange.{RowChange}
 use Rattle.cap_core.specs.Answer.{event_by, state, reply_of, IsLegal, State, state_after, IsLegalPast, answer, session_numbered, write_reply, session_reply, attach_reply, capture_reply, refusal}
 use Rattle.cap_core.specs.Database.{Database}
 use Rattle.cap_core.specs.History.{Past, effect_of, event_effect, is_write, is_accepted, makes_session, main, version, sessions_made, sessions, live_sessions, session_of, names_attached, attachings, event_attachings, attach_list, event_touches, touches}
-use Rattle.cap_core.specs.Operation.{Effect}
-use Rattle.cap_core.specs.Outcome.{Refused as Why, no_effect, outcome}
+use Rattle.cap_core.specs.Outcome.{no_effect, outcome}
 use Rattle.cap_core.specs.Session.{SessionState, TouchedRows, session_changes, first_of_each, is_listed, touched_rows}
-use Rattle.cap_core.specs.Touch.{Attaching, Touch, touches_of}
-use Rattle.cap_core.specs.Transition.{attach, next, after_write, after_new_session, after_attach, one_more, with_session, touch_session, touch_sessions}
+use Rattle.cap_core.specs.Touch.{Attaching, touches_of}
+use Rattle.cap_core.specs.Transition.{attach, next, after_write, after_new_session, after_attach, one_more, with_session, touch_session}
 use Rattle.cap_core.proofs.HistoryLemmas.{IsQuiet, sessions-quiet, session_of-quiet, session_of-changes, event_touches-none, touches-quiet, first_of_each-push, is_listed-first_of_each, map-map, is_listed-map, none_of, touches_of-append}
 use Rattle.cap_core.proofs.SmallLemmas.{either_false}
 use Rattle.cap_core.proofs.TouchedLemmas.{touched_rows-none}

@@ -1,5 +1,5 @@
 -- Rows that stand under their own keys, after a change and where one is found.
-use Rattle.std.proofs.Common.{◌≡◌, ℕ, zero, suc, ◌+◌, ◌<◌, Bool, true, false, cond, Option, Some, None, List, [], ◌∷◌, ◌&&◌, ◌||◌, ◌++◌, map, length, refl, sym, ap, ap₂, subst, ◌∙◌, arith, not, Ordering, Less, Equal, Greater, IsTrue, Bor, Result, Ok, Err, get_or, take, drop, drop-cons, add-one, nat_eq}
+use Rattle.std.proofs.Common.{◌≡◌, ℕ, suc, ◌+◌, ◌<◌, Bool, true, false, cond, Option, Some, None, List, [], ◌∷◌, ◌&&◌, ◌||◌, ◌++◌, map, length, refl, sym, ap, ap₂, subst, ◌∙◌, arith, not, Ordering, Less, Equal, Greater, IsTrue, Bor, Result, Ok, Err, get_or, take, drop, drop-cons, add-one, nat_eq}
 use Rattle.std.specs.Prelude.{slice_index_or, fold, option_and_then, IfSome, IfOk, nat_le, is_some}
 use Rattle.std.specs.Option.{option_copied, option_map}
 use Rattle.std.specs.List.{list_all, list_any, enumerate_from}
@@ -100,7 +100,7 @@ absent_found (Some x) e = cc
 
 -- ---- tables by name
 
-names_same : IsAntisymmetric bytes_cmp
+pub names_same : IsAntisymmetric bytes_cmp
 names_same = slice_cmp-IsAntisymmetric nat_cmp-IsAntisymmetric
 
 module _ {A : Type 0} where
@@ -225,14 +225,14 @@ module _ {A : Type 0} where
   key_fields-has_key (true ∷ schema) (field ∷ row) is = refl
   key_fields-has_key (false ∷ schema) (field ∷ row) is = key_fields-has_key schema row is
 
-  stands-wide : (schema : List Bool) (key row : Fields A) → stands schema key row ≡ true → length row ≡ length schema
+  pub stands-wide : (schema : List Bool) (key row : Fields A) → stands schema key row ≡ true → length row ≡ length schema
   stands-wide schema key row is = let e = first (nat_eq (length row) (length schema)) (is_key_of (key_of schema row) key) is in grind (arith, nat_tests)
 
   own_key : (own : Option (Fields A)) (key : Fields A) → is_key_of own key ≡ true → own ≡ Some key
   own_key None key is = cc
   own_key (Some own) key is = ap Some (tied fields_cmp own key fields_same is)
 
-  stands-key_of : (schema : List Bool) (key row : Fields A) → stands schema key row ≡ true → key_of schema row ≡ Some key
+  pub stands-key_of : (schema : List Bool) (key row : Fields A) → stands schema key row ≡ true → key_of schema row ≡ Some key
   stands-key_of schema key row is = own_key (key_of schema row) key (second (nat_eq (length row) (length schema)) (is_key_of (key_of schema row) key) is)
 
   pub stands-IsKeyedRow : (schema : List Bool) (key row : Fields A) → stands schema key row ≡ true → IsKeyedRow schema row

@@ -2,11 +2,13 @@
 ghost use Rattle.std.specs.Prelude.{◌≡◌, ℕ, ◌+◌, false, None, [], ◌∷◌, ◌++◌, List, IsTrue, length, map};
 ghost use Rattle.std.specs.Option.{option_map};
 ghost use Rattle.std.specs.FinMap.Entries.{is_sorted};
+ghost use Rattle.std.specs.List.{All};
+ghost use Rattle.cap_value.specs.Bytes.{bytes_cmp};
 ghost use Rattle.cap_row.specs.Fields.{Fields};
 ghost use Rattle.cap_row.specs.Key.{fields_cmp};
 ghost use Rattle.cap_changes.specs.Change.{full_record};
 ghost use Rattle.cap_changes.specs.declared.change.Change.{Change};
-ghost use Rattle.cap_tree.specs.Tree.{get, put_entry};
+ghost use Rattle.cap_tree.specs.Tree.{IsOrdered, get, put_entry};
 ghost use Rattle.cap_core.specs.declared.command.Command.{Command};
 ghost use Rattle.cap_core.specs.declared.event.Event.{Event};
 ghost use Rattle.cap_core.specs.declared.touched_row.TouchedRow.{TouchedRow};
@@ -15,7 +17,7 @@ ghost use Rattle.cap_core.specs.History.{Past, is_accepted, main, session_of, to
 ghost use Rattle.cap_core.specs.Insert.{HasChange, IsInsertOfAbsent, changes_by_key};
 ghost use Rattle.cap_core.specs.Replies.{replies_after};
 ghost use Rattle.cap_core.specs.Session.{change_now, is_indirect, session_changes, touched_rows};
-ghost use Rattle.cap_core.specs.Table.{TableState};
+ghost use Rattle.cap_core.specs.Table.{IsKeyed, TableState};
 ghost use Rattle.cap_core.specs.Touch.{Touch, touches_of};
 ghost use Rattle.cap_core.specs.Transition.{next};
 
@@ -72,4 +74,11 @@ pub fn refusal_changes_no_reply<A: AllocHandle>()
     ensures { (past : Past A) (event : Event A) → IsLegalPast (event ∷ past) → is_accepted event.reply ≡ false
         → (commands : List (Command A)) → replies_after (event ∷ past) commands
         ≡ replies_after past commands }
+{}
+
+/// After any history the names of the tables rise, and in each table the keys rise, each row has as many fields
+/// as the table has columns, and stands under its own primary key.
+pub fn rows_stand_under_own_keys<A: AllocHandle>()
+    ensures names { (h : List (Event A)) → IsOrdered bytes_cmp (state h).main }
+    ensures tables { (h : List (Event A)) → All (λ named. IsKeyed named.1) (state h).main }
 {}

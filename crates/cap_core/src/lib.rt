@@ -27,7 +27,7 @@ pub use event::Event;
 pub use fault::CallFault;
 pub use laws::{
     insert_is_captured, legal_histories_grow, one_touched_row_a_key, refusal_changes_no_reply,
-    restored_row_is_no_change, untouched_captures_nothing,
+    restored_row_is_no_change, rows_stand_under_own_keys, untouched_captures_nothing,
 };
 pub use limits::{SESSIONS_MAX, TABLES_MAX};
 pub use operation::{Assignments, Operation, RowRef};

@@ -305,7 +305,8 @@ impl<A: AllocHandle> Core<A> {
             × C.gives confirm.old (capture_reply self.old.main session) (Ok tt) confirm.new) }
         ensures err { IfErr result (λ fault. (self.new ≡ self.old) × MatchFault fault (confirm.new
             ≡ confirm.old)
-            (λ why. C.gives confirm.old (capture_reply self.old.main (session_numbered self.old.sessions number))
+            (λ why. C.gives confirm.old
+            (capture_reply self.old.main (session_numbered self.old.sessions number))
             (Err why) confirm.new)) }
     {
         let Some((_place, session)) = find_session(&self.sessions, number) else {

@@ -1,7 +1,4 @@
-use Rattle.std.proofs.Common.{◌≡◌, ◌+◌, Some, arith, refl, sym, ap, ◌∙◌, nat_eq}
-use Rattle.std.specs.List.{position}
-use Rattle.cap_core.specs.declared.session.Session.{Session}
-use Rattle.cap_core.specs.Answer.{State}
+use Rattle.std.proofs.Common.{◌+◌, arith, ap, ◌∙◌}
 use Rattle.cap_core.specs.Code.Attached.{sessions_of, tables_of}
 use Rattle.cap_core.specs.Code.Sound.{sessions_stand}
 use Rattle.cap_core.specs.Transition.{attach, with_session}

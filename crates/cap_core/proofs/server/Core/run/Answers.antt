@@ -1,6 +1,6 @@
 use Rattle.std.proofs.Common.{◌≡◌, length, take, [], ◌∷◌, arith, sym, ap, ◌∙◌, length-append}
 use Rattle.std.proofs.lemmas.List.{length-take-le}
-use Rattle.cap_core.specs.Answer.{answer, history_of}
+use Rattle.cap_core.specs.Answer.{history_of}
 use Rattle.cap_core.specs.Transition.{next}
 use Rattle.cap_core.proofs.NextLemmas.{IsLegal-none, state-push}
 use Rattle.cap_core.proofs.PrepareLemmas.{run-push, events-run}

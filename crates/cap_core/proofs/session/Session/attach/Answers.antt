@@ -1,4 +1,4 @@
-use Rattle.std.proofs.Common.{refl, cond, List, [], ◌∷◌, ◌++◌, sym, ap, ap₂, ◌∙◌}
+use Rattle.std.proofs.Common.{refl, cond, [], ◌∷◌, ◌++◌, sym, ap, ap₂, ◌∙◌}
 use Rattle.std.proofs.lemmas.List.{map-append}
 use Rattle.cap_core.specs.declared.attached_table.AttachedTable.{AttachedTable}
 use Rattle.cap_core.specs.Code.Attached.{tables_of}
