@@ -1,5 +1,5 @@
 -- The patch of a change that fits its table fits it too.
-use Rattle.std.proofs.Common.{◌≡◌, List, [], ◌∷◌, Bool, true, false, ◌&&◌, is_none, refl}
+use Rattle.std.proofs.Common.{◌≡◌, List, [], ◌∷◌, Bool, true, false, is_none, refl}
 use Rattle.std.proofs.lemmas.Bool.{and_parts, and_from}
 use Rattle.cap_changes.specs.Record.{RecordFields}
 use Rattle.cap_changes.specs.Demands.{demands, new_demands, new_demand, meets, meet}
