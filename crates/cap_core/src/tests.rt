@@ -178,6 +178,9 @@ fn step_twice<A: AllocHandle>(alloc: A, commands: &[Command<A>]) -> Outcome<(u64
             return Err(Fault::OutOfMemory);
         }
         confirm.agrees = true;
+        if core.events() >= 1000 {
+            break;
+        }
         if let Err(Fault::OutOfMemory) = core.step(command, &mut confirm) {
             return Err(Fault::OutOfMemory);
         }
