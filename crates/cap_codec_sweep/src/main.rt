@@ -102,7 +102,10 @@ fn reads_again(alloc: Global, blob: &Contents<Global>) -> Result<bool, AllocErro
 }
 
 /// The answer for a blob that is fed byte by byte.
-fn read_slowly(alloc: Global, bytes: &[u8]) -> Result<Contents<Global>, Fault<cap_codec::BlobFault>> {
+fn read_slowly(
+    alloc: Global,
+    bytes: &[u8],
+) -> Result<Contents<Global>, Fault<cap_codec::BlobFault>> {
     let mut decoder = Decoder::new(alloc);
     for byte in bytes {
         decoder.feed(&[*byte])?;
