@@ -5,7 +5,8 @@ use Rattle.cap_changes.specs.Entries.{TableEntries}
 use Rattle.cap_codec.specs.declared.fault.BlobFault.{BlobFault}
 use Rattle.cap_value.specs.declared.memory.Fault.{Fault}
 use Rattle.cap_value.specs.declared.memory.Fault.TheVariants.{Refused, OutOfMemory}
-use Rattle.cap_codec.specs.Reading.{◌>>=◌, Fails, place}
+use Rattle.cap_value.specs.Memory.{RefusesUnlessMemory}
+use Rattle.cap_codec.specs.Reading.{◌>>=◌, place}
 use Rattle.cap_codec.specs.BlobReading.{is_operation, wrong_kind, changes_at, groups_at, with_changes}
 use Rattle.cap_codec.proofs.Loops.{ChangesFrom, change_goes_on, change_fails, reading_stops, reading_ends, GroupsFrom, group_goes_on, group_fails, other_kind_fails, groups_run_out}
 
@@ -17,7 +18,7 @@ pub behind-is : (op : ℕ) (bs : List ℕ) → behind_of (op ∷ bs) ≡ bs
 behind-is op bs = take_all (length (op ∷ bs) - 1) bs (omega arith)
 
 -- where a step that failed makes all fail
-pub fails_on : {X Y : Type 0} (read : Result X BlobFault) (all : Result Y BlobFault) → ((f : BlobFault) → read ≡ Err f → all ≡ Err f) → (e : Fault BlobFault) → Fails e read → Fails e all
+pub fails_on : {X Y : Type 0} (read : Result X BlobFault) (all : Result Y BlobFault) → ((f : BlobFault) → read ≡ Err f → all ≡ Err f) → (e : Fault BlobFault) → RefusesUnlessMemory e read → RefusesUnlessMemory e all
 fails_on read all step (Refused f) h = step f h
 fails_on read all step OutOfMemory h = tt
 

@@ -14,7 +14,8 @@ use Rattle.cap_codec.specs.declared.scan.Place.{Place}
 use Rattle.cap_codec.specs.declared.within.Within.{Within}
 use Rattle.cap_codec.specs.ChangeLeft.{next_demand, IsPast, IsEntered}
 use Rattle.cap_codec.specs.Pieces.{is_cut, may_mend, lasting, outcome, columns_at, kind_byte, Leads, IsPlace, Steps, Begins, IsLookedAt}
-use Rattle.cap_codec.specs.Reading.{Fails, fault, place}
+use Rattle.cap_value.specs.Memory.{RefusesUnlessMemory}
+use Rattle.cap_codec.specs.Reading.{fault, place}
 use Rattle.cap_codec.specs.FieldReading.{field_at}
 use Rattle.cap_codec.specs.BlobReading.{is_operation, is_kind, wrong_kind, change_at, patch_at, blob_at}
 use Rattle.cap_codec.proofs.FieldSteps.{field_passes, field_stops, fields_end}
@@ -101,7 +102,7 @@ module _ (A : Type 0) where
   header_faults bytes kind flags behind f read left =
       part_faults A bytes kind flags (kind_byte kind) behind f (header_part kind (length bytes) flags (place (length bytes) (kind_byte kind ∷ behind)) behind ∙ read) left.leads
 
-  header_cut : (bytes : List ℕ) (kind : Kind) (flags : List Bool) (behind : List ℕ) (e : Fault BlobFault) → may_mend e ≡ true → Fails e (columns_at (length bytes) behind)
+  header_cut : (bytes : List ℕ) (kind : Kind) (flags : List Bool) (behind : List ℕ) (e : Fault BlobFault) → may_mend e ≡ true → RefusesUnlessMemory e (columns_at (length bytes) behind)
       → IsLeft bytes kind flags None (kind_byte kind ∷ behind) → lasting (blob_at {A = A} bytes) ≡ Ok tt
   header_cut bytes kind flags behind (Refused f) cut read left = lasts_cut (blob_at {A = A} bytes) f (header_faults bytes kind flags behind f read left) cut
   header_cut bytes kind flags behind OutOfMemory cut read left = absurd cc
@@ -113,11 +114,11 @@ module _ (A : Type 0) where
       (here bytes from.kind columns None rest left.0, ahead bytes behind rest from.at (kind_byte from.kind) is.0 parts left.1)
 
   pub cut_header : (bytes behind : List ℕ) (from : Place A) (e : Fault BlobFault) → IsPlace bytes from → from.within ≡ None → drop from.at bytes ≡ kind_byte from.kind ∷ behind
-      → may_mend e ≡ true → Fails e (columns_at (length bytes) behind) → lasting (blob_at {A = A} bytes) ≡ Ok tt
+      → may_mend e ≡ true → RefusesUnlessMemory e (columns_at (length bytes) behind) → lasting (blob_at {A = A} bytes) ≡ Ok tt
   cut_header bytes behind from e is none parts cut read = header_cut bytes from.kind from.schema behind e cut read (between bytes (kind_byte from.kind ∷ behind) from is none parts)
 
   pub fault_header : (bytes behind : List ℕ) (from : Place A) (e : Fault BlobFault) → IsPlace bytes from → from.within ≡ None → drop from.at bytes ≡ kind_byte from.kind ∷ behind
-      → may_mend e ≡ false → Fails e (columns_at (length bytes) behind) → Steps {A = A} (Err e) bytes from.at
+      → may_mend e ≡ false → RefusesUnlessMemory e (columns_at (length bytes) behind) → Steps {A = A} (Err e) bytes from.at
   fault_header bytes behind from (Refused f) is none parts whole read = lasts_fault (blob_at {A = A} bytes) f (header_faults bytes from.kind from.schema behind f read (between bytes (kind_byte from.kind ∷ behind) from is none parts)) whole
   fault_header bytes behind from OutOfMemory is none parts whole read = tt
 
@@ -176,10 +177,10 @@ module _ (A : Type 0) where
       → IsPlace {A = A} bytes (record { kind = kind; schema = columns; within = None; at = place (length bytes) rest })
   first_place_is kind bytes behind columns rest parts read = here bytes kind columns None rest (header_left bytes kind [] columns behind rest read (first_left kind bytes behind parts)).0
 
-  pub first_cut : (kind : Kind) (bytes behind : List ℕ) (e : Fault BlobFault) → bytes ≡ kind_byte kind ∷ behind → may_mend e ≡ true → Fails e (columns_at (length bytes) behind) → lasting (blob_at {A = A} bytes) ≡ Ok tt
+  pub first_cut : (kind : Kind) (bytes behind : List ℕ) (e : Fault BlobFault) → bytes ≡ kind_byte kind ∷ behind → may_mend e ≡ true → RefusesUnlessMemory e (columns_at (length bytes) behind) → lasting (blob_at {A = A} bytes) ≡ Ok tt
   first_cut kind bytes behind e parts cut read = header_cut bytes kind [] behind e cut read (first_left kind bytes behind parts)
 
-  pub first_fault : (kind : Kind) (bytes behind : List ℕ) (e : Fault BlobFault) → bytes ≡ kind_byte kind ∷ behind → may_mend e ≡ false → Fails e (columns_at (length bytes) behind) → Begins {A = A} (Err e) bytes
+  pub first_fault : (kind : Kind) (bytes behind : List ℕ) (e : Fault BlobFault) → bytes ≡ kind_byte kind ∷ behind → may_mend e ≡ false → RefusesUnlessMemory e (columns_at (length bytes) behind) → Begins {A = A} (Err e) bytes
   first_fault kind bytes behind (Refused f) parts whole read = lasts_fault (blob_at {A = A} bytes) f (header_faults bytes kind [] behind f read (first_left kind bytes behind parts)) whole
   first_fault kind bytes behind OutOfMemory parts whole read = tt
 

@@ -2,8 +2,6 @@
 -- bytes that are left, and gives a part and the bytes behind it. `total` is the blob's length, so that the
 -- place of the first byte that is left is known.
 use Rattle.std.specs.Prelude.{◌≡◌, ℕ, ◌+◌, ◌-◌, ◌*◌, List, [], ◌∷◌, length, take, drop, Result, Ok, Err, nat_lt, ◌==◌, ◌&&◌, ◌||◌, if◌then◌else◌}
-use Rattle.cap_value.specs.declared.memory.Fault.{Fault}
-use Rattle.cap_value.specs.declared.memory.Fault.TheVariants.{Refused, OutOfMemory}
 use Rattle.cap_codec.specs.declared.fault.BlobFault.{BlobFault}
 use Rattle.cap_codec.specs.declared.fault.FaultKind.{FaultKind}
 use Rattle.cap_codec.specs.declared.fault.FaultKind.TheVariants.{Truncated, BadVarint}
@@ -17,15 +15,6 @@ abbrev pub ◌>>=◌ : {A B : Type 0} → Result A BlobFault → (A → Result B
 abbrev pub Reads : {X Y : Type 0} → (X → Y) → Result X BlobFault → Result Y BlobFault → Type 0
 Reads view (Ok x) read = read ≡ Ok (view x)
 Reads view (Err e) read = read ≡ Err e
-
--- The same, unless there was no memory.
-abbrev pub Fails : {Y : Type 0} → Fault BlobFault → Result Y BlobFault → Type 0
-Fails (Refused e) read = read ≡ Err e
-Fails OutOfMemory read = Unit {0}
-
-abbrev pub Gives : {X Y : Type 0} → (X → Y) → Result X (Fault BlobFault) → Result Y BlobFault → Type 0
-Gives view (Ok x) read = read ≡ Ok (view x)
-Gives view (Err e) read = Fails e read
 
 abbrev pub fault : {X : Type 0} → FaultKind → ℕ → Result X BlobFault
 fault kind at = Err (record { at = at; kind = kind })

@@ -3,7 +3,7 @@
 ghost use Rattle.std.specs.Prelude.{◌≡◌, ◌≤◌, ℕ, Bool, List, Result, length, IfOk, IsTrue};
 ghost use Rattle.cap_codec.specs.declared.fault.BlobFault.{BlobFault};
 ghost use Rattle.cap_changes.specs.Fits.{change_fits, patch_fits};
-ghost use Rattle.cap_codec.specs.Reading.{Gives};
+ghost use Rattle.cap_value.specs.Memory.{ShowsUnlessMemory};
 ghost use Rattle.cap_codec.specs.BlobReading as blob;
 ghost use Rattle.cap_codec.specs.BlobReading.{change_at, patch_at};
 
@@ -31,7 +31,7 @@ fn take_change<'a, A: AllocHandle>(
     op: u8,
     bytes: &'a [u8],
 ) -> Result<(Change<A>, &'a [u8]), Fault<BlobFault>>
-    ensures gives { Gives (λ x. (x.0, x.1.now)) result (change_at total schema.now op bytes.now) }
+    ensures gives { ShowsUnlessMemory (λ x. (x.0, x.1.now)) result (change_at total schema.now op bytes.now) }
     ensures behind { IfOk result (λ x. length x.1.now ≤ length bytes.now) }
     ensures fits { IfOk result (λ x. IsTrue (change_fits schema.now x.0)) }
 {
@@ -64,7 +64,7 @@ fn take_patch<'a, A: AllocHandle>(
     op: u8,
     bytes: &'a [u8],
 ) -> Result<(Patch<A>, &'a [u8]), Fault<BlobFault>>
-    ensures gives { Gives (λ x. (x.0, x.1.now)) result (patch_at total schema.now op bytes.now) }
+    ensures gives { ShowsUnlessMemory (λ x. (x.0, x.1.now)) result (patch_at total schema.now op bytes.now) }
     ensures behind { IfOk result (λ x. length x.1.now ≤ length bytes.now) }
     ensures fits { IfOk result (λ x. IsTrue (patch_fits schema.now x.0)) }
 {
@@ -102,7 +102,8 @@ pub trait Decode<A: AllocHandle>: Encode<A> {
     ) -> Result<(Self, &'a [u8]), Fault<BlobFault>>
     where
         Self: Sized,
-        ensures gives { Gives (λ x. (x.0, x.1.now)) result (one_at total schema.now op bytes.now) }
+        ensures gives { ShowsUnlessMemory (λ x. (x.0, x.1.now)) result
+            (one_at total schema.now op bytes.now) }
         ensures behind { IfOk result (λ x. length x.1.now ≤ length bytes.now) }
         ensures fits { IfOk result (λ x. IsTrue (Self.fits_in schema.now x.0)) };
 }

@@ -5,7 +5,7 @@ ghost use Rattle.cap_value.specs.Bytes.{is_name};
 ghost use Rattle.std.specs.List.{list_any};
 ghost use Rattle.cap_row.specs.Schema.{has_key};
 ghost use Rattle.cap_row.specs.declared.schema.TheConstants.{COLUMNS_MAX};
-ghost use Rattle.cap_codec.specs.Reading.{Gives};
+ghost use Rattle.cap_value.specs.Memory.{ShowsUnlessMemory};
 ghost use Rattle.cap_codec.specs.HeaderReading.{is_set};
 ghost use Rattle.cap_codec.specs.BlobReading.{changes_at, entries_at, with_changes};
 
@@ -18,7 +18,7 @@ use cap_value::{AllocHandle, Fault, Name, OutOfMemory};
 
 fn own_name<A: AllocHandle>(alloc: A, name: &str) -> Result<Name<A>, Fault<BlobFault>>
     requires { IsTrue (is_name name.now) }
-    ensures { Gives (λ name. name) result (Ok name.now) }
+    ensures { ShowsUnlessMemory (λ name. name) result (Ok name.now) }
 {
     match Name::new(alloc, name) {
         Ok(name) => Ok(name),
@@ -37,7 +37,7 @@ pub fn own_schema<A: AllocHandle>(alloc: A, flags: &[u8]) -> Result<Schema<A>, F
     requires some { 1 ≤ length flags.now }
     requires fits { length flags.now ≤ COLUMNS_MAX }
     requires keyed { IsTrue (list_any is_set flags.now) }
-    ensures gives { Gives (λ schema. schema) result (Ok (map is_set flags.now)) }
+    ensures gives { ShowsUnlessMemory (λ schema. schema) result (Ok (map is_set flags.now)) }
     ensures keyed { IfOk result (λ schema. IsTrue (has_key schema)) }
 {
     let flags = set_flags(alloc, flags)?;
@@ -54,7 +54,7 @@ fn take_changes<'a, C: Decode<A> + Drop, A: AllocHandle>(
     mut group: TableGroup<C, A>,
     bytes: &'a [u8],
 ) -> Result<(TableGroup<C, A>, &'a [u8]), Fault<BlobFault>>
-    ensures gives { Gives (λ x. (x.0, x.1.now)) result
+    ensures gives { ShowsUnlessMemory (λ x. (x.0, x.1.now)) result
         (with_changes group (changes_at C.one_at (length bytes.now) total group.schema bytes.now)) }
     ensures behind { IfOk result (λ x. length x.1.now ≤ length bytes.now) }
 {
@@ -76,7 +76,7 @@ pub fn take_group<C: Decode<A> + Drop, A: AllocHandle>(
     total: usize,
     bytes: &[u8],
 ) -> Result<(TableGroup<C, A>, &[u8]), Fault<BlobFault>>
-    ensures gives { Gives (λ x. (x.0, x.1.now)) result (entries_at C.one_at total bytes.now) }
+    ensures gives { ShowsUnlessMemory (λ x. (x.0, x.1.now)) result (entries_at C.one_at total bytes.now) }
     ensures behind { IfOk result (λ x. length x.1.now ≤ length bytes.now) }
 {
     let (header, rest) = take_header(total, bytes)?;

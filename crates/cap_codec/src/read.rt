@@ -1,8 +1,7 @@
 //! Bytes as changesets and patchsets.
 
 ghost use Rattle.std.specs.Prelude.{◌≡◌, length, Ok, IfOk};
-ghost use Rattle.cap_value.specs.Memory.{AnswersUnlessMemory};
-ghost use Rattle.cap_codec.specs.Reading.{Gives};
+ghost use Rattle.cap_value.specs.Memory.{AnswersUnlessMemory, ShowsUnlessMemory};
 ghost use Rattle.cap_codec.specs.declared.read.Contents.{Contents as Spelled};
 ghost use Rattle.cap_codec.specs.BlobReading as blob;
 ghost use Rattle.cap_codec.specs.BlobReading.{entries_at, group_at, patch_group_at, groups_at, blob_at};
@@ -47,7 +46,7 @@ fn take_groups<C: Decode<A> + Drop, A: AllocHandle>(
     total: usize,
     bytes: &[u8],
 ) -> Result<GroupList<C, A>, Fault<BlobFault>>
-    ensures { Gives (λ list. list) result
+    ensures { ShowsUnlessMemory (λ list. list) result
         (groups_at (entries_at C.one_at) C.kind (length bytes.now) total bytes.now) }
 {
     let mut list = GroupList::new(alloc);
@@ -68,7 +67,8 @@ fn take_changeset<A: AllocHandle>(
     total: usize,
     bytes: &[u8],
 ) -> Result<ChangeList<A>, Fault<BlobFault>>
-    ensures { Gives (λ list. list) result (groups_at group_at 0x54 (length bytes.now) total bytes.now) }
+    ensures { ShowsUnlessMemory (λ list. list) result
+        (groups_at group_at 0x54 (length bytes.now) total bytes.now) }
 {
     take_groups(alloc, total, bytes)
 }
@@ -78,7 +78,8 @@ fn take_patchset<A: AllocHandle>(
     total: usize,
     bytes: &[u8],
 ) -> Result<PatchList<A>, Fault<BlobFault>>
-    ensures { Gives (λ list. list) result (groups_at patch_group_at 0x50 (length bytes.now) total bytes.now) }
+    ensures { ShowsUnlessMemory (λ list. list) result
+        (groups_at patch_group_at 0x50 (length bytes.now) total bytes.now) }
 {
     take_groups(alloc, total, bytes)
 }

@@ -2,7 +2,7 @@
 
 ghost use Rattle.std.specs.Prelude.{◌≡◌, ◌≤◌, ◌++◌, ◌∷◌, [], length, IfOk, OnOk};
 ghost use Rattle.cap_value.specs.declared.text.TheConstants.{BYTES_MAX};
-ghost use Rattle.cap_codec.specs.Reading.{Gives};
+ghost use Rattle.cap_value.specs.Memory.{ShowsUnlessMemory};
 ghost use Rattle.cap_codec.specs.FieldReading.{value_of, IsWithin};
 ghost use Rattle.cap_changes.specs.Demands.{demands, new_demands};
 ghost use Rattle.cap_codec.specs.RecordReading.{record_at};
@@ -14,7 +14,7 @@ use cap_value::{AllocHandle, Blob, Fault, OutOfMemory, Text, Value};
 
 fn text_value<A: AllocHandle>(alloc: A, text: &str) -> Result<Value<A>, Fault<BlobFault>>
     requires { length text.now ≤ BYTES_MAX }
-    ensures { Gives (λ value. value) result (Ok (Value.Text text.now)) }
+    ensures { ShowsUnlessMemory (λ value. value) result (Ok (Value.Text text.now)) }
 {
     match Text::new(alloc, text) {
         Ok(text) => Ok(Value::Text(text)),
@@ -25,7 +25,7 @@ fn text_value<A: AllocHandle>(alloc: A, text: &str) -> Result<Value<A>, Fault<Bl
 
 fn blob_value<A: AllocHandle>(alloc: A, bytes: &[u8]) -> Result<Value<A>, Fault<BlobFault>>
     requires { length bytes.now ≤ BYTES_MAX }
-    ensures { Gives (λ value. value) result (Ok (Value.Blob bytes.now)) }
+    ensures { ShowsUnlessMemory (λ value. value) result (Ok (Value.Blob bytes.now)) }
 {
     match Blob::new(alloc, bytes) {
         Ok(blob) => Ok(Value::Blob(blob)),
@@ -37,7 +37,7 @@ fn blob_value<A: AllocHandle>(alloc: A, bytes: &[u8]) -> Result<Value<A>, Fault<
 /// The field with bytes of its own.
 fn own<A: AllocHandle>(alloc: A, field: Lent<'_>) -> Result<Option<Value<A>>, Fault<BlobFault>>
     requires { IsWithin field }
-    ensures { Gives (λ value. value) result (Ok (value_of {A = A} field.entry)) }
+    ensures { ShowsUnlessMemory (λ value. value) result (Ok (value_of {A = A} field.entry)) }
 {
     match field {
         Lent::Undefined => Ok(None),
@@ -66,7 +66,8 @@ pub fn take_record<'a, A: AllocHandle>(
     flags: &[bool],
     bytes: &'a [u8],
 ) -> Result<(Record<A>, &'a [u8]), Fault<BlobFault>>
-    ensures gives { Gives (λ x. (x.0, x.1.now)) result (record_at total (demands rule flags.now) bytes.now) }
+    ensures gives { ShowsUnlessMemory (λ x. (x.0, x.1.now)) result
+        (record_at total (demands rule flags.now) bytes.now) }
     ensures behind { IfOk result (λ x. length x.1.now ≤ length bytes.now) }
 {
     // No more than there are bytes, so that a header alone takes no memory.
@@ -89,7 +90,7 @@ pub fn take_new_record<'a, A: AllocHandle>(
     bytes: &'a [u8],
 ) -> Result<(Record<A>, &'a [u8]), Fault<BlobFault>>
     requires { length old.now ≡ length flags.now }
-    ensures gives { Gives (λ x. (x.0, x.1.now)) result
+    ensures gives { ShowsUnlessMemory (λ x. (x.0, x.1.now)) result
         (record_at total (new_demands flags.now old.now) bytes.now) }
     ensures behind { IfOk result (λ x. length x.1.now ≤ length bytes.now) }
 {

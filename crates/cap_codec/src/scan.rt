@@ -2,7 +2,7 @@
 //! mend.
 
 ghost use Rattle.std.specs.Prelude.{◌≡◌, ◌≤◌, ◌∷◌, true, length, drop, None, Ok, IfOk, IfSome};
-ghost use Rattle.cap_codec.specs.Reading.{Gives};
+ghost use Rattle.cap_value.specs.Memory.{ShowsUnlessMemory};
 ghost use Rattle.cap_codec.specs.BlobReading as blob;
 ghost use Rattle.cap_codec.specs.Pieces.{columns_at, kind_byte, may_mend, IsPlace};
 ghost use Rattle.cap_codec.specs.Pieces.{Passes, Steps, GoesTo, Begins, Scans};
@@ -58,7 +58,7 @@ fn past_header<A: AllocHandle>(
     total: usize,
     bytes: &[u8],
 ) -> Result<(Schema<A>, &[u8]), Fault<BlobFault>>
-    ensures gives { Gives (λ x. (x.0, x.1.now)) result (columns_at total bytes.now) }
+    ensures gives { ShowsUnlessMemory (λ x. (x.0, x.1.now)) result (columns_at total bytes.now) }
     ensures behind { IfOk result (λ x. length x.1.now ≤ length bytes.now) }
 {
     let (header, rest) = take_header(total, bytes)?;

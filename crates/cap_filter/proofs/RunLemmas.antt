@@ -4,7 +4,8 @@ use Rattle.std.specs.Result.{result_map_both}
 use Rattle.std.proofs.lemmas.Bool.{lt-ltb, le-ltb}
 use Rattle.cap_value.specs.declared.memory.Fault.{Fault}
 use Rattle.cap_value.specs.declared.memory.Fault.TheVariants.{Refused, OutOfMemory}
-use Rattle.cap_filter.specs.Reading.{Frame, listed, Next, a_filter, a_text, a_list, a_member, more, an_end, list_of, behind_filter, behind_keyword, within, at_keyword, next_run, run, keyword_of, keyword_read, keyword_at, text_at, opening_at, closing_at, separator_at, end_at, Refuses, refusal, filter_of}
+use Rattle.cap_value.specs.Memory.{RefusesUnlessMemory}
+use Rattle.cap_filter.specs.Reading.{Frame, listed, Next, a_filter, a_text, a_list, a_member, more, an_end, list_of, behind_filter, behind_keyword, within, at_keyword, next_run, run, keyword_of, keyword_read, keyword_at, text_at, opening_at, closing_at, separator_at, end_at, refusal, filter_of}
 use Rattle.cap_filter.specs.Rule.{Rule}
 use Rattle.cap_filter.specs.Tokens.{word, quoted, opening, closing, comma, other, Tokens, tokens_of}
 use Rattle.cap_filter.specs.declared.filter.TheConstants.{DEPTH_MAX, NODES_MAX}
@@ -211,11 +212,11 @@ run-behind_keyword frames room levels k j after tokens h same some_room some_lev
     run-keyword frames room k after tokens h (omega arith) (omega arith) ∙ ap (λ (i : Keyword). run (behind_keyword i frames) (room - 1) after) same
 
 -- a refusal of a part is the answer where the part decides it
-pub refused_by : {Y : Type 0} (f : Fault Stop) (read : Result Y Stop) (answer : Answer) → Refuses f read → ((e : Stop) → read ≡ Err e → answer ≡ Err e) → Refuses f answer
+pub refused_by : {Y : Type 0} (f : Fault Stop) (read : Result Y Stop) (answer : Answer) → RefusesUnlessMemory f read → ((e : Stop) → read ≡ Err e → answer ≡ Err e) → RefusesUnlessMemory f answer
 refused_by (Refused e) read answer h decides = decides e h
 refused_by OutOfMemory read answer h decides = tt
 
-pub refused_through : (f : Fault Stop) (read answer : Answer) → Refuses f read → answer ≡ read → Refuses f answer
+pub refused_through : (f : Fault Stop) (read answer : Answer) → RefusesUnlessMemory f read → answer ≡ read → RefusesUnlessMemory f answer
 refused_through (Refused e) read answer h same = same ∙ h
 refused_through OutOfMemory read answer h same = tt
 

@@ -2,8 +2,6 @@
 use Rattle.std.specs.Prelude.{◌≡◌, ℕ, zero, suc, ◌-◌, List, [], ◌∷◌, ◌++◌, length, Bool, true, false, nat_lt, if◌then◌else◌, Option, Some, None, Result, Ok, Err, codes}
 use Rattle.std.specs.Result.{result_map_both}
 use Rattle.cap_value.specs.Bytes.{bytes_eq}
-use Rattle.cap_value.specs.declared.memory.Fault.{Fault}
-use Rattle.cap_value.specs.declared.memory.Fault.TheVariants.{Refused, OutOfMemory}
 use Rattle.cap_value.specs.declared.refusal.Refusal.{Refusal}
 use Rattle.cap_value.specs.declared.refusal.Refusal.TheVariants.{BadFilter, TooDeep}
 use Rattle.cap_filter.specs.declared.filter.TheConstants.{DEPTH_MAX, NODES_MAX}
@@ -164,14 +162,3 @@ separator_at ((left, t) ∷ rest) = Err (Unfit left)
 abbrev pub end_at : Tokens → Result (Unit {0}) Stop
 end_at [] = Ok tt
 end_at ((left, t) ∷ rest) = Err (Unfit left)
-
--- the answer is this refusal; where there was no memory it is not known
-abbrev pub Refuses : {Y E : Type 0} → Fault E → Result Y E → Type 0
-Refuses (Refused e) answer = answer ≡ Err e
-Refuses OutOfMemory answer = Unit {0}
-
--- The answer of the whole reading is what follows from what one call gave, or its refusal. `AnswersUnlessMemory` says what
--- a call answers itself; what follows from it may be a refusal too, so it cannot say this.
-abbrev pub Leads : {X Y E : Type 0} → (X → Result Y E) → Result X (Fault E) → Result Y E → Type 0
-Leads next (Ok x) answer = answer ≡ next x
-Leads next (Err fault) answer = Refuses fault answer

@@ -145,7 +145,8 @@ impl<A: AllocHandle> Filter<A> {
     /// Writes the filter's text at the end of `out`.
     #[cycle(write)]
     pub(crate) fn write(&self, out: &mut String<A>) -> Result<(), OutOfMemory>
-        ensures { OnOk result (string_bytes out.new ≡ string_bytes out.old ++ filter_text (rule_of self.now)) }
+        ensures { OnOk result
+            (string_bytes out.new ≡ string_bytes out.old ++ filter_text (rule_of self.now)) }
     {
         match self {
             Filter::All => out.push_str("all"),

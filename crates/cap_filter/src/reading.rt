@@ -3,7 +3,8 @@ ghost use Rattle.std.specs.Prelude.{◌≡◌, ◌+◌, ◌≤◌, ℕ, Bool, Li
 ghost use Rattle.cap_filter.specs.declared.filter.TheConstants.{DEPTH_MAX, NODES_MAX};
 ghost use Rattle.cap_filter.specs.Limits.{is_within_limits, depth, nodes, depth_of_all, nodes_of_all};
 ghost use Rattle.cap_filter.specs.Plain.{rule_of, rules};
-ghost use Rattle.cap_filter.specs.Reading.{Frame, Leads, run, a_filter, a_list, behind_filter, list_of, keyword_of, keyword_at, text_at, opening_at, closing_at, separator_at, end_at, refusal};
+ghost use Rattle.cap_value.specs.Memory.{LeadsUnlessMemory};
+ghost use Rattle.cap_filter.specs.Reading.{Frame, run, a_filter, a_list, behind_filter, list_of, keyword_of, keyword_at, text_at, opening_at, closing_at, separator_at, end_at, refusal};
 ghost use Rattle.cap_filter.specs.Tokens.{tokens_of, tokens_from, inside};
 
 use crate::token::{Token, after, next_token, split_at_quote};
@@ -67,7 +68,7 @@ fn keyword_of(word: &str) -> Option<Keyword>
 
 /// The keyword that the text begins with, and the text behind it.
 fn read_keyword(text: &str) -> Result<(Keyword, &str), Fault<Stop>>
-    ensures { Leads (λ x. Ok (x.0, tokens_of x.1.now)) result (keyword_at (tokens_of text.now)) }
+    ensures { LeadsUnlessMemory (λ x. Ok (x.0, tokens_of x.1.now)) result (keyword_at (tokens_of text.now)) }
 {
     let read = next_token(text);
     match read.token {
@@ -81,7 +82,7 @@ fn read_keyword(text: &str) -> Result<(Keyword, &str), Fault<Stop>>
 
 /// The word or the quoted text that the text begins with, and the text behind it.
 fn read_text<A: AllocHandle>(alloc: A, text: &str) -> Result<(Word<A>, &str), Fault<Stop>>
-    ensures { Leads (λ x. Ok (x.0, tokens_of x.1.now)) result (text_at (tokens_of text.now)) }
+    ensures { LeadsUnlessMemory (λ x. Ok (x.0, tokens_of x.1.now)) result (text_at (tokens_of text.now)) }
 {
     let read = next_token(text);
     match read.token {
@@ -97,7 +98,7 @@ fn read_quoted<A: AllocHandle>(
     left: usize,
     text: &str,
 ) -> Result<(Word<A>, &str), Fault<Stop>>
-    ensures { Leads (λ x. Ok (x.0, tokens_of x.1.now)) result
+    ensures { LeadsUnlessMemory (λ x. Ok (x.0, tokens_of x.1.now)) result
         (text_at (tokens_from (inside left []) text.now)) }
 {
     let mut word = String::new(alloc);
@@ -115,7 +116,7 @@ fn read_quoted<A: AllocHandle>(
 
 /// The text behind the opening parenthesis that the text begins with.
 fn read_opening(text: &str) -> Result<&str, Fault<Stop>>
-    ensures { Leads (λ rest. Ok (tokens_of rest.now)) result (opening_at (tokens_of text.now)) }
+    ensures { LeadsUnlessMemory (λ rest. Ok (tokens_of rest.now)) result (opening_at (tokens_of text.now)) }
 {
     let read = next_token(text);
     match read.token {
@@ -137,7 +138,8 @@ fn after_closing(text: &str) -> Option<&str>
 
 /// The text behind a comma, after which a list goes on, or behind a closing parenthesis, which ends it.
 fn read_separator(text: &str) -> Result<(bool, &str), Fault<Stop>>
-    ensures { Leads (λ x. Ok (x.0, tokens_of x.1.now)) result (separator_at (tokens_of text.now)) }
+    ensures { LeadsUnlessMemory (λ x. Ok (x.0, tokens_of x.1.now)) result
+        (separator_at (tokens_of text.now)) }
 {
     let read = next_token(text);
     match read.token {
@@ -149,7 +151,7 @@ fn read_separator(text: &str) -> Result<(bool, &str), Fault<Stop>>
 
 /// Nothing, where the text has no more tokens.
 fn read_end(text: &str) -> Result<(), Fault<Stop>>
-    ensures { Leads (λ x. Ok x) result (end_at (tokens_of text.now)) }
+    ensures { LeadsUnlessMemory (λ x. Ok x) result (end_at (tokens_of text.now)) }
 {
     let read = next_token(text);
     match read.token {
@@ -160,7 +162,7 @@ fn read_end(text: &str) -> Result<(), Fault<Stop>>
 
 /// The filter that the whole text spells.
 pub(crate) fn read_whole<A: AllocHandle>(alloc: A, text: &str) -> Result<Filter<A>, Fault<Stop>>
-    ensures reads { Leads (λ filter. Ok (rule_of filter)) result
+    ensures reads { LeadsUnlessMemory (λ filter. Ok (rule_of filter)) result
         (run (a_filter []) NODES_MAX (tokens_of text.now)) }
     ensures limits { IfOk result (λ filter. IsTrue (is_within_limits (rule_of filter))) }
 {
@@ -190,7 +192,8 @@ pub(crate) fn read_filter<'a, A: AllocHandle>(
     room: u32,
 ) -> Result<Parsed<'a, Filter<A>>, Fault<Stop>>
     ensures reads { (frames : List Frame) → length frames + levels ≡ DEPTH_MAX →
-        Leads (λ p. run (behind_filter (rule_of p.value) frames) p.room (tokens_of p.rest.now)) result
+        LeadsUnlessMemory
+        (λ p. run (behind_filter (rule_of p.value) frames) p.room (tokens_of p.rest.now)) result
         (run (a_filter frames) room (tokens_of text.now)) }
     ensures limits { IfOk result
         (λ p. (depth (rule_of p.value) ≤ levels) × (p.room + nodes (rule_of p.value) ≡ room)) }
@@ -268,7 +271,9 @@ fn read_members<'a, A: AllocHandle>(
     room: u32,
 ) -> Result<Parsed<'a, Vec<Filter<A>, A>>, Fault<Stop>>
     ensures reads { (every : Bool) (frames : List Frame) → length frames + 1 + levels ≡ DEPTH_MAX →
-        Leads (λ p. run (behind_filter (list_of every (map rule_of p.value.items)) frames) p.room (tokens_of p.rest.now)) result
+        LeadsUnlessMemory (λ p.
+        run (behind_filter (list_of every (map rule_of p.value.items)) frames) p.room (tokens_of p.rest.now))
+        result
         (run (a_list every frames) room (tokens_of text.now)) }
     ensures limits { IfOk result (λ p.
         (depth_of_all (rules (map rule_of p.value.items)) ≤ levels)

@@ -70,7 +70,8 @@ fn sign(text: &str) -> (Token<'_>, &str)
 /// The text behind its first character, where that is this ASCII one.
 pub(crate) fn after<'a>(text: &'a str, first: char) -> Option<&'a str>
     requires { first < 128 }
-    ensures { MatchOption result ((rest : List ℕ) → text.now ≢ first ∷ rest) (λ rest. text.now ≡ first ∷ rest.now) }
+    ensures { MatchOption result ((rest : List ℕ) → text.now ≢ first ∷ rest)
+        (λ rest. text.now ≡ first ∷ rest.now) }
 {
     text.strip_prefix(first)
 }

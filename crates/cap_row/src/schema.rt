@@ -27,7 +27,8 @@ impl<A: AllocHandle> Model for Schema<A> {
 
     ghost view = { λ s. arc_slice_items s.flags };
 
-    ghost invariant = { λ s. (1 ≤ length (arc_slice_items s.flags)) × (length (arc_slice_items s.flags) ≤ COLUMNS_MAX) };
+    ghost invariant = { λ s. (1 ≤ length (arc_slice_items s.flags))
+        × (length (arc_slice_items s.flags) ≤ COLUMNS_MAX) };
 }
 
 impl<A: AllocHandle> Schema<A> {

@@ -11,7 +11,8 @@ use cap_value::AllocHandle;
 /// Where the operations in front are accepted and the next one is refused on what they leave, the list is refused at
 /// its place, whatever follows.
 pub fn first_refusal_ends_the_list<A: AllocHandle>()
-    ensures { (tables : Tables A) (front back : List (Op A)) (op : Op A) (left : OutcomeState A) (why : Refusal) →
+    ensures { (tables : Tables A) (front back : List (Op A)) (op : Op A)
+        (left : OutcomeState A) (why : Refusal) →
         run tables front ≡ Ok left → step left.database op ≡ Err why →
         run tables (front ++ op ∷ back) ≡ Err (record { at = length front; why = why }) }
 {}
