@@ -33,6 +33,7 @@ fn set_flags<A: AllocHandle>(alloc: A, flags: &[u8]) -> Result<Vec<bool, A>, Out
     flags.iter().map(|flag| *flag != 0).collect(alloc)
 }
 
+/// The columns that key flags tell: any byte but zero flags a key column.
 pub fn own_schema<A: AllocHandle>(alloc: A, flags: &[u8]) -> Result<Schema<A>, Fault<BlobFault>>
     requires some { 1 ≤ length flags.now }
     requires fits { length flags.now ≤ COLUMNS_MAX }

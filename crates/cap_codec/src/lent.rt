@@ -29,6 +29,7 @@ pub fn place_of(total: usize, bytes: &[u8]) -> usize
     total.saturating_sub(bytes.len())
 }
 
+/// The first byte, and what is behind it.
 pub fn take_byte(total: usize, bytes: &[u8]) -> Result<(u8, &[u8]), BlobFault>
     ensures reads { Reads (λ x. (x.0, x.1.now)) result (byte_at total bytes.now) }
     ensures behind { IfOk result (λ x. length x.1.now ≤ length bytes.now) }
@@ -42,6 +43,7 @@ pub fn take_byte(total: usize, bytes: &[u8]) -> Result<(u8, &[u8]), BlobFault>
     }
 }
 
+/// The first so many bytes, and what is behind them.
 pub fn take_bytes(total: usize, count: usize, bytes: &[u8]) -> Result<(&[u8], &[u8]), BlobFault>
     ensures reads { Reads (λ x. (x.0.now, x.1.now)) result (bytes_at total count bytes.now) }
     ensures behind { IfOk result (λ x. length x.1.now ≤ length bytes.now) }
@@ -81,6 +83,7 @@ pub fn take_varint(total: usize, bytes: &[u8]) -> Result<(usize, &[u8]), BlobFau
     })
 }
 
+/// The bytes as a text, none where they are not UTF-8.
 pub fn text_in(bytes: &[u8]) -> Option<&str>
     ensures { option_map (λ text. text.now) result ≡ text_of bytes.now }
 {
