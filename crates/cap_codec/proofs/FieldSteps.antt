@@ -36,6 +36,10 @@ abbrev pub first_of : Kind → ℕ → Rule × Bool
 first_of kinds.Changes op = if op == 0x17 then (rules.Keyed, true) else (rules.Full, false)
 first_of kinds.Patches op = if op == 0x12 then (rules.Full, false) else (if op == 0x17 then (rules.Keyed, false) else (rules.KeyAlone, false))
 
+pub first_of_insert : (kind : Kind) → first_of kind 0x12 ≡ (rules.Full, false)
+first_of_insert kinds.Changes = refl
+first_of_insert kinds.Patches = refl
+
 module _ (A : Type 0) where
   -- one field more in front
   with_field : (field : Option (Value A)) (read : Result (RecordFields A × List ℕ) BlobFault) (f g : RecordFields A × List ℕ → Result (List ℕ) BlobFault)

@@ -4,23 +4,17 @@ ghost use Rattle.std.specs.Prelude.{◌≡◌, ◌≤◌, ℕ, Bool, List, Resul
 ghost use Rattle.cap_codec.specs.declared.fault.BlobFault.{BlobFault};
 ghost use Rattle.cap_changes.specs.Fits.{change_fits, patch_fits};
 ghost use Rattle.cap_value.specs.Memory.{ShowsUnlessMemory};
-ghost use Rattle.cap_codec.specs.BlobReading as blob;
 ghost use Rattle.cap_codec.specs.BlobReading.{change_at, patch_at};
+ghost use Rattle.cap_codec.specs.Operation.{operation_byte};
 
 use crate::fault::BlobFault;
 use crate::lent::take_byte;
+use crate::operation::Operation;
 use crate::record::{take_new_record, take_record};
-use crate::write::{DELETE, Encode, INSERT, UPDATE};
+use crate::write::Encode;
 use cap_changes::{Change, Patch, Rule};
 use cap_row::Schema;
 use cap_value::{AllocHandle, Fault};
-
-/// Whether the byte begins a change.
-pub fn is_operation(op: u8) -> bool
-    ensures { result ≡ blob.is_operation op }
-{
-    matches!(op, INSERT | UPDATE | DELETE)
-}
 
 /// A change of a changeset, behind its operation byte.
 #[tactic(auto, unfolding(crate::specs::BlobReading::change_at))]
@@ -28,27 +22,27 @@ fn take_change<'a, A: AllocHandle>(
     alloc: A,
     total: usize,
     schema: &Schema<A>,
-    op: u8,
+    operation: Operation,
     bytes: &'a [u8],
 ) -> Result<(Change<A>, &'a [u8]), Fault<BlobFault>>
-    ensures gives { ShowsUnlessMemory (λ x. (x.0, x.1.now)) result (change_at total schema.now op bytes.now) }
+    ensures gives { ShowsUnlessMemory (λ x. (x.0, x.1.now)) result (change_at total schema.now (operation_byte operation) bytes.now) }
     ensures behind { IfOk result (λ x. length x.1.now ≤ length bytes.now) }
     ensures fits { IfOk result (λ x. IsTrue (change_fits schema.now x.0)) }
 {
     let (mark, rest) = take_byte(total, bytes)?;
     let indirect = mark != 0;
     let flags = schema.flags();
-    match op {
-        INSERT => {
+    match operation {
+        Operation::Insert => {
             let (new, rest) = take_record(alloc, total, Rule::Full, flags, rest)?;
             Ok((Change::Insert { indirect, new }, rest))
         }
-        UPDATE => {
+        Operation::Update => {
             let (old, rest) = take_record(alloc, total, Rule::Keyed, flags, rest)?;
             let (new, rest) = take_new_record(alloc, total, flags, old.fields(), rest)?;
             Ok((Change::Update { indirect, old, new }, rest))
         }
-        _ => {
+        Operation::Delete => {
             let (old, rest) = take_record(alloc, total, Rule::Full, flags, rest)?;
             Ok((Change::Delete { indirect, old }, rest))
         }
@@ -61,26 +55,26 @@ fn take_patch<'a, A: AllocHandle>(
     alloc: A,
     total: usize,
     schema: &Schema<A>,
-    op: u8,
+    operation: Operation,
     bytes: &'a [u8],
 ) -> Result<(Patch<A>, &'a [u8]), Fault<BlobFault>>
-    ensures gives { ShowsUnlessMemory (λ x. (x.0, x.1.now)) result (patch_at total schema.now op bytes.now) }
+    ensures gives { ShowsUnlessMemory (λ x. (x.0, x.1.now)) result (patch_at total schema.now (operation_byte operation) bytes.now) }
     ensures behind { IfOk result (λ x. length x.1.now ≤ length bytes.now) }
     ensures fits { IfOk result (λ x. IsTrue (patch_fits schema.now x.0)) }
 {
     let (mark, rest) = take_byte(total, bytes)?;
     let indirect = mark != 0;
     let flags = schema.flags();
-    match op {
-        INSERT => {
+    match operation {
+        Operation::Insert => {
             let (new, rest) = take_record(alloc, total, Rule::Full, flags, rest)?;
             Ok((Patch::Insert { indirect, new }, rest))
         }
-        UPDATE => {
+        Operation::Update => {
             let (new, rest) = take_record(alloc, total, Rule::Keyed, flags, rest)?;
             Ok((Patch::Update { indirect, new }, rest))
         }
-        _ => {
+        Operation::Delete => {
             let (key, rest) = take_record(alloc, total, Rule::KeyAlone, flags, rest)?;
             Ok((Patch::Delete { indirect, key }, rest))
         }
@@ -97,13 +91,13 @@ pub trait Decode<A: AllocHandle>: Encode<A> {
         alloc: A,
         total: usize,
         schema: &Schema<A>,
-        op: u8,
+        operation: Operation,
         bytes: &'a [u8],
     ) -> Result<(Self, &'a [u8]), Fault<BlobFault>>
     where
         Self: Sized,
         ensures gives { ShowsUnlessMemory (λ x. (x.0, x.1.now)) result
-            (one_at total schema.now op bytes.now) }
+            (one_at total schema.now (operation_byte operation) bytes.now) }
         ensures behind { IfOk result (λ x. length x.1.now ≤ length bytes.now) }
         ensures fits { IfOk result (λ x. IsTrue (Self.fits_in schema.now x.0)) };
 }
@@ -117,10 +111,10 @@ impl<A: AllocHandle> Decode<A> for Change<A> {
         alloc: A,
         total: usize,
         schema: &Schema<A>,
-        op: u8,
+        operation: Operation,
         bytes: &'a [u8],
     ) -> Result<(Self, &'a [u8]), Fault<BlobFault>> {
-        take_change(alloc, total, schema, op, bytes)
+        take_change(alloc, total, schema, operation, bytes)
     }
 }
 
@@ -133,9 +127,9 @@ impl<A: AllocHandle> Decode<A> for Patch<A> {
         alloc: A,
         total: usize,
         schema: &Schema<A>,
-        op: u8,
+        operation: Operation,
         bytes: &'a [u8],
     ) -> Result<(Self, &'a [u8]), Fault<BlobFault>> {
-        take_patch(alloc, total, schema, op, bytes)
+        take_patch(alloc, total, schema, operation, bytes)
     }
 }

@@ -9,9 +9,10 @@ ghost use Rattle.cap_value.specs.Memory.{ShowsUnlessMemory};
 ghost use Rattle.cap_codec.specs.HeaderReading.{is_set};
 ghost use Rattle.cap_codec.specs.BlobReading.{changes_at, entries_at, with_changes};
 
-use crate::change::{Decode, is_operation};
+use crate::change::Decode;
 use crate::fault::BlobFault;
 use crate::header::take_header;
+use crate::operation::Operation;
 use cap_changes::TableGroup;
 use cap_row::Schema;
 use cap_value::{AllocHandle, Fault, Name, OutOfMemory};
@@ -60,11 +61,11 @@ fn take_changes<'a, C: Decode<A> + Drop, A: AllocHandle>(
     ensures behind { IfOk result (λ x. length x.1.now ≤ length bytes.now) }
 {
     let mut rest = bytes;
-    while let [op, behind @ ..] = rest {
-        if !is_operation(*op) {
+    while let [byte, behind @ ..] = rest {
+        let Some(operation) = Operation::of(*byte) else {
             break;
-        }
-        let (change, after) = C::take(alloc, total, group.schema(), *op, behind)?;
+        };
+        let (change, after) = C::take(alloc, total, group.schema(), operation, behind)?;
         group.push(change)?;
         rest = after;
     }

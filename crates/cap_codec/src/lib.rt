@@ -12,6 +12,7 @@ mod header;
 mod kind;
 mod laws;
 mod lent;
+mod operation;
 mod read;
 mod record;
 mod scan;

@@ -1,18 +1,18 @@
 //! Looking at the front of a blob, field by field: how far it is whole, and whether it has a fault that no more bytes
 //! mend.
 
-ghost use Rattle.std.specs.Prelude.{◌≡◌, ◌≤◌, ◌∷◌, true, length, drop, None, Ok, IfOk, IfSome};
+ghost use Rattle.std.specs.Prelude.{◌≡◌, ◌≤◌, ◌∷◌, length, drop, None, Ok, IfOk, IfSome};
 ghost use Rattle.cap_value.specs.Memory.{ShowsUnlessMemory};
-ghost use Rattle.cap_codec.specs.BlobReading as blob;
+ghost use Rattle.cap_codec.specs.Operation.{operation_byte};
 ghost use Rattle.cap_codec.specs.Pieces.{columns_at, kind_byte, may_mend, IsPlace};
 ghost use Rattle.cap_codec.specs.Pieces.{Passes, Steps, GoesTo, Begins, Scans};
 
-use crate::change::is_operation;
 use crate::fault::{BlobFault, FaultKind};
 use crate::group::own_schema;
 use crate::header::take_header;
 use crate::kind::Kind;
 use crate::lent::{place_of, take_field};
+use crate::operation::Operation;
 use crate::read::wrong_kind;
 use crate::within::Within;
 use crate::write::{CHANGESET, PATCHSET};
@@ -101,13 +101,12 @@ fn into_change<A: AllocHandle>(
     alloc: A,
     bytes: &[u8],
     place: Place<A>,
-    op: u8,
+    operation: Operation,
     behind: &[u8],
 ) -> Step<A>
     requires is { IsPlace bytes.now place }
     requires between { place.within ≡ None }
-    requires operation { blob.is_operation op ≡ true }
-    requires parts { drop place.at bytes.now ≡ op ∷ behind.now }
+    requires parts { drop place.at bytes.now ≡ operation_byte operation ∷ behind.now }
     ensures { Steps (Ok result) bytes.now place.at }
 {
     match behind {
@@ -115,7 +114,7 @@ fn into_change<A: AllocHandle>(
         [_, inside @ ..] => Step::On(Place {
             kind: place.kind,
             schema: place.schema,
-            within: Some(Within::new(alloc, place.kind, op)),
+            within: Some(Within::new(alloc, place.kind, operation)),
             at: place_of(bytes.len(), inside),
         }),
     }
@@ -163,8 +162,8 @@ fn next_place<A: AllocHandle>(
     match rest {
         [] => Ok(Step::Cut(place)),
         [first, behind @ ..] => {
-            if is_operation(*first) {
-                return Ok(into_change(alloc, bytes, place, *first, behind));
+            if let Some(operation) = Operation::of(*first) {
+                return Ok(into_change(alloc, bytes, place, operation, behind));
             }
             if *first != place.kind.byte() {
                 return Err(Fault::Refused(wrong_kind(*first, place.at)));

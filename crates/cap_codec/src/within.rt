@@ -4,10 +4,11 @@ ghost use Rattle.std.specs.Prelude.{◌≡◌, IsSome, OnOk};
 ghost use Rattle.cap_changes.specs.Demands.{new_demand};
 ghost use Rattle.cap_codec.specs.FieldReading.{value_of};
 ghost use Rattle.cap_codec.specs.ChangeLeft.{next_demand, IsPast, IsEntered};
+ghost use Rattle.cap_codec.specs.Operation.{operation_byte};
 
 use crate::kind::Kind;
 use crate::lent::Lent;
-use crate::write::{INSERT, UPDATE};
+use crate::operation::Operation;
 use cap_changes::{Demand, Rule};
 use cap_value::{AllocHandle, OutOfMemory};
 
@@ -25,16 +26,16 @@ pub struct Within<A: AllocHandle> {
 }
 
 impl<A: AllocHandle> Within<A> {
-    /// In front of the first field of a change with this operation byte.
-    pub fn new(alloc: A, kind: Kind, op: u8) -> Self
-        ensures { IsEntered A kind op result }
+    /// In front of the first field of a change of this operation.
+    pub fn new(alloc: A, kind: Kind, operation: Operation) -> Self
+        ensures { IsEntered A kind (operation_byte operation) result }
     {
-        let (rule, has_new) = match kind {
-            Kind::Changes if op == UPDATE => (Rule::Keyed, true),
-            Kind::Changes => (Rule::Full, false),
-            Kind::Patches if op == INSERT => (Rule::Full, false),
-            Kind::Patches if op == UPDATE => (Rule::Keyed, false),
-            Kind::Patches => (Rule::KeyAlone, false),
+        let (rule, has_new) = match (kind, operation) {
+            (_, Operation::Insert) => (Rule::Full, false),
+            (Kind::Changes, Operation::Update) => (Rule::Keyed, true),
+            (Kind::Changes, Operation::Delete) => (Rule::Full, false),
+            (Kind::Patches, Operation::Update) => (Rule::Keyed, false),
+            (Kind::Patches, Operation::Delete) => (Rule::KeyAlone, false),
         };
         Within {
             rule,

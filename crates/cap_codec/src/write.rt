@@ -3,9 +3,11 @@
 ghost use Rattle.std.specs.Prelude.{◌≡◌, ◌++◌, ◌∷◌, [], ℕ, List, OnOk, IfOk};
 ghost use Rattle.std.specs.List.{flat_map};
 ghost use Rattle.cap_codec.specs.Changeset.{mark, flags_bytes, header_bytes, entries_bytes, list_bytes};
+ghost use Rattle.cap_codec.specs.Operation.{operation_byte};
 ghost use Rattle.cap_codec.specs.Patchset.{patch_list_bytes};
 
 use crate::field::{push_key, push_record};
+use crate::operation::Operation;
 use crate::varint::push_varint;
 use cap_changes::{Change, ChangeList, Entry, GroupList, Patch, PatchList, TableGroup};
 use cap_row::Schema;
@@ -15,12 +17,6 @@ use cap_value::{AllocHandle, Name, OutOfMemory};
 pub const CHANGESET: u8 = 0x54;
 /// The first byte of a group of a patchset.
 pub const PATCHSET: u8 = 0x50;
-/// The operation byte of an INSERT.
-pub const INSERT: u8 = 0x12;
-/// The operation byte of an UPDATE.
-pub const UPDATE: u8 = 0x17;
-/// The operation byte of a DELETE.
-pub const DELETE: u8 = 0x09;
 
 fn push_flags<A: AllocHandle>(out: &mut Vec<u8, A>, flags: &[bool]) -> Result<(), OutOfMemory>
     ensures { OnOk result (out.new.items ≡ out.old.items ++ flags_bytes flags.now) }
@@ -51,12 +47,13 @@ fn push_header<A: AllocHandle>(
 /// Puts an operation byte last, and whether the change is indirect.
 fn push_operation<A: AllocHandle>(
     out: &mut Vec<u8, A>,
-    operation: u8,
+    operation: Operation,
     indirect: bool,
 ) -> Result<(), OutOfMemory>
-    ensures { OnOk result (out.new.items ≡ out.old.items ++ operation ∷ mark indirect ∷ []) }
+    ensures { OnOk result (out.new.items ≡ out.old.items
+        ++ operation_byte operation ∷ mark indirect ∷ []) }
 {
-    out.extend_from_slice(&[operation, indirect as u8])?;
+    out.extend_from_slice(&[operation.byte(), indirect as u8])?;
     Ok(())
 }
 
@@ -90,16 +87,16 @@ impl<A: AllocHandle> Encode<A> for Change<A> {
     fn push_to(&self, out: &mut Vec<u8, A>) -> Result<(), OutOfMemory> {
         match self {
             Change::Insert { indirect, new } => {
-                push_operation(out, INSERT, *indirect)?;
+                push_operation(out, Operation::Insert, *indirect)?;
                 push_record(out, new.fields())?;
             }
             Change::Update { indirect, old, new } => {
-                push_operation(out, UPDATE, *indirect)?;
+                push_operation(out, Operation::Update, *indirect)?;
                 push_record(out, old.fields())?;
                 push_record(out, new.fields())?;
             }
             Change::Delete { indirect, old } => {
-                push_operation(out, DELETE, *indirect)?;
+                push_operation(out, Operation::Delete, *indirect)?;
                 push_record(out, old.fields())?;
             }
         }
@@ -108,6 +105,7 @@ impl<A: AllocHandle> Encode<A> for Change<A> {
 }
 
 impl<A: AllocHandle> Encode<A> for Patch<A> {
+    ghost use Rattle.cap_codec.specs.Operation.{operation_byte};
     ghost use Rattle.cap_codec.specs.Patchset.{patch_bytes};
 
     ghost kind = { 0x50 };
@@ -121,15 +119,15 @@ impl<A: AllocHandle> Encode<A> for Patch<A> {
     fn push_to(&self, out: &mut Vec<u8, A>) -> Result<(), OutOfMemory> {
         match self {
             Patch::Insert { indirect, new } => {
-                push_operation(out, INSERT, *indirect)?;
+                push_operation(out, Operation::Insert, *indirect)?;
                 push_record(out, new.fields())?;
             }
             Patch::Update { indirect, new } => {
-                push_operation(out, UPDATE, *indirect)?;
+                push_operation(out, Operation::Update, *indirect)?;
                 push_record(out, new.fields())?;
             }
             Patch::Delete { indirect, key } => {
-                push_operation(out, DELETE, *indirect)?;
+                push_operation(out, Operation::Delete, *indirect)?;
                 push_key(out, key.fields())?;
             }
         }

@@ -5,20 +5,20 @@ use Rattle.cap_codec.proofs.FitLemmas.{record_meets, old_is_wide}
 use Rattle.cap_codec.proofs.change.take_change.Goals as goal
 
 pub take_new_record-requires : goal.take_new_record-requires
-take_new_record-requires g c = rw c.fields.ensures (old_is_wide c.args.total c.flags-flags.result.now c.in_ok-mark.rest.now (c.in_ok-old-in-23.old, c.in_ok-old-in-23.rest.now) c.in_ok-old-in-23.ensures.gives)
+take_new_record-requires g c = rw c.fields.ensures (old_is_wide c.args.total c.flags-flags.result.now c.in_ok-mark.rest.now (c.in_ok-old-in-Update.old, c.in_ok-old-in-Update.rest.now) c.in_ok-old-in-Update.ensures.gives)
 
-pub returns-in_ok-new-in-18-clause-fits : goal.returns-in_ok-new-in-18-clause-fits
-returns-in_ok-new-in-18-clause-fits g c = rw (← c.flags-flags.ensures.flags) (record_meets c.args.total (demands rules.Full c.flags-flags.result.now) c.in_ok-mark.rest.now (c.in_ok-new-in-18.new, c.in_ok-new-in-18.rest.now) c.in_ok-new-in-18.ensures.gives)
+pub returns-in_ok-new-in-Insert-clause-fits : goal.returns-in_ok-new-in-Insert-clause-fits
+returns-in_ok-new-in-Insert-clause-fits g c = rw (← c.flags-flags.ensures.flags) (record_meets c.args.total (demands rules.Full c.flags-flags.result.now) c.in_ok-mark.rest.now (c.in_ok-new-in-Insert.new, c.in_ok-new-in-Insert.rest.now) c.in_ok-new-in-Insert.ensures.gives)
 
-pub returns-in_ok-new-in-23-clause-fits : goal.returns-in_ok-new-in-23-clause-fits
-returns-in_ok-new-in-23-clause-fits g c =
+pub returns-in_ok-new-in-Update-clause-fits : goal.returns-in_ok-new-in-Update-clause-fits
+returns-in_ok-new-in-Update-clause-fits g c =
     let flags = c.flags-flags.result.now in
-    let old = c.in_ok-old-in-23.old in
+    let old = c.in_ok-old-in-Update.old in
     rw (← c.flags-flags.ensures.flags)
-    (and_from (meet (demands rules.Keyed flags) old) (meet (new_demands flags old) c.in_ok-new-in-23.new)
-    (record_meets c.args.total (demands rules.Keyed flags) c.in_ok-mark.rest.now (old, c.in_ok-old-in-23.rest.now) c.in_ok-old-in-23.ensures.gives)
-    (record_meets c.args.total (new_demands flags old) c.in_ok-old-in-23.rest.now (c.in_ok-new-in-23.new, c.in_ok-new-in-23.rest.now)
-    (rw c.fields.ensures at c.in_ok-new-in-23.ensures.gives)))
+    (and_from (meet (demands rules.Keyed flags) old) (meet (new_demands flags old) c.in_ok-new-in-Update.new)
+    (record_meets c.args.total (demands rules.Keyed flags) c.in_ok-mark.rest.now (old, c.in_ok-old-in-Update.rest.now) c.in_ok-old-in-Update.ensures.gives)
+    (record_meets c.args.total (new_demands flags old) c.in_ok-old-in-Update.rest.now (c.in_ok-new-in-Update.new, c.in_ok-new-in-Update.rest.now)
+    (rw c.fields.ensures at c.in_ok-new-in-Update.ensures.gives)))
 
-pub returns-in_ok-old-in_default-clause-fits : goal.returns-in_ok-old-in_default-clause-fits
-returns-in_ok-old-in_default-clause-fits g c = rw (← c.flags-flags.ensures.flags) (record_meets c.args.total (demands rules.Full c.flags-flags.result.now) c.in_ok-mark.rest.now (c.in_ok-old-in_default.old, c.in_ok-old-in_default.rest.now) c.in_ok-old-in_default.ensures.gives)
+pub returns-in_ok-old-in-Delete-clause-fits : goal.returns-in_ok-old-in-Delete-clause-fits
+returns-in_ok-old-in-Delete-clause-fits g c = rw (← c.flags-flags.ensures.flags) (record_meets c.args.total (demands rules.Full c.flags-flags.result.now) c.in_ok-mark.rest.now (c.in_ok-old-in-Delete.old, c.in_ok-old-in-Delete.rest.now) c.in_ok-old-in-Delete.ensures.gives)
