@@ -1,3 +1,4 @@
+mod BesideLemmas
 mod EntryLemmas
 mod HeightLemmas
 mod PathLemmas

@@ -4,6 +4,7 @@
 //! nodes on one way down and shares the rest.
 #![tactic(auto)]
 
+mod beside;
 mod branch;
 mod build;
 mod confirm;
@@ -16,6 +17,7 @@ mod stack;
 mod take;
 mod tree;
 
+pub use beside::{Beside, entries_stand_beside};
 pub use confirm::Confirm;
 pub use each::insert_each_after;
 pub use iter::Iter;

@@ -1,0 +1,26 @@
+//! Laws of comparing, over the definitions alone. The functions do nothing.
+ghost use Rattle.std.specs.Prelude.{◌≡◌, List, []};
+ghost use Rattle.cap_row.specs.Fields.{Fields};
+ghost use Rattle.cap_row.specs.Key.{fields_cmp};
+ghost use Rattle.cap_tree.specs.Tree.{IsOrdered};
+ghost use Rattle.cap_compare.specs.Compare.{AreDifferences, differences};
+
+use cap_row::{Key, Row};
+use cap_tree::entries_stand_beside;
+use cap_value::AllocHandle;
+
+/// The differences of two tables are just the keys at which their rows differ, in order, each with its row in the
+/// first table or its absence.
+pub fn differences_are_just_those<A: AllocHandle>()
+    ensures { (from to : List (Fields A × Fields A)) → IsOrdered fields_cmp from → IsOrdered fields_cmp to →
+        AreDifferences from to (differences from to) }
+{
+    entries_stand_beside::<Key<A>, Row<A>, Row<A>>();
+}
+
+/// A table does not differ from itself.
+pub fn a_table_does_not_differ_from_itself<A: AllocHandle>()
+    ensures { (rows : List (Fields A × Fields A)) → IsOrdered fields_cmp rows → differences rows rows ≡ [] }
+{
+    entries_stand_beside::<Key<A>, Row<A>, Row<A>>();
+}
