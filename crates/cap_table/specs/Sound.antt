@@ -1,8 +1,10 @@
 -- What holds of every table: keyed rows stand under their own keys, loose rows under ids that were given.
 use Rattle.std.specs.Prelude.{ℕ, ◌≤◌, ◌^◌, Bool, true, false, Option, Some, None, List, length, is_some, nat_lt, ◌==◌, ◌&&◌, not, IsTrue}
 use Rattle.std.specs.List.{list_all}
+use Rattle.std.specs.Ordering.{nat_cmp}
+use Rattle.std.specs.FinMap.Entries.{is_sorted}
 use Rattle.cap_row.specs.Fields.{Fields}
-use Rattle.cap_row.specs.Key.{key_of, fields_eq}
+use Rattle.cap_row.specs.Key.{key_of, fields_cmp, fields_eq}
 use Rattle.cap_table.specs.Table.{TableState}
 
 module _ {A : Type 0} where
@@ -24,3 +26,9 @@ module _ {A : Type 0} where
     pub loose : IsTrue (list_all (λ row. loose_stands table.schema table.next_id row.0 row.1) table.loose)
     pub first : 1 ≤ table.next_id
     pub last : table.next_id ≤ 2 ^ 63
+
+  -- the same, and keys and ids rise
+  pub record IsRising (table : TableState A) : Type 0 where
+    pub stand : IsTable table
+    pub keys : IsTrue (is_sorted fields_cmp table.keyed)
+    pub ids : IsTrue (is_sorted nat_cmp table.loose)

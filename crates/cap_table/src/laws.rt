@@ -1,11 +1,14 @@
 //! Laws of operations on a table, over the definitions alone. The functions do nothing.
-ghost use Rattle.std.specs.Prelude.{◌≡◌, ◌+◌, Some, None, Ok};
+ghost use Rattle.std.specs.Prelude.{◌≡◌, ◌+◌, ◌≤◌, ℕ, Bool, List, Some, None, Ok, IfOk};
 ghost use Rattle.std.specs.Ordering.{nat_cmp};
 ghost use Rattle.cap_row.specs.Fields.{Fields};
 ghost use Rattle.cap_row.specs.Key.{key_of};
+ghost use Rattle.cap_value.specs.declared.value.Value.{Value};
 ghost use Rattle.cap_tree.specs.Tree.{get};
-ghost use Rattle.cap_table.specs.Operation.{delete_row, insert_row};
+ghost use Rattle.cap_table.specs.Operation.{delete_row, empty_table, insert_row, update_row};
+ghost use Rattle.cap_table.specs.Sound.{IsRising};
 ghost use Rattle.cap_table.specs.Table.{TableState};
+ghost use Rattle.cap_table.specs.declared.row_ref.RowRef.{RowRef};
 
 use crate::RowRef;
 use cap_value::AllocHandle;
@@ -21,4 +24,26 @@ pub fn insert_takes_next_id<A: AllocHandle>()
     ensures { (before after : TableState A) (row : Fields A) → key_of before.schema row ≡ None
         → insert_row before row ≡ Ok after →
         (after.next_id ≡ before.next_id + 1) × (get nat_cmp after.loose before.next_id ≡ Some row) }
+{}
+
+/// An operation leaves the columns as they were.
+pub fn operations_keep_columns<A: AllocHandle>()
+    ensures insert { (table : TableState A) (row : Fields A) →
+        IfOk (insert_row table row) (λ after. after.schema ≡ table.schema) }
+    ensures update { (table : TableState A) (name : RowRef A) (fields : List (ℕ × Value A)) →
+        IfOk (update_row table name fields) (λ after. after.schema ≡ table.schema) }
+    ensures delete { (table : TableState A) (name : RowRef A) →
+        IfOk (delete_row table name) (λ after. after.schema ≡ table.schema) }
+{}
+
+/// In a table that operations have left, keys and ids rise, each row has the table's width, and stands under its own
+/// key, or where it has none under an id that was given.
+pub fn operations_keep_tables<A: AllocHandle>()
+    ensures empty { (schema : List Bool) → IsRising (empty_table {A = A} schema) }
+    ensures insert { (table : TableState A) (row : Fields A) → IsRising table
+        → IfOk (insert_row table row) IsRising }
+    ensures update { (table : TableState A) (name : RowRef A) (fields : List (ℕ × Value A)) → IsRising table
+        → IfOk (update_row table name fields) IsRising }
+    ensures delete { (table : TableState A) (name : RowRef A) → IsRising table
+        → IfOk (delete_row table name) IsRising }
 {}

@@ -11,7 +11,9 @@ mod table;
 #[cfg(test)]
 mod tests;
 
-pub use laws::{delete_undoes_insert, insert_takes_next_id};
+pub use laws::{
+    delete_undoes_insert, insert_takes_next_id, operations_keep_columns, operations_keep_tables,
+};
 pub use replaced::Replaced;
 pub use row_name::RowName;
 pub use row_ref::RowRef;

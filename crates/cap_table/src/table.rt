@@ -2,6 +2,7 @@ ghost use Rattle.std.specs.Prelude.{◌≡◌, ◌≤◌, ◌^◌, IfOk, IfSome,
 ghost use Rattle.std.specs.Option.{option_copied};
 ghost use Rattle.cap_table.specs.Operation.{empty_table, row_of};
 ghost use Rattle.cap_table.specs.Scan.{rows};
+ghost use Rattle.cap_table.specs.Sound.{IsTable};
 
 use crate::{RowRef, Scan};
 use cap_row::{Key, Row, Schema};
@@ -103,7 +104,8 @@ impl<A: AllocHandle> Table<A> {
 
     /// The rows that have a primary key, by it.
     pub fn keyed(&self) -> &Tree<Key<A>, Row<A>, A>
-        ensures { result.now ≡ self.now.keyed }
+        ensures rows { result.now ≡ self.now.keyed }
+        ensures stand { IsTable self.now }
     {
         &self.keyed
     }

@@ -1,3 +1,4 @@
+pub mod KeptLemmas
 pub mod PlaceLemmas
 pub mod RunLemmas
 pub mod StepLemmas

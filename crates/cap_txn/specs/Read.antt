@@ -1,10 +1,12 @@
 -- What is read of a database.
-use Rattle.std.specs.Prelude.{◌≡◌, ℕ, Option, Some, None, Result, Ok, Err, List}
+use Rattle.std.specs.Prelude.{◌≡◌, ℕ, Option, Some, None, option_and_then, Result, Ok, Err, List}
 use Rattle.std.specs.Borrow.{Bor}
 use Rattle.std.specs.Option.{option_copied}
 use Rattle.cap_value.specs.declared.refusal.Refusal.{Refusal}
 use Rattle.cap_value.specs.declared.refusal.Refusal.TheVariants.{NoTable}
 use Rattle.cap_row.specs.Fields.{Fields}
+use Rattle.cap_row.specs.Key.{fields_cmp}
+use Rattle.cap_tree.specs.Tree.{get}
 use Rattle.cap_table.specs.Table.{TableState}
 use Rattle.cap_table.specs.Operation.{row_of}
 use Rattle.cap_table.specs.Scan.{rows}
@@ -12,6 +14,10 @@ use Rattle.cap_table.specs.declared.row_ref.RowRef.{RowRef}
 use Rattle.cap_txn.specs.Tables.{Tables, table_of}
 
 module _ {A : Type 0} where
+  -- the row with this primary key, or its absence
+  abbrev pub row_at : Tables A → List ℕ → Fields A → Option (Fields A)
+  row_at tables table key = option_and_then (λ t. get fields_cmp t.keyed key) (table_of tables table)
+
   abbrev pub read_in : Option (TableState A) → RowRef A → Result (Option (Fields A)) Refusal
   read_in None name = Err NoTable
   read_in (Some table) name = Ok (row_of table name)

@@ -1,11 +1,15 @@
 -- A database: its tables by name, in the order of the names.
-use Rattle.std.specs.Prelude.{ℕ, ◌≤◌, Option, Some, None, Result, Ok, Err, Bool, List, length, is_some, nat_lt, if◌then◌else◌}
+use Rattle.std.specs.Prelude.{ℕ, ◌≤◌, Option, Some, None, Result, Ok, Err, Bool, List, IsTrue, length, is_some, nat_lt, if◌then◌else◌}
+use Rattle.std.specs.FinMap.Entries.{is_sorted}
+use Rattle.std.specs.List.{AllByRecursion}
+use Rattle.std.specs.Option.{option_map}
 use Rattle.cap_value.specs.Bytes.{bytes_cmp}
 use Rattle.cap_value.specs.declared.refusal.Refusal.{Refusal}
 use Rattle.cap_value.specs.declared.refusal.Refusal.TheVariants.{TableExists, TooMany}
 use Rattle.cap_tree.specs.Tree.{IsOrdered, get, put_entry}
 use Rattle.cap_table.specs.Table.{TableState}
 use Rattle.cap_table.specs.Operation.{empty_table}
+use Rattle.cap_table.specs.Sound.{IsRising}
 
 abbrev pub Tables : Type 0 → Type 0
 Tables A = List (List ℕ × TableState A)
@@ -18,6 +22,15 @@ module _ {A : Type 0} where
 
   abbrev pub table_of : Tables A → List ℕ → Option (TableState A)
   table_of tables name = get bytes_cmp tables name
+
+  -- the columns of a table
+  abbrev pub schema_of : Tables A → List ℕ → Option (List Bool)
+  schema_of tables name = option_map (λ table. table.schema) (table_of tables name)
+
+  -- names, keys and ids rise, and each row stands where it belongs
+  pub record AreRising (tables : Tables A) : Type 0 where
+    pub names : IsTrue (is_sorted bytes_cmp tables)
+    pub each : AllByRecursion (λ named. IsRising named.1) tables
 
   -- what a new table is refused
   abbrev pub refused_create : Tables A → List ℕ → Option Refusal

@@ -1,11 +1,12 @@
 //! Laws of lists of operations, over the definitions alone. The functions do nothing.
-ghost use Rattle.std.specs.Prelude.{◌≡◌, [], ◌∷◌, ◌++◌, List, Ok, Err, length};
+ghost use Rattle.std.specs.Prelude.{◌≡◌, ℕ, Bool, Some, [], ◌∷◌, ◌++◌, List, Ok, Err, IfOk, length};
 ghost use Rattle.cap_value.specs.declared.refusal.Refusal.{Refusal};
 ghost use Rattle.cap_txn.specs.Operation.{changes, run, step};
 ghost use Rattle.cap_txn.specs.Outcome.{OutcomeState};
-ghost use Rattle.cap_txn.specs.Tables.{Tables};
+ghost use Rattle.cap_txn.specs.Tables.{AreRising, Tables, create, schema_of};
 ghost use Rattle.cap_txn.specs.declared.op.Op.{Op};
 
+use cap_table::{operations_keep_columns, operations_keep_tables};
 use cap_value::AllocHandle;
 
 /// Where the operations in front are accepted and the next one is refused on what they leave, the list is refused at
@@ -26,3 +27,26 @@ pub fn last_operation_adds_its_changes<A: AllocHandle>()
           changes = left.changes ++ changes left.database op;
         }) }
 {}
+
+/// Whatever is made of a database, a table keeps its columns.
+pub fn tables_keep_columns<A: AllocHandle>()
+    ensures run { (tables : Tables A) (ops : List (Op A)) → IfOk (run tables ops)
+        (λ left. (name : List ℕ) → schema_of left.database name ≡ schema_of tables name) }
+    ensures create { (tables : Tables A) (name : List ℕ) (schema : List Bool) → IfOk (create tables name schema)
+        (λ after. (other : List ℕ) (columns : List Bool) → schema_of tables other ≡ Some columns
+        → schema_of after other ≡ Some columns) }
+{
+    operations_keep_columns::<A>();
+}
+
+/// In a database that tables and operations were made in, names, keys and ids rise, each row has its table's width, and
+/// stands under its own key, or where it has none under an id that was given.
+pub fn tables_keep_order<A: AllocHandle>()
+    ensures empty { AreRising {A = A} [] }
+    ensures run { (tables : Tables A) (ops : List (Op A)) → AreRising tables
+        → IfOk (run tables ops) (λ left. AreRising left.database) }
+    ensures create { (tables : Tables A) (name : List ℕ) (schema : List Bool) → AreRising tables
+        → IfOk (create tables name schema) AreRising }
+{
+    operations_keep_tables::<A>();
+}

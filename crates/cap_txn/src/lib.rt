@@ -24,7 +24,10 @@ pub use batch::{Batch, OPS_MAX};
 pub use cause::Cause;
 pub use change::Change;
 pub use database::{Database, TABLES_MAX};
-pub use laws::{first_refusal_ends_the_list, last_operation_adds_its_changes};
+pub use laws::{
+    first_refusal_ends_the_list, last_operation_adds_its_changes, tables_keep_columns,
+    tables_keep_order,
+};
 pub use op::{Action, Op};
 pub use outcome::Outcome;
 pub use refused_at::RefusedAt;
