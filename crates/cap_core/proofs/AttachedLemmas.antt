@@ -7,12 +7,12 @@ use Rattle.std.specs.List.{position, position_from, position_or_len, filter_map,
 use Rattle.cap_value.specs.Bytes.{bytes_eq}
 use Rattle.std.proofs.lemmas.Iterator.Adapters.{position_from-zero}
 use Rattle.std.proofs.lemmas.List.Quantifiers.{position-Some}
+use Rattle.cap_txn.specs.Tables.{Tables}
 use Rattle.cap_core.specs.declared.attached_table.AttachedTable.{AttachedTable}
 use Rattle.cap_core.specs.declared.session.Session.{Session}
 use Rattle.cap_core.specs.Answer.{session_numbered}
 use Rattle.cap_core.specs.Code.Attached.{attached_changes, table_stands, tables_of, sessions_of}
 use Rattle.cap_core.specs.Code.Sound.{session_stands}
-use Rattle.cap_core.specs.Database.{Database}
 use Rattle.cap_core.specs.Session.{session_changes}
 use Rattle.cap_core.specs.Transition.{with_session}
 
@@ -110,11 +110,11 @@ module _ {A : Type 0} (number : ℕ) where
       let at = position-Some has_number sessions i old found in
       with-at sessions i new old at.0 (same ∙ ap (λ (s : Session A). s.number) is) at.1 at.2
 
-module _ {A : Type 0} (database : Database A) where
-  pub session_changes-of : (tables : List (AttachedTable A)) → session_changes database (tables_of tables) ≡ filter_map (attached_changes database) tables
+module _ {A : Type 0} (main : Tables A) where
+  pub session_changes-of : (tables : List (AttachedTable A)) → session_changes main (tables_of tables) ≡ filter_map (attached_changes main) tables
   session_changes-of [] = refl
-  session_changes-of (table ∷ tables) = ap (cons_option (attached_changes database table)) (session_changes-of tables)
+  session_changes-of (table ∷ tables) = ap (cons_option (attached_changes main table)) (session_changes-of tables)
 
-  pub session_stands-of : (tables : List (AttachedTable A)) → list_all (table_stands database) tables ≡ session_stands database (tables_of tables)
+  pub session_stands-of : (tables : List (AttachedTable A)) → list_all (table_stands main) tables ≡ session_stands main (tables_of tables)
   session_stands-of [] = refl
-  session_stands-of (table ∷ tables) = ap (λ b. table_stands database table && b) (session_stands-of tables)
+  session_stands-of (table ∷ tables) = ap (λ b. table_stands main table && b) (session_stands-of tables)

@@ -3,19 +3,22 @@ use Rattle.std.proofs.lemmas.List.{append-nil, map-append}
 use Rattle.std.proofs.lemmas.List.Elements.{filter-append}
 use Rattle.std.proofs.lemmas.List.Folds.{list_all-append}
 use Rattle.std.proofs.lemmas.Bool.Decides.{nat_tests}
-use Rattle.std.proofs.Common.{◌≡◌, ◌≤◌, ℕ, ◌+◌, true, false, cond, List, [], ◌∷◌, ◌++◌, ◌&&◌, ◌||◌, not, map, length, refl, sym, ap, ap₂, subst, ◌∙◌, arith}
+use Rattle.std.proofs.Common.{◌≡◌, ◌≤◌, ℕ, ◌+◌, true, false, cond, Some, None, List, [], ◌∷◌, ◌++◌, ◌&&◌, ◌||◌, not, map, length, refl, sym, ap, ap₂, subst, ◌∙◌, arith}
 use Rattle.std.specs.Prelude.{filter, fold, nat_eq, nat_le, nat_lt}
-use Rattle.std.specs.List.{list_all, list_any, enumerate_from}
+use Rattle.std.specs.List.{cons_option, enumerate_from, filter_map, list_all, list_any}
+use Rattle.std.specs.Option.{option_map}
 use Rattle.std.proofs.Math.Bool.{or-true}
 use Rattle.std.specs.Cmp.Lexicographic.{bytes_decides, nat_list_eq_equiv}
 use Rattle.cap_value.specs.Bytes.{bytes_eq}
+use Rattle.cap_row.specs.Fields.{Fields}
+use Rattle.cap_txn.specs.Read.{row_at}
+use Rattle.cap_txn.specs.declared.change.Change.{Change}
 use Rattle.cap_core.specs.declared.event.Event.{Event}
-use Rattle.cap_core.specs.declared.row_change.RowChange.{RowChange}
-use Rattle.cap_core.specs.Database.{row_at}
-use Rattle.cap_core.specs.History.{Past, is_accepted, main, event_effect, session_of, names_attached, attachings, event_attachings, attach_list, event_touches, touches, touch_of}
+use Rattle.cap_core.specs.declared.row_touch.RowTouch.{RowTouch}
+use Rattle.cap_core.specs.History.{Past, is_accepted, main, snapshot, event_effect, session_of, names_attached, attachings, event_attachings, attach_list, event_touches, touches, touch_of}
 use Rattle.cap_core.specs.Session.{SessionState, TouchedRows, is_listed, first_of_each, touched_rows}
-use Rattle.cap_core.specs.Touch.{Attaching, Touch, is_in_time, is_recorded, touches_of}
-use Rattle.cap_core.specs.Transition.{touch_key, touch_table, touch_session}
+use Rattle.cap_core.specs.Touch.{Attaching, Touch, is_cascade, is_in_time, is_recorded, touches_of}
+use Rattle.cap_core.specs.Transition.{touch_key, touch_table, touch_session, touches_by}
 use Rattle.cap_core.proofs.SmallLemmas.{both, first, second, either_false, other_false}
 use Rattle.cap_core.proofs.TouchedLemmas.{touch_more, touched_rows-append}
 
@@ -149,8 +152,8 @@ module _ {A : Type 0} where
   pub sessions-quiet : (event : Event A) (past : Past A) → IsQuiet event past → (numbers : List ℕ) → map {B = ℕ × SessionState A} (λ number. (number, session_of (event ∷ past) number)) numbers ≡ map (λ number. (number, session_of past number)) numbers
   sessions-quiet event past quiet numbers = λ i. map {B = ℕ × SessionState A} (λ number. (number, session_of-quiet number event past (quiet.attaches number) (quiet.touched number) i)) numbers
 
-  pub event_touches-none : (session : ℕ) (event : Event A) (past : Past A) → (event_effect (main past) event).changes ≡ [] → event_touches session event past ≡ []
-  event_touches-none session event past none = ap (λ changes. filter (is_recorded (attachings session (event ∷ past))) (map (touch_of past) (enumerate_from 0 changes))) none
+  pub event_touches-none : (session : ℕ) (event : Event A) (past : Past A) → (event_effect (snapshot past) event).changes ≡ [] → event_touches session event past ≡ []
+  event_touches-none session event past none = ap (λ changes. filter (is_recorded (attachings session (event ∷ past))) (filter_map (touch_of past) (enumerate_from 0 changes))) none
 
   -- ---- moments are of events that were
 
@@ -167,27 +170,41 @@ module _ {A : Type 0} where
 
   -- ---- changes to rows
 
+  -- a change to a row, as the history and as the state has it
+  abbrev touch_at : Past A → ℕ → Change A → Fields A → Touch A
+  touch_at past place change key =
+      record { event = length past; change = place; table = change.table; key = key; image = row_at (main past) change.table key; indirect = is_cascade change.cause }
+
+  abbrev row_touch : Past A → Change A → Fields A → RowTouch A
+  row_touch past change key = record { table = change.table; key = key; image = row_at (main past) change.table key; indirect = is_cascade change.cause }
+
   -- the touches of a listed table by an event are its changes to rows of that table
   fold-touches : (past : Past A) (moments : List Attaching) (name : List ℕ) → ((touch : Touch A) → touch.event ≡ length past → bytes_eq name touch.table ≡ true → is_recorded moments touch ≡ true)
-      → (n : ℕ) (changes : List (RowChange A)) (rows : TouchedRows A)
-      → fold touch_more rows (touches_of name (filter (is_recorded moments) (map (touch_of past) (enumerate_from n changes)))) ≡ fold (touch_table (main past) name) rows changes
+      → (n : ℕ) (changes : List (Change A)) (rows : TouchedRows A)
+      → fold touch_more rows (touches_of name (filter (is_recorded moments) (filter_map (touch_of past) (enumerate_from n changes)))) ≡ fold (touch_table name) rows (touches_by (main past) changes)
   fold-touches past moments name seen n [] rows = refl
   fold-touches past moments name seen n (change ∷ changes) rows =
-      let touch = touch_of past (n, change) in
-      let rest = filter (is_recorded moments) (map (touch_of past) (enumerate_from (n + 1) changes)) in
-      elim (bytes_eq name change.table) as (λ b. bytes_eq name change.table ≡ b → fold touch_more rows (touches_of name (cond (is_recorded moments touch) (touch ∷ rest) rest))
-      ≡ fold (touch_table (main past) name) (cond b (touch_key rows change.key (row_at (main past) change.table change.key) false) rows) changes) [
-        | true ↦ λ t.
-            ap (λ b. fold touch_more rows (touches_of name (cond b (touch ∷ rest) rest))) (seen touch refl t)
-            ∙ ap (λ b. fold touch_more rows (map (λ u. (u.key, u)) (cond b (touch ∷ filter (λ u. bytes_eq name u.table) rest) (filter (λ u. bytes_eq name u.table) rest)))) t
-            ∙ fold-touches past moments name seen (n + 1) changes (touch_key rows change.key (row_at (main past) change.table change.key) false)
-        | false ↦ λ t.
-            elim (is_recorded moments touch) as (λ b. fold touch_more rows (touches_of name (cond b (touch ∷ rest) rest)) ≡ fold touch_more rows (touches_of name rest)) [
-              | true ↦ ap (λ b. fold touch_more rows (map (λ u. (u.key, u)) (cond b (touch ∷ filter (λ u. bytes_eq name u.table) rest) (filter (λ u. bytes_eq name u.table) rest)))) t
-              | false ↦ refl
-            ]
-            ∙ fold-touches past moments name seen (n + 1) changes rows
-      ] refl
+      let later = filter_map (touch_of past) (enumerate_from (n + 1) changes) in
+      let rest = filter (is_recorded moments) later in
+      elim change.key as (λ k. fold touch_more rows (touches_of name (filter (is_recorded moments) (cons_option (option_map (touch_at past n change) k) later)))
+      ≡ fold (touch_table name) rows (cons_option (option_map (row_touch past change) k) (touches_by (main past) changes))) [
+        | None ↦ fold-touches past moments name seen (n + 1) changes rows
+        | Some key ↦
+            let touch = touch_at past n change key in
+            elim (bytes_eq name change.table) as (λ b. bytes_eq name change.table ≡ b → fold touch_more rows (touches_of name (cond (is_recorded moments touch) (touch ∷ rest) rest))
+            ≡ fold (touch_table name) (cond b (touch_key rows key touch.image touch.indirect) rows) (touches_by (main past) changes)) [
+              | true ↦ λ t.
+                  ap (λ b. fold touch_more rows (touches_of name (cond b (touch ∷ rest) rest))) (seen touch refl t)
+                  ∙ ap (λ b. fold touch_more rows (map (λ u. (u.key, u)) (cond b (touch ∷ filter (λ u. bytes_eq name u.table) rest) (filter (λ u. bytes_eq name u.table) rest)))) t
+                  ∙ fold-touches past moments name seen (n + 1) changes (touch_key rows key touch.image touch.indirect)
+              | false ↦ λ t.
+                  elim (is_recorded moments touch) as (λ b. fold touch_more rows (touches_of name (cond b (touch ∷ rest) rest)) ≡ fold touch_more rows (touches_of name rest)) [
+                    | true ↦ ap (λ b. fold touch_more rows (map (λ u. (u.key, u)) (cond b (touch ∷ filter (λ u. bytes_eq name u.table) rest) (filter (λ u. bytes_eq name u.table) rest)))) t
+                    | false ↦ refl
+                  ]
+                  ∙ fold-touches past moments name seen (n + 1) changes rows
+            ] refl
+      ]
 
   pub listed-recorded : (session : ℕ) (event : Event A) (past : Past A) → event_attachings session event past ≡ [] → (name : List ℕ) → is_listed name (attach_list session past) ≡ true
       → (touch : Touch A) → touch.event ≡ length past → bytes_eq name touch.table ≡ true → is_recorded (attachings session (event ∷ past)) touch ≡ true
@@ -197,19 +214,23 @@ module _ {A : Type 0} where
       (ap (λ k. list_all {X = Attaching} (λ moment. nat_lt moment.event k) (attachings session past)) at ∙ attachings-earlier session (length past) past (omega arith))
       (sym (is_listed-first_of_each name (map (λ moment. moment.table) (attachings session past))) ∙ listed)
 
+  -- the touches that an event makes, as the state has them
+  abbrev pub touched_by : Past A → Event A → List (RowTouch A)
+  touched_by past event = touches_by (main past) (event_effect (snapshot past) event).changes
+
   pub touched-after : (session : ℕ) (event : Event A) (past : Past A) → event_attachings session event past ≡ [] → (name : List ℕ) → is_listed name (attach_list session past) ≡ true
-      → touched_rows (touches_of name (touches session (event ∷ past))) ≡ fold (touch_table (main past) name) (touched_rows (touches_of name (touches session past))) (event_effect (main past) event).changes
+      → touched_rows (touches_of name (touches session (event ∷ past))) ≡ fold (touch_table name) (touched_rows (touches_of name (touches session past))) (touched_by past event)
   touched-after session event past attaches name listed =
       ap touched_rows (touches_of-append name (touches session past) (event_touches session event past))
       ∙ touched_rows-append (touches_of name (touches session past)) (touches_of name (event_touches session event past))
-      ∙ fold-touches past (attachings session (event ∷ past)) name (listed-recorded session event past attaches name listed) 0 (event_effect (main past) event).changes (touched_rows (touches_of name (touches session past)))
+      ∙ fold-touches past (attachings session (event ∷ past)) name (listed-recorded session event past attaches name listed) 0 (event_effect (snapshot past) event).changes (touched_rows (touches_of name (touches session past)))
 
   -- an event that attaches nothing
   pub session_of-changes : (session : ℕ) (event : Event A) (past : Past A) → event_attachings session event past ≡ []
-      → session_of (event ∷ past) session ≡ touch_session (main past) (event_effect (main past) event).changes (session_of past session)
+      → session_of (event ∷ past) session ≡ touch_session (touched_by past event) (session_of past session)
   session_of-changes session event past attaches =
       ap (map (λ name. (name, touched_rows (touches_of name (touches session (event ∷ past)))))) (attach_list-quiet session event past attaches)
       ∙ map-listed (λ name. (name, touched_rows (touches_of name (touches session (event ∷ past)))))
-      (λ name. (name, fold (touch_table (main past) name) (touched_rows (touches_of name (touches session past))) (event_effect (main past) event).changes)) (attach_list session past)
+      (λ name. (name, fold (touch_table name) (touched_rows (touches_of name (touches session past))) (touched_by past event))) (attach_list session past)
       (λ name listed. ap (λ rows. (name, rows)) (touched-after session event past attaches name listed))
-      ∙ sym (map-map (λ attached. (attached.0, fold (touch_table (main past) attached.0) attached.1 (event_effect (main past) event).changes)) (λ name. (name, touched_rows (touches_of name (touches session past)))) (attach_list session past))
+      ∙ sym (map-map (λ attached. (attached.0, fold (touch_table attached.0) attached.1 (touched_by past event))) (λ name. (name, touched_rows (touches_of name (touches session past)))) (attach_list session past))

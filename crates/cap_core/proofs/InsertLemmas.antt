@@ -6,10 +6,11 @@ use Rattle.std.specs.List.{filter_map, cons_option}
 use Rattle.std.specs.Ordering.{is_eq, eq_by_cmp, match_ordering}
 use Rattle.std.specs.Cmp.{tied_itself}
 use Rattle.std.specs.Cmp.Lexicographic.{bytes_decides, nat_list_eq_equiv}
+use Rattle.std.specs.FinMap.{IsAntisymmetric, nat_cmp-IsAntisymmetric, slice_cmp-IsAntisymmetric}
 use Rattle.std.specs.FinMap.Entries.{find, find-put}
 use Rattle.std.proofs.lemmas.Bool.Decides.{nat_tests}
 use Rattle.std.proofs.lemmas.Cmp.{nat_list_cmp_total}
-use Rattle.cap_value.specs.Bytes.{bytes_eq}
+use Rattle.cap_value.specs.Bytes.{bytes_cmp, bytes_eq}
 use Rattle.cap_value.specs.declared.refusal.Refusal.{Refusal}
 use Rattle.cap_value.specs.declared.refusal.Refusal.TheVariants.{Duplicate, WrongWidth}
 use Rattle.cap_row.specs.Fields.{Fields}
@@ -18,22 +19,24 @@ use Rattle.cap_changes.specs.Change.{change_of, full_record}
 use Rattle.cap_changes.specs.declared.change.Change.{Change}
 use Rattle.cap_changes.specs.declared.change.Change.TheVariants.{Insert as Inserted}
 use Rattle.cap_tree.specs.Tree.{get, put_entry}
+use Rattle.cap_table.specs.Operation.{placed, under_key, with_key}
+use Rattle.cap_table.specs.Table.{TableState}
+use Rattle.cap_txn.specs.Operation.{and_then, changes_in, changes_to, in_place, run, stepped}
+use Rattle.cap_txn.specs.Outcome.{OutcomeState}
+use Rattle.cap_txn.specs.Read.{row_at}
+use Rattle.cap_txn.specs.Tables.{Tables, table_of}
+use Rattle.cap_txn.specs.declared.cause.Cause.TheVariants.{Direct}
 use Rattle.cap_core.specs.declared.event.Event.{Event}
-use Rattle.cap_core.specs.declared.operation.Operation.TheVariants.{Insert}
 use Rattle.cap_core.specs.declared.touched_row.TouchedRow.{TouchedRow}
 use Rattle.cap_core.specs.Answer.{answer, write_reply, State, state_after}
-use Rattle.cap_core.specs.Database.{Database, row_at, table_of, with_row}
-use Rattle.cap_core.specs.History.{Past, attach_list, effect_of, event_attachings, event_effect, is_accepted, main, names_attached, session_of, touches}
-use Rattle.cap_core.specs.Insert.{HasChange, IsInsertOfAbsent, changes_by_key}
-use Rattle.cap_core.specs.Operation.{Effect, insert_keyed, insert_row, step}
-use Rattle.cap_core.specs.Outcome.{no_effect, outcome, refused_at}
+use Rattle.cap_core.specs.History.{Past, attach_list, effect_of, event_attachings, event_effect, is_accepted, main, names_attached, session_of, snapshot, touches}
+use Rattle.cap_core.specs.Insert.{HasChange, IsInsertOfAbsent, changes_by_key, insert_of}
+use Rattle.cap_core.specs.Outcome.{Refused as Why, commit_unless, made, no_effect, outcome, stale}
 use Rattle.cap_core.specs.Session.{TouchedRows, change_now, group_of, is_indirect, is_listed, session_changes, table_changes, touched_rows}
-use Rattle.cap_core.specs.Table.{TableState}
 use Rattle.cap_core.specs.Touch.{Attaching, Touch, touches_of}
-use Rattle.cap_core.specs.Transition.{touch_again, touch_key, touch_table}
+use Rattle.cap_core.specs.Transition.{touch_again, touch_key, touch_table, touches_by}
 use Rattle.cap_core.proofs.HistoryLemmas.{attach_list-quiet, touched-after}
 use Rattle.cap_core.proofs.LawLemmas.{first_image}
-use Rattle.cap_core.proofs.SoundLemmas.{absent_found, table_of-put}
 use Rattle.cap_core.proofs.TouchedLemmas.{fields_same, get-find, put_entry-put}
 
 -- ---- one item among those that a function makes
@@ -63,6 +66,13 @@ module _ {X Y : Type 0} (f : Y → Option X) (g : List ℕ → Y) (name : List �
           parts = ap (cons_option (f (g n))) rest.parts ∙ cons_option-append (f (g n)) rest.before x rest.after;
         }
       ] refl listed
+
+absent_found : {X : Type 0} (found : Option X) → is_some found ≡ false → found ≡ None
+absent_found None e = refl
+absent_found (Some x) e = cc
+
+names_same : IsAntisymmetric bytes_cmp
+names_same = slice_cmp-IsAntisymmetric nat_cmp-IsAntisymmetric
 
 never : (b : Bool) → (b && false) ≡ false
 never true = refl
@@ -110,33 +120,60 @@ module _ {A : Type 0} where
 
   -- ---- an accepted insert
 
-  abbrev insertion : Database A → List ℕ → TableState A → Fields A → Fields A → Effect A
-  insertion database name table key row = record { database = with_row database name table key row; changes = record { table = name; key = key } ∷ [] }
+  table_of-put : (tables : Tables A) (name : List ℕ) (table : TableState A) (q : List ℕ) → table_of (put_entry bytes_cmp tables name table) q ≡ cond (is_eq (bytes_cmp q name)) (Some table) (table_of tables q)
+  table_of-put tables name table q =
+      ap (λ es. get bytes_cmp es q) (put_entry-put bytes_cmp names_same tables name table)
+      ∙ get-find bytes_cmp _ q
+      ∙ find-put bytes_cmp nat_list_cmp_total q name table tables
+      ∙ ap (λ found. cond (is_eq (bytes_cmp q name)) (Some table) found) (sym (get-find bytes_cmp tables q))
+
+  abbrev insertion : Tables A → List ℕ → TableState A → Fields A → Fields A → OutcomeState A
+  insertion tables name table key row = record {
+    database = put_entry bytes_cmp tables name (with_key table key row);
+    changes = record { table = name; key = Some key; cause = Direct } ∷ [];
+  }
 
   -- the key was not there, and this is what the insert made
-  record WasInserted (database : Database A) (name : List ℕ) (table : TableState A) (key row : Fields A) (made : Result (Effect A) Refusal) : Type 0 where
-    fresh : get fields_cmp table.rows key ≡ None
-    is : made ≡ Ok (insertion database name table key row)
+  record WasInserted (tables : Tables A) (name : List ℕ) (table : TableState A) (key row : Fields A) (left : Result (OutcomeState A) Why) : Type 0 where
+    fresh : get fields_cmp table.keyed key ≡ None
+    is : left ≡ Ok (insertion tables name table key row)
 
-  keyed_inserted : (state : State A) (database : Database A) (name : List ℕ) (table : TableState A) (key row : Fields A)
-      → is_accepted (write_reply state (refused_at (Some 0) (insert_keyed database name table row (Some key)))) ≡ true → WasInserted database name table key row (insert_keyed database name table row (Some key))
-  keyed_inserted state database name table key row accepted =
-      let made : Result (Effect A) Refusal = Ok (insertion database name table key row) in
-      elim (is_some (get fields_cmp table.rows key)) as (λ b. is_some (get fields_cmp table.rows key) ≡ b → is_accepted (write_reply state (refused_at (Some 0) (cond b (Err Duplicate) made))) ≡ true → WasInserted database name table key row (cond b (Err Duplicate) made)) [
-        | true ↦ λ there refusal. cc
-        | false ↦ λ fresh _. record { fresh = absent_found (get fields_cmp table.rows key) fresh; is = refl }
-      ] refl accepted
+  -- one insert of a row that has this key, which left this of its table
+  abbrev ran : Tables A → List ℕ → Option (Fields A) → Result (TableState A) Refusal → Result (OutcomeState A) Why
+  ran tables name own after = made (and_then (changes_to name Direct (own ∷ [])) (in_place tables name after) (λ next. run next []))
 
-  row_inserted : (state : State A) (database : Database A) (name : List ℕ) (table : TableState A) (key row : Fields A) (own : Option (Fields A)) → own ≡ Some key
-      → is_accepted (write_reply state (refused_at (Some 0) (cond (length row == length table.schema) (insert_keyed database name table row own) (Err WrongWidth)))) ≡ true
-      → WasInserted database name table key row (cond (length row == length table.schema) (insert_keyed database name table row own) (Err WrongWidth))
-  row_inserted state database name table key row own is accepted =
-      elim (length row == length table.schema) as (λ b. is_accepted (write_reply state (refused_at (Some 0) (cond b (insert_keyed database name table row own) (Err WrongWidth)))) ≡ true
-      → WasInserted database name table key row (cond b (insert_keyed database name table row own) (Err WrongWidth))) [
-        | true ↦ λ a. subst (λ o. WasInserted database name table key row (insert_keyed database name table row o)) (sym is)
-            (keyed_inserted state database name table key row (ap (λ o. is_accepted (write_reply state (refused_at (Some 0) (insert_keyed database name table row o)))) (sym is) ∙ a))
-        | false ↦ λ a. cc
-      ] accepted
+  module _ (state : State A) (tables : Tables A) (name : List ℕ) (table : TableState A) (key row : Fields A) where
+    keyed_inserted : is_accepted (write_reply state (ran tables name (Some key) (placed table row (Some key)))) ≡ true → WasInserted tables name table key row (ran tables name (Some key) (placed table row (Some key)))
+    keyed_inserted accepted =
+        elim (is_some (get fields_cmp table.keyed key)) as (λ b. is_some (get fields_cmp table.keyed key) ≡ b → is_accepted (write_reply state (ran tables name (Some key) (under_key b table key row))) ≡ true
+        → WasInserted tables name table key row (ran tables name (Some key) (under_key b table key row))) [
+          | true ↦ λ there refusal. cc
+          | false ↦ λ fresh _. record { fresh = absent_found (get fields_cmp table.keyed key) fresh; is = refl }
+        ] refl accepted
+
+    row_inserted : (own : Option (Fields A)) → own ≡ Some key → is_accepted (write_reply state (ran tables name own (cond (length row == length table.schema) (placed table row own) (Err WrongWidth)))) ≡ true
+        → WasInserted tables name table key row (ran tables name own (cond (length row == length table.schema) (placed table row own) (Err WrongWidth)))
+    row_inserted own is accepted =
+        elim (length row == length table.schema) as (λ b. is_accepted (write_reply state (ran tables name own (cond b (placed table row own) (Err WrongWidth)))) ≡ true
+        → WasInserted tables name table key row (ran tables name own (cond b (placed table row own) (Err WrongWidth)))) [
+          | true ↦ λ a. subst (λ o. WasInserted tables name table key row (ran tables name o (placed table row o))) (sym is)
+              (keyed_inserted (ap (λ o. is_accepted (write_reply state (ran tables name o (placed table row o)))) (sym is) ∙ a))
+          | false ↦ λ a. cc
+        ] accepted
+
+    -- what one insert leaves where the table is this
+    abbrev ran_in : Option (TableState A) → Result (OutcomeState A) Why
+    ran_in found = made (and_then (changes_in found (insert_of name row)) (stepped tables found (insert_of name row)) (λ next. run next []))
+
+    found_inserted : (found : Option (TableState A)) → found ≡ Some table → key_of table.schema row ≡ Some key → is_accepted (write_reply state (ran_in found)) ≡ true → WasInserted tables name table key row (ran_in found)
+    found_inserted found there own accepted =
+        subst (λ f. WasInserted tables name table key row (ran_in f)) (sym there)
+        (row_inserted (key_of table.schema row) own (ap (λ f. is_accepted (write_reply state (ran_in f))) (sym there) ∙ accepted))
+
+    batch_inserted : (why : Option Refusal) → table_of tables name ≡ Some table → key_of table.schema row ≡ Some key → is_accepted (write_reply state (commit_unless why tables (insert_of name row ∷ []))) ≡ true
+        → WasInserted tables name table key row (commit_unless why tables (insert_of name row ∷ []))
+    batch_inserted (Some why) there own accepted = cc
+    batch_inserted None there own accepted = found_inserted (table_of tables name) there own accepted
 
   get-put : (rows : List (Fields A × Fields A)) (key row : Fields A) → get fields_cmp (put_entry fields_cmp rows key row) key ≡ Some row
   get-put rows key row =
@@ -158,17 +195,15 @@ module _ {A : Type 0} where
   -- ---- the event
 
   module _ (past : Past A) (event : Event A) (session : ℕ) (name : List ℕ) (table : TableState A) (key row : Fields A) (is : IsInsertOfAbsent past event session name table key row) where
-    inserted : WasInserted (main past) name table key row (step (main past) (Insert name row))
+    inserted : WasInserted (main past) name table key row (commit_unless (stale is.base (snapshot past).version) (main past) (insert_of name row ∷ []))
     inserted =
-        subst (λ found. WasInserted (main past) name table key row (insert_row (main past) name row found)) (sym is.there)
-        (row_inserted (state_after past) (main past) name table key row (key_of table.schema row) is.own
-        (ap (λ found. is_accepted (write_reply (state_after past) (refused_at (Some 0) (insert_row (main past) name row found)))) (sym is.there)
-        ∙ ap (λ c. is_accepted (answer (state_after past) c)) (sym is.inserts)
+        batch_inserted (state_after past) (main past) name table key row (stale is.base (snapshot past).version) is.there is.own
+        (ap (λ c. is_accepted (answer (state_after past) c)) (sym is.inserts)
         ∙ ap is_accepted (sym is.legal.0)
-        ∙ is.accepted))
+        ∙ is.accepted)
 
-    effect-is : event_effect (main past) event ≡ insertion (main past) name table key row
-    effect-is = (λ i. cond (is.accepted i) (effect_of (main past) (outcome (main past) (is.inserts i))) (no_effect (main past))) ∙ ap (λ r. effect_of (main past) (refused_at (Some 0) r)) inserted.is
+    effect-is : event_effect (snapshot past) event ≡ insertion (main past) name table key row
+    effect-is = (λ i. cond (is.accepted i) (effect_of (main past) (outcome (snapshot past) (is.inserts i))) (no_effect (main past))) ∙ ap (effect_of (main past)) inserted.is
 
     attaches : event_attachings session event past ≡ []
     attaches = λ i. cond (is.accepted i) (map (λ n. let moment : Attaching = record { table = n; event = length past; change = 0 } in moment) (names_attached session (is.inserts i))) []
@@ -183,21 +218,21 @@ module _ {A : Type 0} where
     image = row_at (main past) name key
 
     image-none : image ≡ None
-    image-none = ap (option_and_then (λ t. get fields_cmp t.rows key)) is.there ∙ inserted.fresh
+    image-none = ap (option_and_then (λ t. get fields_cmp t.keyed key)) is.there ∙ inserted.fresh
 
     rows-are : rows ≡ put_entry fields_cmp (touched_rows touched) key (record { image = None; indirect = false })
     rows-are =
         touched-after session event past attaches name is.attached
-        ∙ ap (λ (e : Effect A). fold (touch_table (main past) name) (touched_rows touched) e.changes) effect-is
+        ∙ ap (λ (e : OutcomeState A). fold (touch_table name) (touched_rows touched) (touches_by (main past) e.changes)) effect-is
         ∙ ap (λ b. cond b (touch_key (touched_rows touched) key image false) (touched_rows touched)) (nat_list_eq_equiv.refl name)
         ∙ ap (put_entry fields_cmp (touched_rows touched) key) (no_image touched key image image-none is.absent)
 
     abbrev table-now : TableState A
-    table-now = record table { rows = put_entry fields_cmp table.rows key row }
+    table-now = record table { keyed = put_entry fields_cmp table.keyed key row }
 
     table-after : table_of (main (event ∷ past)) name ≡ Some table-now
     table-after =
-        ap (λ (e : Effect A). table_of e.database name) effect-is
+        ap (λ (e : OutcomeState A). table_of e.database name) effect-is
         ∙ table_of-put (main past) name table-now name
         ∙ ap (λ o. cond (is_eq o) (Some table-now) (table_of (main past) name)) (tied_itself nat_list_cmp_total name)
 
@@ -207,7 +242,7 @@ module _ {A : Type 0} where
     here : get fields_cmp (changes_by_key table-now rows) key ≡ Some change
     here =
         ap (λ r. get fields_cmp (changes_by_key table-now r) key) rows-are
-        ∙ keyed-put table-now key (record { image = None; indirect = false }) change (ap (change_of table.schema false None) (get-put table.rows key row)) (touched_rows touched)
+        ∙ keyed-put table-now key (record { image = None; indirect = false }) change (ap (change_of table.schema false None) (get-put table.keyed key row)) (touched_rows touched)
 
     group-here : table_changes (name, rows) (table_of (main (event ∷ past)) name) ≡ Some (record { table = name; schema = table.schema; changes = map (λ k. k.1) (changes_by_key table-now rows) })
     group-here =

@@ -10,20 +10,20 @@ use Rattle.cap_changes.specs.Column.{by_column}
 use Rattle.cap_changes.specs.declared.change.Change.{Change}
 use Rattle.cap_changes.specs.declared.change.Change.TheVariants.{Update}
 use Rattle.cap_tree.specs.Tree.{get}
+use Rattle.cap_table.specs.Table.{TableState}
+use Rattle.cap_txn.specs.Outcome.{OutcomeState}
+use Rattle.cap_txn.specs.Tables.{Tables, table_of}
 use Rattle.cap_core.specs.declared.limits.TheConstants.{SESSIONS_MAX}
 use Rattle.cap_core.specs.declared.command.Command.{Command}
 use Rattle.cap_core.specs.declared.command.Command.TheVariants as command
 use Rattle.cap_core.specs.declared.event.Event.{Event}
 use Rattle.cap_core.specs.declared.reply.Reply.{Reply}
 use Rattle.cap_core.specs.declared.touched_row.TouchedRow.{TouchedRow}
-use Rattle.cap_core.specs.Answer.{State, IsLegal, IsLegalPast, answer, event_by, reply_of, session_numbered, state, state_after, write_reply}
-use Rattle.cap_core.specs.Database.{Database, table_of}
+use Rattle.cap_core.specs.Answer.{State, snapshot_of, IsLegal, IsLegalPast, answer, event_by, reply_of, session_numbered, state, state_after, write_reply}
 use Rattle.cap_core.specs.History.{Past, is_accepted, main, session_of, touches, attach_list}
-use Rattle.cap_core.specs.Operation.{Effect}
 use Rattle.cap_core.specs.Outcome.{Refused as Why, outcome}
 use Rattle.cap_core.specs.Replies.{replies_after}
 use Rattle.cap_core.specs.Session.{SessionState, TouchedRows, session_changes, table_changes, change_now, is_indirect, touched_rows}
-use Rattle.cap_core.specs.Table.{TableState}
 use Rattle.cap_core.specs.Touch.{Touch, touches_of}
 use Rattle.cap_core.specs.Transition.{next, one_more, after_write, after_attach}
 use Rattle.cap_core.proofs.NextLemmas.{IsLegal-push, after_refusal, next-is, state-push}
@@ -34,7 +34,7 @@ module _ {A : Type 0} where
   no_changes name None = refl
   no_changes name (Some table) = refl
 
-  untouched_tables : (database : Database A) (rows : List ℕ → TouchedRows A) → ((name : List ℕ) → rows name ≡ []) → (names : List (List ℕ)) → session_changes database (map (λ name. (name, rows name)) names) ≡ []
+  untouched_tables : (database : Tables A) (rows : List ℕ → TouchedRows A) → ((name : List ℕ) → rows name ≡ []) → (names : List (List ℕ)) → session_changes database (map (λ name. (name, rows name)) names) ≡ []
   untouched_tables database rows none [] = refl
   untouched_tables database rows none (name ∷ names) =
       ap (λ first. cons_option first (session_changes database (map (λ name. (name, rows name)) names))) (ap (λ r. table_changes (name, r) (table_of database name)) (none name) ∙ no_changes name (table_of database name))
@@ -56,7 +56,7 @@ module _ {A : Type 0} where
       let changed : Option (Change A) = Some (Update indirect (by_column old_field schema row row) (by_column new_field schema row row)) in
       ap (λ b. cond b None changed) (ap is_eq ((fields_cmp-Equal row row).1 refl))
 
-  pub restored : (table : TableState A) (key : Fields A) (touched : TouchedRow A) → touched.image ≡ get fields_cmp table.rows key → change_now table (key, touched) ≡ None
+  pub restored : (table : TableState A) (key : Fields A) (touched : TouchedRow A) → touched.image ≡ get fields_cmp table.keyed key → change_now table (key, touched) ≡ None
   restored table key touched same = ap (change_of table.schema touched.indirect touched.image) (sym same) ∙ restored_by table.schema touched.indirect touched.image
 
   -- ---- a history that goes on
@@ -80,18 +80,19 @@ module _ {A : Type 0} where
       ap (λ replies. answer (state_after past) c ∷ replies)
       (from-state (event_by 0 c (answer (state_after past) c) ∷ past) (refl, legal) commands ∙ ap (λ s. replies_from s commands) (sym (next-is past 0 c legal)))
 
-  write_reply-one_more : (s : State A) (r : Result (Effect A) Why) → write_reply (one_more s) r ≡ write_reply s r
+  write_reply-one_more : (s : State A) (r : Result (OutcomeState A) Why) → write_reply (one_more s) r ≡ write_reply s r
   write_reply-one_more s (Ok effect) = refl
   write_reply-one_more s (Err why) = refl
 
   answer-one_more : (s : State A) (c : Command A) → answer (one_more s) c ≡ answer s c
-  answer-one_more s (command.CreateTable name schema) = write_reply-one_more s (outcome s.main (command.CreateTable name schema))
-  answer-one_more s (command.Commit operation) = write_reply-one_more s (outcome s.main (command.Commit operation))
+  answer-one_more s (command.CreateTable name schema) = write_reply-one_more s (outcome (snapshot_of s) (command.CreateTable name schema))
+  answer-one_more s (command.Commit batch) = write_reply-one_more s (outcome (snapshot_of s) (command.Commit batch))
+  answer-one_more s command.Read = refl
   answer-one_more s command.NewSession = refl
   answer-one_more s (command.Attach number name) = refl
   answer-one_more s (command.Capture number) = refl
 
-  after_write-one_more : (s : State A) (r : Result (Effect A) Why) → after_write (one_more s) r ≡ one_more (after_write s r)
+  after_write-one_more : (s : State A) (r : Result (OutcomeState A) Why) → after_write (one_more s) r ≡ one_more (after_write s r)
   after_write-one_more s (Ok effect) = refl
   after_write-one_more s (Err why) = refl
 
@@ -100,8 +101,9 @@ module _ {A : Type 0} where
   after_attach-one_more s number name (Some session) = refl
 
   next-one_more : (s : State A) (c : Command A) → next (one_more s) c ≡ one_more (next s c)
-  next-one_more s (command.CreateTable name schema) = after_write-one_more s (outcome s.main (command.CreateTable name schema))
-  next-one_more s (command.Commit operation) = after_write-one_more s (outcome s.main (command.Commit operation))
+  next-one_more s (command.CreateTable name schema) = after_write-one_more s (outcome (snapshot_of s) (command.CreateTable name schema))
+  next-one_more s (command.Commit batch) = after_write-one_more s (outcome (snapshot_of s) (command.Commit batch))
+  next-one_more s command.Read = refl
   next-one_more s command.NewSession =
       let more : State A = record (one_more s) { sessions_made = s.sessions_made + 1; sessions = s.sessions ++ (s.sessions_made + 1, []) ∷ [] } in
       elim (nat_le SESSIONS_MAX (length s.sessions)) as (λ b. cond b (one_more (one_more s)) (one_more more) ≡ one_more (cond b (one_more s) more)) [ true ↦ refl | false ↦ refl ]

@@ -7,19 +7,19 @@ use Rattle.std.specs.Map.{lookup}
 use Rattle.std.proofs.lemmas.Bool.Decides.{nat_tests}
 use Rattle.cap_value.specs.declared.refusal.Refusal.TheVariants.{TooMany, NoSession}
 use Rattle.cap_value.specs.Bytes.{bytes_eq}
+use Rattle.cap_txn.specs.Batch.{SnapshotState}
 use Rattle.cap_core.specs.declared.limits.TheConstants.{SESSIONS_MAX}
 use Rattle.cap_core.specs.declared.event.Event.{Event}
 use Rattle.cap_core.specs.declared.command.Command.{Command}
 use Rattle.cap_core.specs.declared.command.Command.TheVariants as command
 use Rattle.cap_core.specs.declared.reply.Reply.{Reply}
-use Rattle.cap_core.specs.declared.reply.Reply.TheVariants.{Done, Written, Session as SessionMade, Capture, Refused}
+use Rattle.cap_core.specs.declared.reply.Reply.TheVariants.{Done, Written, Session as SessionMade, Snapshot, Capture, Refused}
 use Rattle.cap_core.specs.Answer.{event_by, state, reply_of, IsLegal, State, state_after, IsLegalPast, answer, session_numbered, write_reply, session_reply, attach_reply, capture_reply, refusal}
-use Rattle.cap_core.specs.Database.{Database}
-use Rattle.cap_core.specs.History.{Past, effect_of, event_effect, is_write, is_accepted, makes_session, main, version, sessions_made, sessions, live_sessions, session_of, names_attached, attachings, event_attachings, attach_list, event_touches, touches}
+use Rattle.cap_core.specs.History.{Past, effect_of, event_effect, is_write, is_accepted, makes_session, main, snapshot, version, sessions_made, sessions, live_sessions, session_of, names_attached, attachings, event_attachings, attach_list, event_touches, touches}
 use Rattle.cap_core.specs.Outcome.{no_effect, outcome}
 use Rattle.cap_core.specs.Session.{SessionState, TouchedRows, session_changes, first_of_each, is_listed, touched_rows}
 use Rattle.cap_core.specs.Touch.{Attaching, touches_of}
-use Rattle.cap_core.specs.Transition.{attach, next, after_write, after_new_session, after_attach, one_more, with_session, touch_session}
+use Rattle.cap_core.specs.Transition.{attach, next, after_write, after_new_session, after_attach, one_more, with_session, touch_session, touches_by}
 use Rattle.cap_core.proofs.HistoryLemmas.{IsQuiet, sessions-quiet, session_of-quiet, session_of-changes, event_touches-none, touches-quiet, first_of_each-push, is_listed-first_of_each, map-map, is_listed-map, none_of, touches_of-append}
 use Rattle.cap_core.proofs.SmallLemmas.{either_false}
 use Rattle.cap_core.proofs.TouchedLemmas.{touched_rows-none}
@@ -104,7 +104,8 @@ module _ {A : Type 0} where
   event_attachings-none past event number legal lt =
       elim event.command as (λ c. event.reply ≡ answer (state_after past) c → cond (is_accepted event.reply) (attached_at past (names_attached number c)) [] ≡ []) [
         | command.CreateTable name schema ↦ λ _. none_attached (is_accepted event.reply)
-        | command.Commit operation ↦ λ _. none_attached (is_accepted event.reply)
+        | command.Commit batch ↦ λ _. none_attached (is_accepted event.reply)
+        | command.Read ↦ λ _. none_attached (is_accepted event.reply)
         | command.NewSession ↦ λ _. none_attached (is_accepted event.reply)
         | command.Attach other name ↦ λ is. elim (nat_eq other number) as (λ b. nat_eq other number ≡ b → cond (is_accepted event.reply) (attached_at past (cond b (name ∷ []) [])) [] ≡ []) [
           | true ↦ λ t.
@@ -139,13 +140,13 @@ module _ {A : Type 0} where
 
   -- ---- one more event, command by command
 
-  effect-refused : (event : Event A) (database : Database A) → is_accepted event.reply ≡ false → event_effect database event ≡ no_effect database
-  effect-refused event database unaccepted = ap (λ b. cond b (effect_of database (outcome database event.command)) (no_effect database)) unaccepted
+  effect-refused : (event : Event A) (now : SnapshotState A) → is_accepted event.reply ≡ false → event_effect now event ≡ no_effect now.database
+  effect-refused event now unaccepted = ap (λ b. cond b (effect_of now.database (outcome now event.command)) (no_effect now.database)) unaccepted
 
   refused_quiet : (event : Event A) (past : Past A) → is_accepted event.reply ≡ false → IsQuiet event past
   refused_quiet event past unaccepted = record {
     attaches = λ number. ap (λ b. cond b (attached_at past (names_attached number event.command)) []) unaccepted;
-    touched = λ number. event_touches-none number event past (ap (λ e. e.changes) (effect-refused event (main past) unaccepted));
+    touched = λ number. event_touches-none number event past (ap (λ e. e.changes) (effect-refused event (snapshot past) unaccepted));
   }
 
   abbrev sessions_numbered : Past A → ℕ → List (ℕ × SessionState A)
@@ -155,26 +156,26 @@ module _ {A : Type 0} where
   after_refusal event past unaccepted =
       let made : sessions_made (event ∷ past) ≡ sessions_made past = ap (λ b. cond (b && makes_session event.command) (sessions_made past + 1) (sessions_made past)) unaccepted in
       same_state _ _ (add-one (length past))
-      (sym (ap (λ e. e.database) (effect-refused event (main past) unaccepted)))
+      (sym (ap (λ e. e.database) (effect-refused event (snapshot past) unaccepted)))
       (sym (ap (λ b. cond (b && is_write event.command) (version past + 1) (version past)) unaccepted))
       (sym made)
       (sym (ap (sessions_numbered (event ∷ past)) made ∙ sessions-quiet event past (refused_quiet event past unaccepted) (range_with_len 1 (sessions_made past))))
 
   next-write : (past : Past A) (by : ℕ) (c : Command A) → is_write c ≡ true → makes_session c ≡ false → ((number : ℕ) → names_attached number c ≡ [])
-      → after_write (state_after past) (outcome (main past) c) ≡ state_after (event_by by c (write_reply (state_after past) (outcome (main past) c)) ∷ past)
+      → after_write (state_after past) (outcome (snapshot past) c) ≡ state_after (event_by by c (write_reply (state_after past) (outcome (snapshot past) c)) ∷ past)
   next-write past by c writes none attaches =
-      elim (outcome (main past) c) as (λ r. outcome (main past) c ≡ r → after_write (state_after past) r ≡ state_after (event_by by c (write_reply (state_after past) r) ∷ past)) [
+      elim (outcome (snapshot past) c) as (λ r. outcome (snapshot past) c ≡ r → after_write (state_after past) r ≡ state_after (event_by by c (write_reply (state_after past) r) ∷ past)) [
         | Err why ↦ λ is. after_refusal (event_by by c (Refused why.0 why.1)) past refl
         | Ok effect ↦ λ is.
             let event : Event A = event_by by c (Written (version past + 1)) in
             let made : sessions_made (event ∷ past) ≡ sessions_made past = ap (λ b. cond b (sessions_made past + 1) (sessions_made past)) none in
-            let session : (number : ℕ) → touch_session (main past) effect.changes (session_of past number) ≡ session_of (event ∷ past) number =
-            λ number. ap (λ r. touch_session (main past) (effect_of (main past) r).changes (session_of past number)) (sym is) ∙ sym (session_of-changes number event past (ap (attached_at past) (attaches number))) in
+            let session : (number : ℕ) → touch_session (touches_by (main past) effect.changes) (session_of past number) ≡ session_of (event ∷ past) number =
+            λ number. ap (λ r. touch_session (touches_by (main past) (effect_of (main past) r).changes) (session_of past number)) (sym is) ∙ sym (session_of-changes number event past (ap (attached_at past) (attaches number))) in
             same_state _ _ (add-one (length past))
             (sym (ap (λ r. (effect_of (main past) r).database) is))
             (sym (ap (λ b. cond b (version past + 1) (version past)) writes))
             (sym made)
-            (map-map (λ session. (session.0, touch_session (main past) effect.changes session.1)) (λ number. (number, session_of past number)) (live_sessions past)
+            (map-map (λ session. (session.0, touch_session (touches_by (main past) effect.changes) session.1)) (λ number. (number, session_of past number)) (live_sessions past)
             ∙ (λ i. map (λ number. (number, session number i)) (live_sessions past))
             ∙ ap (sessions_numbered (event ∷ past)) (sym made))
       ] refl
@@ -255,9 +256,16 @@ module _ {A : Type 0} where
             same_state _ _ (add-one (length past)) refl refl refl (sym (sessions-quiet event past quiet (live_sessions past)))
       ]
 
+  next-read : (past : Past A) (by : ℕ) → one_more (state_after past) ≡ state_after (event_by by command.Read (Snapshot (snapshot past)) ∷ past)
+  next-read past by =
+      let event : Event A = event_by by command.Read (Snapshot (snapshot past)) in
+      let quiet : IsQuiet event past = record { attaches = λ _. refl; touched = λ other. event_touches-none other event past refl } in
+      same_state _ _ (add-one (length past)) refl refl refl (sym (sessions-quiet event past quiet (live_sessions past)))
+
   pub next-is : (past : Past A) (by : ℕ) (c : Command A) → IsLegalPast past → next (state_after past) c ≡ state_after (event_by by c (answer (state_after past) c) ∷ past)
   next-is past by (command.CreateTable name schema) legal = next-write past by (command.CreateTable name schema) refl refl (λ _. refl)
-  next-is past by (command.Commit operation) legal = next-write past by (command.Commit operation) refl refl (λ _. refl)
+  next-is past by (command.Commit batch) legal = next-write past by (command.Commit batch) refl refl (λ _. refl)
+  next-is past by command.Read legal = next-read past by
   next-is past by command.NewSession legal = next-new_session past by legal
   next-is past by (command.Attach number name) legal = next-attach past by number name
   next-is past by (command.Capture number) legal = next-capture past by number

@@ -1,6 +1,6 @@
 -- The touched rows of a list of touches, and what one more touch makes of them.
 use Rattle.std.proofs.lemmas.List.{append-nil}
-use Rattle.std.proofs.Common.{◌≡◌, Bool, true, false, cond, Option, Some, None, List, [], ◌∷◌, ◌++◌, ◌&&◌, map, refl, sym, ap, ap₂, subst, append_assoc, ◌∙◌, Ordering, Less, Equal, Greater, T}
+use Rattle.std.proofs.Common.{◌≡◌, Bool, true, false, cond, Option, Some, None, List, [], ◌∷◌, ◌++◌, ◌&&◌, ◌||◌, not, map, refl, sym, ap, ap₂, subst, append_assoc, ◌∙◌, Ordering, Less, Equal, Greater, T}
 use Rattle.std.specs.Prelude.{filter, fold, is_some}
 use Rattle.std.proofs.Math.Bool.{and-true}
 use Rattle.std.proofs.lemmas.List.Folds.{list_all-append}
@@ -82,6 +82,10 @@ module _ {K X Y : Type 0} (R : K → K → Ordering) (g : K → X → Y) where
   is_sorted-map [] = refl
   is_sorted-map (e ∷ es) = λ i. below_all-map e.0 es i && is_sorted-map es i
 
+noted_mark : (a b : Bool) → (not a || b) ≡ true → (a && b) ≡ a
+noted_mark true b is = is
+noted_mark false b is = refl
+
 module _ {A : Type 0} where
   pub fields_same : IsAntisymmetric (fields_cmp {A = A})
   fields_same a b = (fields_cmp-Equal a b).0
@@ -156,13 +160,12 @@ module _ {A : Type 0} where
         | false ↦ λ t. touched_at-other (find fields_cmp q touches) (is_indirect touches q)
       ] refl
 
-  -- a key that was touched directly stays as it is
-  pub touch_key-direct : (rows : TouchedRows A) (key : Fields A) (touched : TouchedRow A) (image : Option (Fields A)) → IsOrdered fields_cmp rows → get fields_cmp rows key ≡ Some touched → touched.indirect ≡ false
-      → touch_key rows key image false ≡ rows
-  touch_key-direct rows key touched image ordered is direct =
-      let mark : (touched.indirect && false) ≡ touched.indirect = ap (λ b. b && false) direct ∙ sym direct in
-      let kept : touch_again (get fields_cmp rows key) image false ≡ touched =
-      ap (λ found. touch_again found image false) is ∙ ap (λ b. record { image = touched.image; indirect = b }) mark in
+  -- a key that was touched directly, or indirectly as now, stays as it is
+  pub touch_key-noted : (rows : TouchedRows A) (key : Fields A) (touched : TouchedRow A) (image : Option (Fields A)) (indirect : Bool) → IsOrdered fields_cmp rows → get fields_cmp rows key ≡ Some touched
+      → (not touched.indirect || indirect) ≡ true → touch_key rows key image indirect ≡ rows
+  touch_key-noted rows key touched image indirect ordered is noted =
+      let kept : touch_again (get fields_cmp rows key) image indirect ≡ touched =
+      ap (λ found. touch_again found image indirect) is ∙ ap (λ b. record { image = touched.image; indirect = b }) (noted_mark touched.indirect indirect noted) in
       ap (put_entry fields_cmp rows key) kept ∙ put_entry-there fields_cmp fields_cmp_total fields_same rows key touched ordered is
 
   -- one more touch, under its key

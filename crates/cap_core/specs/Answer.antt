@@ -3,22 +3,23 @@ use Rattle.std.specs.Prelude.{◌≡◌, ℕ, Option, Some, None, Result, Ok, Er
 use Rattle.std.specs.Map.{lookup}
 use Rattle.cap_value.specs.declared.refusal.Refusal.{Refusal}
 use Rattle.cap_value.specs.declared.refusal.Refusal.TheVariants.{TooMany, NoSession}
+use Rattle.cap_txn.specs.Batch.{SnapshotState}
+use Rattle.cap_txn.specs.Outcome.{OutcomeState}
+use Rattle.cap_txn.specs.Tables.{Tables}
 use Rattle.cap_core.specs.declared.limits.TheConstants.{SESSIONS_MAX}
 use Rattle.cap_core.specs.declared.command.Command.{Command}
 use Rattle.cap_core.specs.declared.command.Command.TheVariants as command
 use Rattle.cap_core.specs.declared.event.Event.{Event}
 use Rattle.cap_core.specs.declared.reply.Reply.{Reply}
-use Rattle.cap_core.specs.declared.reply.Reply.TheVariants.{Done, Written, Session, Capture, Refused}
-use Rattle.cap_core.specs.Database.{Database}
+use Rattle.cap_core.specs.declared.reply.Reply.TheVariants.{Done, Written, Session, Snapshot, Capture, Refused}
 use Rattle.cap_core.specs.History.{Past, main, version, sessions_made, sessions}
-use Rattle.cap_core.specs.Operation.{Effect}
 use Rattle.cap_core.specs.Outcome.{Refused as Why, outcome}
 use Rattle.cap_core.specs.Session.{SessionState, session_changes}
 
 -- the number of events, the tables, the version, the number of sessions made, and the live sessions under their numbers, which rise
 pub record State (A : Type 0) : Type 0 where
   pub events : ℕ
-  pub main : Database A
+  pub main : Tables A
   pub version : ℕ
   pub sessions_made : ℕ
   pub sessions : List (ℕ × SessionState A)
@@ -27,11 +28,15 @@ module _ {A : Type 0} where
   abbrev pub session_numbered : List (ℕ × SessionState A) → ℕ → Option (SessionState A)
   session_numbered sessions number = lookup (nat_eq number) sessions
 
+  -- the tables with their version
+  abbrev pub snapshot_of : State A → SnapshotState A
+  snapshot_of state = record { version = state.version; database = state.main }
+
   abbrev pub refusal : Refusal → Reply A
   refusal why = Refused None why
 
   -- the reply to a command that writes
-  abbrev pub write_reply : State A → Result (Effect A) Why → Reply A
+  abbrev pub write_reply : State A → Result (OutcomeState A) Why → Reply A
   write_reply state (Ok effect) = Written (state.version + 1)
   write_reply state (Err why) = Refused why.0 why.1
 
@@ -42,14 +47,15 @@ module _ {A : Type 0} where
   attach_reply None = refusal NoSession
   attach_reply (Some session) = Done
 
-  abbrev pub capture_reply : Database A → Option (SessionState A) → Reply A
-  capture_reply database None = refusal NoSession
-  capture_reply database (Some session) = Capture (session_changes database session)
+  abbrev pub capture_reply : Tables A → Option (SessionState A) → Reply A
+  capture_reply tables None = refusal NoSession
+  capture_reply tables (Some session) = Capture (session_changes tables session)
 
   -- the reply to a command in a state
   abbrev pub answer : State A → Command A → Reply A
-  answer state (command.CreateTable name schema) = write_reply state (outcome state.main (command.CreateTable name schema))
-  answer state (command.Commit operation) = write_reply state (outcome state.main (command.Commit operation))
+  answer state (command.CreateTable name schema) = write_reply state (outcome (snapshot_of state) (command.CreateTable name schema))
+  answer state (command.Commit batch) = write_reply state (outcome (snapshot_of state) (command.Commit batch))
+  answer state command.Read = Snapshot (snapshot_of state)
   answer state command.NewSession = session_reply state
   answer state (command.Attach session name) = attach_reply (session_numbered state.sessions session)
   answer state (command.Capture session) = capture_reply state.main (session_numbered state.sessions session)

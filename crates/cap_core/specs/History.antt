@@ -1,17 +1,20 @@
 -- What a history leaves: read off all its events.
-use Rattle.std.specs.Prelude.{ℕ, Bool, true, false, Result, Ok, Err, List, [], ◌∷◌, ◌++◌, ◌+◌, length, map, filter, ◌&&◌, nat_eq, if◌then◌else◌}
-use Rattle.std.specs.List.{range_with_len, enumerate_from}
+use Rattle.std.specs.Prelude.{ℕ, Bool, true, false, Option, Result, Ok, Err, List, [], ◌∷◌, ◌++◌, ◌+◌, length, map, filter, ◌&&◌, nat_eq, if◌then◌else◌}
+use Rattle.std.specs.List.{range_with_len, enumerate_from, filter_map}
+use Rattle.std.specs.Option.{option_map}
+use Rattle.cap_txn.specs.Batch.{SnapshotState}
+use Rattle.cap_txn.specs.Outcome.{OutcomeState}
+use Rattle.cap_txn.specs.Read.{row_at}
+use Rattle.cap_txn.specs.Tables.{Tables}
+use Rattle.cap_txn.specs.declared.change.Change.{Change}
 use Rattle.cap_core.specs.declared.command.Command.{Command}
 use Rattle.cap_core.specs.declared.command.Command.TheVariants.{CreateTable, Commit, NewSession, Attach}
 use Rattle.cap_core.specs.declared.event.Event.{Event}
 use Rattle.cap_core.specs.declared.reply.Reply.{Reply}
 use Rattle.cap_core.specs.declared.reply.Reply.TheVariants as reply
-use Rattle.cap_core.specs.declared.row_change.RowChange.{RowChange}
-use Rattle.cap_core.specs.Database.{Database, row_at}
-use Rattle.cap_core.specs.Operation.{Effect}
 use Rattle.cap_core.specs.Outcome.{Refused, no_effect, outcome}
 use Rattle.cap_core.specs.Session.{SessionState, first_of_each, touched_rows}
-use Rattle.cap_core.specs.Touch.{Attaching, Touch, is_recorded, touches_of}
+use Rattle.cap_core.specs.Touch.{Attaching, Touch, is_cascade, is_recorded, touches_of}
 
 -- the events so far, the newest first
 abbrev pub Past : Type 0 → Type 0
@@ -24,28 +27,32 @@ module _ {A : Type 0} where
 
   -- ---- the tables and their version
 
-  abbrev pub effect_of : Database A → Result (Effect A) Refused → Effect A
-  effect_of database (Ok effect) = effect
-  effect_of database (Err why) = no_effect database
-
-  -- what an event made of the tables, and which rows it changed: nothing where it was refused
-  abbrev pub event_effect : Database A → Event A → Effect A
-  event_effect database event = if is_accepted event.reply then effect_of database (outcome database event.command) else no_effect database
-
-  -- the tables: the empty database, and then each event's effect in turn
-  abbrev pub main : Past A → Database A
-  main [] = []
-  main (event ∷ past) = (event_effect (main past) event).database
-
   abbrev pub is_write : Command A → Bool
   is_write (CreateTable name schema) = true
-  is_write (Commit operation) = true
+  is_write (Commit batch) = true
   is_write _ = false
 
   -- the number of accepted commands that write
   abbrev pub version : Past A → ℕ
   version [] = 0
   version (event ∷ past) = if is_accepted event.reply && is_write event.command then version past + 1 else version past
+
+  abbrev pub effect_of : Tables A → Result (OutcomeState A) Refused → OutcomeState A
+  effect_of tables (Ok effect) = effect
+  effect_of tables (Err why) = no_effect tables
+
+  -- what an event made of the tables, and which rows it changed: nothing where it was refused
+  abbrev pub event_effect : SnapshotState A → Event A → OutcomeState A
+  event_effect now event = if is_accepted event.reply then effect_of now.database (outcome now event.command) else no_effect now.database
+
+  -- the tables: the empty database, and then each event's effect in turn
+  abbrev pub main : Past A → Tables A
+  main [] = []
+  main (event ∷ past) = (event_effect (record { version = version past; database = main past }) event).database
+
+  -- the tables with their version
+  abbrev pub snapshot : Past A → SnapshotState A
+  snapshot past = record { version = version past; database = main past }
 
   -- ---- the sessions
 
@@ -85,21 +92,22 @@ module _ {A : Type 0} where
 
   -- ---- the touches
 
-  -- a change to a row in the event after this past, as a touch of its key: the image is the row before the event
-  abbrev pub touch_of : Past A → ℕ × RowChange A → Touch A
-  touch_of past change = record {
+  -- A change to a row in the event after this past, as a touch of its key: the image is the row before the event. A row
+  -- without a key is never touched.
+  abbrev pub touch_of : Past A → ℕ × Change A → Option (Touch A)
+  touch_of past change = option_map (λ key. record {
     event = length past;
     change = change.0;
     table = change.1.table;
-    key = change.1.key;
-    image = row_at (main past) change.1.table change.1.key;
-    indirect = false;
-  }
+    key = key;
+    image = row_at (main past) change.1.table key;
+    indirect = is_cascade change.1.cause;
+  }) change.1.key
 
   -- the touches by an event: its changes to rows of tables that were attached by then
   abbrev pub event_touches : ℕ → Event A → Past A → List (Touch A)
   event_touches session event past =
-      filter (is_recorded (attachings session (event ∷ past))) (map (touch_of past) (enumerate_from 0 (event_effect (main past) event).changes))
+      filter (is_recorded (attachings session (event ∷ past))) (filter_map (touch_of past) (enumerate_from 0 (event_effect (snapshot past) event).changes))
 
   -- the touches of a session, in order of time
   abbrev pub touches : ℕ → Past A → List (Touch A)

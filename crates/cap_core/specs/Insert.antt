@@ -1,5 +1,5 @@
 -- An insert of a row into an attached table, and how a capture shows it.
-use Rattle.std.specs.Prelude.{◌≡◌, ℕ, Bool, true, Some, None, List, ◌∷◌, ◌++◌, map}
+use Rattle.std.specs.Prelude.{◌≡◌, ℕ, Bool, true, Option, Some, None, List, [], ◌∷◌, ◌++◌, map}
 use Rattle.std.specs.List.{filter_map}
 use Rattle.std.specs.Option.{option_map}
 use Rattle.cap_row.specs.Fields.{Fields}
@@ -7,22 +7,29 @@ use Rattle.cap_row.specs.Key.{fields_cmp, key_of}
 use Rattle.cap_changes.specs.Group.{TableChanges}
 use Rattle.cap_changes.specs.declared.change.Change.{Change}
 use Rattle.cap_tree.specs.Tree.{get}
+use Rattle.cap_table.specs.Table.{TableState}
+use Rattle.cap_txn.specs.Batch.{BatchState}
+use Rattle.cap_txn.specs.Tables.{table_of}
+use Rattle.cap_txn.specs.declared.cause.Cause.TheVariants.{Direct}
+use Rattle.cap_txn.specs.declared.op.Action.TheVariants.{Insert}
+use Rattle.cap_txn.specs.declared.op.Op.{Op}
 use Rattle.cap_core.specs.declared.command.Command.TheVariants.{Commit}
 use Rattle.cap_core.specs.declared.event.Event.{Event}
-use Rattle.cap_core.specs.declared.operation.Operation.TheVariants as operation
 use Rattle.cap_core.specs.Answer.{IsLegalPast}
-use Rattle.cap_core.specs.Database.{table_of}
 use Rattle.cap_core.specs.History.{Past, attach_list, is_accepted, main, touches}
 use Rattle.cap_core.specs.Session.{TouchedRows, change_now, is_listed}
-use Rattle.cap_core.specs.Table.{TableState}
 use Rattle.cap_core.specs.Touch.{Touch, touches_of}
 
 module _ {A : Type 0} where
+  abbrev pub insert_of : List ℕ → Fields A → Op A
+  insert_of name row = record { table = name; cause = Direct; action = Insert row }
+
   -- After the past comes an accepted insert of a row with this key into a table that is attached to the session, and
   -- the key had no row where the session's first touch of it came, if there was one.
   pub record IsInsertOfAbsent (past : Past A) (event : Event A) (session : ℕ) (name : List ℕ) (table : TableState A) (key row : Fields A) : Type 0 where
     pub legal : IsLegalPast (event ∷ past)
-    pub inserts : event.command ≡ Commit (operation.Insert name row)
+    pub base : Option ℕ
+    pub inserts : event.command ≡ Commit (record { base = base; ops = insert_of name row ∷ [] })
     pub accepted : is_accepted event.reply ≡ true
     pub there : table_of (main past) name ≡ Some table
     pub own : key_of table.schema row ≡ Some key

@@ -1,11 +1,8 @@
 pub mod Answer
-pub mod Assigned
 pub mod Code
 pub mod Confirm
-pub mod Database
 pub mod History
 pub mod Insert
-pub mod Operation
 pub mod Outcome
 pub mod Replies
 pub mod Session

@@ -10,9 +10,9 @@ use Rattle.cap_tree.specs.Tree.{get}
 use Rattle.cap_changes.specs.Group.{TableChanges}
 use Rattle.cap_changes.specs.declared.change.Change.{Change}
 use Rattle.cap_changes.specs.Change.{change_of}
+use Rattle.cap_table.specs.Table.{TableState}
+use Rattle.cap_txn.specs.Tables.{Tables, table_of}
 use Rattle.cap_core.specs.declared.touched_row.TouchedRow.{TouchedRow}
-use Rattle.cap_core.specs.Database.{Database, table_of}
-use Rattle.cap_core.specs.Table.{TableState}
 use Rattle.cap_core.specs.Touch.{Touch}
 
 -- the touched keys of a table, in their order, each with its first image and its mark
@@ -44,7 +44,7 @@ module _ {A : Type 0} where
 
   -- the change of one touched key, from its first image to the row now
   abbrev pub change_now : TableState A → Fields A × TouchedRow A → Option (Change A)
-  change_now table touched = change_of table.schema touched.1.indirect touched.1.image (get fields_cmp table.rows touched.0)
+  change_now table touched = change_of table.schema touched.1.indirect touched.1.image (get fields_cmp table.keyed touched.0)
 
   -- the changes of a table, where there are any
   abbrev pub group_of : List ℕ → List Bool → List (Change A) → Option (TableChanges A)
@@ -56,5 +56,5 @@ module _ {A : Type 0} where
   table_changes attached (Some table) = group_of attached.0 table.schema (filter_map (change_now table) attached.1)
 
   -- the changes of a session: attached tables in order, without those that have no change
-  abbrev pub session_changes : Database A → SessionState A → List (TableChanges A)
-  session_changes database session = filter_map (λ attached. table_changes attached (table_of database attached.0)) session
+  abbrev pub session_changes : Tables A → SessionState A → List (TableChanges A)
+  session_changes tables session = filter_map (λ attached. table_changes attached (table_of tables attached.0)) session

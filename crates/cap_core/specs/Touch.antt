@@ -1,8 +1,10 @@
 -- The touches of a session, and the moments at which its tables were attached.
-use Rattle.std.specs.Prelude.{ℕ, Bool, Option, List, map, filter, ◌&&◌, ◌||◌, nat_eq, nat_lt, nat_le}
+use Rattle.std.specs.Prelude.{ℕ, Bool, true, false, Option, List, map, filter, ◌&&◌, ◌||◌, nat_eq, nat_lt, nat_le}
 use Rattle.std.specs.List.{list_any}
 use Rattle.cap_value.specs.Bytes.{bytes_eq}
 use Rattle.cap_row.specs.Fields.{Fields}
+use Rattle.cap_txn.specs.declared.cause.Cause.{Cause}
+use Rattle.cap_txn.specs.declared.cause.Cause.TheVariants.{Direct, Cascade}
 
 -- An attaching moment of a table: the place of its event in the history, and within the event the place of the
 -- change that attached it. Both count from 0.
@@ -19,6 +21,11 @@ pub record Touch (A : Type 0) : Type 0 where
   pub key : Fields A
   pub image : Option (Fields A)
   pub indirect : Bool
+
+-- what a trigger or a foreign key action does touches indirectly
+abbrev pub is_cascade : Cause → Bool
+is_cascade Direct = false
+is_cascade Cascade = true
 
 module _ {A : Type 0} where
   -- not later than the touch

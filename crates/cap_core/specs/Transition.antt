@@ -1,21 +1,25 @@
 -- The state after one more command, by the state alone. Laws tie it to what a history leaves, where no session's
 -- touched rows are kept from one event to the next.
-use Rattle.std.specs.Prelude.{ℕ, Bool, false, Option, Some, None, Result, Ok, Err, List, [], ◌∷◌, ◌++◌, ◌+◌, ◌&&◌, map, fold, length, nat_eq, nat_le, if◌then◌else◌}
-use Rattle.std.specs.List.{list_any}
+use Rattle.std.specs.Prelude.{ℕ, Bool, Option, Some, None, Result, Ok, Err, List, [], ◌∷◌, ◌++◌, ◌+◌, ◌&&◌, map, fold, length, nat_eq, nat_le, if◌then◌else◌}
+use Rattle.std.specs.List.{filter_map, list_any}
+use Rattle.std.specs.Option.{option_map}
 use Rattle.cap_value.specs.Bytes.{bytes_eq}
 use Rattle.cap_row.specs.Fields.{Fields}
 use Rattle.cap_row.specs.Key.{fields_cmp}
 use Rattle.cap_tree.specs.Tree.{get, put_entry}
+use Rattle.cap_txn.specs.Outcome.{OutcomeState}
+use Rattle.cap_txn.specs.Read.{row_at}
+use Rattle.cap_txn.specs.Tables.{Tables}
+use Rattle.cap_txn.specs.declared.change.Change.{Change}
 use Rattle.cap_core.specs.declared.limits.TheConstants.{SESSIONS_MAX}
 use Rattle.cap_core.specs.declared.command.Command.{Command}
 use Rattle.cap_core.specs.declared.command.Command.TheVariants as command
-use Rattle.cap_core.specs.declared.row_change.RowChange.{RowChange}
+use Rattle.cap_core.specs.declared.row_touch.RowTouch.{RowTouch}
 use Rattle.cap_core.specs.declared.touched_row.TouchedRow.{TouchedRow}
-use Rattle.cap_core.specs.Answer.{State, session_numbered}
-use Rattle.cap_core.specs.Database.{Database, row_at}
-use Rattle.cap_core.specs.Operation.{Effect}
+use Rattle.cap_core.specs.Answer.{State, session_numbered, snapshot_of}
 use Rattle.cap_core.specs.Outcome.{Refused, outcome}
 use Rattle.cap_core.specs.Session.{SessionState, TouchedRows}
+use Rattle.cap_core.specs.Touch.{is_cascade}
 
 module _ {A : Type 0} where
   -- a key that was touched before keeps its image, and is indirect only if this touch is too
@@ -26,17 +30,24 @@ module _ {A : Type 0} where
   abbrev pub touch_key : TouchedRows A → Fields A → Option (Fields A) → Bool → TouchedRows A
   touch_key rows key image indirect = put_entry fields_cmp rows key (touch_again (get fields_cmp rows key) image indirect)
 
-  -- the touched rows of the table of this name after a change to a row of any table, which was as these tables have it
-  abbrev pub touch_table : Database A → List ℕ → TouchedRows A → RowChange A → TouchedRows A
-  touch_table before name rows change =
-      if bytes_eq name change.table then touch_key rows change.key (row_at before change.table change.key) false else rows
+  -- A change to a row, as a touch of its key with the row before the command. A row without a key is never touched.
+  abbrev pub touch_by : Tables A → Change A → Option (RowTouch A)
+  touch_by before change =
+      option_map (λ key. record { table = change.table; key = key; image = row_at before change.table key; indirect = is_cascade change.cause }) change.key
 
-  -- a session after changes to rows
-  abbrev pub touch_session : Database A → List (RowChange A) → SessionState A → SessionState A
-  touch_session before changes session = map (λ attached. (attached.0, fold (touch_table before attached.0) attached.1 changes)) session
+  abbrev pub touches_by : Tables A → List (Change A) → List (RowTouch A)
+  touches_by before changes = filter_map (touch_by before) changes
 
-  abbrev pub touch_sessions : Database A → List (RowChange A) → List (ℕ × SessionState A) → List (ℕ × SessionState A)
-  touch_sessions before changes sessions = map (λ session. (session.0, touch_session before changes session.1)) sessions
+  -- the touched rows of the table of this name after a touch of a row of any table
+  abbrev pub touch_table : List ℕ → TouchedRows A → RowTouch A → TouchedRows A
+  touch_table name rows touch = if bytes_eq name touch.table then touch_key rows touch.key touch.image touch.indirect else rows
+
+  -- a session after touches
+  abbrev pub touch_session : List (RowTouch A) → SessionState A → SessionState A
+  touch_session touches session = map (λ attached. (attached.0, fold (touch_table attached.0) attached.1 touches)) session
+
+  abbrev pub touch_sessions : List (RowTouch A) → List (ℕ × SessionState A) → List (ℕ × SessionState A)
+  touch_sessions touches sessions = map (λ session. (session.0, touch_session touches session.1)) sessions
 
   -- a name goes last in the attach list unless it is there
   abbrev pub attach : List ℕ → SessionState A → SessionState A
@@ -50,9 +61,12 @@ module _ {A : Type 0} where
   abbrev pub one_more : State A → State A
   one_more state = record state { events = state.events + 1 }
 
-  abbrev pub after_write : State A → Result (Effect A) Refused → State A
-  after_write state (Ok effect) =
-      record (one_more state) { main = effect.database; version = state.version + 1; sessions = touch_sessions state.main effect.changes state.sessions }
+  -- these tables, one version later, and these touches
+  abbrev pub written : State A → Tables A → List (RowTouch A) → State A
+  written state tables touches = record (one_more state) { main = tables; version = state.version + 1; sessions = touch_sessions touches state.sessions }
+
+  abbrev pub after_write : State A → Result (OutcomeState A) Refused → State A
+  after_write state (Ok outcome) = written state outcome.database (touches_by state.main outcome.changes)
   after_write state (Err why) = one_more state
 
   abbrev pub after_new_session : State A → State A
@@ -66,8 +80,8 @@ module _ {A : Type 0} where
 
   -- the state after a command: where it is not named it leaves everything but the number of events
   abbrev pub next : State A → Command A → State A
-  next state (command.CreateTable name schema) = after_write state (outcome state.main (command.CreateTable name schema))
-  next state (command.Commit operation) = after_write state (outcome state.main (command.Commit operation))
+  next state (command.CreateTable name schema) = after_write state (outcome (snapshot_of state) (command.CreateTable name schema))
+  next state (command.Commit batch) = after_write state (outcome (snapshot_of state) (command.Commit batch))
   next state command.NewSession = after_new_session state
   next state (command.Attach number name) = after_attach state number name (session_numbered state.sessions number)
   next state _ = one_more state

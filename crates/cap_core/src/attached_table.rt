@@ -1,12 +1,10 @@
-ghost use Rattle.std.specs.Prelude.{◌≡◌, false, [], IfOk, OnOk, fold};
+ghost use Rattle.std.specs.Prelude.{◌≡◌, IsTrue, [], IfOk, OnOk, fold};
 ghost use Rattle.std.specs.Option.{option_copied, unwrap_or};
 ghost use Rattle.cap_core.specs.Code.Attached.{tables_of, waiting_tables};
-ghost use Rattle.cap_core.specs.Database.{row_at};
 ghost use Rattle.cap_core.specs.Transition.{touch_again, touch_key, touch_table, touch_session};
 
-use crate::effect::{Database, row_at};
-use crate::{RowChange, TouchedRow};
-use cap_row::{Key, Row};
+use crate::{RowTouch, TouchedRow};
+use cap_row::Key;
 use cap_tree::Tree;
 use cap_value::{AllocHandle, Name, OutOfMemory};
 
@@ -50,18 +48,17 @@ impl<A: AllocHandle> AttachedTable<A> {
     }
 }
 
-/// Makes the touched rows after these changes to these tables, which wait until they are taken over.
+/// Makes the touched rows after these touches, which wait until they are taken over.
 pub(crate) fn touch_tables<A: AllocHandle>(
     tables: &mut [AttachedTable<A>],
-    before: &Database<A>,
-    changes: &[RowChange<A>],
+    touches: &[RowTouch<A>],
 ) -> Result<(), OutOfMemory>
     ensures same { tables_of tables.new ≡ tables_of tables.old }
     ensures waiting { OnOk result (waiting_tables tables.new
-        ≡ touch_session before.now changes.now (tables_of tables.old)) }
+        ≡ touch_session touches.now (tables_of tables.old)) }
 {
     for table in tables.iter_mut() {
-        table.waiting = touched_after(&table.name, &table.touched, before, changes)?;
+        table.waiting = touched_after(&table.name, &table.touched, touches)?;
     }
     Ok(())
 }
@@ -77,88 +74,112 @@ pub(crate) fn take_over_tables<A: AllocHandle>(tables: &mut [AttachedTable<A>])
     }
 }
 
-// The touched rows of the table of this name after changes to rows of any table, or none where they stay the
-// same.
+// The touched rows of the table of this name after touches of rows of any table, or none where they stay the same.
 fn touched_after<A: AllocHandle>(
     name: &Name<A>,
     touched: &TouchedRows<A>,
-    before: &Database<A>,
-    changes: &[RowChange<A>],
+    touches: &[RowTouch<A>],
 ) -> Result<Option<TouchedRows<A>>, OutOfMemory>
     ensures { IfOk result (λ rows. unwrap_or rows touched.now
-        ≡ fold (touch_table before.now name.now) touched.now changes.now) }
+        ≡ fold (touch_table name.now) touched.now touches.now) }
 {
     let mut rows = None;
-    for change in changes {
-        rows = touch_table(name, touched, rows, before, change)?;
+    for touch in touches {
+        rows = touch_table(name, touched, rows, touch)?;
     }
     Ok(rows)
 }
 
-// The rows that come after these, or none, with one change more.
+// The rows that come after these, or none, with one touch more.
 fn touch_table<A: AllocHandle>(
     name: &Name<A>,
     touched: &TouchedRows<A>,
     rows: Option<TouchedRows<A>>,
-    before: &Database<A>,
-    change: &RowChange<A>,
+    touch: &RowTouch<A>,
 ) -> Result<Option<TouchedRows<A>>, OutOfMemory>
     ensures { IfOk result (λ after. unwrap_or after touched.now
-        ≡ touch_table before.now name.now (unwrap_or rows touched.now) change.now) }
+        ≡ touch_table name.now (unwrap_or rows touched.now) touch.now) }
 {
-    if *name != change.table {
+    if *name != touch.table {
         return Ok(rows);
     }
     match rows {
-        None => touch_key(touched, before, change),
-        Some(rows) => match touch_key(&rows, before, change)? {
-            None => Ok(Some(rows)),
-            Some(after) => Ok(Some(after)),
-        },
+        None => touch_shared(touched, touch),
+        Some(rows) => Ok(Some(touch_key(rows, touch)?)),
     }
 }
 
-// The touched rows after a direct touch of a key, or none where they stay the same: where each touch of the
-// key was direct nothing is written anew.
-fn touch_key<A: AllocHandle>(
+// The rows that come after these with a touch, or none where they stay the same. These stay as they are.
+fn touch_shared<A: AllocHandle>(
     rows: &TouchedRows<A>,
-    before: &Database<A>,
-    change: &RowChange<A>,
+    touch: &RowTouch<A>,
 ) -> Result<Option<TouchedRows<A>>, OutOfMemory>
     ensures { IfOk result (λ after. unwrap_or after rows.now
-        ≡ touch_key rows.now change.now.key (row_at before.now change.now.table change.now.key) false) }
+        ≡ touch_key rows.now touch.now.key touch.now.image touch.now.indirect) }
+{
+    if is_noted(rows, touch) {
+        return Ok(None);
+    }
+    Ok(Some(touch_key(rows.snapshot()?, touch)?))
+}
+
+// The rows with a touch.
+fn touch_key<A: AllocHandle>(
+    rows: TouchedRows<A>,
+    touch: &RowTouch<A>,
+) -> Result<TouchedRows<A>, OutOfMemory>
+    ensures { IfOk result (λ after. after ≡ touch_key rows touch.now.key touch.now.image touch.now.indirect) }
+{
+    if is_noted(&rows, touch) {
+        return Ok(rows);
+    }
+    let mut rows = rows;
+    let touched = touch_again(rows.get(&touch.key), touch)?;
+    rows.insert(touch.key.copy()?, touched)?;
+    Ok(rows)
+}
+
+// Whether a touch leaves the rows as they are: its key was touched directly, or indirectly as now.
+fn is_noted<A: AllocHandle>(rows: &TouchedRows<A>, touch: &RowTouch<A>) -> bool
+    ensures { IsTrue result
+        → touch_key rows.now touch.now.key touch.now.image touch.now.indirect ≡ rows.now }
 {
     // The count shows that the keys are in order.
     let _count = rows.len();
-    let found = rows.get(&change.key);
-    if let Some(touched) = found {
-        if !touched.indirect {
-            return Ok(None);
-        }
+    match rows.get(&touch.key) {
+        Some(touched) => !touched.indirect || touch.indirect,
+        None => false,
     }
-    let image = row_at(before, &change.table, &change.key);
-    let touched = touch_again(found, image)?;
-    Ok(Some(rows.put(change.key.copy()?, touched)?))
 }
 
-// What is kept of a row after a direct touch: where it was touched before it keeps its image.
+// What is kept of a row after a touch: where it was touched before it keeps its image.
 fn touch_again<A: AllocHandle>(
     before: Option<&TouchedRow<A>>,
-    image: Option<&Row<A>>,
+    touch: &RowTouch<A>,
 ) -> Result<TouchedRow<A>, OutOfMemory>
     ensures { IfOk result (λ r. r
-        ≡ touch_again (option_copied before.entry) (option_copied image.entry) false) }
+        ≡ touch_again (option_copied before.entry) touch.now.image touch.now.indirect) }
 {
-    let image = match before {
-        Some(touched) => touched.image.as_ref(),
-        None => image,
-    };
-    let image = match image {
+    match before {
+        Some(touched) => {
+            let mut again = touched.copy()?;
+            again.indirect = touched.indirect && touch.indirect;
+            Ok(again)
+        }
+        None => first_touch(touch),
+    }
+}
+
+// What is kept of a row that is touched first.
+fn first_touch<A: AllocHandle>(touch: &RowTouch<A>) -> Result<TouchedRow<A>, OutOfMemory>
+    ensures { IfOk result (λ r. r ≡ record { image = touch.now.image; indirect = touch.now.indirect }) }
+{
+    let image = match &touch.image {
         Some(row) => Some(row.copy()?),
         None => None,
     };
     Ok(TouchedRow {
         image,
-        indirect: false,
+        indirect: touch.indirect,
     })
 }

@@ -1,7 +1,10 @@
 ghost use Rattle.std.specs.Prelude.{◌≡◌, [], ◌∷◌, ◌++◌, Some, IfOk, IfSome, IsTrue};
 ghost use Rattle.std.specs.List.{cons_option, filter_map, list_all};
 ghost use Rattle.std.specs.Option.{option_copied, option_map, ForSome};
+ghost use Rattle.cap_row.specs.Key.{fields_cmp};
 ghost use Rattle.cap_row.specs.Schema.{has_key};
+ghost use Rattle.cap_table.specs.Sound.{keyed_stands};
+ghost use Rattle.cap_tree.specs.Tree.{get};
 ghost use Rattle.cap_changes.specs.Fits.{change_fits};
 ghost use Rattle.cap_codec.specs.Changeset.{list_bytes};
 ghost use Rattle.cap_core.specs.Code.Attached.{attached_changes, table_stands, tables_of};
@@ -11,11 +14,11 @@ ghost use Rattle.cap_core.specs.Session.{session_changes, table_changes, change_
 
 use crate::TouchedRow;
 use crate::attached_table::{AttachedTable, TouchedRows};
-use crate::effect::Database;
-use crate::table::Table;
 use cap_changes::{Change, ChangeList, Group, change_between};
 use cap_codec::write_changes;
-use cap_row::{Key, Schema};
+use cap_row::{Key, Row, Schema};
+use cap_table::Table;
+use cap_txn::Database;
 use cap_value::{AllocHandle, Name, OutOfMemory};
 use std::marker::Model;
 
@@ -79,7 +82,7 @@ fn changes_of_tables<A: AllocHandle>(
 {
     let mut list = ChangeList::new(alloc);
     for table in tables {
-        let group = changes_of_table(alloc, table, main.get(&table.name))?;
+        let group = changes_of_table(alloc, table, main.table(&table.name))?;
         list = with_group(list, group)?;
     }
     Ok(list)
@@ -154,8 +157,16 @@ fn change_now<A: AllocHandle>(
         table.schema(),
         touched.indirect,
         touched.image.as_ref(),
-        table.get(key),
+        row_now(table, key),
     )
+}
+
+/// The row with this primary key, or its absence.
+pub(crate) fn row_now<'a, A: AllocHandle>(table: &'a Table<A>, key: &Key<A>) -> Option<&'a Row<A>>
+    ensures row { option_copied result ≡ get fields_cmp table.now.keyed key.now }
+    ensures stands { IfSome result (λ row. IsTrue (keyed_stands table.now.schema key.now row.now)) }
+{
+    table.keyed().get(key)
 }
 
 // The group with one more change, or a group of this change.

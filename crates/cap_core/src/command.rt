@@ -1,5 +1,5 @@
-use crate::Operation;
 use cap_row::Schema;
+use cap_txn::Batch;
 use cap_value::{AllocHandle, Name};
 
 /// A command to the server.
@@ -12,8 +12,10 @@ pub enum Command<A: AllocHandle> {
         /// Its columns.
         schema: Schema<A>,
     },
-    /// Commits a transaction of one operation.
-    Commit(Operation<A>),
+    /// Commits a transaction: its operations are made whole or not at all.
+    Commit(Batch<A>),
+    /// Takes a snapshot of the tables.
+    Read,
     /// Makes a session, which records changes to the tables attached to it (sqlite3session_create).
     NewSession,
     /// Attaches a table to a session (sqlite3session_attach). The table need not exist.

@@ -17,10 +17,12 @@ ghost use Rattle.cap_core.specs.History.{Past, is_accepted, main, session_of, to
 ghost use Rattle.cap_core.specs.Insert.{HasChange, IsInsertOfAbsent, changes_by_key};
 ghost use Rattle.cap_core.specs.Replies.{replies_after};
 ghost use Rattle.cap_core.specs.Session.{change_now, is_indirect, session_changes, touched_rows};
-ghost use Rattle.cap_core.specs.Table.{IsKeyed, TableState};
+ghost use Rattle.cap_core.specs.Table.{IsKeyed, IsLoose};
+ghost use Rattle.cap_table.specs.Table.{TableState};
 ghost use Rattle.cap_core.specs.Touch.{Touch, touches_of};
 ghost use Rattle.cap_core.specs.Transition.{next};
 
+use cap_txn::tables_keep_order;
 use cap_value::AllocHandle;
 
 /// The empty history is legal, and a legal history stays legal with an event whose reply is that of its
@@ -48,7 +50,7 @@ pub fn insert_is_captured<A: AllocHandle>()
         → IsInsertOfAbsent past event session name table key row
         → HasChange (session_changes (main (event ∷ past)) (session_of (event ∷ past) session))
         name table.schema
-        (changes_by_key (record table { rows = put_entry fields_cmp table.rows key row })
+        (changes_by_key (record table { keyed = put_entry fields_cmp table.keyed key row })
         (touched_rows (touches_of name (touches session (event ∷ past)))))
         key (Change.Insert false (full_record row)) }
 {}
@@ -66,7 +68,7 @@ pub fn one_touched_row_a_key<A: AllocHandle>()
 /// A key whose row is again as it was when it was touched first has no change, though it was touched.
 pub fn restored_row_is_no_change<A: AllocHandle>()
     ensures { (table : TableState A) (key : Fields A) (touched : TouchedRow A) → touched.image
-        ≡ get fields_cmp table.rows key → change_now table (key, touched) ≡ None }
+        ≡ get fields_cmp table.keyed key → change_now table (key, touched) ≡ None }
 {}
 
 /// A refused command changes no later reply, whatever commands follow.
@@ -76,9 +78,12 @@ pub fn refusal_changes_no_reply<A: AllocHandle>()
         ≡ replies_after past commands }
 {}
 
-/// After any history the names of the tables rise, and in each table the keys rise, each row has as many fields
-/// as the table has columns, and stands under its own primary key.
+/// After any history the names of the tables rise, and in each table keys and ids rise, each row has as many fields
+/// as the table has columns, and stands under its own primary key, or where it has none under an id that was given.
 pub fn rows_stand_under_own_keys<A: AllocHandle>()
     ensures names { (h : List (Event A)) → IsOrdered bytes_cmp (state h).main }
-    ensures tables { (h : List (Event A)) → All (λ named. IsKeyed named.1) (state h).main }
-{}
+    ensures keyed { (h : List (Event A)) → All (λ named. IsKeyed named.1) (state h).main }
+    ensures loose { (h : List (Event A)) → All (λ named. IsLoose named.1) (state h).main }
+{
+    tables_keep_order::<A>();
+}

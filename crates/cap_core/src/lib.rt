@@ -5,20 +5,18 @@ mod attached_table;
 mod capture;
 mod command;
 mod confirm;
-mod effect;
 mod event;
 mod fault;
 mod laws;
 mod limits;
-mod operation;
 mod reply;
-mod row_change;
+mod row_touch;
 mod server;
 mod session;
-mod table;
 #[cfg(test)]
 mod tests;
 mod touched_row;
+mod touches;
 
 pub use capture::Capture;
 pub use command::Command;
@@ -29,9 +27,8 @@ pub use laws::{
     insert_is_captured, legal_histories_grow, one_touched_row_a_key, refusal_changes_no_reply,
     restored_row_is_no_change, rows_stand_under_own_keys, untouched_captures_nothing,
 };
-pub use limits::{SESSIONS_MAX, TABLES_MAX};
-pub use operation::{Assignments, Operation, RowRef};
+pub use limits::SESSIONS_MAX;
 pub use reply::Reply;
-pub use row_change::RowChange;
+pub use row_touch::RowTouch;
 pub use server::Core;
 pub use touched_row::TouchedRow;

@@ -1,4 +1,5 @@
 use crate::Capture;
+use cap_txn::Snapshot;
 use cap_value::{AllocHandle, Refusal};
 
 /// What the server answers to a command.
@@ -13,11 +14,13 @@ pub enum Reply<A: AllocHandle> {
     },
     /// The session with this number was made.
     Session(u64),
+    /// The tables, with their version.
+    Snapshot(Snapshot<A>),
     /// The session's changes.
     Capture(Capture<A>),
     /// The rules refuse the command, which has changed nothing.
     Refused {
-        /// The place of the operation that is refused, counted from 0, where it is one of a transaction's.
+        /// The place of the operation that is refused, counted from 0, where it is one of a batch's.
         at: Option<u64>,
         /// Why.
         why: Refusal,

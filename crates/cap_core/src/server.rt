@@ -1,20 +1,21 @@
 //! The server. The file is not called after its type, since no module may be called `core`.
 ghost use Rattle.std.specs.Prelude.{◌≡◌, ℕ, ◌+◌, ◌<◌, ◌^◌, ◌≤◌, [], ◌∷◌, ◌++◌, List, Some, None, Ok, Err, IfOk, IfErr, OnOk, OnErr, IsTrue, length};
 ghost use Rattle.cap_core.specs.declared.event.Event.{Event};
-ghost use Rattle.cap_core.specs.Answer.{State, state, reply_of, IsLegal, event_by, history_of, answer, write_reply, session_reply, attach_reply, capture_reply, session_numbered};
-ghost use Rattle.cap_core.specs.Code.Sound.{IsSoundEffect};
+ghost use Rattle.cap_core.specs.Answer.{State, state, reply_of, IsLegal, event_by, history_of, answer, write_reply, session_reply, attach_reply, capture_reply, session_numbered, snapshot_of};
+ghost use Rattle.cap_core.specs.Code.Sound.{IsSoundWrite, KeepsColumns};
 ghost use Rattle.cap_core.specs.Confirm.{MatchFault};
-ghost use Rattle.cap_core.specs.Outcome.{create, refused_at};
-ghost use Rattle.cap_core.specs.Operation.{step};
-ghost use Rattle.cap_core.specs.Transition.{next, one_more, after_write, after_new_session, after_attach};
+ghost use Rattle.cap_core.specs.Outcome.{created, commit_unless, made, stale};
+ghost use Rattle.cap_core.specs.Transition.{next, one_more, after_write, after_new_session, after_attach, written};
+ghost use Rattle.cap_txn.specs.Operation.{run};
+ghost use Rattle.cap_txn.specs.Tables.{create};
 
 use crate::capture::changes_of;
 use crate::confirm::ask;
-use crate::effect::{Database, Effect, create_table, step};
 use crate::session::{Session, copies_of_sessions, find_session, take_over, touch_sessions};
-use crate::{Agree, Capture, Command, Confirm, Operation, Reply, SESSIONS_MAX};
+use crate::touches::touches_by;
+use crate::{Agree, Capture, Command, Confirm, Reply, RowTouch, SESSIONS_MAX};
 use cap_row::Schema;
-use cap_tree::Tree;
+use cap_txn::{Batch, Database, Op, Outcome, Snapshot, run_ops, tables_keep_columns};
 use cap_value::{AllocHandle, Fault, Name, OutOfMemory, Refusal};
 use std::marker::Model;
 
@@ -60,7 +61,7 @@ impl<A: AllocHandle> Core<A> {
             alloc,
             events: 0,
             version: 0,
-            main: Tree::empty(alloc),
+            main: Database::empty(alloc),
             sessions_made: 0,
             sessions: Vec::new(alloc),
         }
@@ -91,7 +92,8 @@ impl<A: AllocHandle> Core<A> {
     {
         match command {
             Command::CreateTable { table, schema } => self.create_table(table, schema, confirm),
-            Command::Commit(operation) => self.commit(operation, confirm),
+            Command::Commit(batch) => self.commit(batch, confirm),
+            Command::Read => self.read(confirm),
             Command::NewSession => self.new_session(confirm),
             Command::Attach { session, table } => self.attach(*session, table, confirm),
             Command::Capture { session } => self.capture(*session, confirm),
@@ -169,18 +171,19 @@ impl<A: AllocHandle> Core<A> {
     ) -> Result<Reply<A>, Fault<C::Refusal>>
         requires room { self.old.events + 1 < 2 ^ 63 }
         requires can_confirm { C.can_confirm confirm.old
-            (write_reply self.old (refused_at None (create self.old.main name.now schema.now))) }
-        ensures ok { IfOk result (λ reply.
-            let made = refused_at None (create self.old.main name.now schema.now) in
-            (reply ≡ write_reply self.old made) × (self.new ≡ after_write self.old made)
-            × C.gives confirm.old (write_reply self.old made) (Ok tt) confirm.new) }
-        ensures err { IfErr result
-            (λ fault. let made = refused_at None (create self.old.main name.now schema.now) in
+            (write_reply self.old (created (create self.old.main name.now schema.now))) }
+        ensures ok { IfOk result (λ reply. let effect = created (create self.old.main name.now schema.now) in
+            (reply ≡ write_reply self.old effect) × (self.new ≡ after_write self.old effect)
+            × C.gives confirm.old (write_reply self.old effect) (Ok tt) confirm.new) }
+        ensures err { IfErr result (λ fault. let effect = created (create self.old.main name.now schema.now) in
             (self.new ≡ self.old) × MatchFault fault (confirm.new ≡ confirm.old)
-            (λ why. C.gives confirm.old (write_reply self.old made) (Err why) confirm.new)) }
+            (λ why. C.gives confirm.old (write_reply self.old effect) (Err why) confirm.new)) }
     {
-        match create_table(self.alloc, &self.main, name, schema) {
-            Ok(effect) => self.write(effect, confirm),
+        tables_keep_columns::<A>();
+        let touches = Vec::new(self.alloc);
+        let mut tables = self.main.snapshot()?;
+        match tables.create(name.copy()?, schema.copy()?) {
+            Ok(()) => self.write(tables, touches.as_slice(), confirm),
             Err(Fault::Refused(why)) => self.keep(Reply::Refused { at: None, why }, confirm),
             Err(Fault::OutOfMemory) => Err(Fault::OutOfMemory),
         }
@@ -188,53 +191,115 @@ impl<A: AllocHandle> Core<A> {
 
     fn commit<C: Confirm<A>>(
         &mut self,
-        operation: &Operation<A>,
+        batch: &Batch<A>,
+        confirm: &mut C,
+    ) -> Result<Reply<A>, Fault<C::Refusal>>
+        requires room { self.old.events + 1 < 2 ^ 63 }
+        requires can_confirm { C.can_confirm confirm.old (write_reply self.old
+            (commit_unless (stale batch.now.base self.old.version) self.old.main batch.now.ops)) }
+        ensures ok { IfOk result (λ reply.
+            let effect = commit_unless (stale batch.now.base self.old.version) self.old.main batch.now.ops in
+            (reply ≡ write_reply self.old effect) × (self.new ≡ after_write self.old effect)
+            × C.gives confirm.old (write_reply self.old effect) (Ok tt) confirm.new) }
+        ensures err { IfErr result (λ fault.
+            let effect = commit_unless (stale batch.now.base self.old.version) self.old.main batch.now.ops in
+            (self.new ≡ self.old) × MatchFault fault (confirm.new ≡ confirm.old)
+            (λ why. C.gives confirm.old (write_reply self.old effect) (Err why) confirm.new)) }
+    {
+        match stale(batch.base(), self.version) {
+            Some(why) => self.keep(Reply::Refused { at: None, why }, confirm),
+            None => self.commit_ops(batch.ops(), confirm),
+        }
+    }
+
+    // Commits operations on whatever version there is.
+    fn commit_ops<C: Confirm<A>>(
+        &mut self,
+        ops: &[Op<A>],
         confirm: &mut C,
     ) -> Result<Reply<A>, Fault<C::Refusal>>
         requires room { self.old.events + 1 < 2 ^ 63 }
         requires can_confirm { C.can_confirm confirm.old
-            (write_reply self.old (refused_at (Some 0) (step self.old.main operation.now))) }
-        ensures ok { IfOk result (λ reply.
-            let made = refused_at (Some 0) (step self.old.main operation.now) in
-            (reply ≡ write_reply self.old made) × (self.new ≡ after_write self.old made)
-            × C.gives confirm.old (write_reply self.old made) (Ok tt) confirm.new) }
-        ensures err { IfErr result
-            (λ fault. let made = refused_at (Some 0) (step self.old.main operation.now) in
+            (write_reply self.old (made (run self.old.main ops.now))) }
+        ensures ok { IfOk result (λ reply. let effect = made (run self.old.main ops.now) in
+            (reply ≡ write_reply self.old effect) × (self.new ≡ after_write self.old effect)
+            × C.gives confirm.old (write_reply self.old effect) (Ok tt) confirm.new) }
+        ensures err { IfErr result (λ fault. let effect = made (run self.old.main ops.now) in
             (self.new ≡ self.old) × MatchFault fault (confirm.new ≡ confirm.old)
-            (λ why. C.gives confirm.old (write_reply self.old made) (Err why) confirm.new)) }
+            (λ why. C.gives confirm.old (write_reply self.old effect) (Err why) confirm.new)) }
     {
-        match step(self.alloc, &self.main, operation) {
-            Ok(effect) => self.write(effect, confirm),
-            Err(Fault::Refused(why)) => self.keep(Reply::Refused { at: Some(0), why }, confirm),
+        tables_keep_columns::<A>();
+        match run_ops(self.alloc, &self.main, ops) {
+            Ok(outcome) => self.write_outcome(outcome, confirm),
+            Err(Fault::Refused(refused)) => {
+                let at = Some(refused.at as u64);
+                let why = refused.why;
+                self.keep(Reply::Refused { at, why }, confirm)
+            }
             Err(Fault::OutOfMemory) => Err(Fault::OutOfMemory),
         }
     }
 
-    // Takes over an effect on the tables, with its touches in each session.
-    fn write<C: Confirm<A>>(
+    // Takes over what accepted operations leave, with their touches in each session.
+    fn write_outcome<C: Confirm<A>>(
         &mut self,
-        effect: Effect<A>,
+        outcome: Outcome<A>,
         confirm: &mut C,
     ) -> Result<Reply<A>, Fault<C::Refusal>>
         requires room { self.old.events + 1 < 2 ^ 63 }
-        requires sound { IsSoundEffect self.old.main effect }
+        requires kept { KeepsColumns self.old.main outcome.database }
         requires can_confirm { C.can_confirm confirm.old (Reply.Written (self.old.version + 1)) }
         ensures ok { IfOk result (λ reply. (reply ≡ Reply.Written (self.old.version + 1))
-            × (self.new ≡ after_write self.old (Ok effect))
+            × (self.new ≡ after_write self.old (Ok outcome))
             × C.gives confirm.old (Reply.Written (self.old.version + 1)) (Ok tt) confirm.new) }
         ensures err { IfErr result (λ fault. (self.new ≡ self.old)
             × MatchFault fault (confirm.new ≡ confirm.old)
             (λ why. C.gives confirm.old (Reply.Written (self.old.version + 1)) (Err why) confirm.new)) }
     {
-        touch_sessions(self.sessions.as_mut_slice(), &self.main, effect.changes())?;
+        let touches = touches_by(self.alloc, &self.main, outcome.changes())?;
+        self.write(outcome.into_database(), touches.as_slice(), confirm)
+    }
+
+    // Puts these tables in place, one version later, with these touches in each session.
+    fn write<C: Confirm<A>>(
+        &mut self,
+        tables: Database<A>,
+        touches: &[RowTouch<A>],
+        confirm: &mut C,
+    ) -> Result<Reply<A>, Fault<C::Refusal>>
+        requires room { self.old.events + 1 < 2 ^ 63 }
+        requires sound { IsSoundWrite self.old.main tables touches.now }
+        requires can_confirm { C.can_confirm confirm.old (Reply.Written (self.old.version + 1)) }
+        ensures ok { IfOk result (λ reply. (reply ≡ Reply.Written (self.old.version + 1))
+            × (self.new ≡ written self.old tables touches.now)
+            × C.gives confirm.old (Reply.Written (self.old.version + 1)) (Ok tt) confirm.new) }
+        ensures err { IfErr result (λ fault. (self.new ≡ self.old)
+            × MatchFault fault (confirm.new ≡ confirm.old)
+            (λ why. C.gives confirm.old (Reply.Written (self.old.version + 1)) (Err why) confirm.new)) }
+    {
+        touch_sessions(self.sessions.as_mut_slice(), touches)?;
         let version = self.version + 1;
         let reply = Reply::Written { version };
         ask(confirm, &reply)?;
         take_over(self.sessions.as_mut_slice());
-        self.main = effect.into_database();
+        self.main = tables;
         self.version = version;
         self.events += 1;
         Ok(reply)
+    }
+
+    fn read<C: Confirm<A>>(&mut self, confirm: &mut C) -> Result<Reply<A>, Fault<C::Refusal>>
+        requires room { self.old.events + 1 < 2 ^ 63 }
+        requires can_confirm { C.can_confirm confirm.old (Reply.Snapshot (snapshot_of self.old)) }
+        ensures ok { IfOk result (λ reply. (reply ≡ Reply.Snapshot (snapshot_of self.old))
+            × (self.new ≡ one_more self.old)
+            × C.gives confirm.old (Reply.Snapshot (snapshot_of self.old)) (Ok tt) confirm.new) }
+        ensures err { IfErr result (λ fault. (self.new ≡ self.old)
+            × MatchFault fault (confirm.new ≡ confirm.old)
+            (λ why. C.gives confirm.old (Reply.Snapshot (snapshot_of self.old)) (Err why) confirm.new)) }
+    {
+        let snapshot = Snapshot::new(self.version, self.main.snapshot()?);
+        self.keep(Reply::Snapshot(snapshot), confirm)
     }
 
     fn new_session<C: Confirm<A>>(&mut self, confirm: &mut C) -> Result<Reply<A>, Fault<C::Refusal>>
@@ -335,4 +400,15 @@ impl<A: AllocHandle> Core<A> {
         self.events += 1;
         Ok(reply)
     }
+}
+
+// Why a batch that was made for this version is refused now, if it is.
+fn stale(base: Option<u64>, now: u64) -> Option<Refusal>
+    ensures { result ≡ stale base now }
+{
+    let base = base?;
+    if base == now {
+        return None;
+    }
+    Some(Refusal::Stale { base, now })
 }

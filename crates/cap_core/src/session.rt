@@ -8,8 +8,7 @@ ghost use Rattle.cap_core.specs.Transition.{attach, touch_sessions};
 
 use crate::attached_table::{AttachedTable, take_over_tables, touch_tables};
 use crate::confirm::ask;
-use crate::effect::Database;
-use crate::{Confirm, Reply, RowChange};
+use crate::{Confirm, Reply, RowTouch};
 use cap_value::{AllocHandle, Fault, Name, OutOfMemory};
 
 /// A session: its number, and the attached tables in the order in which they were attached.
@@ -135,19 +134,17 @@ fn place_of<A: AllocHandle>(sessions: &[Session<A>], number: u64) -> Option<usiz
     sessions.iter().position(|session| number == session.number)
 }
 
-/// Makes the touched rows of each session after these changes to these tables, which wait until they are
-/// taken over.
+/// Makes the touched rows of each session after these touches, which wait until they are taken over.
 pub(crate) fn touch_sessions<A: AllocHandle>(
     sessions: &mut [Session<A>],
-    before: &Database<A>,
-    changes: &[RowChange<A>],
+    touches: &[RowTouch<A>],
 ) -> Result<(), OutOfMemory>
     ensures same { sessions_of sessions.new ≡ sessions_of sessions.old }
     ensures waiting { OnOk result (waiting_sessions sessions.new
-        ≡ touch_sessions before.now changes.now (sessions_of sessions.old)) }
+        ≡ touch_sessions touches.now (sessions_of sessions.old)) }
 {
     for session in sessions.iter_mut() {
-        touch_tables(session.tables.as_mut_slice(), before, changes)?;
+        touch_tables(session.tables.as_mut_slice(), touches)?;
     }
     Ok(())
 }

@@ -1,5 +1,7 @@
-use crate::{Assignments, Command, Confirm, Core, Operation, Reply, RowRef};
+use crate::{Command, Confirm, Core, Reply};
 use cap_row::{Key, Row, Schema};
+use cap_table::RowRef;
+use cap_txn::{Action, Assignments, Batch, Cause, Op};
 use cap_value::{AllocHandle, Fault, Name, OutOfMemory, Refusal, Value};
 use linked_list_allocator::LocalHeap;
 use std::test::Fail;
@@ -34,11 +36,20 @@ fn attach<A: AllocHandle>(alloc: A, session: u64, table: &str) -> Outcome<Comman
     })
 }
 
-fn insert<A: AllocHandle>(alloc: A, table: &str, row: &[i64]) -> Outcome<Command<A>> {
-    Ok(Command::Commit(Operation::Insert {
+fn op<A: AllocHandle>(alloc: A, table: &str, action: Action<A>) -> Outcome<Op<A>> {
+    Ok(Op {
         table: Name::new(alloc, table)?,
-        row: Row::new(numbers(alloc, row)?)?,
-    }))
+        cause: Cause::Direct,
+        action,
+    })
+}
+
+fn insert<A: AllocHandle>(alloc: A, table: &str, row: &[i64]) -> Outcome<Op<A>> {
+    op(
+        alloc,
+        table,
+        Action::Insert(Row::new(numbers(alloc, row)?)?),
+    )
 }
 
 fn row_of_key<A: AllocHandle>(alloc: A, key: i64) -> Outcome<RowRef<A>> {
@@ -48,35 +59,36 @@ fn row_of_key<A: AllocHandle>(alloc: A, key: i64) -> Outcome<RowRef<A>> {
     }
 }
 
-fn update<A: AllocHandle>(alloc: A, table: &str, key: i64, value: i64) -> Outcome<Command<A>> {
+fn update<A: AllocHandle>(alloc: A, table: &str, key: i64, value: i64) -> Outcome<Op<A>> {
     let mut fields = Vec::new(alloc);
     add(&mut fields, (1, Value::Int(value)))?;
-    Ok(Command::Commit(Operation::Update {
-        table: Name::new(alloc, table)?,
-        row: row_of_key(alloc, key)?,
-        assignments: Assignments::new(fields),
-    }))
+    let row = row_of_key(alloc, key)?;
+    op(alloc, table, Action::Update(row, Assignments::new(fields)))
 }
 
-fn delete<A: AllocHandle>(alloc: A, table: &str, key: i64) -> Outcome<Command<A>> {
-    Ok(Command::Commit(Operation::Delete {
-        table: Name::new(alloc, table)?,
-        row: row_of_key(alloc, key)?,
-    }))
+fn delete<A: AllocHandle>(alloc: A, table: &str, key: i64) -> Outcome<Op<A>> {
+    op(alloc, table, Action::Delete(row_of_key(alloc, key)?))
+}
+
+// A commit of one operation.
+fn commit<A: AllocHandle>(alloc: A, op: Op<A>) -> Outcome<Command<A>> {
+    let mut batch = Batch::blind(alloc);
+    batch.push(op)?;
+    Ok(Command::Commit(batch))
 }
 
 // A table, a session that sees it, and a change of each kind.
 fn workload<A: AllocHandle>(alloc: A) -> Outcome<Vec<Command<A>, A>> {
     let mut commands = Vec::new(alloc);
     add(&mut commands, create(alloc, "t")?)?;
-    add(&mut commands, insert(alloc, "t", &[1, 10])?)?;
-    add(&mut commands, insert(alloc, "t", &[2, 20])?)?;
+    add(&mut commands, commit(alloc, insert(alloc, "t", &[1, 10])?)?)?;
+    add(&mut commands, commit(alloc, insert(alloc, "t", &[2, 20])?)?)?;
     add(&mut commands, Command::NewSession)?;
     add(&mut commands, attach(alloc, 1, "t")?)?;
-    add(&mut commands, update(alloc, "t", 1, 11)?)?;
-    add(&mut commands, update(alloc, "t", 1, 12)?)?;
-    add(&mut commands, delete(alloc, "t", 2)?)?;
-    add(&mut commands, insert(alloc, "t", &[3, 30])?)?;
+    add(&mut commands, commit(alloc, update(alloc, "t", 1, 11)?)?)?;
+    add(&mut commands, commit(alloc, update(alloc, "t", 1, 12)?)?)?;
+    add(&mut commands, commit(alloc, delete(alloc, "t", 2)?)?)?;
+    add(&mut commands, commit(alloc, insert(alloc, "t", &[3, 30])?)?)?;
     add(&mut commands, Command::Capture { session: 1 })?;
     Ok(commands)
 }
@@ -87,6 +99,7 @@ fn shown<A: AllocHandle>(alloc: A, reply: &Reply<A>) -> Result<String<A>, OutOfM
         Reply::Done => String::from_str(alloc, "done"),
         Reply::Written { version } => format!(in alloc; "version {version}"),
         Reply::Session(number) => format!(in alloc; "session {number}"),
+        Reply::Snapshot(snapshot) => format!(in alloc; "snapshot {}", snapshot.version()),
         Reply::Capture(capture) => {
             let bytes = capture.changeset(alloc)?;
             format!(in alloc; "{:?}", bytes.as_slice())
@@ -232,26 +245,84 @@ fn made_in(heap: &LocalHeap) -> Outcome<usize> {
     Ok(texts.len())
 }
 
+// Two tables, a row without a key, batches of several operations, one of them refused, and one out of date.
+fn batches<A: AllocHandle>(alloc: A) -> Outcome<Vec<Command<A>, A>> {
+    let mut commands = Vec::new(alloc);
+    add(&mut commands, create(alloc, "t")?)?;
+    add(&mut commands, create(alloc, "u")?)?;
+    add(&mut commands, Command::NewSession)?;
+    add(&mut commands, attach(alloc, 1, "t")?)?;
+    add(&mut commands, attach(alloc, 1, "u")?)?;
+    let mut batch = Batch::based(alloc, 2);
+    batch.push(insert(alloc, "u", &[1, 10])?)?;
+    batch.push(insert(alloc, "t", &[2, 20])?)?;
+    batch.push(update(alloc, "t", 2, 21)?)?;
+    add(&mut commands, Command::Commit(batch))?;
+    let mut refused = Batch::blind(alloc);
+    refused.push(delete(alloc, "t", 2)?)?;
+    refused.push(delete(alloc, "t", 2)?)?;
+    add(&mut commands, Command::Commit(refused))?;
+    let mut stale = Batch::based(alloc, 2);
+    stale.push(delete(alloc, "v", 2)?)?;
+    add(&mut commands, Command::Commit(stale))?;
+    add(&mut commands, Command::Read)?;
+    add(&mut commands, Command::Capture { session: 1 })?;
+    Ok(commands)
+}
+
+#[test]
+fn batches_are_made_whole_or_not_at_all(rt: HostRuntime) -> Result<(), Fail> {
+    let alloc = rt.alloc();
+    let Ok(commands) = batches(alloc) else {
+        assert!(rt; false, "there is memory, and no value is refused");
+        return Ok(());
+    };
+    let Ok(texts) = run_shown(alloc, &commands) else {
+        assert!(rt; false, "there is memory");
+        return Ok(());
+    };
+    let t = "84, 2, 1, 0, 116, 0, 18, 0, 1, 0, 0, 0, 0, 0, 0, 0, 2, 1, 0, 0, 0, 0, 0, 0, 0, 21";
+    let u = "84, 2, 1, 0, 117, 0, 18, 0, 1, 0, 0, 0, 0, 0, 0, 0, 1, 1, 0, 0, 0, 0, 0, 0, 0, 10";
+    let changeset = format!(in alloc; "[{t}, {u}]")?;
+    let expected = [
+        "version 1",
+        "version 2",
+        "session 1",
+        "done",
+        "done",
+        "version 3",
+        "refused Some(1) NoRow",
+        "refused None Stale { base: 2, now: 3 }",
+        "snapshot 3",
+        changeset.as_str(),
+    ];
+    assert_eq!(rt; texts.len(), expected.len());
+    for (text, known) in texts.iter().zip(&expected) {
+        assert_eq!(rt; text.as_str(), *known);
+    }
+    Ok(())
+}
+
 // It stands in README.md too.
 #[test]
 fn a_session_that_saw_an_insert(rt: HostRuntime) -> Result<(), Fail> {
     let alloc = rt.alloc();
     let table = Name::new(alloc, "t")?;
     let row = vec![in alloc; Value::Int(1), Value::text(alloc, "x")?]?;
+    let mut batch = Batch::blind(alloc);
+    batch.push(Op {
+        table: table.copy()?,
+        cause: Cause::Direct,
+        action: Action::Insert(Row::new(row)?),
+    })?;
     let commands = vec![in alloc;
         Command::CreateTable {
             table: table.copy()?,
             schema: Schema::new(alloc, &[true, false])?
         },
         Command::NewSession,
-        Command::Attach {
-            session: 1,
-            table: table.copy()?
-        },
-        Command::Commit(Operation::Insert {
-            table,
-            row: Row::new(row)?
-        }),
+        Command::Attach { session: 1, table },
+        Command::Commit(batch),
         Command::Capture { session: 1 },
     ]?;
     let (_core, replies) = Core::run(alloc, &commands)?;

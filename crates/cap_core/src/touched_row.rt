@@ -1,5 +1,5 @@
 use cap_row::Row;
-use cap_value::AllocHandle;
+use cap_value::{AllocHandle, Exact, OutOfMemory};
 
 /// What a session keeps of a row that was touched.
 #[derive(Drop)]
@@ -8,4 +8,37 @@ pub struct TouchedRow<A: AllocHandle> {
     pub image: Option<Row<A>>,
     /// Whether every touch of the key was indirect.
     pub indirect: bool,
+}
+
+impl<A: AllocHandle> TouchedRow<A> {
+    ghost use Rattle.std.specs.Prelude.{◌≡◌, IfOk};
+
+    /// The same, which shares the row.
+    pub(crate) fn copy(&self) -> Result<Self, OutOfMemory>
+        ensures { IfOk result (λ copy. copy ≡ self.now) }
+    {
+        let image = match &self.image {
+            Some(row) => Some(row.copy()?),
+            None => None,
+        };
+        Ok(TouchedRow {
+            image,
+            indirect: self.indirect,
+        })
+    }
+}
+
+/// The same, which shares the row.
+impl<A: AllocHandle> Clone for TouchedRow<A> {
+    ghost use Rattle.std.specs.Prelude.{◌≡◌};
+
+    ghost is_clone = { λ row clone. clone ≡ row };
+
+    fn clone(&self) -> Result<Self, OutOfMemory> {
+        self.copy()
+    }
+}
+
+impl<A: AllocHandle> Exact for TouchedRow<A> {
+    ghost exact = { λ row clone same. same };
 }

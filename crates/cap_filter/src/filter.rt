@@ -200,7 +200,7 @@ impl<A: AllocHandle> Filter<A> {
 }
 
 /// Writes the word between quotes at the end of `out`, with each quote in it doubled.
-fn write_quoted<A: AllocHandle>(word: &str, out: &mut String<A>) -> Result<(), OutOfMemory>
+pub fn write_quoted<A: AllocHandle>(word: &str, out: &mut String<A>) -> Result<(), OutOfMemory>
     ensures { OnOk result (string_bytes out.new ≡ string_bytes out.old ++ quoted word.now) }
 {
     let mut rest = word;

@@ -10,7 +10,7 @@ mod tests;
 mod token;
 mod word;
 
-pub use filter::{DEPTH_MAX, Filter, NODES_MAX};
+pub use filter::{DEPTH_MAX, Filter, NODES_MAX, write_quoted};
 pub use laws::{
     one_filter, printed_is_spelled, read_is_spelled, spelled_is_read, too_deep_text, unfit_place,
 };

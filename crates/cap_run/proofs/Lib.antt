@@ -1,1 +1,2 @@
+mod RowLemmas
 mod RunLemmas

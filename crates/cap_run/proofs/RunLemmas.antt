@@ -9,7 +9,8 @@ use Rattle.cap_core.specs.declared.event.Event.{Event}
 use Rattle.cap_core.specs.declared.fault.CallFault.{CallFault}
 use Rattle.cap_core.specs.declared.fault.CallFault.TheVariants as call
 use Rattle.cap_core.specs.declared.reply.Reply.{Reply}
-use Rattle.cap_core.specs.Answer.{State, IsLegal, IsLegalPast, event_by, history_of, reply_of, state}
+use Rattle.cap_core.specs.Answer.{State, IsLegal, IsLegalPast, answer, event_by, history_of, reply_of, state}
+use Rattle.cap_core.specs.Transition.{next}
 use Rattle.cap_run.specs.declared.script.line.Line.{Line}
 use Rattle.cap_run.specs.declared.fault.RunFault.{RunFault}
 use Rattle.cap_run.specs.declared.fault.RunFault.TheVariants.{Script, NotUtf8, NotHex, Blob, Call, Read, Write, Memory}
@@ -222,6 +223,13 @@ module _ {A : Type 0} where
   -- the server and the reply after a command
   abbrev pub IsPrepared : List (Event A) → Command A → State A × Reply A → Type 0
   IsPrepared h command prepared = (prepared.1 ≡ reply_of h command) × (prepared.0 ≡ state (h ++ event_by 0 command prepared.1 ∷ []))
+
+  pub step_prepared : (h : List (Event A)) (c : Command A) (core left : State A) (reply : Reply A) → state h ≡ core → left ≡ next core c → reply ≡ answer core c
+      → state (h ++ event_by 0 c (reply_of h c) ∷ []) ≡ next (state h) c → IsPrepared h c (left, reply)
+  unfolding reply_of
+  step_prepared h c core left reply is leaves answered grows =
+      let replied : reply ≡ reply_of h c = answered ∙ ap (λ (s : State A). answer s c) (sym is) in
+      (replied, leaves ∙ ap (λ (s : State A). next s c) (sym is) ∙ sym grows ∙ ap (λ (r : Reply A). state (h ++ event_by 0 c r ∷ [])) (sym replied))
 
   pub step_met : (h : List (Event A)) (line : Line A) (next : State A) (reply : Reply A) (old text new : List ℕ) (b : Bool) → IsPrepared h line.command (next, reply)
       → text ≡ on_a_line (reply_text line.show reply) → true ≡ b → new ≡ cond b (old ++ text) old

@@ -1,42 +1,13 @@
 -- The text of a reply, as it is printed.
 use Rattle.std.specs.Prelude.{ℕ, List, [], ◌∷◌, ◌++◌, Some, None, codes, decimal}
 use Rattle.hex.specs.Hex.{encode_lower}
-use Rattle.cap_value.specs.declared.refusal.Refusal.{Refusal}
-use Rattle.cap_value.specs.declared.refusal.Refusal.TheVariants.{TooLong, BadSchema, WrongWidth, BadColumn, Duplicate, NoRow, IdsSpent, NoTable, TableExists, TooMany, Stale, BadFilter, TooDeep, Incompatible, Aborted, Misuse, BadName, NoSession, NoDatabase, NoMark}
 use Rattle.cap_codec.specs.Changeset.{list_bytes}
 use Rattle.cap_core.specs.declared.reply.Reply.{Reply}
-use Rattle.cap_core.specs.declared.reply.Reply.TheVariants.{Done, Written, Session, Capture, Refused}
+use Rattle.cap_core.specs.declared.reply.Reply.TheVariants.{Done, Written, Session, Snapshot, Capture, Refused}
+use Rattle.cap_run.specs.RefusalText.{refusal_text}
+use Rattle.cap_run.specs.RowText.{snapshot_text}
 use Rattle.cap_run.specs.declared.script.line.Show.{Show}
-use Rattle.cap_run.specs.declared.script.line.Show.TheVariants.{Plain, Changeset}
-
--- the number and the name of a refusal
-unfoldable pub refusal_name : Refusal → List ℕ
-refusal_name TooLong = codes "E1 TooLong"
-refusal_name BadSchema = codes "E2 BadSchema"
-refusal_name WrongWidth = codes "E3 WrongWidth"
-refusal_name BadColumn = codes "E4 BadColumn"
-refusal_name Duplicate = codes "E5 Duplicate"
-refusal_name NoRow = codes "E6 NoRow"
-refusal_name IdsSpent = codes "E7 IdsSpent"
-refusal_name NoTable = codes "E8 NoTable"
-refusal_name TableExists = codes "E9 TableExists"
-refusal_name TooMany = codes "E10 TooMany"
-refusal_name (Stale base now) = codes "E11 Stale"
-refusal_name (BadFilter at) = codes "E12 BadFilter"
-refusal_name TooDeep = codes "E13 TooDeep"
-refusal_name Incompatible = codes "E14 Incompatible"
-refusal_name (Aborted at) = codes "E15 Aborted"
-refusal_name (Misuse at) = codes "E16 Misuse"
-refusal_name BadName = codes "E17 BadName"
-refusal_name NoSession = codes "E18 NoSession"
-refusal_name NoDatabase = codes "E19 NoDatabase"
-refusal_name NoMark = codes "E20 NoMark"
-
--- a refusal for the version that a batch was made on tells that version and the present one
-unfoldable pub refusal_text : Refusal → List ℕ
-refusal_text (Stale base now) =
-    refusal_name (Stale base now) ++ codes " base " ++ decimal base ++ codes " now " ++ decimal now
-refusal_text why = refusal_name why
+use Rattle.cap_run.specs.declared.script.line.Show.TheVariants.{Changeset}
 
 -- lower case hex digits, or `-` where there are no bytes
 abbrev pub hex_or_dash : List ℕ → List ℕ
@@ -44,11 +15,12 @@ hex_or_dash [] = codes "-"
 hex_or_dash (byte ∷ bytes) = encode_lower (byte ∷ bytes)
 
 module _ {A : Type 0} where
-  unfoldable pub reply_text : Show → Reply A → List ℕ
+  unfoldable pub reply_text : Show A → Reply A → List ℕ
   reply_text show Done = codes "ok"
   reply_text show (Written version) = codes "ok version " ++ decimal version
   reply_text show (Session number) = codes "session " ++ decimal number
-  reply_text Plain (Capture changes) = codes "ok"
+  reply_text show (Snapshot snapshot) = snapshot_text show snapshot
   reply_text Changeset (Capture changes) = codes "changeset " ++ hex_or_dash (list_bytes changes)
+  reply_text show (Capture changes) = codes "ok"
   reply_text show (Refused (Some place) why) = codes "refused at " ++ (decimal place ++ (codes ": " ++ refusal_text why))
   reply_text show (Refused None why) = codes "refused: " ++ refusal_text why

@@ -1,6 +1,7 @@
 ghost use Rattle.std.specs.Prelude.{◌≡◌, ◌⊎◌, ◌++◌, ◌∷◌, ◌<◌, ◌≤◌, ℕ, List, [], length, IfSome, IfOk, IfErr, OnOk, OnErr, IsErrAnd, IsUtf8, string_bytes};
 ghost use Rattle.std.specs.Io.KnownBytes.{Appends};
-ghost use Rattle.cap_core.specs.Answer.{IsLegal, event_by, reply_of, state};
+ghost use Rattle.cap_core.specs.Answer.{IsLegal, answer, event_by, reply_of, state};
+ghost use Rattle.cap_core.specs.Transition.{next};
 ghost use Rattle.cap_core.specs.declared.event.Event.{Event};
 ghost use Rattle.cap_run.specs.ReplyText.{reply_text};
 ghost use Rattle.cap_run.specs.Run.{AppendsFront, BeginsRun, EndsAt, IsRun, MatchFault, Writes, ending, events_max, on_a_line, run_outcome};
@@ -11,7 +12,7 @@ use crate::RunFault;
 use crate::input::read_whole;
 use crate::output::write_whole;
 use crate::script::{Line, Workload, reply_line};
-use cap_core::{CallFault, Core};
+use cap_core::{Agree, CallFault, Command, Core, Reply, legal_histories_grow};
 use cap_value::{AllocHandle, Fault};
 use std::io::{Read, Write};
 
@@ -118,8 +119,8 @@ fn write_replies<A: AllocHandle, W: Write>(
 {
     let mut core = Core::new(alloc);
     for line in lines {
-        match run_line(alloc, &core, line, pending) {
-            Ok(next) => core = next,
+        match run_line(alloc, &mut core, line, pending) {
+            Ok(()) => {}
             Err(fault) => return Ok(Err(fault)),
         }
         write_long(writer, pending)?;
@@ -127,33 +128,49 @@ fn write_replies<A: AllocHandle, W: Write>(
     Ok(Ok(()))
 }
 
-/// The server after a line's command. The text of the reply goes to the end of `pending`, on a line.
+/// Runs a line's command. The text of the reply goes to the end of `pending`, on a line.
 fn run_line<A: AllocHandle>(
     alloc: A,
-    core: &Core<A>,
+    core: &mut Core<A>,
     line: &Line<A>,
     pending: &mut String<A>,
-) -> Result<Core<A>, CallFault>
-    ensures history { (h : List (Event A)) → IsLegal h → state h ≡ core.now → IfOk result (λ next.
-        (next ≡ state (h ++ event_by 0 line.now.command (reply_of h line.now.command) ∷ []))
+) -> Result<(), CallFault>
+    ensures history { (h : List (Event A)) → IsLegal h → state h ≡ core.old → OnOk result (
+        (core.new ≡ state (h ++ event_by 0 line.now.command (reply_of h line.now.command) ∷ []))
         × (string_bytes pending.new
         ≡ string_bytes pending.old ++ on_a_line (reply_text line.now.show (reply_of h line.now.command)))) }
-    ensures room { OnOk result (core.now.events < events_max) }
+    ensures room { OnOk result (core.old.events < events_max) }
     ensures full { IfErr result (λ fault.
-        MatchFault fault (core.now.events < events_max) (events_max ≤ core.now.events)) }
+        MatchFault fault (core.old.events < events_max) (events_max ≤ core.old.events)) }
     ensures same { OnErr result (string_bytes pending.new ≡ string_bytes pending.old) }
 {
+    legal_histories_grow::<A>();
     if core.events() >= EVENTS_MAX {
         return Err(CallFault::HistoryFull);
     }
-    let (next, reply) = core
-        .prepare(&line.command)
-        .map_err(|_| CallFault::OutOfMemory)?;
-    let text = reply_line(alloc, line.show, &reply).map_err(|_| CallFault::OutOfMemory)?;
-    pending
-        .push_str(text.as_str())
-        .map_err(|_| CallFault::OutOfMemory)?;
-    Ok(next)
+    let reply = run_command(core, &line.command)?;
+    let text = reply_line(alloc, &line.show, &reply).map_err(|_| CallFault::OutOfMemory)?;
+    match pending.push_str(text.as_str()) {
+        Ok(()) => Ok(()),
+        Err(_) => Err(CallFault::OutOfMemory),
+    }
+}
+
+/// Runs a command that no step outside belongs to.
+fn run_command<A: AllocHandle>(
+    core: &mut Core<A>,
+    command: &Command<A>,
+) -> Result<Reply<A>, CallFault>
+    requires room { core.old.events < events_max }
+    ensures ok { IfOk result (λ reply. (core.new ≡ next core.old command.now)
+        × (reply ≡ answer core.old command.now)) }
+    ensures err { IfErr result (λ fault. fault ≡ CallFault.OutOfMemory) }
+{
+    match core.step(command, &mut Agree) {
+        Ok(reply) => Ok(reply),
+        Err(Fault::OutOfMemory) => Err(CallFault::OutOfMemory),
+        Err(Fault::Refused(never)) => match never {},
+    }
 }
 
 /// Writes what waits to be written. Where a write fails it stays, though a beginning of it may be written.

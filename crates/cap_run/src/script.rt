@@ -8,6 +8,7 @@ mod operation;
 mod reply;
 #[cfg(test)]
 mod reply_tests;
+mod row_text;
 mod text;
 mod value;
 mod workload;

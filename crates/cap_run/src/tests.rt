@@ -7,10 +7,10 @@ use std::io::{ErrorKind, Read, Write};
 use std::test::Fail;
 
 const WORKLOAD: &str =
-    "create t kv\ncommit insert t (2,'a')\nsession\nattach 1 t\ncommit insert t (1,'x')\ncommit update t key(2) set 1 = x'00ff'\ncommit insert t (1,'y')\nchangeset 1\n";
+    "create t kv\ncommit insert t (2,'a')\nsession\nattach 1 t\ncommit insert t (1,'x')\ncommit update t key(2) set 1 = x'00ff'\ncommit insert t (1,'y')\nchangeset 1\ncommit insert t (null,'z') ; cascade delete t loose 1\nget t key(1)\ncommitat 5 insert t (null,'w')\nscan t\n";
 
 const REPLIES: &str =
-    "ok version 1\nok version 2\nsession 1\nok\nok version 3\nok version 4\nrefused at 0: E5 Duplicate\nchangeset 5402010074001200010000000000000001030178170001000000000000000203016100040200ff\n";
+    "ok version 1\nok version 2\nsession 1\nok\nok version 3\nok version 4\nrefused at 0: E5 Duplicate\nchangeset 5402010074001200010000000000000001030178170001000000000000000203016100040200ff\nok version 5\nrow (1,'x')\nok version 6\nrows 3\n(1,'x')\n(2,x'00ff')\nloose 2 (null,'w')\n";
 
 const NO_MEMORY: &[u8] = b"refused for memory\n";
 
@@ -38,6 +38,14 @@ fn replies(rt: HostRuntime) -> Result<(), Fail> {
         (
             "create t kv\ncommit insert t (1,'x')\nsession\nattach 1 t\ncommit insert t (1,'y')\nchangeset 1\n",
             "ok version 1\nok version 2\nsession 1\nok\nrefused at 0: E5 Duplicate\nchangeset -\n",
+        ),
+        (
+            "create t kv\ncreate u k\ncommitat 2 insert u (1) ; insert t (null,'x')\ncommitat 2 insert u (2)\nscan t\nget u key(1)\nget u key(2)\nget v loose 1\nscan v",
+            "ok version 1\nok version 2\nok version 3\nrefused: E11 Stale base 2 now 3\nrows 1\nloose 1 (null,'x')\nrow (1)\nno row\nrefused: E8 NoTable\nrefused: E8 NoTable\n",
+        ),
+        (
+            "create t kv\nsession\nattach 1 t\ncommit cascade insert t (1,'x') ; insert t (2,'y')\ncommit update t key(2) set 0 = 3 ; delete t key(4)\nchangeset 1",
+            "ok version 1\nsession 1\nok\nok version 2\nrefused at 1: E6 NoRow\nchangeset 54020100740012010100000000000000010301781200010000000000000002030179\n",
         ),
         (
             "  @63  session\n\n#\n   \nattach 2 t",
@@ -91,8 +99,25 @@ fn faults(rt: HostRuntime) -> Result<(), Fail> {
         ("commit insert t ('é','it''s)", "line 1: G1 Syntax at 22"),
         ("commit insert t (nul)", "line 1: G1 Syntax at 17"),
         ("commit insert t (é)", "line 1: G1 Syntax at 17"),
-        ("commit insert t (1);", "line 1: G1 Syntax at 19"),
-        ("commit cascade insert t (1)", "line 1: G1 Syntax at 7"),
+        ("commit insert t (1);", "line 1: G1 Syntax at 20"),
+        ("commit insert t (1) ; set", "line 1: G1 Syntax at 22"),
+        (
+            "commit insert t (1) insert t (2)",
+            "line 1: G1 Syntax at 20",
+        ),
+        (
+            "commit cascade cascade insert t (1)",
+            "line 1: G1 Syntax at 15",
+        ),
+        ("commit cascade", "line 1: G1 Syntax at 14"),
+        ("commitat -1 insert t (1)", "line 1: G1 Syntax at 9"),
+        ("commitat insert t (1)", "line 1: G1 Syntax at 9"),
+        ("commitat 1", "line 1: G1 Syntax at 10"),
+        ("get t", "line 1: G1 Syntax at 5"),
+        ("get t key()", "line 1: G1 Syntax at 10"),
+        ("get t loose -1", "line 1: G1 Syntax at 12"),
+        ("scan", "line 1: G1 Syntax at 4"),
+        ("scan t t", "line 1: G1 Syntax at 7"),
         (
             "commit update t key(1) set 1 : 2",
             "line 1: G1 Syntax at 29",
@@ -151,6 +176,21 @@ fn limits(rt: HostRuntime) -> Result<(), Fail> {
         (("create ", "n", " kv"), 255, "ok version 1\n"),
         (("create ", "n", " kv"), 256, "line 1: G2 E17 BadName"),
         (("create ", "n", " x"), 256, "line 1: G2 E17 BadName"),
+        (
+            ("commit ", "delete t loose 1 ; ", "delete t loose 1"),
+            9_999,
+            "refused at 0: E8 NoTable\n",
+        ),
+        (
+            ("commit ", "delete t loose 1 ; ", "cascade"),
+            10_000,
+            "line 1: G2 E10 TooMany",
+        ),
+        (
+            ("commit ", "delete t loose 1;", "create"),
+            10_000,
+            "line 1: G1 Syntax at 170007",
+        ),
     ];
     for (parts, count, shown) in table {
         let text = repeat_text(rt.alloc(), parts, count)?;

@@ -3,14 +3,16 @@
 use crate::clock::Stopwatch;
 use crate::keys::{Order, keys};
 use anyhow::{Context, Result, bail};
-use cap_core::{Assignments, Command, Core, Operation, Reply, RowRef};
+use cap_core::{Agree, Command, Core, Reply};
 use cap_row::{Key, Row, Schema};
+use cap_table::RowRef;
+use cap_txn::{Action, Assignments, Batch, Cause, Op};
 use cap_value::{Name, Value};
 use std::alloc::Global;
 use std::time::CpuClock;
 
 /// How many commits are timed together.
-const COMMITS: u32 = 100_000;
+pub(crate) const COMMITS: u32 = 100_000;
 
 /// The most events of a history.
 const EVENTS_MAX: u64 = (1 << 63) - 1;
@@ -20,7 +22,7 @@ const TABLE: &str = "t";
 
 const SESSION: u64 = 1;
 
-fn table(alloc: Global) -> Option<Name<Global>> {
+pub(crate) fn table(alloc: Global) -> Option<Name<Global>> {
     Name::new(alloc, TABLE).ok()
 }
 
@@ -48,28 +50,37 @@ fn attach_table(alloc: Global) -> Option<Vec<Command<Global>>> {
     Some(commands)
 }
 
-/// The commit that inserts a row with this key.
-fn insert(alloc: Global, key: u64) -> Option<Command<Global>> {
+/// The operation that inserts a row with this key.
+pub(crate) fn insert(alloc: Global, key: u64) -> Option<Op<Global>> {
     let mut fields = Vec::new(alloc);
     fields.push(Value::Int(signed(key))).ok()?;
     fields.push(Value::text(alloc, "x").ok()?).ok()?;
-    Some(Command::Commit(Operation::Insert {
+    Some(Op {
         table: table(alloc)?,
-        row: Row::new(fields).ok()?,
-    }))
+        cause: Cause::Direct,
+        action: Action::Insert(Row::new(fields).ok()?),
+    })
 }
 
-/// The commit that sets the value of the row with this key to a number.
-fn update(alloc: Global, key: u64, number: i64) -> Option<Command<Global>> {
+/// The operation that sets the value of the row with this key to a number.
+pub(crate) fn update(alloc: Global, key: u64, number: i64) -> Option<Op<Global>> {
     let mut fields = Vec::new(alloc);
     fields.push(Value::Int(signed(key))).ok()?;
+    let row = RowRef::Key(Key::new(alloc, fields).ok()??);
     let mut assigned = Vec::new(alloc);
     assigned.push((1, Value::Int(number))).ok()?;
-    Some(Command::Commit(Operation::Update {
+    Some(Op {
         table: table(alloc)?,
-        row: RowRef::Key(Key::new(alloc, fields).ok()??),
-        assignments: Assignments::new(assigned),
-    }))
+        cause: Cause::Direct,
+        action: Action::Update(row, Assignments::new(assigned)),
+    })
+}
+
+/// The commit of one operation.
+fn commit(alloc: Global, op: Op<Global>) -> Option<Command<Global>> {
+    let mut batch = Batch::blind(alloc);
+    batch.push(op).ok()?;
+    Some(Command::Commit(batch))
 }
 
 // A key's bits as a number with a sign.
@@ -81,7 +92,7 @@ fn signed(key: u64) -> i64 {
 fn inserts(alloc: Global, order: Order, count: u32) -> Option<Vec<Command<Global>>> {
     let mut commands = Vec::new(alloc);
     for key in keys(alloc, order, count).ok()? {
-        commands.push(insert(alloc, key)?).ok()?;
+        commands.push(commit(alloc, insert(alloc, key)?)?).ok()?;
     }
     Some(commands)
 }
@@ -91,7 +102,8 @@ fn updates(alloc: Global, rows: u32) -> Option<Vec<Command<Global>>> {
     let mut commands = Vec::new(alloc);
     for number in 0..COMMITS {
         let key = u64::from(number % rows.max(1));
-        commands.push(update(alloc, key, i64::from(number))?).ok()?;
+        let op = update(alloc, key, i64::from(number))?;
+        commands.push(commit(alloc, op)?).ok()?;
     }
     Some(commands)
 }
@@ -103,11 +115,11 @@ fn after(core: Core<Global>, commands: &[Command<Global>]) -> Result<Core<Global
         if core.events() >= EVENTS_MAX {
             bail!("the history is full");
         }
-        let (next, reply) = core.prepare(command)?;
-        if let Reply::Refused { .. } = reply {
-            bail!("a command is refused");
+        match core.step(command, &mut Agree) {
+            Ok(Reply::Refused { .. }) => bail!("a command is refused"),
+            Ok(_) => {}
+            Err(_) => bail!("no memory"),
         }
-        core = next;
     }
     Ok(core)
 }

@@ -1,12 +1,13 @@
 //! How long the calls of the libraries take, by the processor's time of one thread: `cap_times tree [N..]` tries trees
-//! of N keys beside std's map, `cap_times codec` a changeset, `cap_times core` commits under a session. Standard output
-//! says what was checked, and standard error how long it took.
+//! of N keys beside std's map, `cap_times codec` a changeset, `cap_times txn` operations on tables, `cap_times core`
+//! commits under a session. Standard output says what was checked, and standard error how long it took.
 #![tactic(auto)]
 
 mod clock;
 mod codec;
 mod commits;
 mod keys;
+mod tables;
 mod tree;
 
 use anyhow::{Result, bail};
@@ -21,10 +22,11 @@ fn run(rt: &(impl Print + Eprint + Env + CpuClock + AllocGlobal)) -> Result<()> 
         [_, load, counts @ ..] => match load.as_str() {
             "tree" => tree::report(rt, counts),
             "codec" => codec::report(rt),
+            "txn" => tables::report(rt),
             "core" => commits::report(rt),
-            _ => bail!("{load} is no load: tree [N..], codec or core"),
+            _ => bail!("{load} is no load: tree [N..], codec, txn or core"),
         },
-        _ => bail!("which load: tree [N..], codec or core"),
+        _ => bail!("which load: tree [N..], codec, txn or core"),
     }
 }
 

@@ -5,8 +5,8 @@ use Rattle.std.specs.Option.{unwrap_or}
 use Rattle.cap_core.specs.declared.attached_table.AttachedTable.{AttachedTable}
 use Rattle.cap_core.specs.declared.session.Session.{Session}
 use Rattle.cap_changes.specs.Group.{TableChanges}
-use Rattle.cap_core.specs.Code.Sound.{schema_of_table, touched_stand}
-use Rattle.cap_core.specs.Database.{Database, table_of}
+use Rattle.cap_txn.specs.Tables.{Tables, schema_of, table_of}
+use Rattle.cap_core.specs.Code.Sound.{touched_stand}
 use Rattle.cap_core.specs.Session.{SessionState, table_changes}
 
 module _ {A : Type 0} where
@@ -18,11 +18,11 @@ module _ {A : Type 0} where
 
   -- the changes of an attached table, and that its images are rows of its table
 
-  abbrev pub attached_changes : Database A → AttachedTable A → Option (TableChanges A)
-  attached_changes database table = table_changes (table.name, table.touched) (table_of database table.name)
+  abbrev pub attached_changes : Tables A → AttachedTable A → Option (TableChanges A)
+  attached_changes main table = table_changes (table.name, table.touched) (table_of main table.name)
 
-  abbrev pub table_stands : Database A → AttachedTable A → Bool
-  table_stands database table = touched_stand (schema_of_table database table.name) table.touched
+  abbrev pub table_stands : Tables A → AttachedTable A → Bool
+  table_stands main table = touched_stand (schema_of main table.name) table.touched
 
   -- the same where the rows that wait are taken over
 

@@ -1,15 +1,21 @@
 use super::cursor::Cursor;
 use super::fault::LineFault;
-use super::operation::{name, operation};
+use super::operation::{batch, name, row_ref};
 use cap_core::Command;
 use cap_row::Schema;
-use cap_value::AllocHandle;
+use cap_table::RowRef;
+use cap_txn::Batch;
+use cap_value::{AllocHandle, Name};
 
 /// What is printed of a reply that tells more than one thing.
-#[derive(Clone, Copy, Debug, PartialEq, Eq, Drop)]
-pub enum Show {
+#[derive(Drop)]
+pub enum Show<A: AllocHandle> {
     /// No more than the reply's word.
     Plain,
+    /// One row of a snapshot.
+    Get(Name<A>, RowRef<A>),
+    /// All rows of a table of a snapshot.
+    Scan(Name<A>),
     /// The bytes of a capture's changeset.
     Changeset,
 }
@@ -18,7 +24,7 @@ pub enum Show {
 #[derive(Drop)]
 pub struct Line<A: AllocHandle> {
     pub command: Command<A>,
-    pub show: Show,
+    pub show: Show<A>,
 }
 
 impl<A: AllocHandle> Line<A> {
@@ -26,6 +32,13 @@ impl<A: AllocHandle> Line<A> {
         Line {
             command,
             show: Show::Plain,
+        }
+    }
+
+    fn read(show: Show<A>) -> Self {
+        Line {
+            command: Command::Read,
+            show,
         }
     }
 
@@ -51,7 +64,17 @@ fn command<A: AllocHandle>(alloc: A, cursor: &mut Cursor<'_>) -> Result<Line<A>,
             let schema = schema(alloc, cursor)?;
             Ok(Line::plain(Command::CreateTable { table, schema }))
         }
-        "commit" => Ok(Line::plain(Command::Commit(operation(alloc, cursor)?))),
+        "commit" => commit(alloc, cursor, Batch::blind(alloc)),
+        "commitat" => {
+            let base = cursor.natural()?;
+            commit(alloc, cursor, Batch::based(alloc, base))
+        }
+        "get" => {
+            let table = name(alloc, cursor)?;
+            let row = row_ref(alloc, cursor)?;
+            Ok(Line::read(Show::Get(table, row)))
+        }
+        "scan" => Ok(Line::read(Show::Scan(name(alloc, cursor)?))),
         "session" => Ok(Line::plain(Command::NewSession)),
         "attach" => {
             let session = cursor.natural()?;
@@ -67,6 +90,15 @@ fn command<A: AllocHandle>(alloc: A, cursor: &mut Cursor<'_>) -> Result<Line<A>,
         }
         _ => Err(misfit),
     }
+}
+
+// The commit of the operations that follow.
+fn commit<A: AllocHandle>(
+    alloc: A,
+    cursor: &mut Cursor<'_>,
+    empty: Batch<A>,
+) -> Result<Line<A>, LineFault> {
+    Ok(Line::plain(Command::Commit(batch(alloc, cursor, empty)?)))
 }
 
 /// The columns of a table: a word of `k` for a column of the primary key and `v` for another, one letter a column.

@@ -3,49 +3,110 @@ ghost use Rattle.std.specs.Prelude.{◌≤◌, length};
 use super::cursor::Cursor;
 use super::fault::LineFault;
 use super::value::{value, values};
-use cap_core::{Assignments, Operation, RowRef};
 use cap_row::{Key, Row};
-use cap_value::{AllocHandle, Name, Value};
+use cap_table::RowRef;
+use cap_txn::{Action, Assignments, Batch, Cause, OPS_MAX, Op};
+use cap_value::{AllocHandle, Name, Refusal, Value};
 
 /// The name of a table.
-pub fn name<A: AllocHandle>(alloc: A, cursor: &mut Cursor<'_>) -> Result<Name<A>, LineFault> {
+pub fn name<A: AllocHandle>(alloc: A, cursor: &mut Cursor<'_>) -> Result<Name<A>, LineFault>
+    ensures left { length cursor.new.rest.now ≤ length cursor.old.rest.now }
+{
     Ok(Name::new(alloc, cursor.word()?)?)
 }
 
-/// An operation: `insert T (V,..)`, `update T REF set I = V , ..` or `delete T REF`.
-pub fn operation<A: AllocHandle>(
+/// The batch with these operations at its end: `OP ; OP ..`.
+pub fn batch<A: AllocHandle>(
     alloc: A,
     cursor: &mut Cursor<'_>,
-) -> Result<Operation<A>, LineFault> {
+    mut batch: Batch<A>,
+) -> Result<Batch<A>, LineFault> {
+    batch.push(operation(alloc, cursor, false)?)?;
+    while cursor.takes_sign(b';') {
+        let is_full = batch.ops().len() >= OPS_MAX;
+        batch.push(operation(alloc, cursor, is_full)?)?;
+    }
+    Ok(batch)
+}
+
+/// An operation: `insert T (V,..)`, `update T REF set I = V , ..` or `delete T REF`, with `cascade` before it for that
+/// cause. Where the batch is full its first token passes the limit, if it fits.
+fn operation<A: AllocHandle>(
+    alloc: A,
+    cursor: &mut Cursor<'_>,
+    is_full: bool,
+) -> Result<Op<A>, LineFault>
+    ensures left { length cursor.new.rest.now ≤ length cursor.old.rest.now }
+{
     cursor.skip_spaces();
     let misfit = cursor.misfit();
-    match cursor.word()? {
+    let word = cursor.word()?;
+    if !begins_operation(word) {
+        return Err(misfit);
+    }
+    if is_full {
+        return Err(LineFault::Limit(Refusal::TooMany));
+    }
+    if word != "cascade" {
+        return operation_of(alloc, cursor, Cause::Direct, word, misfit);
+    }
+    cursor.skip_spaces();
+    let misfit = cursor.misfit();
+    let word = cursor.word()?;
+    operation_of(alloc, cursor, Cause::Cascade, word, misfit)
+}
+
+fn begins_operation(word: &str) -> bool {
+    matches!(word, "insert" | "update" | "delete" | "cascade")
+}
+
+// The operation that this word begins, or else a misfit.
+fn operation_of<A: AllocHandle>(
+    alloc: A,
+    cursor: &mut Cursor<'_>,
+    cause: Cause,
+    word: &str,
+    misfit: LineFault,
+) -> Result<Op<A>, LineFault>
+    ensures left { length cursor.new.rest.now ≤ length cursor.old.rest.now }
+{
+    match word {
         "insert" => {
             let table = name(alloc, cursor)?;
-            let row = Row::new(values(alloc, cursor)?)?;
-            Ok(Operation::Insert { table, row })
+            let action = Action::Insert(Row::new(values(alloc, cursor)?)?);
+            Ok(Op {
+                table,
+                cause,
+                action,
+            })
         }
         "update" => {
             let table = name(alloc, cursor)?;
             let row = row_ref(alloc, cursor)?;
-            let assignments = assignments(alloc, cursor)?;
-            Ok(Operation::Update {
+            let action = Action::Update(row, assignments(alloc, cursor)?);
+            Ok(Op {
                 table,
-                row,
-                assignments,
+                cause,
+                action,
             })
         }
         "delete" => {
             let table = name(alloc, cursor)?;
-            let row = row_ref(alloc, cursor)?;
-            Ok(Operation::Delete { table, row })
+            let action = Action::Delete(row_ref(alloc, cursor)?);
+            Ok(Op {
+                table,
+                cause,
+                action,
+            })
         }
         _ => Err(misfit),
     }
 }
 
 /// The name of a row: `key(V,..)` or `loose N`. A key with a NULL is read as `loose 0`, which names no row.
-fn row_ref<A: AllocHandle>(alloc: A, cursor: &mut Cursor<'_>) -> Result<RowRef<A>, LineFault> {
+pub fn row_ref<A: AllocHandle>(alloc: A, cursor: &mut Cursor<'_>) -> Result<RowRef<A>, LineFault>
+    ensures left { length cursor.new.rest.now ≤ length cursor.old.rest.now }
+{
     cursor.skip_spaces();
     let misfit = cursor.misfit();
     match cursor.word()? {
@@ -62,7 +123,9 @@ fn row_ref<A: AllocHandle>(alloc: A, cursor: &mut Cursor<'_>) -> Result<RowRef<A
 fn assignments<A: AllocHandle>(
     alloc: A,
     cursor: &mut Cursor<'_>,
-) -> Result<Assignments<A>, LineFault> {
+) -> Result<Assignments<A>, LineFault>
+    ensures left { length cursor.new.rest.now ≤ length cursor.old.rest.now }
+{
     cursor.keyword("set")?;
     let mut fields = Vec::new(alloc);
     fields.push(assignment(alloc, cursor)?)?;

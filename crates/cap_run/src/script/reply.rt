@@ -1,9 +1,11 @@
 ghost use Rattle.std.specs.Prelude.{◌≡◌, IfOk, string_bytes, codes, ◌++◌};
-ghost use Rattle.cap_run.specs.ReplyText.{hex_or_dash, refusal_name, refusal_text, reply_text};
+ghost use Rattle.cap_run.specs.RefusalText.{refusal_name, refusal_text};
+ghost use Rattle.cap_run.specs.ReplyText.{hex_or_dash, reply_text};
 ghost use Rattle.cap_run.specs.Run.{on_a_line};
 ghost use Rattle.cap_codec.specs.Changeset.{list_bytes};
 
 use super::line::Show;
+use super::row_text::snapshot_text;
 use cap_core::{Capture, Reply};
 use cap_value::{AllocHandle, OutOfMemory, Refusal};
 use std::fmt;
@@ -13,18 +15,19 @@ use std::fmt::{Display, Formatter, Write};
 #[tactic(auto, unfolding(crate::specs::ReplyText::reply_text))]
 fn reply_text<A: AllocHandle>(
     alloc: A,
-    show: Show,
+    show: &Show<A>,
     reply: &Reply<A>,
 ) -> Result<String<A>, OutOfMemory>
-    ensures { IfOk result (λ text. string_bytes text ≡ reply_text show reply.now) }
+    ensures { IfOk result (λ text. string_bytes text ≡ reply_text show.now reply.now) }
 {
     match reply {
         Reply::Done => String::from_str(alloc, "ok"),
         Reply::Written { version } => format!(in alloc; "ok version {version}"),
         Reply::Session(number) => format!(in alloc; "session {number}"),
+        Reply::Snapshot(snapshot) => snapshot_text(alloc, show, snapshot),
         Reply::Capture(capture) => match show {
-            Show::Plain => String::from_str(alloc, "ok"),
             Show::Changeset => changeset_text(alloc, capture),
+            _ => String::from_str(alloc, "ok"),
         },
         Reply::Refused {
             at: Some(place),
@@ -37,10 +40,10 @@ fn reply_text<A: AllocHandle>(
 /// The text of a reply, with the line feed at its end.
 pub fn reply_line<A: AllocHandle>(
     alloc: A,
-    show: Show,
+    show: &Show<A>,
     reply: &Reply<A>,
 ) -> Result<String<A>, OutOfMemory>
-    ensures { IfOk result (λ line. string_bytes line ≡ on_a_line (reply_text show reply.now)) }
+    ensures { IfOk result (λ line. string_bytes line ≡ on_a_line (reply_text show.now reply.now)) }
 {
     let mut line = reply_text(alloc, show, reply)?;
     line.push_str("\n")?;
@@ -66,11 +69,11 @@ pub struct RefusalText(pub Refusal);
 
 impl Display for RefusalText {
     ghost use Rattle.std.specs.Prelude.{Some};
-    ghost use Rattle.cap_run.specs.ReplyText.{refusal_text};
+    ghost use Rattle.cap_run.specs.RefusalText.{refusal_text};
 
     ghost output = { λ text. Some (refusal_text text.0) };
 
-    #[tactic(auto, unfolding(crate::specs::ReplyText::refusal_text))]
+    #[tactic(auto, unfolding(crate::specs::RefusalText::refusal_text))]
     fn fmt<W: Write>(&self, f: &mut Formatter<W>) -> fmt::Result {
         let name = refusal_name(self.0);
         match self.0 {
@@ -80,7 +83,7 @@ impl Display for RefusalText {
     }
 }
 
-#[tactic(auto, unfolding(crate::specs::ReplyText::refusal_name))]
+#[tactic(auto, unfolding(crate::specs::RefusalText::refusal_name))]
 fn refusal_name(why: Refusal) -> &'static str
     ensures { result.now ≡ refusal_name why }
 {

@@ -26,7 +26,9 @@ pub fn value<A: AllocHandle>(alloc: A, cursor: &mut Cursor<'_>) -> Result<Value<
 pub fn values<A: AllocHandle>(
     alloc: A,
     cursor: &mut Cursor<'_>,
-) -> Result<Vec<Value<A>, A>, LineFault> {
+) -> Result<Vec<Value<A>, A>, LineFault>
+    ensures left { length cursor.new.rest.now ≤ length cursor.old.rest.now }
+{
     cursor.sign(b'(')?;
     let mut values = Vec::new(alloc);
     values.push(value(alloc, cursor)?)?;

@@ -6,4 +6,4 @@ use Rattle.cap_core.proofs.attached_table.touch_tables.Given as goal
 abbrev pub invariant-loop-table : goal.invariant-loop-table
 invariant-loop-table g l =
     (tables_of l.tables ≡ tables_of l.initial.tables)
-    × (waiting_tables (take l.table-index l.tables) ≡ touch_session l.before l.changes (take l.table-index (tables_of l.initial.tables)))
+    × (waiting_tables (take l.table-index l.tables) ≡ touch_session l.touches (take l.table-index (tables_of l.initial.tables)))

@@ -1,5 +1,7 @@
-use Rattle.cap_core.proofs.KeyedLemmas.{tables_keyed, tables_rise}
+use Rattle.cap_core.proofs.KeyedLemmas.{tables_keyed, tables_loose, tables_rise}
 use Rattle.cap_core.proofs.laws.rows_stand_under_own_keys.Goals as goal
 
 pub returns : goal.returns
-returns g c = record { names = tables_rise; tables = tables_keyed }
+returns g c =
+    let order = c.tables_keep_order.ensures in
+    record { names = tables_rise order.empty order.run order.create; keyed = tables_keyed order.empty order.run order.create; loose = tables_loose order.empty order.run order.create }

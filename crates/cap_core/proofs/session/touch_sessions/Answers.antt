@@ -22,8 +22,8 @@ loop-session-preserved g c =
     let wide : length c.touch_tables.new.tables ≡ old.tables.len = omega (arith, c.touch_tables.auto.tables, c.as_mut_slice.ensures.len) in
     let new = with_items_is old.tables c.touch_tables.new.tables wide in
     let same = ap tables_of new ∙ c.touch_tables.ensures.same ∙ ap tables_of c.as_mut_slice.ensures.value in
-    let made = ap waiting_tables new ∙ c.in_ok-touch_tables.ensures.waiting ∙ ap (λ tables. touch_session c.args.before.now c.args.changes.now (tables_of tables)) c.as_mut_slice.ensures.value in
-    loop-more (λ session. (session.number, tables_of session.tables.items)) (λ session. (session.number, waiting_tables session.tables.items)) (λ session. (session.0, touch_session c.args.before.now c.args.changes.now session.1))
+    let made = ap waiting_tables new ∙ c.in_ok-touch_tables.ensures.waiting ∙ ap (λ tables. touch_session c.args.touches.now (tables_of tables)) c.as_mut_slice.ensures.value in
+    loop-more (λ session. (session.number, tables_of session.tables.items)) (λ session. (session.number, waiting_tables session.tables.items)) (λ session. (session.0, touch_session c.args.touches.now session.1))
     c.loop-session.sessions (sessions_of c.args.sessions.now) c.loop-session.session-index
     (record { number = old.number; tables = with_items old.tables c.touch_tables.new.tables }) c.session-item.result
     (omega (arith, c.loop-session-test.true, c.loop-session.auto.sessions)) (ap (λ tables. (old.number, tables)) same) (ap (λ tables. (old.number, tables)) made)

@@ -6,4 +6,4 @@ use Rattle.cap_core.proofs.session.touch_sessions.Given as goal
 abbrev pub invariant-loop-session : goal.invariant-loop-session
 invariant-loop-session g l =
     (sessions_of l.sessions ≡ sessions_of l.initial.sessions)
-    × (waiting_sessions (take l.session-index l.sessions) ≡ touch_sessions l.before l.changes (take l.session-index (sessions_of l.initial.sessions)))
+    × (waiting_sessions (take l.session-index l.sessions) ≡ touch_sessions l.touches (take l.session-index (sessions_of l.initial.sessions)))

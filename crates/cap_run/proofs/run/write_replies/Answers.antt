@@ -16,10 +16,10 @@ loop-line-preserved g c =
     let less : index < length c.args.lines.now = c.loop-line-test.true in
     let within : index ≤ length c.args.lines.now = omega (arith, less) in
     let events = reached-events c.args.lines.now c.loop-line.core index _ inv.1 within in
-    let pushed = reached-push c.args.lines.now c.loop-line.core c.in-Ok.next index inv.0 (string_bytes c.loop-line.pending) (string_bytes c.run_line.new.pending) c.line-item.result inv.1 less c.line-item.is c.in-Ok.ensures.history in
+    let pushed = reached-push c.args.lines.now c.loop-line.core c.run_line.new.core index inv.0 (string_bytes c.loop-line.pending) (string_bytes c.run_line.new.pending) c.line-item.result inv.1 less c.line-item.is c.in-Ok.ensures.history in
     let front = c.in_ok-write_long.ensures.ok in (
       inv.0 ++ front.0,
-      reached_regroup c.args.lines.now c.in-Ok.next (index + 1) inv.0 (string_bytes c.run_line.new.pending) front.0 (string_bytes c.write_long.new.pending) front.1 pushed,
+      reached_regroup c.args.lines.now c.run_line.new.core (index + 1) inv.0 (string_bytes c.run_line.new.pending) front.0 (string_bytes c.write_long.new.pending) front.1 pushed,
       Appends-trans _ _ _ inv.0 front.0 inv.2 front.2,
       omega (arith, events, c.in-Ok.ensures.room),
     )
@@ -45,9 +45,9 @@ pub returns-in_err-write_long-clause-err : goal.returns-in_err-write_long-clause
 returns-in_err-write_long-clause-err g c =
     let inv = c.loop-line.invariant in
     let index = c.loop-line.line-index in
-    let pushed = reached-push c.args.lines.now c.loop-line.core c.in-Ok.next index inv.0 (string_bytes c.loop-line.pending) (string_bytes c.run_line.new.pending) c.line-item.result inv.1 c.loop-line-test.true c.line-item.is c.in-Ok.ensures.history in
+    let pushed = reached-push c.args.lines.now c.loop-line.core c.run_line.new.core index inv.0 (string_bytes c.loop-line.pending) (string_bytes c.run_line.new.pending) c.line-item.result inv.1 c.loop-line-test.true c.line-item.is c.in-Ok.ensures.history in
     let p = err_from_is_err_and c.from_residual.result c.from_residual.ensures.1 in
     rw (p.1, p.2) (
       c.in_err-write_long.ensures.err.0,
-      begins_front c.args.lines.now _ _ _ (index + 1) inv.0 (string_bytes c.run_line.new.pending) (reached-run c.args.lines.now c.in-Ok.next (index + 1) _ pushed) inv.2 c.in_err-write_long.ensures.err.1,
+      begins_front c.args.lines.now _ _ _ (index + 1) inv.0 (string_bytes c.run_line.new.pending) (reached-run c.args.lines.now c.run_line.new.core (index + 1) _ pushed) inv.2 c.in_err-write_long.ensures.err.1,
     )

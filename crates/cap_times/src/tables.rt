@@ -1,0 +1,120 @@
+//! How long operations on tables take, in place, without a server.
+
+use crate::clock::Stopwatch;
+use crate::commits::{COMMITS, insert, table, update};
+use crate::keys::{Order, keys};
+use anyhow::{Context, Result, bail};
+use cap_row::Schema;
+use cap_txn::{Database, OPS_MAX, Op, run_ops};
+use std::alloc::Global;
+use std::time::CpuClock;
+
+/// A database with the table, which has no row.
+fn database(alloc: Global) -> Option<Database<Global>> {
+    let mut database = Database::empty(alloc);
+    let schema = Schema::new(alloc, &[true, false]).ok()?;
+    database.create(table(alloc)?, schema).ok()?;
+    Some(database)
+}
+
+/// So many inserts in the order.
+fn inserts(alloc: Global, order: Order, count: u32) -> Option<Vec<Op<Global>>> {
+    let mut ops = Vec::new(alloc);
+    for key in keys(alloc, order, count).ok()? {
+        ops.push(insert(alloc, key)?).ok()?;
+    }
+    Some(ops)
+}
+
+/// Updates of so many rows in turn.
+fn updates(alloc: Global, rows: u32) -> Option<Vec<Op<Global>>> {
+    let mut ops = Vec::new(alloc);
+    for number in 0..COMMITS {
+        let key = u64::from(number % rows.max(1));
+        ops.push(update(alloc, key, i64::from(number))?).ok()?;
+    }
+    Some(ops)
+}
+
+/// Makes the operations one by one, each of which has to be accepted.
+fn make(database: &mut Database<Global>, ops: &[Op<Global>]) -> Result<()> {
+    for op in ops {
+        if database.step(op).is_err() {
+            bail!("an operation is refused");
+        }
+    }
+    Ok(())
+}
+
+// Makes the operations one by one, and tells the nanoseconds that each took.
+fn timed(
+    rt: &(impl Eprint + CpuClock),
+    load: &str,
+    database: &mut Database<Global>,
+    ops: &[Op<Global>],
+) -> Result<()> {
+    let watch = Stopwatch::start(rt)?;
+    make(database, ops)?;
+    let each = watch.read(rt)? / (ops.len() as u128).max(1);
+    eprintln!(rt; "{load}: {each} ns an operation")?;
+    Ok(())
+}
+
+// How long a batch takes for each of its operations.
+fn try_batch(rt: &(impl Print + Eprint + CpuClock + AllocGlobal), order: Order) -> Result<()> {
+    let alloc = rt.alloc();
+    let database = database(alloc).context("no database")?;
+    let ops = inserts(alloc, order, OPS_MAX as u32).context("no operations")?;
+    let watch = Stopwatch::start(rt)?;
+    let Ok(outcome) = run_ops(alloc, &database, ops.as_slice()) else {
+        bail!("the batch is refused");
+    };
+    let each = watch.read(rt)? / (ops.len() as u128).max(1);
+    eprintln!(rt;
+        "a batch of {} inserts, {order}: {each} ns an operation",
+        ops.len()
+    )?;
+    println!(rt; "{} changes made", outcome.changes().len())?;
+    Ok(())
+}
+
+// How long a scan takes for each row.
+fn try_scan(
+    rt: &(impl Print + Eprint + CpuClock + AllocGlobal),
+    database: &Database<Global>,
+) -> Result<()> {
+    let name = table(rt.alloc()).context("no name")?;
+    let watch = Stopwatch::start(rt)?;
+    let mut fields = 0usize;
+    let mut rows = 0usize;
+    let Ok(scan) = database.scan(&name) else {
+        bail!("the scan is refused");
+    };
+    for (_, row) in scan {
+        fields = fields.saturating_add(row.width());
+        rows = rows.saturating_add(1);
+    }
+    let each = watch.read(rt)? / (rows as u128).max(1);
+    eprintln!(rt; "scan: {each} ns a row")?;
+    println!(rt; "{rows} rows of {fields} fields scanned")?;
+    Ok(())
+}
+
+/// Times inserts one by one and in a batch, updates, and a scan.
+pub(crate) fn report(rt: &(impl Print + Eprint + CpuClock + AllocGlobal)) -> Result<()> {
+    let alloc = rt.alloc();
+    for order in [Order::Rising, Order::Scrambled] {
+        let ops = inserts(alloc, order, COMMITS).context("no operations")?;
+        let load = format!(in alloc; "{COMMITS} inserts, {order}")?;
+        let mut tables = database(alloc).context("no database")?;
+        timed(rt, load.as_str(), &mut tables, ops.as_slice())?;
+        try_scan(rt, &tables)?;
+        try_batch(rt, order)?;
+    }
+    let mut tables = database(alloc).context("no database")?;
+    let rows = inserts(alloc, Order::Rising, 1000).context("no operations")?;
+    make(&mut tables, rows.as_slice())?;
+    let ops = updates(alloc, 1000).context("no operations")?;
+    let load = format!(in alloc; "{COMMITS} updates of 1000 rows")?;
+    timed(rt, load.as_str(), &mut tables, ops.as_slice())
+}
