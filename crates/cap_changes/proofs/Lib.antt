@@ -1,3 +1,4 @@
 pub mod ChangeLemmas
 pub mod ColumnLemmas
+pub mod InvertLemmas
 pub mod PatchLemmas

@@ -11,7 +11,7 @@ use Rattle.cap_changes.specs.declared.demand.Demand.TheVariants as asks
 use Rattle.cap_changes.specs.declared.rule.Rule.TheVariants as rules
 
 module _ {A : Type 0} where
-  update_fits : (flags : List Bool) (old new : RecordFields A) → meet (demands rules.Keyed flags) old ≡ true → meet (new_demands flags old) new ≡ true →
+  pub update_fits : (flags : List Bool) (old new : RecordFields A) → meet (demands rules.Keyed flags) old ≡ true → meet (new_demands flags old) new ≡ true →
       meet (demands rules.Keyed flags) (update_record flags old new) ≡ true
   update_fits [] [] [] met met' = refl
   update_fits [] [] (field ∷ new) met met' = cc

@@ -4,6 +4,7 @@ pub mod Demands
 pub mod Entries
 pub mod Fits
 pub mod Group
+pub mod Invert
 pub mod Patch
 pub mod PatchGroup
 pub mod Record

@@ -67,7 +67,7 @@ fn patch_of<A: AllocHandle>(
     }
 }
 
-fn copy_record<A: AllocHandle>(
+pub(crate) fn copy_record<A: AllocHandle>(
     alloc: A,
     fields: &[Option<Value<A>>],
 ) -> Result<Record<A>, OutOfMemory>
@@ -80,7 +80,7 @@ fn copy_record<A: AllocHandle>(
     Ok(Record::new(copies))
 }
 
-fn update_record<A: AllocHandle>(
+pub(crate) fn update_record<A: AllocHandle>(
     alloc: A,
     flags: &[bool],
     old: &[Option<Value<A>>],

@@ -2,7 +2,9 @@ ghost use Rattle.std.specs.Prelude.{◌≡◌, pos, [], ◌∷◌, true, false, 
 ghost use Rattle.std.specs.Option.{option_copied, option_map};
 ghost use Rattle.cap_value.specs.declared.value.Value.TheVariants.{Int, Text};
 
-use crate::{Change, ChangeList, Group, Patch, PatchList, Record, change_between, to_patches};
+use crate::{
+    Change, ChangeList, Group, Patch, PatchList, Record, change_between, invert, to_patches,
+};
 use cap_row::{Row, Schema};
 use cap_value::{AllocHandle, Fault, Name, OutOfMemory, Refusal, Value};
 use linked_list_allocator::LocalHeap;
@@ -55,8 +57,8 @@ fn change<A: AllocHandle>(
     Ok(change_between(alloc, &schema, true, image.as_ref(), now.as_ref())?)
 }
 
-/// A list with an insert, an update and a delete, as its patches.
-fn patches<A: AllocHandle>(alloc: A) -> Result<PatchList<A>, Fault<Refusal>> {
+/// A list with an insert, an update and a delete.
+fn changes<A: AllocHandle>(alloc: A) -> Result<ChangeList<A>, Fault<Refusal>> {
     let mut group = Group::new(alloc, Name::new(alloc, "t")?, key_and_value(alloc)?);
     for (image, now) in [(None, Some("x")), (Some("x"), Some("y")), (Some("x"), None)] {
         if let Some(made) = change(alloc, image, now)? {
@@ -67,7 +69,17 @@ fn patches<A: AllocHandle>(alloc: A) -> Result<PatchList<A>, Fault<Refusal>> {
     }
     let mut list = ChangeList::new(alloc);
     list.push(group)?;
-    Ok(to_patches(alloc, &list)?)
+    Ok(list)
+}
+
+/// The same list, as its patches.
+fn patches<A: AllocHandle>(alloc: A) -> Result<PatchList<A>, Fault<Refusal>> {
+    Ok(to_patches(alloc, &changes(alloc)?)?)
+}
+
+/// The list that takes it back.
+fn inverse<A: AllocHandle>(alloc: A) -> Result<ChangeList<A>, Fault<Refusal>> {
+    Ok(invert(alloc, &changes(alloc)?)?)
 }
 
 fn is<A: AllocHandle>(record: &Record<A>, key: Option<i64>, text: Option<&str>) -> bool {
@@ -126,6 +138,44 @@ fn patches_keep_key_and_new_values(rt: HostRuntime) -> Result<(), Fail> {
     assert!(rt;
         matches!(&group.changes()[2], Patch::Delete { indirect: true, key } if is(key, Some(1), None))
     );
+    Ok(())
+}
+
+#[test]
+fn an_inverse_takes_each_change_back(rt: HostRuntime) -> Result<(), Fail> {
+    let list = inverse(rt.alloc())?;
+    assert_eq!(rt; list.groups().len(), 1);
+    let group = &list.groups()[0];
+    assert_eq!(rt; group.table().as_str(), "t");
+    assert_eq!(rt; group.changes().len(), 3);
+    assert!(rt;
+        matches!(&group.changes()[0], Change::Delete { indirect: true, old } if is(old, Some(1), Some("x")))
+    );
+    assert!(rt;
+        matches!(&group.changes()[1], Change::Update { indirect: true, old, new }
+        if is(old, Some(1), Some("y")) && is(new, None, Some("x")))
+    );
+    assert!(rt;
+        matches!(&group.changes()[2], Change::Insert { indirect: true, new } if is(new, Some(1), Some("x")))
+    );
+    Ok(())
+}
+
+#[test]
+fn each_growth_of_an_inverse_refused(rt: HostRuntime) -> Result<(), Fail> {
+    let mut refused = false;
+    for step in 4..512 {
+        let heap = LocalHeap::new(rt.alloc(), 16 * step)?;
+        match inverse(&heap) {
+            Ok(list) => assert_eq!(rt; list.groups().len(), 1),
+            Err(Fault::OutOfMemory) => refused = true,
+            Err(Fault::Refused(_)) => panic!(rt; "refused by the rules"),
+        }
+        assert_eq!(rt; heap.used(), 0);
+    }
+    assert!(rt; refused);
+    let heap = LocalHeap::new(rt.alloc(), 8192)?;
+    assert!(rt; inverse(&heap).is_ok());
     Ok(())
 }
 
