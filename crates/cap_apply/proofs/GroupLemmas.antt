@@ -1,0 +1,150 @@
+-- Changes and groups, one after another.
+use Rattle.std.proofs.Common.{◌≡◌, ℕ, suc, ◌+◌, ◌<◌, Bool, true, false, cond, Option, Some, None, Result, Ok, Err, List, [], ◌∷◌, length, map, drop, get_or, refl, sym, ap, subst, ◌∙◌, arith, drop-cons}
+use Rattle.std.specs.Prelude.{is_some}
+use Rattle.std.specs.declared.cmp.Ordering.{Ordering}
+use Rattle.std.specs.declared.cmp.Ordering.TheVariants.{Less, Equal, Greater}
+use Rattle.std.specs.Ordering.{match_ordering}
+use Rattle.std.specs.Cmp.{tied_itself}
+use Rattle.std.proofs.lemmas.Cmp.{nat_list_cmp_total}
+use Rattle.std.proofs.lemmas.List.{length-map}
+use Rattle.cap_value.specs.Bytes.{bytes_cmp}
+use Rattle.cap_value.specs.declared.memory.Fault.{Fault}
+use Rattle.cap_value.specs.declared.memory.Fault.TheVariants.{Refused, OutOfMemory}
+use Rattle.cap_value.specs.declared.refusal.Refusal.{Refusal}
+use Rattle.cap_row.specs.Fields.{Fields}
+use Rattle.cap_row.specs.Key.{fields_cmp}
+use Rattle.cap_tree.specs.Tree.{get, put_entry}
+use Rattle.cap_table.specs.Made.{LeavesUnlessMemory}
+use Rattle.cap_table.specs.Table.{TableState}
+use Rattle.cap_txn.specs.Tables.{Tables, table_of}
+use Rattle.cap_changes.specs.Entries.{TableEntries}
+use Rattle.cap_apply.specs.Applied.{AppliedState}
+use Rattle.cap_apply.specs.Apply.{and_then, change_applied, change_in, changes_applied, concluded, counted, group_applied, groups_applied, left_out, noted, skipped, skipped_unless, with_row, with_row_in}
+use Rattle.cap_apply.specs.Asked.{Asked, asked_in}
+use Rattle.cap_apply.specs.Policy.{is_made}
+use Rattle.cap_apply.specs.Row.{conflict_of, key_record_of, key_values, row_after}
+use Rattle.cap_apply.specs.Target.{columns_fit, fitting, target}
+use Rattle.cap_apply.specs.declared.conflict.ConflictKind.{ConflictKind}
+use Rattle.cap_apply.specs.declared.policy.Policy.{Policy}
+use Rattle.cap_apply.proofs.ChangeLemmas.{HasTarget, applied_at, has_target}
+
+-- what is refused for the same reason, whatever was left
+pub still_refused : (X Y : Type 0) {S T E : Type 0} (fault : Fault E) (a : Result S E) (s : S) (b : Result T E) (t : T) → ((why : E) → a ≡ Err why → b ≡ Err why) →
+    LeavesUnlessMemory {X = X} (Err fault) a s → LeavesUnlessMemory {X = Y} (Err fault) b t
+still_refused X Y (Refused why) a s b t f h = f why h
+still_refused X Y OutOfMemory a s b t f h = tt
+
+drop_here : {X : Type 0} (xs : List X) (i : ℕ) (x : X) → i < length xs → x ≡ get_or xs i x → drop i xs ≡ x ∷ drop (i + 1) xs
+drop_here xs i x within is =
+    let n : suc i ≡ i + 1 = omega arith in
+    drop-cons xs i x within ∙ (λ k. sym is k ∷ drop (n k) xs)
+
+module _ {K X : Type 0} (R : K → K → Ordering) (k : K) (v : X) (self : R k k ≡ Equal) where
+  pub get_put : (es : List (K × X)) → get R (put_entry R es k v) k ≡ Some v
+  get_put [] = rw self
+  get_put (e ∷ es) =
+      elim (R k e.0) as (λ r. R k e.0 ≡ r → get R (match_ordering r ((k, v) ∷ e ∷ es) ((k, v) ∷ es) (e ∷ put_entry R es k v)) k ≡ Some v) [
+        | Less ↦ λ h. rw self
+        | Equal ↦ λ h. rw self
+        | Greater ↦ λ h. rw h (get_put es)
+      ] refl
+
+module _ {A : Type 0} where
+  -- ---- the table of a group stays
+
+  same_columns : (table : TableState A) (key : Fields A) (after : Option (Fields A)) → (with_row table key after).schema ≡ table.schema
+  same_columns table key None = refl
+  same_columns table key (Some row) = refl
+
+  put_target : (database : Tables A) (name : List ℕ) (flags : List Bool) (table : TableState A) → columns_fit flags table.schema ≡ true →
+      is_some (target (put_entry bytes_cmp database name table) name flags) ≡ true
+  put_target database name flags table fit =
+      ap (λ t. is_some (fitting flags t)) (get_put bytes_cmp name table (tied_itself nat_list_cmp_total name) database)
+      ∙ ap (λ b. is_some (cond b (Some table) None)) fit
+
+  noted_target : (policy : Policy) (number : ℕ) (conflict : Option ConflictKind) (state : AppliedState A) (name : List ℕ) (flags : List Bool) →
+      is_some (target state.database name flags) ≡ true → is_some (target (noted policy number conflict state).database name flags) ≡ true
+  noted_target policy number None state name flags e = e
+  noted_target policy number (Some kind) state name flags e = e
+
+  concluded_target : (name : List ℕ) (flags : List Bool) (m : Result Bool Refusal) (made omitted next : AppliedState A) → concluded m made omitted ≡ Ok next →
+      is_some (target made.database name flags) ≡ true → is_some (target omitted.database name flags) ≡ true → is_some (target next.database name flags) ≡ true
+  concluded_target name flags (Ok true) made omitted next e p q =
+      let same : made ≡ next = cc in subst (λ (s : AppliedState A). is_some (target s.database name flags) ≡ true) same p
+  concluded_target name flags (Ok false) made omitted next e p q =
+      let same : omitted ≡ next = cc in subst (λ (s : AppliedState A). is_some (target s.database name flags) ≡ true) same q
+  concluded_target name flags (Err why) made omitted next e p q = cc
+
+  pub target_stays : (policy : Policy) (number : ℕ) (name : List ℕ) (flags : List Bool) (asked : Asked A) (state next : AppliedState A) →
+      is_some (target state.database name flags) ≡ true → change_applied policy number name flags asked state ≡ Ok next →
+      is_some (target next.database name flags) ≡ true
+  target_stays policy number name flags asked state next e ok =
+      let h = has_target state.database name flags e in
+      let key = key_values flags (key_record_of asked.patch) in
+      let before = get fields_cmp h.table.keyed key in
+      let conflict = conflict_of flags asked.old asked.patch before in
+      let after = row_after (length h.table.schema) asked.patch before in
+      let kept = noted policy number conflict state in
+      let fit : columns_fit flags (with_row h.table key after).schema ≡ true = ap (columns_fit flags) (same_columns h.table key after) ∙ h.fit in
+      concluded_target name flags (is_made policy number conflict) (counted (with_row_in name h.table key before after kept)) (left_out number kept) next
+      (sym (applied_at policy number name flags asked state h before conflict refl refl) ∙ ok)
+      (put_target kept.database name flags (with_row h.table key after) fit)
+      (noted_target policy number conflict state name flags e)
+
+  -- ---- changes
+
+  module _ {X : Type 0} (policy : Policy) (name : List ℕ) (flags : List Bool) (number : ℕ) (f : X → Asked A) (xs : List X) (i : ℕ) (x : X) (within : i < length xs) (is : x ≡ get_or xs i x) (state : AppliedState A) where
+    changes_from : changes_applied policy (number + i) name flags (map f (drop i xs)) state
+        ≡ and_then (change_applied policy (number + i) name flags (f x) state) (λ next. changes_applied policy (number + i + 1) name flags (map f (drop (i + 1) xs)) next)
+    changes_from = ap (λ l. changes_applied policy (number + i) name flags (map f l) state) (drop_here xs i x within is)
+
+    pub changes_more : (next : AppliedState A) → change_applied policy (number + i) name flags (f x) state ≡ Ok next →
+        changes_applied policy (number + i) name flags (map f (drop i xs)) state ≡ changes_applied policy (number + (i + 1)) name flags (map f (drop (i + 1) xs)) next
+    changes_more next ok =
+        let n : number + i + 1 ≡ number + (i + 1) = omega arith in
+        changes_from ∙ ap (λ r. and_then r (λ s. changes_applied policy (number + i + 1) name flags (map f (drop (i + 1) xs)) s)) ok
+        ∙ ap (λ m. changes_applied policy m name flags (map f (drop (i + 1) xs)) next) n
+
+    pub changes_end : (why : Refusal) → change_applied policy (number + i) name flags (f x) state ≡ Err why →
+        changes_applied policy (number + i) name flags (map f (drop i xs)) state ≡ Err why
+    changes_end why err = changes_from ∙ ap (λ r. and_then r (λ s. changes_applied policy (number + i + 1) name flags (map f (drop (i + 1) xs)) s)) err
+
+  -- the changes of a skipped group do nothing
+  pub changes_skipped : (policy : Policy) (name : List ℕ) (flags : List Bool) (number : ℕ) (asks : List (Asked A)) (state : AppliedState A) →
+      is_some (target state.database name flags) ≡ false → changes_applied policy number name flags asks state ≡ Ok state
+  changes_skipped policy name flags number [] state none = refl
+  changes_skipped policy name flags number (asked ∷ asks) state none =
+      ap (λ r. and_then r (λ s. changes_applied policy (number + 1) name flags asks s)) (nothing_done (target state.database name flags) none)
+      ∙ changes_skipped policy name flags (number + 1) asks state none
+    where
+      nothing_done : (found : Option (TableState A)) → is_some found ≡ false → change_in policy number name flags asked found state ≡ Ok state
+      nothing_done None e = refl
+      nothing_done (Some table) e = cc
+
+  -- ---- groups
+
+  module _ {X : Type 0} (policy : Policy) (f : List Bool → X → Asked A) (number : ℕ) (group : TableEntries X) (i : ℕ) (state : AppliedState A) where
+    pub group_there : is_some (target state.database group.table group.schema) ≡ true →
+        group_applied policy i number (asked_in f group) state ≡ changes_applied policy number group.table group.schema (map (f group.schema) group.changes) state
+    group_there e = ap (λ b. changes_applied policy number group.table group.schema (map (f group.schema) group.changes) (skipped_unless b i state)) e
+
+    pub group_skipped : is_some (target state.database group.table group.schema) ≡ false → group_applied policy i number (asked_in f group) state ≡ Ok (skipped i state)
+    group_skipped e =
+        ap (λ b. changes_applied policy number group.table group.schema (map (f group.schema) group.changes) (skipped_unless b i state)) e
+        ∙ changes_skipped policy group.table group.schema number (map (f group.schema) group.changes) (skipped i state) e
+
+    module _ (groups : List (TableEntries X)) (within : i < length groups) (is : group ≡ get_or groups i group) where
+      groups_from : groups_applied policy i number (map (asked_in f) (drop i groups)) state
+          ≡ and_then (group_applied policy i number (asked_in f group) state) (λ next. groups_applied policy (i + 1) (number + length (map (f group.schema) group.changes)) (map (asked_in f) (drop (i + 1) groups)) next)
+      groups_from = ap (λ l. groups_applied policy i number (map (asked_in f) l) state) (drop_here groups i group within is)
+
+      pub groups_more : (next : AppliedState A) → group_applied policy i number (asked_in f group) state ≡ Ok next →
+          groups_applied policy i number (map (asked_in f) (drop i groups)) state ≡ groups_applied policy (i + 1) (number + length group.changes) (map (asked_in f) (drop (i + 1) groups)) next
+      groups_more next ok =
+          groups_from ∙ ap (λ r. and_then r (λ s. groups_applied policy (i + 1) (number + length (map (f group.schema) group.changes)) (map (asked_in f) (drop (i + 1) groups)) s)) ok
+          ∙ ap (λ n. groups_applied policy (i + 1) (number + n) (map (asked_in f) (drop (i + 1) groups)) next) (length-map group.changes (f group.schema))
+
+      pub groups_end : (why : Refusal) → group_applied policy i number (asked_in f group) state ≡ Err why →
+          groups_applied policy i number (map (asked_in f) (drop i groups)) state ≡ Err why
+      groups_end why err =
+          groups_from ∙ ap (λ r. and_then r (λ s. groups_applied policy (i + 1) (number + length (map (f group.schema) group.changes)) (map (asked_in f) (drop (i + 1) groups)) s)) err

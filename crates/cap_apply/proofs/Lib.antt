@@ -1,0 +1,4 @@
+pub mod ChangeLemmas
+pub mod GroupLemmas
+pub mod OperationLemmas
+pub mod RowLemmas

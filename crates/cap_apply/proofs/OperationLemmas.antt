@@ -1,0 +1,82 @@
+-- What an operation on a table that is there makes of what was applied.
+use Rattle.std.proofs.Common.{◌≡◌, ℕ, Bool, true, false, cond, Option, Some, None, Result, Ok, Err, List, [], ◌∷◌, ◌++◌, length, refl, sym, ap, ◌∙◌, arith, ◌==◌}
+use Rattle.std.specs.Prelude.{is_some}
+use Rattle.std.specs.Cmp.{Equal-is, tied_itself}
+use Rattle.std.proofs.lemmas.Bool.Decides.{nat_tests}
+use Rattle.cap_value.specs.Bytes.{bytes_cmp}
+use Rattle.cap_value.specs.declared.refusal.Refusal.{Refusal}
+use Rattle.cap_value.specs.declared.refusal.Refusal.TheVariants.{BadColumn, Duplicate, NoRow, WrongWidth}
+use Rattle.cap_row.specs.Fields.{Fields}
+use Rattle.cap_row.specs.Key.{fields_cmp, fields_cmp_total, fields_eq, key_of}
+use Rattle.cap_row.specs.Row.{are_columns, columns_of, row_with}
+use Rattle.cap_tree.specs.Tree.{get, put_entry}
+use Rattle.cap_table.specs.Table.{TableState}
+use Rattle.cap_table.specs.Operation.{moved, placed, rekeyed, under_key, updated, with_key, without}
+use Rattle.cap_table.specs.declared.row_ref.RowRef.TheVariants.{Key}
+use Rattle.cap_txn.specs.Assigned.{Assigned}
+use Rattle.cap_txn.specs.Operation.{act, changed_keys, changes_in, changes_to, in_place, stepped, updated_keys}
+use Rattle.cap_txn.specs.Tables.{table_of}
+use Rattle.cap_txn.specs.declared.cause.Cause.TheVariants.{Direct}
+use Rattle.cap_txn.specs.declared.op.Action.{Action}
+use Rattle.cap_txn.specs.declared.op.Action.TheVariants.{Insert, Update, Delete}
+use Rattle.cap_txn.specs.declared.op.Op.{Op}
+use Rattle.cap_apply.specs.Applied.{AppliedState}
+use Rattle.cap_apply.specs.Operated.{operated, operated_by}
+
+same_width : (m n : ℕ) → m ≡ n → (m == n) ≡ true
+same_width m n e = grind (arith, nat_tests)
+
+module _ {A : Type 0} where
+  -- an operation of an applied change
+  abbrev pub directly : List ℕ → Action A → Op A
+  directly name action = record { table = name; cause = Direct; action = action }
+
+  module _ (state : AppliedState A) (name : List ℕ) (table : TableState A) (there : table_of state.database name ≡ Some table) where
+    pub operated_ok : (action : Action A) (next : TableState A) → act table action ≡ Ok next → operated state (directly name action)
+        ≡ Ok (record state {
+          database = put_entry bytes_cmp state.database name next;
+          changes = state.changes ++ changes_to name Direct (changed_keys table action);
+        })
+    operated_ok action next is =
+        ap (λ found. operated_by state (directly name action) (stepped state.database found (directly name action))) there
+        ∙ ap (λ after. operated_by state (directly name action) (in_place state.database name after)) is
+        ∙ ap (λ found. Ok (record state { database = put_entry bytes_cmp state.database name next; changes = state.changes ++ changes_in found (directly name action) })) there
+
+    pub operated_err : (action : Action A) (why : Refusal) → act table action ≡ Err why → operated state (directly name action) ≡ Err why
+    operated_err action why is =
+        ap (λ found. operated_by state (directly name action) (stepped state.database found (directly name action))) there
+        ∙ ap (λ after. operated_by state (directly name action) (in_place state.database name after)) is
+
+  module _ (table : TableState A) (key row : Fields A) where
+    act_insert : length row ≡ length table.schema → key_of table.schema row ≡ Some key → act table (Insert row) ≡ under_key (is_some (get fields_cmp table.keyed key)) table key row
+    act_insert wide is =
+        ap (λ b. cond b (placed table row (key_of table.schema row)) (Err WrongWidth)) (same_width (length row) (length table.schema) wide)
+        ∙ ap (placed table row) is
+
+    pub act_insert_new : length row ≡ length table.schema → key_of table.schema row ≡ Some key → get fields_cmp table.keyed key ≡ None → act table (Insert row) ≡ Ok (with_key table key row)
+    act_insert_new wide is none = act_insert wide is ∙ ap (λ (found : Option (Fields A)). under_key (is_some found) table key row) none
+
+    pub act_insert_taken : (before : Fields A) → length row ≡ length table.schema → key_of table.schema row ≡ Some key → get fields_cmp table.keyed key ≡ Some before → act table (Insert row) ≡ Err Duplicate
+    act_insert_taken before wide is some = act_insert wide is ∙ ap (λ (found : Option (Fields A)). under_key (is_some found) table key row) some
+
+    own : fields_eq key key ≡ true
+    own = (Equal-is (fields_cmp key key)).1 (tied_itself fields_cmp_total key)
+
+    pub act_update : (fields : Assigned A) (before : Fields A) → are_columns (length table.schema) (columns_of fields) ≡ true → get fields_cmp table.keyed key ≡ Some before →
+        row_with fields before ≡ row → key_of table.schema row ≡ Some key → act table (Update (Key key) fields) ≡ Ok (with_key table key row)
+    act_update fields before columns found becomes is =
+        ap (λ b. cond b (updated table (Key key) fields (get fields_cmp table.keyed key)) (Err BadColumn)) columns
+        ∙ ap (updated table (Key key) fields) found
+        ∙ ap (λ (r : Fields A). moved table (Key key) r (key_of table.schema r)) becomes
+        ∙ ap (moved table (Key key) row) is
+        ∙ ap (λ b. cond b (Ok (with_key table key row)) (under_key (is_some (get fields_cmp table.keyed key)) (without table (Key key)) key row)) own
+
+    pub keys_update : (fields : Assigned A) (before : Fields A) → get fields_cmp table.keyed key ≡ Some before → row_with fields before ≡ row → key_of table.schema row ≡ Some key →
+        changed_keys table (Update (Key key) fields) ≡ Some key ∷ Some key ∷ []
+    keys_update fields before found becomes is =
+        ap (updated_keys table (Key key) fields) found
+        ∙ ap (λ (r : Fields A). Some key ∷ key_of table.schema r ∷ []) becomes
+        ∙ ap (λ (k : Option (Fields A)). Some key ∷ k ∷ []) is
+
+  pub act_delete : (table : TableState A) (key before : Fields A) → get fields_cmp table.keyed key ≡ Some before → act table (Delete (Key key)) ≡ Ok (without table (Key key))
+  act_delete table key before found = ap (λ (r : Option (Fields A)). cond (is_some r) (Ok (without table (Key key))) (Err NoRow)) found

@@ -1,0 +1,252 @@
+-- The rows and keys of a change whose fields are as they are asked to be, in a table whose columns fit.
+use Rattle.std.proofs.Common.{◌≡◌, ℕ, suc, ◌+◌, ◌-◌, ◌<◌, ◌≤◌, Bool, true, false, cond, not, ◌&&◌, ◌||◌, Option, Some, None, List, [], ◌∷◌, ◌++◌, length, map, replicate, refl, sym, ap, ◌∙◌, arith, nat_le, ◌==◌, nat_eq, length-append}
+use Rattle.std.specs.Prelude.{nat_lt}
+use Rattle.std.specs.Option.{unwrap_or}
+use Rattle.std.specs.List.{list_any, enumerate_from}
+use Rattle.std.proofs.lemmas.Bool.{and_parts, and_from}
+use Rattle.std.proofs.lemmas.Bool.Decides.{nat_tests}
+use Rattle.std.proofs.lemmas.List.{length-map, length-replicate}
+use Rattle.cap_value.specs.declared.value.Value.{Value}
+use Rattle.cap_value.specs.declared.value.Value.TheVariants.{Null}
+use Rattle.cap_value.specs.Value.{is_null}
+use Rattle.cap_row.specs.Fields.{Fields}
+use Rattle.cap_row.specs.Key.{is_key, key_fields, key_from, key_of}
+use Rattle.cap_row.specs.Row.{are_columns, columns_of, new_value, row_with}
+use Rattle.cap_row.specs.Schema.{has_key}
+use Rattle.cap_changes.specs.Demands.{demands, meets, meet}
+use Rattle.cap_changes.specs.Patch.{key_record, update_record}
+use Rattle.cap_changes.specs.Record.{RecordFields}
+use Rattle.cap_changes.specs.declared.demand.Demand.TheVariants as asks
+use Rattle.cap_changes.specs.declared.rule.Rule.TheVariants as rules
+use Rattle.cap_apply.specs.Row.{assigned_from, key_values, new_row, set_fields}
+use Rattle.cap_apply.specs.Target.{columns_fit}
+
+or_from : (b r : Bool) → not b ≡ true → r ≡ false → (b || r) ≡ false
+or_from true r e f = cc
+or_from false r e f = f
+
+one_below : (n : ℕ) → nat_le 1 (suc n) ≡ true
+one_below n = grind (arith, nat_tests)
+
+other_column : (m n : ℕ) → n < m → (m == n) ≡ false
+other_column m n l = grind (arith, nat_tests)
+
+earlier_column : (m n : ℕ) → n < m → (n == m) ≡ false
+earlier_column m n l = grind (arith, nat_tests)
+
+own_column : (n : ℕ) → (n == n) ≡ true
+own_column n = grind (arith, nat_tests)
+
+within_width : (n width : ℕ) → n < width → nat_lt n width ≡ true
+within_width n width l = grind (arith, nat_tests)
+
+fit_length : (flags schema : List Bool) → columns_fit flags schema ≡ true → length flags ≤ length schema
+fit_length [] schema fit = omega arith
+fit_length (flag ∷ flags) [] fit = cc
+fit_length (true ∷ flags) (true ∷ schema) fit = omega (arith, fit_length flags schema fit)
+fit_length (true ∷ flags) (false ∷ schema) fit = cc
+fit_length (false ∷ flags) (true ∷ schema) fit = cc
+fit_length (false ∷ flags) (false ∷ schema) fit = omega (arith, fit_length flags schema fit)
+
+module _ {A : Type 0} where
+  -- the key fields of fields that are as a change asks
+  pub full_keyed : (flags : List Bool) (fields : RecordFields A) → meet (demands rules.Full flags) fields ≡ true → meet (demands rules.Keyed flags) fields ≡ true
+  full_keyed [] [] met = refl
+  full_keyed [] (field ∷ fields) met = cc
+  full_keyed (flag ∷ flags) [] met = cc
+  full_keyed (true ∷ flags) (field ∷ fields) met =
+      let parts = and_parts (meets asks.Key field) (meet (demands rules.Full flags) fields) met in
+      and_from (meets asks.Key field) _ parts.0 (full_keyed flags fields parts.1)
+  full_keyed (false ∷ flags) (field ∷ fields) met =
+      full_keyed flags fields (and_parts (meets asks.Defined field) (meet (demands rules.Full flags) fields) met).1
+
+  pub alone_keyed : (flags : List Bool) (fields : RecordFields A) → meet (demands rules.KeyAlone flags) fields ≡ true → meet (demands rules.Keyed flags) fields ≡ true
+  alone_keyed [] [] met = refl
+  alone_keyed [] (field ∷ fields) met = cc
+  alone_keyed (flag ∷ flags) [] met = cc
+  alone_keyed (true ∷ flags) (field ∷ fields) met =
+      let parts = and_parts (meets asks.Key field) (meet (demands rules.KeyAlone flags) fields) met in
+      and_from (meets asks.Key field) _ parts.0 (alone_keyed flags fields parts.1)
+  alone_keyed (false ∷ flags) (field ∷ fields) met =
+      alone_keyed flags fields (and_parts (meets asks.Omitted field) (meet (demands rules.KeyAlone flags) fields) met).1
+
+  pub keyed_length : (flags : List Bool) (fields : RecordFields A) → meet (demands rules.Keyed flags) fields ≡ true → length fields ≡ length flags
+  keyed_length [] [] met = refl
+  keyed_length [] (field ∷ fields) met = cc
+  keyed_length (flag ∷ flags) [] met = cc
+  keyed_length (true ∷ flags) (field ∷ fields) met =
+      ap suc (keyed_length flags fields (and_parts (meets asks.Key field) (meet (demands rules.Keyed flags) fields) met).1)
+  keyed_length (false ∷ flags) (field ∷ fields) met = ap suc (keyed_length flags fields met)
+
+  -- ---- keys
+
+  no_key : (schema : List Bool) (row : Fields A) → not (has_key schema) ≡ true → key_fields schema row ≡ []
+  no_key [] row e = refl
+  no_key (own ∷ schema) [] e = refl
+  no_key (true ∷ schema) (value ∷ row) e = cc
+  no_key (false ∷ schema) (value ∷ row) e = no_key schema row e
+
+  set_key : (flags schema : List Bool) (fields : RecordFields A) (row : Fields A) → columns_fit flags schema ≡ true → meet (demands rules.Keyed flags) fields ≡ true →
+      length row ≡ length schema → key_fields schema (set_fields fields row) ≡ key_values flags fields
+  set_key [] schema [] row fit met wide = no_key schema row fit
+  set_key [] schema (field ∷ fields) row fit met wide = cc
+  set_key (flag ∷ flags) [] fields row fit met wide = cc
+  set_key (flag ∷ flags) (own ∷ schema) [] row fit met wide = cc
+  set_key (flag ∷ flags) (own ∷ schema) (field ∷ fields) [] fit met wide = cc
+  set_key (true ∷ flags) (own ∷ schema) (None ∷ fields) (value ∷ row) fit met wide = cc
+  set_key (true ∷ flags) (true ∷ schema) (Some new ∷ fields) (value ∷ row) fit met wide =
+      ap (λ (k : Fields A). new ∷ k) (set_key flags schema fields row fit (and_parts (not (is_null new)) (meet (demands rules.Keyed flags) fields) met).1 (cc))
+  set_key (true ∷ flags) (false ∷ schema) (Some new ∷ fields) (value ∷ row) fit met wide = cc
+  set_key (false ∷ flags) (true ∷ schema) (field ∷ fields) (value ∷ row) fit met wide = cc
+  set_key (false ∷ flags) (false ∷ schema) (None ∷ fields) (value ∷ row) fit met wide = set_key flags schema fields row fit met (cc)
+  set_key (false ∷ flags) (false ∷ schema) (Some new ∷ fields) (value ∷ row) fit met wide = set_key flags schema fields row fit met (cc)
+
+  new_key : (flags schema : List Bool) (fields : RecordFields A) (n : ℕ) → columns_fit flags schema ≡ true → meet (demands rules.Keyed flags) fields ≡ true →
+      key_fields schema (map (λ field. unwrap_or field Null) fields ++ replicate n Null) ≡ key_values flags fields
+  new_key [] schema [] n fit met = no_key schema (replicate n Null) fit
+  new_key [] schema (field ∷ fields) n fit met = cc
+  new_key (flag ∷ flags) [] fields n fit met = cc
+  new_key (flag ∷ flags) (own ∷ schema) [] n fit met = cc
+  new_key (true ∷ flags) (own ∷ schema) (None ∷ fields) n fit met = cc
+  new_key (true ∷ flags) (true ∷ schema) (Some new ∷ fields) n fit met =
+      ap (λ (k : Fields A). new ∷ k) (new_key flags schema fields n fit (and_parts (not (is_null new)) (meet (demands rules.Keyed flags) fields) met).1)
+  new_key (true ∷ flags) (false ∷ schema) (Some new ∷ fields) n fit met = cc
+  new_key (false ∷ flags) (true ∷ schema) (field ∷ fields) n fit met = cc
+  new_key (false ∷ flags) (false ∷ schema) (None ∷ fields) n fit met = new_key flags schema fields n fit met
+  new_key (false ∷ flags) (false ∷ schema) (Some new ∷ fields) n fit met = new_key flags schema fields n fit met
+
+  no_null : (flags : List Bool) (fields : RecordFields A) → meet (demands rules.Keyed flags) fields ≡ true → list_any is_null (key_values flags fields) ≡ false
+  no_null [] fields met = refl
+  no_null (flag ∷ flags) [] met = cc
+  no_null (true ∷ flags) (None ∷ fields) met = cc
+  no_null (true ∷ flags) (Some value ∷ fields) met =
+      let parts = and_parts (not (is_null value)) (meet (demands rules.Keyed flags) fields) met in
+      or_from (is_null value) _ parts.0 (no_null flags fields parts.1)
+  no_null (false ∷ flags) (None ∷ fields) met = no_null flags fields met
+  no_null (false ∷ flags) (Some value ∷ fields) met = no_null flags fields met
+
+  some_key : (flags : List Bool) (fields : RecordFields A) → has_key flags ≡ true → meet (demands rules.Keyed flags) fields ≡ true → nat_le 1 (length (key_values flags fields)) ≡ true
+  some_key [] fields key met = cc
+  some_key (flag ∷ flags) [] key met = cc
+  some_key (true ∷ flags) (None ∷ fields) key met = cc
+  some_key (true ∷ flags) (Some value ∷ fields) key met = one_below (length (key_values flags fields))
+  some_key (false ∷ flags) (None ∷ fields) key met = some_key flags fields key met
+  some_key (false ∷ flags) (Some value ∷ fields) key met = some_key flags fields key met
+
+  pub is_key-key_values : (flags : List Bool) (fields : RecordFields A) → has_key flags ≡ true → meet (demands rules.Keyed flags) fields ≡ true → is_key (key_values flags fields) ≡ true
+  is_key-key_values flags fields key met =
+      and_from (nat_le 1 (length (key_values flags fields))) _ (some_key flags fields key met) (ap not (no_null flags fields met))
+
+  its_key : (values : Fields A) → is_key values ≡ true → key_from values ≡ Some values
+  its_key values e = ap (λ b. cond b (Some values) None) e
+
+  module _ (flags schema : List Bool) (fields : RecordFields A) (fit : columns_fit flags schema ≡ true) (key : has_key flags ≡ true) (met : meet (demands rules.Keyed flags) fields ≡ true) where
+    pub key_of-set_fields : (row : Fields A) → length row ≡ length schema → key_of schema (set_fields fields row) ≡ Some (key_values flags fields)
+    key_of-set_fields row wide = ap key_from (set_key flags schema fields row fit met wide) ∙ its_key (key_values flags fields) (is_key-key_values flags fields key met)
+
+    pub key_of-new_row : key_of schema (new_row (length schema) fields) ≡ Some (key_values flags fields)
+    key_of-new_row = ap key_from (new_key flags schema fields (length schema - length fields) fit met) ∙ its_key (key_values flags fields) (is_key-key_values flags fields key met)
+
+    pub length-new_row : length (new_row (length schema) fields) ≡ length schema
+    length-new_row =
+        let short : length fields ≤ length schema = omega (arith, keyed_length flags fields met, fit_length flags schema fit) in
+        simp (length-append, length-map, length-replicate) (omega arith)
+
+    pub few_fields : length fields ≤ length schema
+    few_fields = omega (arith, keyed_length flags fields met, fit_length flags schema fit)
+
+  -- ---- what an update sets
+
+  pub length-set_fields : (fields : RecordFields A) (row : Fields A) → length (set_fields fields row) ≡ length row
+  length-set_fields [] row = refl
+  length-set_fields (field ∷ fields) [] = refl
+  length-set_fields (field ∷ fields) (value ∷ row) = ap suc (length-set_fields fields row)
+
+  pub set_all : (row before : Fields A) → length before ≡ length row → set_fields (map Some row) before ≡ row
+  set_all [] [] wide = refl
+  set_all [] (old ∷ before) wide = cc
+  set_all (value ∷ row) [] wide = cc
+  set_all (value ∷ row) (old ∷ before) wide = ap (λ (k : Fields A). value ∷ k) (set_all row before (cc))
+
+  pub update_key : (flags : List Bool) (key new : RecordFields A) → meet (demands rules.Keyed flags) (update_record flags key new) ≡ true →
+      key_values flags (update_record flags key new) ≡ key_values flags key
+  update_key [] key new met = refl
+  update_key (flag ∷ flags) [] new met = cc
+  update_key (flag ∷ flags) (old ∷ key) [] met = cc
+  update_key (true ∷ flags) (None ∷ key) (field ∷ new) met = cc
+  update_key (true ∷ flags) (Some value ∷ key) (field ∷ new) met =
+      ap (λ (k : Fields A). value ∷ k) (update_key flags key new (and_parts (not (is_null value)) (meet (demands rules.Keyed flags) (update_record flags key new)) met).1)
+  update_key (false ∷ flags) (None ∷ key) (None ∷ new) met = update_key flags key new met
+  update_key (false ∷ flags) (None ∷ key) (Some value ∷ new) met = update_key flags key new met
+  update_key (false ∷ flags) (Some old ∷ key) (None ∷ new) met = update_key flags key new met
+  update_key (false ∷ flags) (Some old ∷ key) (Some value ∷ new) met = update_key flags key new met
+
+  pub update_same : (flags : List Bool) (new : RecordFields A) → meet (demands rules.Keyed flags) new ≡ true → update_record flags new new ≡ new
+  update_same [] [] met = refl
+  update_same [] (field ∷ new) met = cc
+  update_same (flag ∷ flags) [] met = cc
+  update_same (true ∷ flags) (field ∷ new) met =
+      ap (λ (k : RecordFields A). field ∷ k) (update_same flags new (and_parts (meets asks.Key field) (meet (demands rules.Keyed flags) new) met).1)
+  update_same (false ∷ flags) (field ∷ new) met = ap (λ (k : RecordFields A). field ∷ k) (update_same flags new met)
+
+  pub record_key : (flags : List Bool) (old : RecordFields A) → key_values flags (key_record flags old) ≡ key_values flags old
+  record_key [] old = refl
+  record_key (flag ∷ flags) [] = refl
+  record_key (true ∷ flags) (None ∷ old) = record_key flags old
+  record_key (true ∷ flags) (Some value ∷ old) = ap (λ (k : Fields A). value ∷ k) (record_key flags old)
+  record_key (false ∷ flags) (None ∷ old) = record_key flags old
+  record_key (false ∷ flags) (Some value ∷ old) = record_key flags old
+
+  -- ---- assignments
+
+  -- a column before the assigned ones keeps its value
+  value_kept : (n : ℕ) (fields : RecordFields A) (column : ℕ) (old : Value A) → column < n → new_value (assigned_from n fields) column old ≡ old
+  value_kept n [] column old l = refl
+  value_kept n (None ∷ fields) column old l = value_kept (n + 1) fields column old (omega arith)
+  value_kept n (Some value ∷ fields) column old l =
+      ap (λ b. cond b value (new_value (assigned_from (n + 1) fields) column old)) (other_column n column l)
+      ∙ value_kept (n + 1) fields column old (omega arith)
+
+  -- columns behind an assigned one do not see it
+  past_it : (n m : ℕ) (value : Value A) (rest : List (ℕ × Value A)) (row : Fields A) → n < m →
+      map (λ field. new_value ((n, value) ∷ rest) field.0 field.1) (enumerate_from m row) ≡ map (λ field. new_value rest field.0 field.1) (enumerate_from m row)
+  past_it n m value rest [] l = refl
+  past_it n m value rest (old ∷ row) l =
+      let here : cond (n == m) value (new_value rest m old) ≡ new_value rest m old = ap (λ b. cond b value (new_value rest m old)) (earlier_column m n l) in
+      λ i. here i ∷ past_it n (m + 1) value rest row (omega arith) i
+
+  none_set : (n : ℕ) (row : Fields A) → map (λ field. new_value [] field.0 field.1) (enumerate_from n row) ≡ row
+  none_set n [] = refl
+  none_set n (value ∷ row) = ap (λ (k : Fields A). value ∷ k) (none_set (n + 1) row)
+
+  set_from : (n : ℕ) (fields : RecordFields A) (row : Fields A) →
+      map (λ field. new_value (assigned_from n fields) field.0 field.1) (enumerate_from n row) ≡ set_fields fields row
+  set_from n [] row = none_set n row
+  set_from n (field ∷ fields) [] = refl
+  set_from n (None ∷ fields) (old ∷ row) =
+      let here : new_value (assigned_from (n + 1) fields) n old ≡ old = value_kept (n + 1) fields n old (omega arith) in
+      λ i. here i ∷ set_from (n + 1) fields row i
+  set_from n (Some value ∷ fields) (old ∷ row) =
+      let here : cond (n == n) value (new_value (assigned_from (n + 1) fields) n old) ≡ value = ap (λ b. cond b value (new_value (assigned_from (n + 1) fields) n old)) (own_column n) in
+      let rest = past_it n (n + 1) value (assigned_from (n + 1) fields) row (omega arith) ∙ set_from (n + 1) fields row in
+      λ i. here i ∷ rest i
+
+  pub row_with-assigned : (fields : RecordFields A) (row : Fields A) → row_with (assigned_from 0 fields) row ≡ set_fields fields row
+  row_with-assigned fields row = set_from 0 fields row
+
+  not_named : (n m : ℕ) (fields : RecordFields A) → n < m → list_any (nat_eq n) (columns_of (assigned_from m fields)) ≡ false
+  not_named n m [] l = refl
+  not_named n m (None ∷ fields) l = not_named n (m + 1) fields (omega arith)
+  not_named n m (Some value ∷ fields) l = rw (earlier_column m n l) (not_named n (m + 1) fields (omega arith))
+
+  are_columns_from : (width n : ℕ) (fields : RecordFields A) → n + length fields ≤ width → are_columns width (columns_of (assigned_from n fields)) ≡ true
+  are_columns_from width n [] l = refl
+  are_columns_from width n (None ∷ fields) l = are_columns_from width (n + 1) fields (omega arith)
+  are_columns_from width n (Some value ∷ fields) l =
+      let below : nat_lt n width ≡ true = within_width n width (omega arith) in
+      let once : list_any (nat_eq n) (columns_of (assigned_from (n + 1) fields)) ≡ false = not_named n (n + 1) fields (omega arith) in
+      let rest : are_columns width (columns_of (assigned_from (n + 1) fields)) ≡ true = are_columns_from width (n + 1) fields (omega arith) in
+      rw (below, once, rest)
+
+  pub are_columns-assigned : (width : ℕ) (fields : RecordFields A) → length fields ≤ width → are_columns width (columns_of (assigned_from 0 fields)) ≡ true
+  are_columns-assigned width fields l = are_columns_from width 0 fields (omega arith)

@@ -1,0 +1,11 @@
+-- What applying a blob leaves.
+use Rattle.std.specs.Prelude.{List}
+use Rattle.cap_txn.specs.Tables.{Tables}
+use Rattle.cap_txn.specs.declared.change.Change.{Change}
+use Rattle.cap_apply.specs.Report.{ReportState}
+
+-- the database after it, the changes to its rows, in order, and the report
+pub record AppliedState (A : Type 0) : Type 0 where
+  pub database : Tables A
+  pub changes : List (Change A)
+  pub report : ReportState

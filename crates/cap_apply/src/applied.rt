@@ -1,0 +1,164 @@
+ghost use Rattle.std.specs.Prelude.{◌≡◌, ◌≤◌, ◌+◌, ◌++◌, None, length, vec_len, vec_capacity, IfOk, OnOk, OnErr, is_some, if◌then◌else◌};
+ghost use Rattle.cap_value.specs.Memory.{AnswersUnlessMemory};
+ghost use Rattle.cap_table.specs.Made.{LeavesUnlessMemory};
+ghost use Rattle.cap_txn.specs.Operation.{changes_told};
+ghost use Rattle.cap_apply.specs.Apply.{counted, left_out, noted, nothing_applied, skipped};
+ghost use Rattle.cap_apply.specs.Operated.{operated};
+ghost use Rattle.cap_apply.specs.Policy.{is_made};
+ghost use Rattle.cap_apply.specs.Target.{target};
+
+use crate::target::has_target;
+use crate::turn::Turn;
+use crate::{ConflictKind, Report};
+use cap_row::Schema;
+use cap_txn::{Change, Database, Op, Step};
+use cap_value::{AllocHandle, Fault, Name, OutOfMemory, Refusal};
+use std::marker::Model;
+
+/// What applying a blob leaves: the database, the changes to its rows, in order, and the report.
+#[derive(Drop)]
+pub struct Applied<A: AllocHandle> {
+    alloc: A,
+    database: Database<A>,
+    changes: Vec<Change<A>, A>,
+    report: Report<A>,
+}
+
+impl<A: AllocHandle> Model for Applied<A> {
+    ghost use Rattle.cap_apply.specs.Applied.{AppliedState};
+
+    ghost Value = { AppliedState A };
+
+    ghost view = { λ a. record { database = a.database; changes = a.changes.items; report = a.report } };
+}
+
+impl<A: AllocHandle> Applied<A> {
+    // Nothing was applied yet.
+    pub(crate) fn new(alloc: A, database: Database<A>) -> Self
+        ensures { result ≡ nothing_applied database }
+    {
+        Applied {
+            alloc,
+            database,
+            changes: Vec::new(alloc),
+            report: Report::new(alloc),
+        }
+    }
+
+    /// The database after the blob.
+    pub fn database(&self) -> &Database<A>
+        ensures { result.now ≡ self.now.database }
+    {
+        &self.database
+    }
+
+    /// The changes to the database's rows, in order: one for an insert or a delete, and two for an update or an insert
+    /// that replaced a row.
+    pub fn changes(&self) -> &[Change<A>]
+        ensures { result.now ≡ self.now.changes }
+    {
+        self.changes.as_slice()
+    }
+
+    /// What became of the blob's changes.
+    pub fn report(&self) -> &Report<A>
+        ensures { result.now ≡ self.now.report }
+    {
+        &self.report
+    }
+
+    /// The database, the changes and the report.
+    pub fn into_parts(self) -> (Database<A>, Vec<Change<A>, A>, Report<A>)
+        ensures database { result.0 ≡ self.database }
+        ensures changes { result.1.items ≡ self.changes }
+        ensures report { result.2 ≡ self.report }
+    {
+        let Applied {
+            alloc: _,
+            database,
+            changes,
+            report,
+        } = self;
+        (database, changes, report)
+    }
+
+    pub(crate) fn alloc(&self) -> A {
+        self.alloc
+    }
+
+    // Whether the database has a table for a group of this name and with these columns.
+    pub(crate) fn has_target(&self, name: &Name<A>, columns: &Schema<A>) -> bool
+        ensures { result ≡ is_some (target self.now.database name.now columns.now) }
+    {
+        has_target(&self.database, name, columns)
+    }
+
+    // Notes a group that is skipped.
+    pub(crate) fn skip(&mut self, group: u64) -> Result<(), OutOfMemory>
+        ensures { OnOk result (self.new ≡ skipped group self.old) }
+    {
+        self.report.skip(group)
+    }
+
+    // One change more was made.
+    pub(crate) fn count(&mut self) -> Result<(), OutOfMemory>
+        ensures { OnOk result (self.new ≡ counted self.old) }
+    {
+        self.report.count()
+    }
+
+    // Notes the conflict that a change meets, if any, and tells whether the change is made.
+    pub(crate) fn judge(
+        &mut self,
+        turn: Turn,
+        conflict: Option<ConflictKind>,
+    ) -> Result<bool, Fault<Refusal>>
+        ensures made { AnswersUnlessMemory result (is_made turn.policy turn.number conflict) }
+        ensures noted { IfOk result (λ made. self.new ≡ (if made
+            then noted turn.policy turn.number conflict self.old
+            else left_out turn.number (noted turn.policy turn.number conflict self.old))) }
+    {
+        let made = match turn.is_made(conflict) {
+            Ok(made) => made,
+            Err(why) => return Err(Fault::Refused(why)),
+        };
+        if let Some(kind) = conflict {
+            self.report.note(turn.conflict(kind))?;
+        }
+        if !made {
+            self.report.omit(turn.number)?;
+        }
+        Ok(made)
+    }
+
+    // Makes an operation, and keeps its changes.
+    pub(crate) fn make(&mut self, op: &Op<A>) -> Result<(), Fault<Refusal>>
+        ensures state { LeavesUnlessMemory result (operated self.old op.now) self.new }
+        ensures kept { OnErr result (self.new ≡ self.old) }
+    {
+        self.changes.reserve(2)?;
+        let step = self.database.step(op)?;
+        tell(&mut self.changes, step);
+        Ok(())
+    }
+}
+
+// Puts the changes that a step tells last.
+fn tell<A: AllocHandle>(changes: &mut Vec<Change<A>, A>, step: Step<A>)
+    requires { vec_len changes.old + 2 ≤ vec_capacity changes.old }
+    ensures { changes.new.items ≡ changes.old.items ++ changes_told step }
+{
+    let Step {
+        first,
+        second,
+        row: _,
+    } = step;
+    let Ok(()) = changes.push(first) else {
+        unreachable!()
+    };
+    if let Some(second) = second {
+        let Ok(()) = changes.push(second) else {
+            unreachable!()
+        };
+    }
+}

@@ -1,0 +1,22 @@
+//! Changesets and patchsets applied to a database under a policy.
+#![tactic(auto)]
+
+mod applied;
+mod apply_blob;
+mod conflict;
+mod entry;
+mod fields;
+mod found;
+mod one;
+mod policy;
+mod report;
+mod target;
+#[cfg(test)]
+mod tests;
+mod turn;
+
+pub use applied::Applied;
+pub use apply_blob::apply;
+pub use conflict::{Conflict, ConflictKind};
+pub use policy::{Answer, Policy};
+pub use report::Report;

@@ -1,0 +1,103 @@
+ghost use Rattle.std.specs.Prelude.{◌≡◌, ◌+◌, ◌++◌, ◌∷◌, [], OnOk};
+
+use crate::Conflict;
+use cap_value::{AllocHandle, OutOfMemory};
+use std::marker::Model;
+
+/// What became of the changes of a blob. Changes and groups have numbers, counted from 0 over the whole blob; the
+/// changes of skipped groups keep theirs.
+#[derive(Drop)]
+pub struct Report<A: AllocHandle> {
+    applied: u64,
+    conflicts: Vec<Conflict, A>,
+    omitted: Vec<u64, A>,
+    skipped: Vec<u64, A>,
+}
+
+impl<A: AllocHandle> Model for Report<A> {
+    ghost use Rattle.cap_apply.specs.Report.{ReportState};
+
+    ghost Value = { ReportState };
+
+    ghost view = { λ r. record {
+      applied = r.applied;
+      conflicts = r.conflicts.items;
+      omitted = r.omitted.items;
+      skipped = r.skipped.items;
+    } };
+}
+
+impl<A: AllocHandle> Report<A> {
+    // The report of no change. It takes no memory.
+    pub(crate) fn new(alloc: A) -> Self
+        ensures { result ≡ record { applied = 0; conflicts = []; omitted = []; skipped = [] } }
+    {
+        Report {
+            applied: 0,
+            conflicts: Vec::new(alloc),
+            omitted: Vec::new(alloc),
+            skipped: Vec::new(alloc),
+        }
+    }
+
+    /// How many changes were made, those made in spite of a conflict among them.
+    pub fn applied(&self) -> u64
+        ensures { result ≡ self.now.applied }
+    {
+        self.applied
+    }
+
+    /// The conflicts that were met, in order.
+    pub fn conflicts(&self) -> &[Conflict]
+        ensures { result.now ≡ self.now.conflicts }
+    {
+        self.conflicts.as_slice()
+    }
+
+    /// The numbers of the changes that were left out because of a conflict.
+    pub fn omitted(&self) -> &[u64]
+        ensures { result.now ≡ self.now.omitted }
+    {
+        self.omitted.as_slice()
+    }
+
+    /// The numbers of the groups that were skipped, since the database has no table for them.
+    pub fn skipped(&self) -> &[u64]
+        ensures { result.now ≡ self.now.skipped }
+    {
+        self.skipped.as_slice()
+    }
+
+    // One change more was made. The count never reaches its end before memory does.
+    pub(crate) fn count(&mut self) -> Result<(), OutOfMemory>
+        ensures { OnOk result (self.new ≡ record self.old { applied = self.old.applied + 1 }) }
+    {
+        let Some(applied) = self.applied.checked_add(1) else {
+            return Err(OutOfMemory);
+        };
+        self.applied = applied;
+        Ok(())
+    }
+
+    pub(crate) fn note(&mut self, conflict: Conflict) -> Result<(), OutOfMemory>
+        ensures { OnOk result (self.new ≡
+            record self.old { conflicts = self.old.conflicts ++ conflict ∷ [] }) }
+    {
+        self.conflicts.push(conflict)?;
+        Ok(())
+    }
+
+    pub(crate) fn omit(&mut self, change: u64) -> Result<(), OutOfMemory>
+        ensures { OnOk result (self.new ≡ record self.old { omitted = self.old.omitted ++ change ∷ [] }) }
+    {
+        self.omitted.push(change)?;
+        Ok(())
+    }
+
+    pub(crate) fn skip(&mut self, group: u64) -> Result<(), OutOfMemory>
+        ensures { OnOk result (self.new ≡ record self.old { skipped = self.old.skipped ++ group ∷ [] }) }
+    {
+        self.skipped.push(group)?;
+        Ok(())
+    }
+}
