@@ -303,6 +303,19 @@ fn batches_are_made_whole_or_not_at_all(rt: HostRuntime) -> Result<(), Fail> {
     Ok(())
 }
 
+// A server that a command was prepared on goes on as if nothing had been.
+#[test]
+fn a_prepared_command_is_another_server(rt: HostRuntime) -> Result<(), Fail> {
+    let alloc = rt.alloc();
+    let core = Core::new(alloc);
+    let (made, reply) = core.prepare(&create(alloc, "t")?)?;
+    assert!(rt; matches!(reply, Reply::Written { version: 1 }));
+    assert_eq!(rt; (core.events(), made.events()), (0, 1));
+    let (_made, again) = core.prepare(&create(alloc, "t")?)?;
+    assert!(rt; matches!(again, Reply::Written { version: 1 }));
+    Ok(())
+}
+
 // It stands in README.md too.
 #[test]
 fn a_session_that_saw_an_insert(rt: HostRuntime) -> Result<(), Fail> {
