@@ -1,9 +1,6 @@
 -- Changes and groups, one after another.
 use Rattle.std.proofs.Common.{◌≡◌, ℕ, suc, ◌+◌, ◌<◌, Bool, true, false, cond, Option, Some, None, Result, Ok, Err, List, [], ◌∷◌, length, map, drop, get_or, refl, sym, ap, subst, ◌∙◌, arith, drop-cons}
 use Rattle.std.specs.Prelude.{is_some}
-use Rattle.std.specs.declared.cmp.Ordering.{Ordering}
-use Rattle.std.specs.declared.cmp.Ordering.TheVariants.{Less, Equal, Greater}
-use Rattle.std.specs.Ordering.{match_ordering}
 use Rattle.std.specs.Cmp.{tied_itself}
 use Rattle.std.proofs.lemmas.Cmp.{nat_list_cmp_total}
 use Rattle.std.proofs.lemmas.List.{length-map}
@@ -27,6 +24,7 @@ use Rattle.cap_apply.specs.Target.{columns_fit, fitting, target}
 use Rattle.cap_apply.specs.declared.conflict.ConflictKind.{ConflictKind}
 use Rattle.cap_apply.specs.declared.policy.Policy.{Policy}
 use Rattle.cap_apply.proofs.ChangeLemmas.{HasTarget, applied_at, has_target}
+use Rattle.cap_apply.proofs.EntryLemmas.{get_put}
 
 -- what is refused for the same reason, whatever was left
 pub still_refused : (X Y : Type 0) {S T E : Type 0} (fault : Fault E) (a : Result S E) (s : S) (b : Result T E) (t : T) → ((why : E) → a ≡ Err why → b ≡ Err why) →
@@ -38,16 +36,6 @@ drop_here : {X : Type 0} (xs : List X) (i : ℕ) (x : X) → i < length xs → x
 drop_here xs i x within is =
     let n : suc i ≡ i + 1 = omega arith in
     drop-cons xs i x within ∙ (λ k. sym is k ∷ drop (n k) xs)
-
-module _ {K X : Type 0} (R : K → K → Ordering) (k : K) (v : X) (self : R k k ≡ Equal) where
-  pub get_put : (es : List (K × X)) → get R (put_entry R es k v) k ≡ Some v
-  get_put [] = rw self
-  get_put (e ∷ es) =
-      elim (R k e.0) as (λ r. R k e.0 ≡ r → get R (match_ordering r ((k, v) ∷ e ∷ es) ((k, v) ∷ es) (e ∷ put_entry R es k v)) k ≡ Some v) [
-        | Less ↦ λ h. rw self
-        | Equal ↦ λ h. rw self
-        | Greater ↦ λ h. rw h (get_put es)
-      ] refl
 
 module _ {A : Type 0} where
   -- ---- the table of a group stays

@@ -1,4 +1,7 @@
+pub mod CaptureLemmas
 pub mod ChangeLemmas
+pub mod DifferenceLemmas
+pub mod EntryLemmas
 pub mod GroupLemmas
 pub mod OperationLemmas
 pub mod RowLemmas

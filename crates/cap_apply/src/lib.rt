@@ -7,6 +7,7 @@ mod conflict;
 mod entry;
 mod fields;
 mod found;
+mod laws;
 mod one;
 mod policy;
 mod report;
@@ -18,5 +19,8 @@ mod turn;
 pub use applied::Applied;
 pub use apply_blob::apply;
 pub use conflict::{Conflict, ConflictKind};
+pub use laws::{
+    changes_give_the_rows_now, inverse_gives_the_first_rows_again, patches_give_the_rows_now,
+};
 pub use policy::{Answer, Policy};
 pub use report::Report;

@@ -1,0 +1,188 @@
+-- All changes of a capture, one after another.
+use Rattle.std.proofs.Common.{◌≡◌, ℕ, suc, ◌+◌, Bool, true, false, cond, Option, Some, None, Result, Ok, List, [], ◌∷◌, length, map, refl, sym, ap, subst, ◌∙◌, arith}
+use Rattle.std.specs.Cmp.{Equal-is, tied_itself}
+use Rattle.std.proofs.lemmas.Cmp.{nat_list_cmp_total}
+use Rattle.cap_value.specs.Bytes.{bytes_cmp, bytes_cmp-Equal}
+use Rattle.cap_row.specs.Fields.{Fields}
+use Rattle.cap_row.specs.Key.{fields_cmp, fields_cmp_total, fields_cmp-Equal}
+use Rattle.cap_tree.specs.Tree.{IsOrdered, get, put_entry, take_entry}
+use Rattle.cap_table.specs.Table.{TableState}
+use Rattle.cap_txn.specs.Tables.{Tables, table_of}
+use Rattle.cap_txn.proofs.PlaceLemmas.{ordered_put}
+use Rattle.cap_changes.specs.Patch.{patch_of}
+use Rattle.cap_apply.specs.Applied.{AppliedState}
+use Rattle.cap_apply.specs.Apply.{and_then, changes_applied, counted, with_row, with_row_in}
+use Rattle.cap_apply.specs.Asked.{Asked, asked_by_change, asked_by_patch}
+use Rattle.cap_apply.specs.Difference.{AllApplied, AreApart, Difference, IsDifference, RowsAfter, StandAfter, StandBefore, turned}
+use Rattle.cap_apply.specs.declared.policy.Policy.{Policy}
+use Rattle.cap_apply.proofs.CaptureLemmas.{AsksFor, asks_by_change, asks_by_patch, captured_one, turned_difference}
+use Rattle.cap_apply.proofs.EntryLemmas.{get_put, get_put_other, get_take, ordered_take, unequal}
+
+module _ {A : Type 0} where
+  -- ---- a table with a row under a key
+
+  module _ (table : TableState A) (key : Fields A) where
+    rows_here : (after : Option (Fields A)) → IsOrdered fields_cmp table.keyed → get fields_cmp (with_row table key after).keyed key ≡ after
+    rows_here None ordered =
+        get_take fields_cmp fields_cmp_total key table.keyed ordered key
+        ∙ ap (λ b. cond b None (get fields_cmp table.keyed key)) ((Equal-is (fields_cmp key key)).1 (tied_itself fields_cmp_total key))
+    rows_here (Some row) ordered = get_put fields_cmp key row (tied_itself fields_cmp_total key) table.keyed
+
+    rows_other : (after : Option (Fields A)) → IsOrdered fields_cmp table.keyed → (other : Fields A) → (other ≡ key → ⊥) →
+        get fields_cmp (with_row table key after).keyed other ≡ get fields_cmp table.keyed other
+    rows_other None ordered other apart =
+        get_take fields_cmp fields_cmp_total key table.keyed ordered other
+        ∙ ap (λ b. cond b None (get fields_cmp table.keyed other)) (unequal (fields_cmp key other) (λ e. apart (sym ((fields_cmp-Equal key other).0 e))))
+    rows_other (Some row) ordered other apart =
+        get_put_other fields_cmp (λ x y. (fields_cmp-Equal x y).0) key row other (unequal (fields_cmp other key) (λ e. apart ((fields_cmp-Equal other key).0 e))) table.keyed
+
+    rows_ordered : (after : Option (Fields A)) → IsOrdered fields_cmp table.keyed → IsOrdered fields_cmp (with_row table key after).keyed
+    rows_ordered None ordered = ordered_take fields_cmp key table.keyed ordered
+    rows_ordered (Some row) ordered = ordered_put fields_cmp fields_cmp_total key row table.keyed ordered
+
+    same_loose : (after : Option (Fields A)) → (with_row table key after).loose ≡ table.loose
+    same_loose None = refl
+    same_loose (Some row) = refl
+
+    same_columns : (after : Option (Fields A)) → (with_row table key after).schema ≡ table.schema
+    same_columns None = refl
+    same_columns (Some row) = refl
+
+    same_next_id : (after : Option (Fields A)) → (with_row table key after).next_id ≡ table.next_id
+    same_next_id None = refl
+    same_next_id (Some row) = refl
+
+  other_table : (database : Tables A) (name other : List ℕ) (table : TableState A) → (other ≡ name → ⊥) →
+      table_of (put_entry bytes_cmp database name table) other ≡ table_of database other
+  other_table database name other table apart =
+      get_put_other bytes_cmp (λ x y. (bytes_cmp-Equal x y).0) name table other (unequal (bytes_cmp other name) (λ e. apart ((bytes_cmp-Equal other name).0 e))) database
+
+  -- the others still stand as they did
+  stand_still : (flags : List Bool) (table next : TableState A) (key : Fields A) (ds : List (Difference A)) →
+      ((other : Fields A) → (other ≡ key → ⊥) → get fields_cmp next.keyed other ≡ get fields_cmp table.keyed other) →
+      AreApart key ds → StandBefore flags table ds → StandBefore flags next ds
+  stand_still flags table next key [] same apart stand = tt
+  stand_still flags table next key (d ∷ ds) same apart stand =
+      (stand.0, same d.key (λ e. apart.0 (sym e)) ∙ stand.1, stand.2, stand_still flags table next key ds same apart.1 stand.3)
+
+  -- ---- all of them
+
+  -- what applying differences leaves
+  abbrev pub Left : Policy → ℕ → List ℕ → List Bool → TableState A → List (Difference A) → List (Asked A) → AppliedState A → Type 0
+  Left policy number name flags table ds asks state =
+      (left : AppliedState A) × (changes_applied policy number name flags asks state ≡ Ok left) × RowsAfter name table ds state.database left.database × AllApplied ds state left
+
+  module _ (policy : Policy) (name : List ℕ) (flags : List Bool) (f : Difference A → Asked A) (asks : (d : Difference A) → IsDifference flags d → AsksFor flags (f d) d.key d.before d.after) where
+    pub apply_all : (ds : List (Difference A)) (number : ℕ) (table : TableState A) (state : AppliedState A) → table_of state.database name ≡ Some table → table.schema ≡ flags →
+        IsOrdered fields_cmp table.keyed → StandBefore flags table ds → Left policy number name flags table ds (map f ds) state
+    apply_all [] number table state there columns ordered stand =
+        let none : state.report.applied ≡ state.report.applied + 0 = omega arith in (
+          state,
+          refl,
+          record {
+            found = table;
+            there = there;
+            rows = tt;
+            other_rows = λ key apart. refl;
+            loose = refl;
+            columns = refl;
+            next_id = refl;
+            ordered = ordered;
+            other_tables = λ other apart. refl;
+          },
+          ap (λ n. record state.report { applied = n }) none,
+        )
+    apply_all (d ∷ ds) number table state there columns ordered stand =
+        let next = counted (with_row_in name table d.key d.before d.after state) in
+        let after = with_row table d.key d.after in
+        let one = captured_one policy number name flags (f d) state table d.key d.before d.after there columns stand.1 (asks d stand.0) in
+        let there_after : table_of next.database name ≡ Some after = get_put bytes_cmp name after (tied_itself nat_list_cmp_total name) state.database in
+        let rest = apply_all ds (number + 1) after next there_after (same_columns table d.key d.after ∙ columns) (rows_ordered table d.key d.after ordered)
+        (stand_still flags table after d.key ds (rows_other table d.key d.after ordered) stand.2 stand.3) in
+        let rows = rest.2 in
+        let more : state.report.applied + 1 + length ds ≡ state.report.applied + suc (length ds) = omega arith in (
+          rest.0,
+          ap (λ r. and_then r (λ s. changes_applied policy (number + 1) name flags (map f ds) s)) one ∙ rest.1,
+          record {
+            found = rows.found;
+            there = rows.there;
+            rows = (rows.other_rows d.key stand.2 ∙ rows_here table d.key d.after ordered, rows.rows);
+            other_rows = λ key apart. rows.other_rows key apart.1 ∙ rows_other table d.key d.after ordered key apart.0;
+            loose = rows.loose ∙ same_loose table d.key d.after;
+            columns = rows.columns ∙ same_columns table d.key d.after;
+            next_id = rows.next_id ∙ same_next_id table d.key d.after;
+            ordered = rows.ordered;
+            other_tables = λ other apart. rows.other_tables other apart ∙ other_table state.database name other after apart;
+          },
+          rest.3 ∙ ap (λ n. record state.report { applied = n }) more,
+        )
+
+  pub changes_give : (policy : Policy) (number : ℕ) (name : List ℕ) (table : TableState A) (ds : List (Difference A)) (state : AppliedState A) → table_of state.database name ≡ Some table →
+      IsOrdered fields_cmp table.keyed → StandBefore table.schema table ds → Left policy number name table.schema table ds (map (λ (d : Difference A). asked_by_change table.schema d.change) ds) state
+  changes_give policy number name table ds state there ordered stand =
+      apply_all policy name table.schema (λ (d : Difference A). asked_by_change table.schema d.change)
+      (λ d h. asks_by_change table.schema h.change.0 d.key d.before d.after d.change h.before h.after h.change.1) ds number table state there refl ordered stand
+
+  pub patches_give : (policy : Policy) (number : ℕ) (name : List ℕ) (table : TableState A) (ds : List (Difference A)) (state : AppliedState A) → table_of state.database name ≡ Some table →
+      IsOrdered fields_cmp table.keyed → StandBefore table.schema table ds →
+      Left policy number name table.schema table ds (map (λ (d : Difference A). asked_by_patch table.schema (patch_of table.schema d.change)) ds) state
+  patches_give policy number name table ds state there ordered stand =
+      apply_all policy name table.schema (λ (d : Difference A). asked_by_patch table.schema (patch_of table.schema d.change))
+      (λ d h. asks_by_patch table.schema d.key d.before d.after d.change (asks_by_change table.schema h.change.0 d.key d.before d.after d.change h.before h.after h.change.1))
+      ds number table state there refl ordered stand
+
+  -- ---- and back
+
+  apart_turned : (flags : List Bool) (key : Fields A) (ds : List (Difference A)) → AreApart key ds → AreApart key (map (turned flags) ds)
+  apart_turned flags key [] apart = tt
+  apart_turned flags key (d ∷ ds) apart = (apart.0, apart_turned flags key ds apart.1)
+
+  apart_again : (flags : List Bool) (key : Fields A) (ds : List (Difference A)) → AreApart key (map (turned flags) ds) → AreApart key ds
+  apart_again flags key [] apart = tt
+  apart_again flags key (d ∷ ds) apart = (apart.0, apart_again flags key ds apart.1)
+
+  stand_turned : (flags : List Bool) (table found : TableState A) (ds : List (Difference A)) → StandBefore flags table ds → StandAfter found ds → StandBefore flags found (map (turned flags) ds)
+  stand_turned flags table found [] stand rows = tt
+  stand_turned flags table found (d ∷ ds) stand rows =
+      (turned_difference flags d stand.0, rows.0, apart_turned flags d.key ds stand.2, stand_turned flags table found ds stand.3 rows.1)
+
+  map_turned : (flags : List Bool) (ds : List (Difference A)) → map (λ (d : Difference A). asked_by_change flags d.change) (map (turned flags) ds)
+      ≡ map (λ (d : Difference A). asked_by_change flags (turned flags d).change) ds
+  map_turned flags [] = refl
+  map_turned flags (d ∷ ds) = ap (λ (l : List (Asked A)). asked_by_change flags (turned flags d).change ∷ l) (map_turned flags ds)
+
+  as_many : (flags : List Bool) (ds : List (Difference A)) → length (map (turned flags) ds) ≡ length ds
+  as_many flags [] = refl
+  as_many flags (d ∷ ds) = ap suc (as_many flags ds)
+
+  pub inverse_gives : (policy : Policy) (number : ℕ) (name : List ℕ) (table : TableState A) (ds : List (Difference A)) (state : AppliedState A) → table_of state.database name ≡ Some table →
+      IsOrdered fields_cmp table.keyed → StandBefore table.schema table ds → (left : AppliedState A) × (again : AppliedState A)
+      × (changes_applied policy number name table.schema (map (λ (d : Difference A). asked_by_change table.schema d.change) ds) state ≡ Ok left)
+      × (changes_applied policy number name table.schema (map (λ (d : Difference A). asked_by_change table.schema (turned table.schema d).change) ds) left ≡ Ok again)
+      × RowsAfter name table (map (turned table.schema) ds) state.database again.database × AllApplied ds left again
+  inverse_gives policy number name table ds state there ordered stand =
+      let flags = table.schema in
+      let there_and = changes_give policy number name table ds state there ordered stand in
+      let left = there_and.0 in
+      let rows = there_and.2 in
+      let back = apply_all policy name flags (λ (d : Difference A). asked_by_change flags d.change)
+      (λ d h. asks_by_change flags h.change.0 d.key d.before d.after d.change h.before h.after h.change.1) (map (turned flags) ds) number rows.found left rows.there rows.columns rows.ordered
+      (stand_turned flags table rows.found ds stand rows.rows) in
+      let last = back.2 in (
+        left,
+        back.0,
+        there_and.1,
+        ap (λ l. changes_applied policy number name flags l left) (sym (map_turned flags ds)) ∙ back.1,
+        record {
+          found = last.found;
+          there = last.there;
+          rows = last.rows;
+          other_rows = λ key apart. last.other_rows key apart ∙ rows.other_rows key (apart_again flags key ds apart);
+          loose = last.loose ∙ rows.loose;
+          columns = last.columns ∙ rows.columns;
+          next_id = last.next_id ∙ rows.next_id;
+          ordered = last.ordered;
+          other_tables = λ other apart. last.other_tables other apart ∙ rows.other_tables other apart;
+        },
+        back.3 ∙ ap (λ n. record left.report { applied = left.report.applied + n }) (as_many flags ds),
+      )

@@ -1,0 +1,65 @@
+-- How the rows of a table differ from what they were: what a capture of the table says.
+use Rattle.std.specs.Prelude.{◌≡◌, ℕ, ◌+◌, Bool, Option, Some, None, List, [], ◌∷◌, length}
+use Rattle.cap_row.specs.Fields.{Fields}
+use Rattle.cap_row.specs.Key.{fields_cmp, key_of}
+use Rattle.cap_tree.specs.Tree.{IsOrdered, get}
+use Rattle.cap_table.specs.Table.{TableState}
+use Rattle.cap_txn.specs.Tables.{Tables, table_of}
+use Rattle.cap_changes.specs.Change.{change_of}
+use Rattle.cap_changes.specs.Invert.{inverse_of}
+use Rattle.cap_changes.specs.declared.change.Change.{Change}
+use Rattle.cap_apply.specs.Applied.{AppliedState}
+
+-- a key, the row that was under it, the row that is, and the change between them
+pub record Difference (A : Type 0) : Type 0 where
+  pub key : Fields A
+  pub before : Option (Fields A)
+  pub after : Option (Fields A)
+  pub change : Change A
+
+module _ {A : Type 0} where
+  -- a row of a table with these columns that has the key, or none
+  abbrev pub IsUnder : List Bool → Fields A → Option (Fields A) → Type 0
+  IsUnder flags key None = Unit {0}
+  IsUnder flags key (Some row) = (length row ≡ length flags) × (key_of flags row ≡ Some key)
+
+  -- the change is the one that a capture has of these rows, direct or indirect
+  pub record IsDifference (flags : List Bool) (d : Difference A) : Type 0 where
+    pub before : IsUnder flags d.key d.before
+    pub after : IsUnder flags d.key d.after
+    pub change : (indirect : Bool) × (change_of flags indirect d.before d.after ≡ Some d.change)
+
+  -- no difference is under the key
+  abbrev pub AreApart : Fields A → List (Difference A) → Type 0
+  AreApart key [] = Unit {0}
+  AreApart key (d ∷ ds) = (key ≡ d.key → ⊥) × AreApart key ds
+
+  -- no key comes twice, and the table has at each the row that was there first
+  abbrev pub StandBefore : List Bool → TableState A → List (Difference A) → Type 0
+  StandBefore flags table [] = Unit {0}
+  StandBefore flags table (d ∷ ds) = IsDifference flags d × (get fields_cmp table.keyed d.key ≡ d.before) × AreApart d.key ds × StandBefore flags table ds
+
+  -- the table has at each key the row that is there now
+  abbrev pub StandAfter : TableState A → List (Difference A) → Type 0
+  StandAfter table [] = Unit {0}
+  StandAfter table (d ∷ ds) = (get fields_cmp table.keyed d.key ≡ d.after) × StandAfter table ds
+
+  -- a database has in the table of the name the rows that are there now, and all else as it was
+  pub record RowsAfter (name : List ℕ) (table : TableState A) (ds : List (Difference A)) (start left : Tables A) : Type 0 where
+    pub found : TableState A
+    pub there : table_of left name ≡ Some found
+    pub rows : StandAfter found ds
+    pub other_rows : (key : Fields A) → AreApart key ds → get fields_cmp found.keyed key ≡ get fields_cmp table.keyed key
+    pub loose : found.loose ≡ table.loose
+    pub columns : found.schema ≡ table.schema
+    pub next_id : found.next_id ≡ table.next_id
+    pub ordered : IsOrdered fields_cmp found.keyed
+    pub other_tables : (other : List ℕ) → (other ≡ name → ⊥) → table_of left other ≡ table_of start other
+
+  -- each change counts as applied, none met a conflict, and nothing was omitted or skipped
+  abbrev pub AllApplied : List (Difference A) → AppliedState A → AppliedState A → Type 0
+  AllApplied ds state left = left.report ≡ record state.report { applied = state.report.applied + length ds }
+
+  -- the same rows the other way round, with the inverse change
+  abbrev pub turned : List Bool → Difference A → Difference A
+  turned flags d = record { key = d.key; before = d.after; after = d.before; change = inverse_of flags d.change }
