@@ -19,7 +19,7 @@ use Rattle.std.specs.BTreeMap.Range.{entries_below, entries_from}
 use Rattle.cap_tree.specs.Tree.{IsOrdered, get, put_each, put_entry, take_entry, Updates}
 
 -- the other way round
-reversed : {K : Type 0} {cmp : K → K → Ordering} → IsTotalOrder cmp → (x y : K) (r : Ordering) → cmp x y ≡ r → cmp y x ≡ ordering_reverse r
+pub reversed : {K : Type 0} {cmp : K → K → Ordering} → IsTotalOrder cmp → (x y : K) (r : Ordering) → cmp x y ≡ r → cmp y x ≡ ordering_reverse r
 reversed o x y r h = o.antisymm y x ∙ ap ordering_reverse h
 
 -- the tests of q by k and of k by q agree
@@ -84,7 +84,7 @@ module _ {K V : Type 0} (cmp : K → K → Ordering) where
         | Greater ↦ ap (λ t. x ∷ t) (put_entry-before k v xs e back h)
       ]
 
-  get-below : (k : K) (es : List (K × V)) → Each Less k es → get cmp es k ≡ None
+  pub get-below : (k : K) (es : List (K × V)) → Each Less k es → get cmp es k ≡ None
   get-below k [] h = refl
   get-below k (e ∷ es) h = rw h.0 (get-below k es h.1)
 
@@ -150,7 +150,7 @@ module _ {K V : Type 0} (cmp : K → K → Ordering) where
   above_middle [] e back s = s.0
   above_middle (x ∷ xs) e back s = above_middle xs e back s.1
 
-  each_turn : (P Q : K → Type 0) → ((y : K) → P y → Q y) → (es : List (K × V)) → AllByRecursion P (keys_of es) → AllByRecursion Q (keys_of es)
+  pub each_turn : (P Q : K → Type 0) → ((y : K) → P y → Q y) → (es : List (K × V)) → AllByRecursion P (keys_of es) → AllByRecursion Q (keys_of es)
   each_turn P Q f [] h = tt
   each_turn P Q f (e ∷ es) h = (f e.0 h.0, each_turn P Q f es h.1)
 
@@ -165,11 +165,11 @@ module _ {K V : Type 0} (cmp : K → K → Ordering) where
     equal_past_front k front e back s h =
         each_turn (λ y. cmp y e.0 ≡ Less) (λ y. cmp k y ≡ Greater) (λ y below. o.congr k e.0 y h ∙ reversed o y e.0 Less below) front (below_middle front e back s)
 
-    less_than_back : (k : K) (front : List (K × V)) (e : K × V) (back : List (K × V)) → IsOrdered cmp (front ++ e ∷ back) → cmp k e.0 ≡ Less → Each Less k back
+    pub less_than_back : (k : K) (front : List (K × V)) (e : K × V) (back : List (K × V)) → IsOrdered cmp (front ++ e ∷ back) → cmp k e.0 ≡ Less → Each Less k back
     less_than_back k front e back s h =
         each_turn (λ y. cmp e.0 y ≡ Less) (λ y. cmp k y ≡ Less) (λ y above. o.trans k e.0 y h above) back (above_middle front e back s)
 
-    equal_before_back : (k : K) (front : List (K × V)) (e : K × V) (back : List (K × V)) → IsOrdered cmp (front ++ e ∷ back) → cmp k e.0 ≡ Equal → Each Less k back
+    pub equal_before_back : (k : K) (front : List (K × V)) (e : K × V) (back : List (K × V)) → IsOrdered cmp (front ++ e ∷ back) → cmp k e.0 ≡ Equal → Each Less k back
     equal_before_back k front e back s h =
         each_turn (λ y. cmp e.0 y ≡ Less) (λ y. cmp k y ≡ Less) (λ y above. o.congr k e.0 y h ∙ above) back (above_middle front e back s)
 
@@ -211,7 +211,7 @@ module _ {K V : Type 0} (cmp : K → K → Ordering) where
 
     -- ---- after a put or a take
 
-    each_put : (P : K → Type 0) (k : K) (v : V) (es : List (K × V)) → P k → AllByRecursion P (keys_of es) → AllByRecursion P (keys_of (put_entry cmp es k v))
+    pub each_put : (P : K → Type 0) (k : K) (v : V) (es : List (K × V)) → P k → AllByRecursion P (keys_of es) → AllByRecursion P (keys_of (put_entry cmp es k v))
     each_put P k v [] p h = (p, tt)
     each_put P k v (e ∷ es) p h =
         elim (cmp k e.0) as (λ r. AllByRecursion P (keys_of (match_ordering r ((k, v) ∷ e ∷ es) ((k, v) ∷ es) (e ∷ put_entry cmp es k v)))) [
@@ -230,7 +230,7 @@ module _ {K V : Type 0} (cmp : K → K → Ordering) where
           | Greater ↦ λ h. (each_put (λ y. cmp e.0 y ≡ Less) k v es (reversed o k e.0 Greater h) s.0, ordered_put k v es s.1)
         ] refl
 
-    each_take : (P : K → Type 0) (k : K) (es : List (K × V)) → AllByRecursion P (keys_of es) → AllByRecursion P (keys_of (take_entry cmp es k))
+    pub each_take : (P : K → Type 0) (k : K) (es : List (K × V)) → AllByRecursion P (keys_of es) → AllByRecursion P (keys_of (take_entry cmp es k))
     each_take P k [] h = tt
     each_take P k (e ∷ es) h =
         elim (is_at (cmp k) e.0) as (λ b. AllByRecursion P (keys_of (cond b es (e ∷ take_entry cmp es k)))) [
@@ -296,6 +296,11 @@ module _ {K V : Type 0} (cmp : K → K → Ordering) where
         | true ↦ omega arith
         | false ↦ omega (arith, length-take_entry k es)
       ]
+
+  -- where an entry is found there is one
+  pub get-some-length : (k : K) (es : List (K × V)) → is_some (get cmp es k) ≡ true → 0 < length es
+  get-some-length k [] found = cc
+  get-some-length k (e ∷ es) found = omega arith
 
   entries_below-none : (k : K) (es : List (K × V)) → Each Less k es → entries_below (cmp k) es ≡ []
   entries_below-none k [] h = refl

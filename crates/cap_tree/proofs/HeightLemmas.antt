@@ -1,57 +1,35 @@
--- How many pairs a node holds, and how high it is.
-use Rattle.std.proofs.Common.{◌≡◌, ℕ, zero, suc, ◌+◌, ◌*◌, ◌^◌, ◌<◌, ◌≤◌, max, refl, add-one, arith, lit<}
-use Rattle.std.proofs.Math.Nat.{pow-le-pow_right, pow-suc}
-use Rattle.cap_tree.specs.Balance.{DifferByAtMost, HasRoomFor, IsLowFor, IsLowestFor, IsFork}
+-- How many entries a node has at its height.
+use Rattle.std.proofs.Common.{◌≡◌, ℕ, zero, suc, ◌+◌, ◌*◌, ◌^◌, ◌<◌, ◌≤◌, List, [], ◌∷◌, length, length-append, refl, sym, ap, ◌∙◌, arith, lit<}
+use Rattle.std.specs.declared.cmp.Ordering.{Ordering}
+use Rattle.std.proofs.Math.Nat.{mul-le-mul_right, pow-le-pow_right}
+use Rattle.std.proofs.lemmas.Grind.{pow_more}
+use Rattle.cap_tree.specs.Shape.{entries_of, IsFilled, IsFit, AreFit, IsChild, IsParts}
+use Rattle.cap_tree.proofs.PlaceLemmas.{Seen}
 
--- a power of two is within a greater one
-grows : (i j : ℕ) → i ≤ j → 2 ^ i ≤ 2 ^ j
-grows i j h = pow-le-pow_right (lit< tt) h
+module _ {K V : Type 0} where
+  -- a child of a node at this height
+  pub child_filled : (height : ℕ) (c : List (K × V) × ℕ × ℕ) → c.1 + 1 ≡ height → IsFit c → (4 ^ height ≤ length c.0) × (length c.0 ≤ 16 ^ height)
+  child_filled height c level fit =
+      let low : 4 * 4 ^ c.1 ≤ c.2 * 4 ^ c.1 = mul-le-mul_right (4 ^ c.1) fit.0 in
+      let high : c.2 * 16 ^ c.1 ≤ 16 * 16 ^ c.1 = mul-le-mul_right (16 ^ c.1) fit.1 in
+      let four : 4 ^ (c.1 + 1) ≡ 4 ^ c.1 * 4 = pow_more 4 c.1 in
+      let sixteen : 16 ^ (c.1 + 1) ≡ 16 ^ c.1 * 16 = pow_more 16 c.1 in
+      let low_up : 4 ^ height ≡ 4 ^ c.1 * 4 = ap (λ h. 4 ^ h) (sym level) ∙ four in
+      let high_up : 16 ^ height ≡ 16 ^ c.1 * 16 = ap (λ h. 16 ^ h) (sym level) ∙ sixteen in
+      (omega (arith, low, low_up, fit.2.0), omega (arith, high, high_up, fit.2.1))
 
--- one more digit doubles
-doubled : (k : ℕ) → 2 ^ (k + 1) ≡ 2 ^ k * 2
-doubled k = rw add-one (pow-suc 2 k)
+  -- a node that has items has entries
+  pub fed : (c : List (K × V) × ℕ × ℕ) → 0 < c.2 → IsFilled c → 0 < length c.0
+  fed c some filled =
+      let one : 4 ^ 0 ≤ 4 ^ c.1 = pow-le-pow_right (lit< tt) {i = 0} {j = c.1} (omega arith) in
+      let low : 1 * 4 ^ c.1 ≤ c.2 * 4 ^ c.1 = mul-le-mul_right (4 ^ c.1) some in
+      omega (arith, one, low, filled.0)
 
-pub fork_room : (left right high low : ℕ) → HasRoomFor high left → HasRoomFor low right → HasRoomFor (max high low + 1) (left + right + 1)
-fork_room left right high low l r =
-    let a : 2 ^ high ≤ 2 ^ max high low = grows high (max high low) (omega arith) in
-    let b : 2 ^ low ≤ 2 ^ max high low = grows low (max high low) (omega arith) in
-    let e = doubled (max high low) in
-    omega arith
-
--- of two sides that are together below twice a number, one is below it
-low_by_one_side : (left right high low k p : ℕ) → (left < p → high ≤ 2 * k) → (right < p → low ≤ 2 * k) → high ≤ low + 1 → low ≤ high + 1 → left + right + 1 < p * 2 → max high low + 1 ≤ 2 * (k + 1)
-low_by_one_side left right high low k p l r a b h = grind arith
-
-pub fork_low : (left right high low : ℕ) → IsLowFor high left → IsLowFor low right → DifferByAtMost 1 high low → IsLowFor (max high low + 1) (left + right + 1)
-fork_low left right high low l r d zero h = omega arith
-fork_low left right high low l r d (suc k) h =
-    let one_more = low_by_one_side left right high low k (2 ^ k) (l k) (r k) d.0 d.1 (rw (pow-suc 2 k) at h) in
-    omega arith
-
-pub fork_is : (left right high low : ℕ) → HasRoomFor high left → HasRoomFor low right → IsLowFor high left → IsLowFor low right → DifferByAtMost 1 high low → left + right + 1 < 2 ^ 64 → IsFork (left + right + 1) (max high low + 1) high low
-fork_is left right high low room_left room_right low_left low_right balanced fits =
-    let is_low = fork_low left right high low low_left low_right balanced in
-    record {
-      balanced = balanced;
-      height_is = refl;
-      room = fork_room left right high low room_left room_right;
-      low = is_low;
-      capped = is_low 64 fits;
-    }
-
--- ---- two sides, the right one as large as the left or larger by one, each as low as it can be
-
-pub halves_balanced : (left right high low : ℕ) → HasRoomFor high left → HasRoomFor low right → IsLowestFor high left → IsLowestFor low right → left ≤ right → right ≤ left + 1 → DifferByAtMost 1 high low
-halves_balanced left right high low room_left room_right low_left low_right not_less one_more =
-    let l : high ≤ low = low_left low (omega arith) in
-    let e = doubled high in
-    let r : low ≤ high + 1 = low_right (high + 1) (omega arith) in
-    (omega arith, r)
-
-pub halves_lowest : (left right high low : ℕ) → IsLowestFor high left → IsLowestFor low right → left ≤ right → right ≤ left + 1 → IsLowestFor (max high low + 1) (left + right + 1)
-halves_lowest left right high low low_left low_right not_less one_more zero h = omega arith
-halves_lowest left right high low low_left low_right not_less one_more (suc k) h =
-    let fits : left + right + 1 < 2 ^ k * 2 = rw (pow-suc 2 k) at h in
-    let l = low_left k (omega arith) in
-    let r = low_right k (omega arith) in
-    omega arith
+  module _ (cmp : K → K → Ordering) where
+    pub parts_filled : (height : ℕ) (ps : List (Seen K V)) → IsParts cmp height ps → AreFit ps → (length ps * 4 ^ height ≤ length (entries_of ps)) × (length (entries_of ps) ≤ length ps * 16 ^ height)
+    parts_filled height [] h fit = (omega arith, omega arith)
+    parts_filled height (p ∷ ps) h fit =
+        let here = child_filled height p.1 h.0.0 fit.0 in
+        let rest = parts_filled height ps h.3 fit.1 in
+        let whole = length-append p.1.0 (entries_of ps) in
+        (omega (arith, here.0, rest.0, whole), omega (arith, here.1, rest.1, whole))

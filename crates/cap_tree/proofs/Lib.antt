@@ -1,4 +1,15 @@
 mod BesideLemmas
+mod BuildLemmas
 mod EntryLemmas
 mod HeightLemmas
+mod JoinLemmas
+mod LeafLemmas
+mod PairLemmas
+mod PartLemmas
 mod PathLemmas
+mod PlaceLemmas
+mod PutLemmas
+mod RootLemmas
+mod SplitLemmas
+mod TreeLemmas
+mod WayLemmas

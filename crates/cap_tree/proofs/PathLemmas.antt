@@ -1,118 +1,155 @@
--- A way down with one more fork at its end.
-use Rattle.std.proofs.Common.{◌≡◌, ℕ, ◌+◌, ◌-◌, ◌<◌, ◌≤◌, suc, List, [], ◌∷◌, ◌++◌, length, Bor, refl, ap, ◌∙◌, sym, subst, append_assoc, length-append, arith}
+-- A path with the children of one more node at its end.
+use Rattle.std.proofs.Common.{◌≡◌, ℕ, ◌+◌, ◌-◌, ◌<◌, ◌≤◌, suc, zero, List, [], ◌∷◌, ◌++◌, length, drop, Bor, refl, ap, ◌∙◌, sym, subst, append_assoc, length-append, get_or, cond, true, false, add-one, lit<, ◌*◌, ◌^◌, arith}
 use Rattle.std.proofs.lemmas.List.{append-nil}
-use Rattle.std.specs.declared.sync.Arc.{Arc}
+use Rattle.std.specs.declared.cmp.Ordering.{Ordering}
+use Rattle.std.specs.Ordering.{is_le}
 use Rattle.std.specs.BTreeMap.Range.{entries_from}
 use Rattle.std.specs.Cmp.{IsTotalOrder}
-use Rattle.std.specs.declared.cmp.Ordering.{Ordering}
-use Rattle.std.specs.declared.cmp.Ordering.TheVariants.{Less, Equal, Greater}
-use Rattle.cap_tree.proofs.EntryLemmas.{ordered_front, ordered_back, entries_from-left, entries_from-here, entries_from-right}
-use Rattle.cap_tree.specs.Tree.{IsOrdered}
-use Rattle.cap_tree.specs.Balance.{IsFork}
-use Rattle.cap_tree.specs.Branch.{pairs_and_height, IsBalanced}
-use Rattle.cap_tree.specs.declared.branch.Fork.{Fork as Node}
-use Rattle.cap_tree.specs.declared.branch.Link.{Link}
-use Rattle.cap_tree.specs.declared.branch.Link.TheVariants.{Leaf, Fork}
-use Rattle.cap_tree.specs.Path.{from_entry, pending, FitsInto, IsPath}
+use Rattle.cap_tree.specs.declared.node.Part.{Part}
+use Rattle.std.proofs.Math.Nat.{mul-le-mul_right, pow-le-pow_right, pow-suc}
+use Rattle.cap_tree.specs.declared.node.Link.{Link}
+use Rattle.cap_tree.specs.declared.node.Link.TheVariants.{Leaf, Inner}
+use Rattle.cap_tree.proofs.HeightLemmas.{parts_filled}
+use Rattle.cap_tree.proofs.PartLemmas.{length_seen}
+use Rattle.cap_tree.specs.Path.{pending, FitInto, IsPath}
+use Rattle.cap_tree.specs.Shape.{seen, shape, entries_of, IsNode, IsParts, place}
+use Rattle.cap_tree.proofs.WayLemmas.{child_and_behind, from_child}
+
+-- the lesser power has the lesser exponent
+lower : (h n : ℕ) → 4 ^ h < 4 ^ n → h < n
+lower h zero less =
+    let one : 4 ^ 0 ≤ 4 ^ h = pow-le-pow_right (lit< tt) {i = 0} {j = h} (omega arith) in
+    absurd (omega (arith, one, less))
+lower zero (suc n) less = omega arith
+lower (suc h) (suc n) less =
+    let below = lower h n (omega (arith, less, pow-suc 4 h, pow-suc 4 n)) in
+    omega (arith, below)
+
+-- the entries from a key on are no more than all
+pub length-entries_from : {K V : Type 0} (compare : K → Ordering) (es : List (K × V)) → length (entries_from compare es) ≤ length es
+length-entries_from compare [] = omega arith
+length-entries_from compare (e ∷ es) =
+    elim (is_le (compare e.0)) as (λ b. length (cond b (e ∷ entries_from compare es) (entries_from compare es)) ≤ suc (length es)) [
+      | true ↦ omega (arith, length-entries_from compare es)
+      | false ↦ omega (arith, length-entries_from compare es)
+    ]
 
 all_room : (room : ℕ) → room - 0 ≡ room
 all_room room = omega arith
 
 module _ {K V Z : Type 0} where
-  pub pending-push : (links : List (Bor (Link K V Z))) (link : Bor (Link K V Z)) → pending (links ++ link ∷ []) ≡ from_entry link.now ++ pending links
-  pending-push [] link = sym (append-nil (from_entry link.now))
-  pending-push (x ∷ xs) link = ap (λ t. t ++ from_entry x.now) (pending-push xs link) ∙ append_assoc (from_entry link.now) (pending xs) (from_entry x.now)
+  pub pending-push : (path : List (Bor (List (Part K V Z)))) (parts : Bor (List (Part K V Z))) → pending (path ++ parts ∷ []) ≡ entries_of (seen parts.now) ++ pending path
+  pending-push [] parts = sym (append-nil (entries_of (seen parts.now)))
+  pending-push (x ∷ xs) parts = ap (λ t. t ++ entries_of (seen x.now)) (pending-push xs parts) ∙ append_assoc (entries_of (seen parts.now)) (pending xs) (entries_of (seen x.now))
 
-  less_room : (room : ℕ) (xs : List (Bor (Link K V Z))) → room - suc (length xs) ≡ room - 1 - length xs
+  less_room : (room : ℕ) (xs : List (Bor (List (Part K V Z)))) → room - suc (length xs) ≡ room - 1 - length xs
   less_room room xs = omega arith
 
-  pub path_push : (room : ℕ) (links : List (Bor (Link K V Z))) (link : Bor (Link K V Z)) → IsPath room links → FitsInto (room - length links) link.now → IsPath room (links ++ link ∷ [])
-  path_push room [] link p f = (subst (λ r. FitsInto r link.now) (all_room room) f, tt)
-  path_push room (x ∷ xs) link p f = (p.0, path_push (room - 1) xs link p.1 (subst (λ r. FitsInto r link.now) (less_room room xs) f))
+  pub path_push : (room : ℕ) (path : List (Bor (List (Part K V Z)))) (parts : Bor (List (Part K V Z))) → IsPath room path → FitInto (room - length path) parts.now → IsPath room (path ++ parts ∷ [])
+  path_push room [] parts p f = (subst (λ r. FitInto r parts.now) (all_room room) f, tt)
+  path_push room (x ∷ xs) parts p f = (p.0, path_push (room - 1) xs parts p.1 (subst (λ r. FitInto r parts.now) (less_room room xs) f))
 
-  pub path_front : (room : ℕ) (links : List (Bor (Link K V Z))) (link : Bor (Link K V Z)) → IsPath room (links ++ link ∷ []) → IsPath room links
-  path_front room [] link p = tt
-  path_front room (x ∷ xs) link p = (p.0, path_front (room - 1) xs link p.1)
+  pub path_front : (room : ℕ) (path : List (Bor (List (Part K V Z)))) (parts : Bor (List (Part K V Z))) → IsPath room (path ++ parts ∷ []) → IsPath room path
+  path_front room [] parts p = tt
+  path_front room (x ∷ xs) parts p = (p.0, path_front (room - 1) xs parts p.1)
 
-  pub path_last : (room : ℕ) (links : List (Bor (Link K V Z))) (link : Bor (Link K V Z)) → IsPath room (links ++ link ∷ []) → FitsInto (room - length links) link.now
-  path_last room [] link p = subst (λ r. FitsInto r link.now) (sym (all_room room)) p.0
-  path_last room (x ∷ xs) link p = subst (λ r. FitsInto r link.now) (sym (less_room room xs)) (path_last (room - 1) xs link p.1)
+  pub path_last : (room : ℕ) (path : List (Bor (List (Part K V Z)))) (parts : Bor (List (Part K V Z))) → IsPath room (path ++ parts ∷ []) → FitInto (room - length path) parts.now
+  path_last room [] parts p = subst (λ r. FitInto r parts.now) (sym (all_room room)) p.0
+  path_last room (x ∷ xs) parts p = subst (λ r. FitInto r parts.now) (sym (less_room room xs)) (path_last (room - 1) xs parts p.1)
 
-  module _ (links : List (Bor (Link K V Z))) (x : Bor (Link K V Z)) (height : ℕ) (node : Arc (Node K V Z) Z) (b : List (K × V) × ℕ) (is : x.now ≡ Fork height node) (seen : pairs_and_height x.now ≡ b) (balanced : IsBalanced x.now) (fits : length links + b.1 ≤ 128) where
-    shape : IsFork node.value.len height node.value.left.1 node.value.right.1
-    shape = (subst IsBalanced is balanced).0
+  -- children of a node that is no higher than the room fit
+  pub parts_fit : (cmp : K → K → Ordering) (height room : ℕ) (parts : List (Part K V Z)) → IsParts cmp height (seen parts) → height ≤ room → FitInto room parts
+  parts_fit cmp height room [] h low = tt
+  parts_fit cmp height room (x ∷ xs) h low = ((h.0.1, omega (arith, h.0.0)), parts_fit cmp height room xs h.3 low)
 
-    high : height ≡ b.1
-    high = ap (λ p. p.1) (ap pairs_and_height (sym is) ∙ seen)
+  all_entries : (path : List (Bor (List (Part K V Z)))) (behind : Bor (List (Part K V Z))) (front : List (K × V)) → front ++ pending (path ++ behind ∷ []) ≡ (front ++ entries_of (seen behind.now)) ++ pending path
+  all_entries path behind front = ap (λ t. front ++ t) (pending-push path behind) ∙ sym (append_assoc front (entries_of (seen behind.now)) (pending path))
 
-    entries : node.value.left.0 ++ node.value.pair.value ∷ node.value.right.0 ≡ b.0
-    entries = ap (λ p. p.0) (ap pairs_and_height (sym is) ∙ seen)
+  -- ---- from a node that stands so far down into one of its children
 
-    pub step_path : IsPath 128 links → IsPath 128 (links ++ x ∷ [])
-    step_path p =
-        let s = shape in
-        let h = high in
-        let below : node.value.right.1 < 128 - length links = omega (arith, s.height_is) in
-        path_push 128 links x p (subst (FitsInto (128 - length links)) (sym is) below)
+  module _ (cmp : K → K → Ordering) (height : ℕ) (parts : List (Part K V Z)) (n : ℕ) (child : Part K V Z) (behind : Bor (List (Part K V Z))) (there : drop n parts ≡ child ∷ behind.now) (h : IsParts cmp height (seen parts)) (path : List (Bor (List (Part K V Z)))) (fits : length path + height ≤ 32) where
+    those : IsParts cmp height (seen (child ∷ behind.now))
+    those = child_and_behind cmp parts n child behind.now there height h
 
-    pub step_fits : length (links ++ x ∷ []) + node.value.left.1 ≤ 128
-    step_fits = let s = shape in let h = high in omega (arith, s.height_is, length-append links (x ∷ []))
+    pub down_lower : child.node.value.1 < height
+    down_lower = let t = those in omega (arith, t.0.0)
 
-    pub step_pending : node.value.left.0 ++ pending (links ++ x ∷ []) ≡ b.0 ++ pending links
-    step_pending =
-        ap (λ t. node.value.left.0 ++ t) (pending-push links x ∙ ap (λ l. from_entry l ++ pending links) is)
-        ∙ sym (append_assoc node.value.left.0 (node.value.pair.value ∷ node.value.right.0) (pending links))
-        ∙ ap (λ t. t ++ pending links) entries
+    pub down_room : length path < 32
+    down_room = let t = those in omega (arith, t.0.0)
 
-  pub no_higher : (link : Link K V Z) (b : List (K × V) × ℕ) → pairs_and_height link ≡ b → IsBalanced link → b.1 ≤ 128
-  no_higher Leaf b seen balanced = rw (← seen) (omega arith)
-  no_higher (Fork height node) b seen balanced = rw (← seen) balanced.0.capped
+    pub down_path : IsPath 32 path → IsPath 32 (path ++ behind ∷ [])
+    down_path p = path_push 32 path behind p (parts_fit cmp height (32 - length path) behind.now those.3 (omega arith))
 
-  -- ---- a look for a key k at a fork
+    pub down_fits : length (path ++ behind ∷ []) + child.node.value.1 ≤ 32
+    down_fits = let t = those in omega (arith, t.0.0, length-append path (behind ∷ []))
 
-  module _ (cmp : K → K → Ordering) (o : IsTotalOrder cmp) (k : K) (link : Link K V Z) (height : ℕ) (node : Arc (Node K V Z) Z) (b : List (K × V) × ℕ) (is : link ≡ Fork height node) (seen : pairs_and_height link ≡ b) (ordered : IsOrdered cmp b.0) where
-    whole : node.value.left.0 ++ node.value.pair.value ∷ node.value.right.0 ≡ b.0
-    whole = ap (λ p. p.0) (ap pairs_and_height (sym is) ∙ seen)
+    pub down_some : (leaf : List (K × V)) → (0 < length child.node.value.0 → 0 < length leaf) → 0 < length leaf
+    down_some leaf some = some those.0.1
 
-    in_order : IsOrdered cmp (node.value.left.0 ++ node.value.pair.value ∷ node.value.right.0)
-    in_order = subst (IsOrdered cmp) (sym whole) ordered
+  -- to the first child
+  pub down_first : (parts : List (Part K V Z)) (child : Part K V Z) (behind : Bor (List (Part K V Z))) → parts ≡ child ∷ behind.now → (path : List (Bor (List (Part K V Z)))) → child.node.value.0 ++ pending (path ++ behind ∷ []) ≡ entries_of (seen parts) ++ pending path
+  down_first parts child behind is path = all_entries path behind child.node.value.0 ∙ ap (λ l. entries_of (seen l) ++ pending path) (sym is)
 
-    pub seek_left_ordered : IsOrdered cmp node.value.left.0
-    seek_left_ordered = ordered_front cmp node.value.left.0 (node.value.pair.value ∷ node.value.right.0) in_order
+  -- to the child among whose entries the key belongs
+  pub down_key : (cmp : K → K → Ordering) → IsTotalOrder cmp → (k : K) (height : ℕ) (parts : List (Part K V Z)) (child : Part K V Z) (behind : Bor (List (Part K V Z))) → drop (place cmp k (seen parts) - 1) parts ≡ child ∷ behind.now → IsParts cmp height (seen parts) → (path : List (Bor (List (Part K V Z)))) → entries_from (cmp k) child.node.value.0 ++ pending (path ++ behind ∷ []) ≡ entries_from (cmp k) (entries_of (seen parts)) ++ pending path
+  down_key cmp o k height parts child behind there h path =
+      all_entries path behind (entries_from (cmp k) child.node.value.0)
+      ∙ ap (λ t. t ++ pending path) (sym (from_child cmp parts (place cmp k (seen parts) - 1) child behind.now there o k height h refl))
 
-    pub seek_right_ordered : IsOrdered cmp node.value.right.0
-    seek_right_ordered = ordered_back cmp node.value.left.0 node.value.pair.value node.value.right.0 in_order
+  -- ---- to the first child of the node that comes last on the path
 
-    pub seek_shares : length b.0 ≡ length node.value.left.0 + (length node.value.right.0 + 1)
-    seek_shares = let e = ap length whole in omega (arith, length-append node.value.left.0 (node.value.pair.value ∷ node.value.right.0))
+  module _ (path whole : List (Bor (List (Part K V Z)))) (parts : Bor (List (Part K V Z))) (is : whole ≡ path ++ parts ∷ []) (p : IsPath 32 whole) where
+    here : IsPath 32 (path ++ parts ∷ [])
+    here = subst (IsPath 32) is p
 
-    pub seek_right : (rest : List (K × V)) → cmp k node.value.pair.value.0 ≡ Greater → entries_from (cmp k) node.value.right.0 ++ rest ≡ entries_from (cmp k) b.0 ++ rest
-    seek_right rest h =
-        ap (λ t. t ++ rest) (sym (entries_from-right cmp o k node.value.left.0 node.value.pair.value node.value.right.0 in_order h) ∙ ap (entries_from (cmp k)) whole)
+    pub next_path : IsPath 32 path
+    next_path = path_front 32 path parts here
 
-    pub seek_right_fits : (depth : ℕ) → IsBalanced link → depth + b.1 ≤ 128 → depth + node.value.right.1 ≤ 128
-    seek_right_fits depth balanced fits =
-        let s = subst IsBalanced is balanced in
-        let h : height ≡ b.1 = ap (λ p. p.1) (ap pairs_and_height (sym is) ∙ seen) in
-        omega (arith, s.0.height_is)
+    pub next_shorter : length path < length whole
+    next_shorter = rw is (omega (arith, length-append path (parts ∷ [])))
 
-  pushed : (links : List (Bor (Link K V Z))) (x : Bor (Link K V Z)) {height : ℕ} {node : Arc (Node K V Z) Z} → x.now ≡ Fork height node → pending (links ++ x ∷ []) ≡ (node.value.pair.value ∷ node.value.right.0) ++ pending links
-  pushed links x is = pending-push links x ∙ ap (λ l. from_entry l ++ pending links) is
+    pub next_none : length parts.now ≡ 0 → pending path ≡ pending whole
+    next_none none = sym (ap pending is ∙ pending-push path parts ∙ rw (none_left parts.now none))
+      where
+        none_left : (xs : List (Part K V Z)) → length xs ≡ 0 → xs ≡ []
+        none_left [] e = refl
+        none_left (x ∷ xs) e = absurd (omega arith)
 
-  module _ (cmp : K → K → Ordering) (o : IsTotalOrder cmp) (k : K) (links : List (Bor (Link K V Z))) (x : Bor (Link K V Z)) (height : ℕ) (node : Arc (Node K V Z) Z) (b : List (K × V) × ℕ) (is : x.now ≡ Fork height node) (seen : pairs_and_height x.now ≡ b) (ordered : IsOrdered cmp b.0) where
-    pub seek_left : cmp k node.value.pair.value.0 ≡ Less → entries_from (cmp k) node.value.left.0 ++ pending (links ++ x ∷ []) ≡ entries_from (cmp k) b.0 ++ pending links
-    seek_left h =
-        ap (λ t. entries_from (cmp k) node.value.left.0 ++ t) (pushed links x is)
-        ∙ sym (append_assoc (entries_from (cmp k) node.value.left.0) (node.value.pair.value ∷ node.value.right.0) (pending links))
-        ∙ ap (λ t. t ++ pending links) (sym (entries_from-left cmp o k node.value.left.0 node.value.pair.value node.value.right.0 (in_order cmp o k x.now height node b is seen ordered) h) ∙ ap (entries_from (cmp k)) (whole cmp o k x.now height node b is seen ordered))
+    module _ (child : Part K V Z) (behind : Bor (List (Part K V Z))) (first : parts.now ≡ child ∷ behind.now) where
+      fit : FitInto (32 - length path) (child ∷ behind.now)
+      fit = subst (FitInto (32 - length path)) first (path_last 32 path parts here)
 
-    pub seek_here : cmp k node.value.pair.value.0 ≡ Equal → pending (links ++ x ∷ []) ≡ entries_from (cmp k) b.0 ++ pending links
-    seek_here h =
-        pushed links x is ∙ ap (λ t. t ++ pending links) (sym (entries_from-here cmp o k node.value.left.0 node.value.pair.value node.value.right.0 (in_order cmp o k x.now height node b is seen ordered) h) ∙ ap (entries_from (cmp k)) (whole cmp o k x.now height node b is seen ordered))
+      pub next_room : length path < 32
+      next_room = let f = fit in omega (arith, f.0.1)
 
-  -- how many entries are to come, once a fork is pushed
-  pub seek_count : (links : List (Bor (Link K V Z))) (x : Bor (Link K V Z)) (height : ℕ) (node : Arc (Node K V Z) Z) (count : ℕ) → x.now ≡ Fork height node → count ≡ length (pending links) → count + (length node.value.right.0 + 1) ≡ length (pending (links ++ x ∷ []))
-  seek_count links x height node count is counted = let e = ap length (pushed links x is) in omega (arith, length-append (node.value.pair.value ∷ node.value.right.0) (pending links))
+      pub next_down : IsPath 32 (path ++ behind ∷ [])
+      next_down = path_push 32 path behind next_path fit.1
 
-  pub seek_count_here : (links : List (Bor (Link K V Z))) (x : Bor (Link K V Z)) (height : ℕ) (node : Arc (Node K V Z) Z) (count : ℕ) → x.now ≡ Fork height node → count ≡ length (pending links) → count + length node.value.right.0 + 1 ≡ length (pending (links ++ x ∷ []))
-  seek_count_here links x height node count is counted = let e = ap length (pushed links x is) in omega (arith, length-append (node.value.pair.value ∷ node.value.right.0) (pending links))
+      pub next_fits : length (path ++ behind ∷ []) + child.node.value.1 ≤ 32
+      next_fits = let f = fit in omega (arith, f.0.1, length-append path (behind ∷ []))
+
+      pub next_some : (leaf : List (K × V)) → (0 < length child.node.value.0 → 0 < length leaf) → 0 < length leaf
+      next_some leaf some = some fit.0.0
+
+      pub next_pending : child.node.value.0 ++ pending (path ++ behind ∷ []) ≡ pending whole
+      next_pending = down_first parts.now child behind first path ∙ sym (ap pending is ∙ pending-push path parts)
+
+  -- ---- how high a node is whose entries can be counted
+
+  pub is_low : (cmp : K → K → Ordering) (link : Link K V Z) (node : List (K × V) × ℕ × ℕ) → shape link ≡ node → IsNode cmp link → length node.0 < 2 ^ 64 → node.1 < 32
+  is_low cmp (Leaf entries) node seen_as h fits = rw (← seen_as) (lit< tt)
+  is_low cmp (Inner height count parts) node seen_as h fits =
+      let filled = (parts_filled cmp height (seen parts.items) h.2 h.3).0 in
+      let some : 1 * 4 ^ height ≤ length (seen parts.items) * 4 ^ height = mul-le-mul_right (4 ^ height) (omega (arith, h.0, parts.ok.0, length_seen parts.items)) in
+      let all : length (entries_of (seen parts.items)) < 2 ^ 64 = rw (← ap (λ n. n.0) seen_as) at fits in
+      let low : height < 32 = lower height 32 (omega (arith, filled, some, all)) in
+      rw (← ap (λ n. n.1) seen_as) low
+
+  -- the entries to come from the item at i on are its own and those of the items behind it
+  pub path_count : (path : List (Bor (List (Part K V Z)))) (i : ℕ) (d : Bor (List (Part K V Z))) → i < length path → d ≡ get_or path i d → length (pending (drop i path)) ≡ length (entries_of (seen d.now)) + length (pending (drop (i + 1) path))
+  path_count path i d within is = rw add-one (step path i within is)
+    where
+      step : (path : List (Bor (List (Part K V Z)))) (i : ℕ) → i < length path → d ≡ get_or path i d → length (pending (drop i path)) ≡ length (entries_of (seen d.now)) + length (pending (drop (suc i) path))
+      step [] i within is = absurd (omega arith)
+      step (p ∷ ps) zero within is = rw is (omega (arith, length-append (pending ps) (entries_of (seen p.now))))
+      step (p ∷ ps) (suc i) within is = step ps i (omega arith) is

@@ -1,6 +1,7 @@
-pub mod Balance
-pub mod Branch
 pub mod Beside
 pub mod Tree
+pub mod Shape
+pub mod Falls
 pub mod Path
+pub mod Root
 pub mod Fault

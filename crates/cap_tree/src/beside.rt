@@ -14,12 +14,12 @@ use std::marker::Model;
 
 // Entries to go over, the next of them at hand.
 #[derive(Drop)]
-struct Ahead<'a, K, V, A: Allocator> {
+struct Ahead<'a, K: Ord, V, A: Allocator> {
     next: Option<(&'a K, &'a V)>,
     behind: Iter<'a, K, V, A>,
 }
 
-impl<'a, K, V, A: Allocator> Model for Ahead<'a, K, V, A> {
+impl<'a, K: Ord, V, A: Allocator> Model for Ahead<'a, K, V, A> {
     ghost use Rattle.std.specs.Prelude.{List};
 
     ghost Value = { List (K × V) };
@@ -29,7 +29,7 @@ impl<'a, K, V, A: Allocator> Model for Ahead<'a, K, V, A> {
     ghost view = { λ s. taken s.next s.behind };
 }
 
-impl<'a, K, V, A: Allocator> Ahead<'a, K, V, A> {
+impl<'a, K: Ord, V, A: Allocator> Ahead<'a, K, V, A> {
     fn of(behind: Iter<'a, K, V, A>) -> Self
         ensures { result ≡ behind.entry }
     {

@@ -1,12 +1,11 @@
-//! A subtree of a whole list of entries at once.
-ghost use Rattle.std.specs.Prelude.{◌≡◌, ◌≤◌, ◌++◌, length, IsTrue, IfOk, ◌↔◌};
-ghost use Rattle.cap_tree.specs.Balance.{HasRoomFor, IsLowestFor};
+//! A root of a whole list of entries.
+ghost use Rattle.std.specs.Prelude.{◌≡◌, IsTrue, IfOk, ◌↔◌};
 ghost use Rattle.cap_tree.specs.Tree.{IsOrdered};
 
-use crate::branch::{Branch, make_fork};
+use crate::root::Root;
+use cap_value::Exact;
 use std::alloc::{AllocError, Allocator};
 use std::cmp::Ordering;
-use std::sync::Arc;
 
 // Whether each key is below the one that follows it.
 pub(crate) fn is_ordered<K: Ord, V>(entries: &[(K, V)]) -> bool
@@ -25,28 +24,18 @@ pub(crate) fn is_ordered<K: Ord, V>(entries: &[(K, V)]) -> bool
     true
 }
 
-// The last entries of the list, so many of them, which leave it.
-pub(crate) fn build<K: Drop, V: Drop, A: Allocator + Copy>(
+// The root of these entries. Rising keys leave nodes behind that are three quarters full.
+pub(crate) fn build<K: Ord + Exact + Drop, V: Exact + Drop, A: Allocator + Copy>(
     alloc: A,
-    entries: &mut Vec<(K, V), A>,
-    count: usize,
-) -> Result<Branch<K, V, A>, AllocError>
-    requires enough { count ≤ length entries.old.items }
-    ensures entries { IfOk result (λ b. entries.old.items ≡ entries.new.items ++ b.0) }
-    ensures len { IfOk result (λ b. length b.0 ≡ count) }
-    ensures room { IfOk result (λ b. HasRoomFor b.1 count) }
-    ensures lowest { IfOk result (λ b. IsLowestFor b.1 count) }
+    entries: Vec<(K, V), A>,
+) -> Result<Root<K, V, A>, AllocError>
+    requires { IsOrdered K.cmp entries.items }
+    ensures { IfOk result (λ root. root ≡ entries.items) }
 {
-    if count == 0 {
-        return Ok(Branch::leaf());
+    let mut root = Root::empty();
+    let mut rest = entries.into_iter();
+    while let Some((key, value)) = rest.next() {
+        root.put(alloc, key, value)?;
     }
-    // The right side is as large as the left, or larger by one.
-    let right = build(alloc, entries, count / 2)?;
-    let Some(entry) = entries.pop() else {
-        unreachable!()
-    };
-    let pair = Arc::new(alloc, entry)?;
-    let left = build(alloc, entries, (count - 1) / 2)?;
-    let whole = make_fork(alloc, left, pair, right)?;
-    Ok(whole)
+    Ok(root)
 }

@@ -1,52 +1,71 @@
 //! Looking a key up.
-ghost use Rattle.std.specs.Prelude.{◌≡◌, ◌-◌, [], length, Some, slice_get, IfNone, IfSome};
-ghost use Rattle.std.specs.Arc.{arc_value};
+ghost use Rattle.std.specs.Prelude.{◌≡◌, ℕ, ◌-◌, ◌<◌, [], ◌∷◌, drop, length, Some, slice_get, IfNone, IfSome};
 ghost use Rattle.std.specs.Option.{option_copied};
 ghost use Rattle.cap_tree.specs.Tree.{IsOrdered, get};
+ghost use Rattle.cap_tree.specs.Shape.{seen, place, IsParts};
 
-use crate::branch::{Branch, Fork};
+use crate::leaf::search;
+use crate::node::{Link, Node, Part};
+use crate::part::count_up_to;
 use std::alloc::Allocator;
-use std::cmp::Ordering;
+
+// The child among whose entries the key belongs, and the children behind it. It is the first one where all entries
+// are above the key.
+pub(crate) fn child_for<'a, K: Ord, V, A: Allocator>(
+    parts: &'a [Part<K, V, A>],
+    key: &K,
+) -> (&'a Part<K, V, A>, &'a [Part<K, V, A>])
+    requires { 0 < length parts.now }
+    ensures { (h : ℕ) → IsParts K.cmp h (seen parts.now) → drop (place K.cmp key.now (seen parts.now) - 1) parts.now ≡ result.0.now ∷ result.1.now }
+{
+    let (_, from) = parts.split_at(count_up_to(parts, key).saturating_sub(1));
+    let Some((child, behind)) = from.split_first() else {
+        unreachable!()
+    };
+    (child, behind)
+}
 
 // The value at the key.
-pub(crate) fn find<'a, K: Ord, V, A: Allocator>(
-    branch: &'a Branch<K, V, A>,
-    key: &K,
-) -> Option<&'a V>
-    requires { IsOrdered K.cmp branch.now.0 }
-    ensures { option_copied result ≡ get K.cmp branch.now.0 key.now }
+pub(crate) fn find<'a, K: Ord, V, A: Allocator>(node: &'a Node<K, V, A>, key: &K) -> Option<&'a V>
+    requires { IsOrdered K.cmp node.now.0 }
+    ensures { option_copied result ≡ get K.cmp node.now.0 key.now }
 {
-    let mut below = branch;
-    while let Some(node) = below.node() {
-        match node.side(key) {
-            Ordering::Less => below = &node.left,
-            Ordering::Equal => return Some(node.value()),
-            Ordering::Greater => below = &node.right,
+    match &node.link {
+        Link::Leaf(entries) => match search(entries.as_slice(), key) {
+            Ok(at) => return Some(&entries[at].1),
+            Err(_) => return None,
+        },
+        Link::Inner(_, _, parts) => {
+            let (child, _) = child_for(parts.as_slice(), key);
+            return find(&child.node, key);
         }
     }
-    None
 }
 
-// The node of the first entry.
-pub(crate) fn first<K, V, A: Allocator>(branch: &Branch<K, V, A>) -> Option<&Fork<K, V, A>>
-    ensures none { IfNone result (branch.now.0 ≡ []) }
-    ensures first { IfSome result (λ n. slice_get branch.now.0 0 ≡ Some (arc_value n.now.pair)) }
+// The first entry.
+pub(crate) fn first<K: Ord, V, A: Allocator>(node: &Node<K, V, A>) -> Option<&(K, V)>
+    ensures none { IfNone result (node.now.0 ≡ []) }
+    ensures first { IfSome result (λ e. slice_get node.now.0 0 ≡ Some e.now) }
 {
-    let node = branch.node()?;
-    match first(&node.left) {
-        None => Some(node),
-        found => found,
+    match &node.link {
+        Link::Leaf(entries) => return entries.as_slice().first(),
+        Link::Inner(_, _, parts) => {
+            let (child, _) = parts.as_slice().split_first()?;
+            return first(&child.node);
+        }
     }
 }
 
-// The node of the last entry.
-pub(crate) fn last<K, V, A: Allocator>(branch: &Branch<K, V, A>) -> Option<&Fork<K, V, A>>
-    ensures none { IfNone result (branch.now.0 ≡ []) }
-    ensures last { IfSome result (λ n. slice_get branch.now.0 (length branch.now.0 - 1) ≡ Some (arc_value n.now.pair)) }
+// The last entry.
+pub(crate) fn last<K: Ord, V, A: Allocator>(node: &Node<K, V, A>) -> Option<&(K, V)>
+    ensures none { IfNone result (node.now.0 ≡ []) }
+    ensures last { IfSome result (λ e. slice_get node.now.0 (length node.now.0 - 1) ≡ Some e.now) }
 {
-    let node = branch.node()?;
-    match last(&node.right) {
-        None => Some(node),
-        found => found,
+    match &node.link {
+        Link::Leaf(entries) => return entries.as_slice().last(),
+        Link::Inner(_, _, parts) => {
+            let (child, _) = parts.as_slice().split_last()?;
+            return last(&child.node);
+        }
     }
 }

@@ -1,65 +1,78 @@
 //! Going over the entries of a tree.
-ghost use Rattle.std.specs.Prelude.{◌≡◌, ◌<◌, ◌^◌, length, IfSome};
+ghost use Rattle.std.specs.Prelude.{◌≡◌, ◌<◌, ◌^◌, ◌++◌, [], length, IfSome};
 ghost use Rattle.std.specs.Iterator.{at_most, UpTo};
 ghost use Rattle.std.specs.Iterator.SizeHint.{IsWithinCount};
 ghost use Rattle.std.specs.BTreeMap.Range.{entries_from};
+ghost use Rattle.cap_tree.specs.Root.{root_entries};
 ghost use Rattle.cap_tree.specs.Tree.{IsOrdered};
 ghost use Rattle.std.specs.Map.Iter.{TakesFirst, deref_pair};
 
-use crate::branch::{Branch, Link};
-use crate::path::{descend, seek, step};
+use crate::node::{Node, Part};
+use crate::path::{count_of_path, depth, descend, next_leaf, seek, start};
 use crate::stack::Stack;
 use std::alloc::Allocator;
 use std::iter::{ExactSizeIterator, FusedIterator};
 use std::marker::Model;
+use std::sync::Arc;
 
 /// The entries of a tree that are still to come, in the order of their keys.
 #[derive(Drop)]
-pub struct Iter<'a, K, V, A: Allocator> {
-    path: Stack<&'a Link<K, V, A>>,
-    left: usize,
+pub struct Iter<'a, K: Ord, V, A: Allocator> {
+    // Those of the leaf that was reached, and after them those of the path.
+    leaf: &'a [(K, V)],
+    path: Stack<&'a [Part<K, V, A>]>,
 }
 
-impl<'a, K, V, A: Allocator> Model for Iter<'a, K, V, A> {
-    ghost use Rattle.std.specs.Prelude.{◌≡◌, List, length};
+impl<'a, K: Ord, V, A: Allocator> Model for Iter<'a, K, V, A> {
+    ghost use Rattle.std.specs.Prelude.{◌^◌, ◌<◌, ◌++◌, List, length};
 
     ghost Value = { List (K × V) };
 
     ghost use Rattle.cap_tree.specs.Path.{pending, IsPath};
 
-    ghost view = { λ s. pending s.path };
+    ghost view = { λ s. s.leaf.now ++ pending s.path };
 
-    ghost invariant = { λ s. IsPath 128 s.path × (s.left ≡ length (pending s.path)) };
+    ghost invariant = { λ s. IsPath 32 s.path × (length (s.leaf.now ++ pending s.path) < 2 ^ 64) };
 }
 
-impl<'a, K, V, A: Allocator> Iter<'a, K, V, A> {
-    // All entries of the branch.
-    pub(crate) fn over(branch: &'a Branch<K, V, A>) -> Self
-        ensures { result ≡ branch.now.0 }
+impl<'a, K: Ord, V, A: Allocator> Iter<'a, K, V, A> {
+    // All entries of the root.
+    pub(crate) fn over(root: &'a Option<Arc<Node<K, V, A>, A>>) -> Self
+        ensures { result ≡ root_entries root.now }
     {
-        let mut path = Stack::new(&branch.link);
-        descend(&mut path, branch);
-        Iter {
-            path,
-            left: branch.len() as usize,
-        }
+        let mut path = start();
+        let Some(node) = root else {
+            return Iter { leaf: &[], path };
+        };
+        let _depth = depth(node);
+        let leaf = descend(&mut path, node);
+        Iter { leaf, path }
     }
 
-    // The entries of the branch from the first whose key is not below this one.
-    pub(crate) fn from_key(branch: &'a Branch<K, V, A>, key: &K) -> Self
-    where
-        K: Ord,
-        requires ordered { IsOrdered K.cmp branch.now.0 }
-        requires fits { length branch.now.0 < 2 ^ 64 }
-        ensures { result ≡ entries_from (K.cmp key.now) branch.now.0 }
+    // The entries of the root from the first whose key is not below this one.
+    pub(crate) fn from_key(root: &'a Option<Arc<Node<K, V, A>, A>>, key: &K) -> Self
+        requires { IsOrdered K.cmp (root_entries root.now) }
+        ensures { result ≡ entries_from (K.cmp key.now) (root_entries root.now) }
     {
-        let mut path = Stack::new(&branch.link);
-        let left = seek(&mut path, branch, key);
-        Iter { path, left }
+        let mut path = start();
+        let Some(node) = root else {
+            return Iter { leaf: &[], path };
+        };
+        let node: &'a Node<K, V, A> = node;
+        let _depth = depth(node);
+        let leaf = seek(&mut path, node, key);
+        Iter { leaf, path }
+    }
+
+    // The number of entries that are still to come.
+    fn left(&self) -> usize
+        ensures { result ≡ length self.now }
+    {
+        self.leaf.len() + count_of_path(self.path.items())
     }
 }
 
-impl<'a, K, V, A: Allocator> Iterator for Iter<'a, K, V, A> {
+impl<'a, K: Ord, V, A: Allocator> Iterator for Iter<'a, K, V, A> {
     type Item = (&'a K, &'a V);
 
     ghost next_gives = { TakesFirst deref_pair };
@@ -67,20 +80,26 @@ impl<'a, K, V, A: Allocator> Iterator for Iter<'a, K, V, A> {
     ghost remaining = { λ s. at_most (length s) };
 
     fn next(&mut self) -> Option<(&'a K, &'a V)> {
-        let node = step(&mut self.path)?;
-        self.left -= 1;
-        Some((node.key(), node.value()))
+        if self.leaf.is_empty() {
+            self.leaf = next_leaf(&mut self.path)?;
+        }
+        let Some((entry, rest)) = self.leaf.split_first() else {
+            unreachable!()
+        };
+        self.leaf = rest;
+        Some((&entry.0, &entry.1))
     }
 
     fn size_hint(&self) -> (usize, Option<usize>) {
-        (self.left, Some(self.left))
+        let left = self.left();
+        (left, Some(left))
     }
 }
 
-impl<'a, K, V, A: Allocator> FusedIterator for Iter<'a, K, V, A> {}
+impl<'a, K: Ord, V, A: Allocator> FusedIterator for Iter<'a, K, V, A> {}
 
-impl<'a, K, V, A: Allocator> ExactSizeIterator for Iter<'a, K, V, A> {
+impl<'a, K: Ord, V, A: Allocator> ExactSizeIterator for Iter<'a, K, V, A> {
     fn len(&self) -> usize {
-        self.left
+        self.left()
     }
 }

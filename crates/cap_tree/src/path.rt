@@ -1,80 +1,121 @@
-//! The way from the root down to an entry, from which the entries that follow are found.
-ghost use Rattle.std.specs.Prelude.{◌≡◌, ◌+◌, ◌^◌, ◌≤◌, ◌<◌, ◌∷◌, ◌++◌, [], length, MatchOption};
-ghost use Rattle.std.specs.Arc.{arc_value};
+//! The way from the root down to a leaf, from which the entries that follow are found.
+ghost use Rattle.std.specs.Prelude.{◌≡◌, ◌+◌, ◌^◌, ◌≤◌, ◌<◌, ◌∷◌, ◌++◌, [], length, drop, MatchOption};
 ghost use Rattle.std.specs.BTreeMap.Range.{entries_from};
 ghost use Rattle.cap_tree.specs.Tree.{IsOrdered};
-ghost use Rattle.cap_tree.specs.Path.{pending, IsPath};
+ghost use Rattle.cap_tree.specs.Path.{pending, IsPath, FitInto};
 
-use crate::branch::{Branch, Fork, Link};
+use crate::find::child_for;
+use crate::node::{Link, Node, Part};
+use crate::part::count_of;
 use crate::stack::{ROOM, Stack};
 use std::alloc::Allocator;
 use std::cmp::Ordering;
 
-// Goes down to the first entry of the branch, so that its entries come next.
-pub(crate) fn descend<'a, K, V, A: Allocator>(
-    path: &mut Stack<&'a Link<K, V, A>>,
-    branch: &'a Branch<K, V, A>,
-)
-    requires path { IsPath ROOM path.old }
-    requires fits { length path.old + branch.now.1 ≤ ROOM }
-    ensures pending { pending path.new ≡ branch.now.0 ++ pending path.old }
-    ensures path { IsPath ROOM path.new }
+// How many levels there are below the node: fewer than a path has room for.
+pub(crate) fn depth<K: Ord, V, A: Allocator>(node: &Node<K, V, A>) -> u64
+    ensures value { result ≡ node.now.1 }
+    ensures low { node.now.1 < ROOM }
+    ensures fits { length node.now.0 < 2 ^ 64 }
 {
-    let mut below = branch;
-    while let Link::Fork(_, node) = &below.link {
-        path.push(&below.link);
-        below = &node.left;
+    // The count shows that the number of entries fits, and the link how many there are at least.
+    let _count = node.count();
+    let _link = &node.link;
+    node.height()
+}
+
+// A path on which nothing is to come.
+pub(crate) fn start<'a, K: Ord, V, A: Allocator>() -> Stack<&'a [Part<K, V, A>]>
+    ensures { result ≡ [] }
+{
+    let none: &'a [Part<K, V, A>] = &[];
+    Stack::new(none)
+}
+
+// Goes down to the first leaf of the node, whose entries come next, and pushes what follows it.
+pub(crate) fn descend<'a, K: Ord, V, A: Allocator>(
+    path: &mut Stack<&'a [Part<K, V, A>]>,
+    node: &'a Node<K, V, A>,
+) -> &'a [(K, V)]
+    requires path { IsPath ROOM path.old }
+    requires fits { length path.old + node.now.1 ≤ ROOM }
+    ensures pending { result.now ++ pending path.new ≡ node.now.0 ++ pending path.old }
+    ensures path { IsPath ROOM path.new }
+    ensures some { 0 < length node.now.0 → 0 < length result.now }
+{
+    match &node.link {
+        Link::Leaf(entries) => return entries.as_slice(),
+        Link::Inner(_, _, parts) => {
+            let Some((child, behind)) = parts.as_slice().split_first() else {
+                unreachable!()
+            };
+            path.push(behind);
+            return descend(path, &child.node);
+        }
     }
 }
 
-// The node that comes next, after which the path leads to what follows it.
-pub(crate) fn step<'a, K, V, A: Allocator>(
-    path: &mut Stack<&'a Link<K, V, A>>,
-) -> Option<&'a Fork<K, V, A>>
+// The leaf that comes next, after which the path leads to what follows it.
+pub(crate) fn next_leaf<'a, K: Ord, V, A: Allocator>(
+    path: &mut Stack<&'a [Part<K, V, A>]>,
+) -> Option<&'a [(K, V)]>
     requires { IsPath ROOM path.old }
     ensures path { IsPath ROOM path.new }
-    ensures gives { MatchOption result ((pending path.old ≡ []) × (pending path.new ≡ [])) (λ n. pending path.old ≡ arc_value n.now.pair ∷ pending path.new) }
+    ensures gives { MatchOption result ((pending path.old ≡ []) × (pending path.new ≡ [])) (λ leaf. (pending path.old ≡ leaf.now ++ pending path.new) × (0 < length leaf.now)) }
 {
-    match path.pop()? {
-        Link::Leaf => unreachable!(),
-        Link::Fork(_, node) => {
-            let node: &'a Fork<K, V, A> = node;
-            descend(path, &node.right);
-            Some(node)
+    while let Some(parts) = path.pop() {
+        if let Some((child, behind)) = parts.split_first() {
+            path.push(behind);
+            return Some(descend(path, &child.node));
+        }
+    }
+    None
+}
+
+// The entries from the first whose key is not below this one.
+fn entries_not_below<'a, K: Ord, V>(entries: &'a [(K, V)], key: &K) -> &'a [(K, V)]
+    requires { IsOrdered K.cmp entries.now }
+    ensures { result.now ≡ entries_from (K.cmp key.now) entries.now }
+{
+    let mut rest = entries;
+    while let Some((entry, others)) = rest.split_first() {
+        match key.cmp(&entry.0) {
+            Ordering::Greater => rest = others,
+            Ordering::Less | Ordering::Equal => return rest,
+        }
+    }
+    rest
+}
+
+// Goes down to the first entry whose key is not below this one, and pushes what follows its leaf.
+pub(crate) fn seek<'a, K: Ord, V, A: Allocator>(
+    path: &mut Stack<&'a [Part<K, V, A>]>,
+    node: &'a Node<K, V, A>,
+    key: &K,
+) -> &'a [(K, V)]
+    requires ordered { IsOrdered K.cmp node.now.0 }
+    requires path { IsPath ROOM path.old }
+    requires fits { length path.old + node.now.1 ≤ ROOM }
+    ensures pending { result.now ++ pending path.new ≡ entries_from (K.cmp key.now) node.now.0 ++ pending path.old }
+    ensures path { IsPath ROOM path.new }
+{
+    match &node.link {
+        Link::Leaf(entries) => return entries_not_below(entries.as_slice(), key),
+        Link::Inner(_, _, parts) => {
+            let (child, behind) = child_for(parts.as_slice(), key);
+            path.push(behind);
+            return seek(path, &child.node, key);
         }
     }
 }
 
-// Goes down to the first entry whose key is not below this one, and counts the entries from there on.
-pub(crate) fn seek<'a, K: Ord, V, A: Allocator>(
-    path: &mut Stack<&'a Link<K, V, A>>,
-    branch: &'a Branch<K, V, A>,
-    key: &K,
-) -> usize
-    requires empty { path.old ≡ [] }
-    requires ordered { IsOrdered K.cmp branch.now.0 }
-    requires height_fits { branch.now.1 ≤ ROOM }
-    requires fits { length branch.now.0 < 2 ^ 64 }
-    ensures pending { pending path.new ≡ entries_from (K.cmp key.now) branch.now.0 }
-    ensures path { IsPath ROOM path.new }
-    ensures count { result ≡ length (pending path.new) }
+// The number of entries that are still to come on the path.
+pub(crate) fn count_of_path<K: Ord, V, A: Allocator>(path: &[&[Part<K, V, A>]]) -> usize
+    requires fits { length (pending path.now) < 2 ^ 64 }
+    ensures { result ≡ length (pending path.now) }
 {
     let mut count = 0;
-    let mut below = branch;
-    while let Link::Fork(_, node) = &below.link {
-        let node: &'a Fork<K, V, A> = node;
-        match node.side(key) {
-            Ordering::Less => {
-                path.push(&below.link);
-                count += node.right.len() as usize + 1;
-                below = &node.left;
-            }
-            Ordering::Equal => {
-                path.push(&below.link);
-                return count + node.right.len() as usize + 1;
-            }
-            Ordering::Greater => below = &node.right,
-        }
+    for parts in path {
+        count += count_of(parts);
     }
     count
 }

@@ -3,8 +3,8 @@ ghost use Rattle.std.specs.Prelude.{◌≡◌, ◌<◌, [], ◌∷◌, ◌++◌,
 
 use std::marker::Model;
 
-/// The most items that a stack holds. No tree is higher: a height is at most twice the 64 binary digits of a length.
-pub(crate) const ROOM: usize = 128;
+/// The most items that a stack holds. No tree is higher.
+pub(crate) const ROOM: usize = 32;
 
 /// At most `ROOM` items, seen as their list, the last one on top.
 #[derive(Drop)]
@@ -20,7 +20,7 @@ impl<T> Model for Stack<T> {
 
     ghost view = { λ s. take s.len s.items };
 
-    ghost invariant = { λ s. (s.len ≤ 128) × (length s.items ≡ 128) };
+    ghost invariant = { λ s. (s.len ≤ 32) × (length s.items ≡ 32) };
 }
 
 impl<T: Copy> Stack<T> {
@@ -52,5 +52,12 @@ impl<T: Copy> Stack<T> {
         }
         self.len -= 1;
         Some(self.items[self.len])
+    }
+
+    // The items, the last one on top.
+    pub(crate) fn items(&self) -> &[T]
+        ensures { result.now ≡ self.now }
+    {
+        &self.items[..self.len]
     }
 }

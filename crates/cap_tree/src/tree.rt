@@ -7,28 +7,24 @@ ghost use Rattle.std.specs.Map.Iter.{ShowsInOrder, ShowsValuesInOrder, deref_pai
 ghost use Rattle.cap_tree.specs.Fault.{MatchFault};
 ghost use Rattle.cap_tree.specs.Tree.{IsOrdered, get, put_entry, take_entry, Updates};
 
-use crate::branch::Branch;
 use crate::build::{build, is_ordered};
-use crate::confirm::{Confirm, ask};
-use crate::find::{find, first, last};
+use crate::confirm::Confirm;
 use crate::iter::Iter;
-use crate::put::put;
-use crate::take::take;
-use cap_value::{AllocHandle, Exact, Fault, OutOfMemory};
+use crate::root::Root;
+use cap_value::{Exact, Fault, OutOfMemory};
 use std::alloc::{AllocError, Allocator};
 use std::marker::Model;
-use std::sync::Arc;
 
-/// A map whose old versions stay: each change answers a new tree, and leaves the one that it was made from.
+/// A map whose old versions stay readable: a snapshot costs the same whatever the tree holds.
 ///
-/// A tree and its copies share nodes, so a snapshot costs the same whatever the tree holds, and a change costs
-/// time and memory in proportion to the logarithm of the number of entries. Errors are those of the allocator;
-/// an error leaves every tree as it was.
+/// A tree and its snapshots share nodes. A change copies the shared nodes on one way down, at most once each, and
+/// changes the others where they stand, so it takes time in proportion to the logarithm of the number of entries.
+/// Errors are those of the allocator; an error leaves every tree as it was.
 ///
 /// In a clause a tree is the list of its entries, in the order of the keys. No two keys are equal by `Ord`.
 pub struct Tree<K: Ord, V, A: Allocator> {
     alloc: A,
-    root: Branch<K, V, A>,
+    root: Root<K, V, A>,
 }
 
 impl<K: Ord, V, A: Allocator> Model for Tree<K, V, A> {
@@ -37,9 +33,9 @@ impl<K: Ord, V, A: Allocator> Model for Tree<K, V, A> {
 
     ghost Value = { List (K × V) };
 
-    ghost view = { λ t. t.root.0 };
+    ghost view = { λ t. t.root };
 
-    ghost invariant = { λ t. IsOrdered K.cmp t.root.0 };
+    ghost invariant = { λ t. IsOrdered K.cmp t.root };
 }
 
 // A derived `Drop` would be opened in each caller's loop.
@@ -56,7 +52,7 @@ impl<K: Ord, V, A: Allocator + Copy> Tree<K, V, A> {
     {
         Tree {
             alloc,
-            root: Branch::leaf(),
+            root: Root::empty(),
         }
     }
 
@@ -65,25 +61,28 @@ impl<K: Ord, V, A: Allocator + Copy> Tree<K, V, A> {
         ensures value { result ≡ length self.now }
         ensures ordered { IsOrdered K.cmp self.now }
     {
-        self.root.len() as usize
+        self.root.count()
     }
 
     /// Whether there is no entry.
     pub fn is_empty(&self) -> bool
         ensures { IsTrue result ↔ (self.now ≡ []) }
     {
-        self.root.len() == 0
+        self.root.count() == 0
     }
 
-    /// The number of nodes on the longest way down, 0 for the empty tree.
+    /// The number of nodes on the way from the root down to an entry, which is the same for all, and 0 for the empty
+    /// tree.
     ///
-    /// A tree of height `h` has fewer than `2 ^ h` entries, and its height is at most twice the number of binary
-    /// digits of the number of its entries.
+    /// Each node holds at most 16 items, and at least 4 unless it is the root, which then has at least 2 children.
+    /// So a tree is at most as high as the number of its entries has binary digits.
     pub fn height(&self) -> u64
-        ensures room { length self.now < 2 ^ result }
-        ensures low { (digits : ℕ) → length self.now < 2 ^ digits → result ≤ 2 * digits }
+        ensures empty { (result ≡ 0) ↔ (self.now ≡ []) }
+        ensures most { length self.now ≤ 16 ^ result }
+        ensures least { 1 < result → 2 * 4 ^ (result - 1) ≤ length self.now }
+        ensures digits { (digits : ℕ) → length self.now < 2 ^ digits → result ≤ digits }
     {
-        u64::from(self.root.height())
+        self.root.height()
     }
 
     /// The same tree once more, which shares every node with this one and takes no memory.
@@ -102,7 +101,7 @@ impl<K: Ord, V, A: Allocator + Copy> Tree<K, V, A> {
     pub fn get(&self, key: &K) -> Option<&V>
         ensures { option_copied result ≡ get K.cmp self.now key.now }
     {
-        find(&self.root, key)
+        self.root.get(key)
     }
 
     /// The entries in the order of their keys. Going over all of them takes time in proportion to their number.
@@ -114,7 +113,7 @@ impl<K: Ord, V, A: Allocator + Copy> Tree<K, V, A> {
         ensures values_run { ShowsValuesInOrder (deref_pair {K = K} {X = V}) }
         ensures found { All (λ e. get K.cmp self.now e.0 ≡ Some e.1) self.now }
     {
-        Iter::over(&self.root)
+        self.root.iter()
     }
 
     /// The entries from the first whose key is not below this one.
@@ -127,8 +126,8 @@ impl<K: Ord, V, A: Allocator + Copy> Tree<K, V, A> {
         ensures values_run { ShowsValuesInOrder (deref_pair {K = K} {X = V}) }
     {
         // The count shows that the number of entries fits.
-        let _count = self.root.len();
-        Iter::from_key(&self.root, key)
+        let _count = self.root.count();
+        self.root.seek(key)
     }
 
     /// The entry with the least key.
@@ -136,8 +135,8 @@ impl<K: Ord, V, A: Allocator + Copy> Tree<K, V, A> {
         ensures none { IfNone result (self.now ≡ []) }
         ensures first { IfSome result (λ p. slice_get self.now 0 ≡ Some (deref_pair p)) }
     {
-        let node = first(&self.root)?;
-        Some((node.key(), node.value()))
+        let entry = self.root.first()?;
+        Some((&entry.0, &entry.1))
     }
 
     /// The entry with the greatest key.
@@ -145,8 +144,8 @@ impl<K: Ord, V, A: Allocator + Copy> Tree<K, V, A> {
         ensures none { IfNone result (self.now ≡ []) }
         ensures last { IfSome result (λ p. slice_get self.now (length self.now - 1) ≡ Some (deref_pair p)) }
     {
-        let node = last(&self.root)?;
-        Some((node.key(), node.value()))
+        let entry = self.root.last()?;
+        Some((&entry.0, &entry.1))
     }
 }
 
@@ -162,90 +161,7 @@ impl<'a, K: Ord, V, A: Allocator + Copy> IntoIterator for &'a Tree<K, V, A> {
     }
 }
 
-impl<K: Ord + Drop, V: Drop, A: Allocator + Copy> Tree<K, V, A> {
-    // A tree that has the value at the key, and the value that this tree has there. It searches once.
-    fn put_shared(&self, key: K, value: V) -> Result<(Self, Option<&V>), AllocError>
-        ensures entries { IfOk result (λ r. r.0 ≡ put_entry K.cmp self.now key value) }
-        ensures replaced { IfOk result (λ r. option_copied r.1 ≡ get K.cmp self.now key) }
-        ensures updates { IfOk result (λ r. Updates K.cmp self.now r.0 key (Some value)) }
-        ensures len { IfOk result (λ r. length r.0 ≡ length self.now + (if is_some r.1 then 0 else 1)) }
-        ensures ordered { IfOk result (λ r. IsOrdered K.cmp r.0) }
-    {
-        if self.root.len() == u64::MAX {
-            return Err(AllocError);
-        }
-        let pair = Arc::new(self.alloc, (key, value))?;
-        let (root, replaced) = put(&self.root, self.alloc, pair)?;
-        let whole = Tree {
-            alloc: self.alloc,
-            root,
-        };
-        Ok((whole, replaced))
-    }
-
-    // A tree without the entry at the key, and the value of that entry. It searches once.
-    fn take_shared(&self, key: &K) -> Result<(Self, Option<&V>), AllocError>
-        ensures entries { IfOk result (λ r. r.0 ≡ take_entry K.cmp self.now key.now) }
-        ensures removed { IfOk result (λ r. option_copied r.1 ≡ get K.cmp self.now key.now) }
-        ensures updates { IfOk result (λ r. Updates K.cmp self.now r.0 key.now None) }
-        ensures len { IfOk result (λ r. length r.0 + (if is_some r.1 then 1 else 0) ≡ length self.now) }
-        ensures ordered { IfOk result (λ r. IsOrdered K.cmp r.0) }
-    {
-        // The count shows that the number of entries fits.
-        let _count = self.root.len();
-        match take(&self.root, self.alloc, key)? {
-            None => Ok((self.snapshot()?, None)),
-            Some((root, value)) => {
-                let rest = Tree {
-                    alloc: self.alloc,
-                    root,
-                };
-                Ok((rest, Some(value)))
-            }
-        }
-    }
-
-    /// A tree without the entry at the key, which has the same entries where no key is equal.
-    pub fn take(&self, key: &K) -> Result<Self, AllocError>
-        ensures entries { IfOk result (λ t. t ≡ take_entry K.cmp self.now key.now) }
-        ensures updates { IfOk result (λ t. Updates K.cmp self.now t key.now None) }
-        ensures len { IfOk result (λ t. length t + (if is_some (get K.cmp self.now key.now) then 1 else 0) ≡ length self.now) }
-        ensures ordered { IfOk result (λ t. IsOrdered K.cmp t) }
-    {
-        let (rest, _) = self.take_shared(key)?;
-        Ok(rest)
-    }
-
-    /// A tree that has the value at the key.
-    ///
-    /// An entry whose key is equal gives way to the new entry, key and all.
-    pub fn put(&self, key: K, value: V) -> Result<Self, AllocError>
-        ensures entries { IfOk result (λ t. t ≡ put_entry K.cmp self.now key value) }
-        ensures updates { IfOk result (λ t. Updates K.cmp self.now t key (Some value)) }
-        ensures len { IfOk result (λ t. length t ≡ length self.now + (if is_some (get K.cmp self.now key) then 0 else 1)) }
-        ensures ordered { IfOk result (λ t. IsOrdered K.cmp t) }
-    {
-        let (whole, _) = self.put_shared(key, value)?;
-        Ok(whole)
-    }
-
-    /// The tree of a list of entries, or none where some key is not below the one that follows it. It takes time in
-    /// proportion to the number of entries.
-    pub fn from_sorted(alloc: A, entries: Vec<(K, V), A>) -> Result<Option<Self>, AllocError>
-        ensures entries { IfOk result (λ o. IfSome o (λ t. t ≡ entries.items)) }
-        ensures ordered { IfOk result (λ o. IsSome o ↔ IsOrdered K.cmp entries.items) }
-    {
-        if !is_ordered(entries.as_slice()) {
-            return Ok(None);
-        }
-        let mut entries = entries;
-        let count = entries.len();
-        let root = build(alloc, &mut entries, count)?;
-        Ok(Some(Tree { alloc, root }))
-    }
-}
-
-impl<K: Ord + Drop, V: Exact + Drop, A: AllocHandle> Tree<K, V, A> {
+impl<K: Ord + Exact + Drop, V: Exact + Drop, A: Allocator + Copy> Tree<K, V, A> {
     /// Puts the value at the key, once the last step of another change is done, and answers the value that was there.
     ///
     /// `confirm` is asked once, when all memory has been found. Where it refuses, or there is no memory, the tree is
@@ -263,11 +179,10 @@ impl<K: Ord + Drop, V: Exact + Drop, A: AllocHandle> Tree<K, V, A> {
         ensures ok { OnOk result (self.new ≡ put_entry K.cmp self.old key value) }
         ensures replaced { IfOk result (λ o. o ≡ get K.cmp self.old key) }
     {
-        let (whole, replaced) = self.put_shared(key, value)?;
-        let replaced = copy_of(replaced)?;
-        ask(confirm)?;
-        *self = whole;
-        Ok(replaced)
+        if self.root.count() == usize::MAX {
+            return Err(Fault::OutOfMemory);
+        }
+        self.root.put_after(self.alloc, key, value, confirm)
     }
 
     /// Takes the entry at the key out, if there is one, once the last step of another change is done, and answers its
@@ -287,11 +202,7 @@ impl<K: Ord + Drop, V: Exact + Drop, A: AllocHandle> Tree<K, V, A> {
         ensures ok { OnOk result (self.new ≡ take_entry K.cmp self.old key.now) }
         ensures removed { IfOk result (λ o. o ≡ get K.cmp self.old key.now) }
     {
-        let (rest, removed) = self.take_shared(key)?;
-        let removed = copy_of(removed)?;
-        ask(confirm)?;
-        *self = rest;
-        Ok(removed)
+        self.root.take_after(key, confirm)
     }
 
     /// Puts the value at the key, and answers the value that was there. It searches once.
@@ -305,10 +216,10 @@ impl<K: Ord + Drop, V: Exact + Drop, A: AllocHandle> Tree<K, V, A> {
         ensures len { IfOk result (λ o. length self.new ≡ length self.old + (if is_some o then 0 else 1)) }
         ensures ordered { OnOk result (IsOrdered K.cmp self.new) }
     {
-        let (whole, replaced) = self.put_shared(key, value)?;
-        let replaced = copy_of(replaced)?;
-        *self = whole;
-        Ok(replaced)
+        if self.root.count() == usize::MAX {
+            return Err(OutOfMemory);
+        }
+        self.root.put(self.alloc, key, value)
     }
 
     /// Takes the entry at the key out, if there is one, and answers its value. It searches once.
@@ -322,19 +233,47 @@ impl<K: Ord + Drop, V: Exact + Drop, A: AllocHandle> Tree<K, V, A> {
         ensures len { IfOk result (λ o. length self.new + (if is_some o then 1 else 0) ≡ length self.old) }
         ensures ordered { OnOk result (IsOrdered K.cmp self.new) }
     {
-        let (rest, removed) = self.take_shared(key)?;
-        let removed = copy_of(removed)?;
-        *self = rest;
-        Ok(removed)
+        self.root.take(key)
     }
 }
 
-// The value, once more.
-fn copy_of<V: Exact>(value: Option<&V>) -> Result<Option<V>, OutOfMemory>
-    ensures { IfOk result (λ copy. copy ≡ option_copied value.entry) }
-{
-    match value {
-        None => Ok(None),
-        Some(value) => Ok(Some(value.clone()?)),
+impl<K: Ord + Exact + Drop, V: Exact + Drop, A: Allocator + Copy> Tree<K, V, A> {
+    /// A tree without the entry at the key, which has the same entries where no key is equal.
+    pub fn take(&self, key: &K) -> Result<Self, AllocError>
+        ensures entries { IfOk result (λ t. t ≡ take_entry K.cmp self.now key.now) }
+        ensures updates { IfOk result (λ t. Updates K.cmp self.now t key.now None) }
+        ensures len { IfOk result (λ t. length t + (if is_some (get K.cmp self.now key.now) then 1 else 0) ≡ length self.now) }
+        ensures ordered { IfOk result (λ t. IsOrdered K.cmp t) }
+    {
+        let mut rest = self.snapshot()?;
+        rest.remove(key)?;
+        Ok(rest)
+    }
+
+    /// A tree that has the value at the key.
+    ///
+    /// An entry whose key is equal gives way to the new entry, key and all.
+    pub fn put(&self, key: K, value: V) -> Result<Self, AllocError>
+        ensures entries { IfOk result (λ t. t ≡ put_entry K.cmp self.now key value) }
+        ensures updates { IfOk result (λ t. Updates K.cmp self.now t key (Some value)) }
+        ensures len { IfOk result (λ t. length t ≡ length self.now + (if is_some (get K.cmp self.now key) then 0 else 1)) }
+        ensures ordered { IfOk result (λ t. IsOrdered K.cmp t) }
+    {
+        let mut whole = self.snapshot()?;
+        whole.insert(key, value)?;
+        Ok(whole)
+    }
+
+    /// The tree of a list of entries, or none where some key is not below the one that follows it. It takes time in
+    /// proportion to the number of entries and its logarithm.
+    pub fn from_sorted(alloc: A, entries: Vec<(K, V), A>) -> Result<Option<Self>, AllocError>
+        ensures entries { IfOk result (λ o. IfSome o (λ t. t ≡ entries.items)) }
+        ensures ordered { IfOk result (λ o. IsSome o ↔ IsOrdered K.cmp entries.items) }
+    {
+        if !is_ordered(entries.as_slice()) {
+            return Ok(None);
+        }
+        let root = build(alloc, entries)?;
+        Ok(Some(Tree { alloc, root }))
     }
 }

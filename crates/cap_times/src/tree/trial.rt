@@ -2,9 +2,9 @@
 
 use super::table::{Map, Numbers, Table};
 use crate::clock::Stopwatch;
-use crate::keys::{Order, keys};
+use crate::keys::{Order, keys, value_of};
 use cap_tree::Tree;
-use std::alloc::Global;
+use std::alloc::{AllocError, Global};
 use std::io;
 use std::time::CpuClock;
 
@@ -13,6 +13,9 @@ const PUTS: u32 = 200_000;
 
 // How often a tree is copied for one time.
 const COPIES: u32 = 1000;
+
+// After how many inserts a copy of the tree is kept.
+const INSERTS_A_COPY: usize = 100;
 
 /// The nanoseconds of each kind of call, summed over all keys.
 #[derive(Clone, Copy)]
@@ -57,6 +60,8 @@ struct Trial {
 #[derive(Clone, Copy)]
 struct Extras {
     from_sorted: u128,
+    // Inserts while copies are kept, so that nodes are shared.
+    shared: u128,
     copy: u128,
     // Both trees hold the entries of the digest.
     is_right: bool,
@@ -91,7 +96,20 @@ fn try_table<T: Table<Global>>(
     })
 }
 
-// Makes a tree of a tree's list of entries, and copies the first.
+// Puts the keys, and keeps a copy of the tree every so often.
+fn put_beside_copies(alloc: Global, keys: &[u64]) -> Result<usize, AllocError> {
+    let mut tree: Numbers<Global> = Tree::empty(alloc);
+    let mut copies = Vec::new(alloc);
+    for run in keys.chunks(INSERTS_A_COPY) {
+        copies.push(tree.snapshot()?)?;
+        for key in run {
+            tree.insert(*key, value_of(*key))?;
+        }
+    }
+    Ok(tree.len())
+}
+
+// Makes a tree of a tree's list of entries, puts the keys once more beside copies, and copies the first.
 fn try_extras(rt: &(impl CpuClock + AllocGlobal), keys: &[u64], digest: u64) -> io::Result<Extras> {
     let tree = Numbers::grown(rt.alloc(), keys)?;
     let entries: Vec<(u64, u64)> = tree
@@ -101,13 +119,19 @@ fn try_extras(rt: &(impl CpuClock + AllocGlobal), keys: &[u64], digest: u64) -> 
     let watch = Stopwatch::start(rt)?;
     let whole = Tree::from_sorted(rt.alloc(), entries)?;
     let from_sorted = watch.read(rt)?;
-    let is_right = tree.digest() == digest && whole.is_some_and(|other| other.digest() == digest);
+    let watch = Stopwatch::start(rt)?;
+    let count = put_beside_copies(rt.alloc(), keys)?;
+    let shared = watch.read(rt)?;
+    let is_right = count == keys.len()
+        && tree.digest() == digest
+        && whole.is_some_and(|other| other.digest() == digest);
     let watch = Stopwatch::start(rt)?;
     for _ in 0..COPIES {
         drop(tree.snapshot()?);
     }
     Ok(Extras {
         from_sorted,
+        shared,
         copy: watch.read(rt)? / u128::from(COPIES),
         is_right,
     })
@@ -137,6 +161,7 @@ fn print_times(
 ) -> io::Result<()> {
     print_ratio(rt, "put", of_tree.put, of_map.put, calls)?;
     print_ratio(rt, "from_sorted", extras.from_sorted, of_map.put, calls)?;
+    print_ratio(rt, "put beside copies", extras.shared, of_map.put, calls)?;
     print_ratio(rt, "get", of_tree.get, of_map.get, calls)?;
     print_ratio(rt, "iterate", of_tree.iterate, of_map.iterate, calls)?;
     print_ratio(rt, "take", of_tree.take, of_map.take, calls)?;
@@ -155,6 +180,7 @@ pub(crate) fn try_order(
     let (mut of_tree, mut of_map) = (Times::none(), Times::none());
     let mut extras = Extras {
         from_sorted: 0,
+        shared: 0,
         copy: 0,
         is_right: true,
     };
@@ -166,6 +192,7 @@ pub(crate) fn try_order(
         let more = try_extras(rt, keys.as_slice(), in_map.digest)?;
         extras = Extras {
             from_sorted: extras.from_sorted.saturating_add(more.from_sorted),
+            shared: extras.shared.saturating_add(more.shared),
             copy: more.copy,
             is_right: extras.is_right
                 && more.is_right

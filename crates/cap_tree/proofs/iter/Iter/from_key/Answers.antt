@@ -1,12 +1,11 @@
-use Rattle.std.proofs.Common.{lit<}
-use Rattle.cap_tree.proofs.PathLemmas.{no_higher}
+use Rattle.std.proofs.Common.{[], length, length-append, ap, arith}
+use Rattle.std.specs.BTreeMap.Range.{entries_from}
+use Rattle.cap_tree.proofs.PathLemmas.{length-entries_from}
 use Rattle.cap_tree.proofs.iter.Iter.from_key.Goals as goal
 
-pub new-path-requires : goal.new-path-requires
-new-path-requires g c = lit< tt
-
-pub seek-left-requires : goal.seek-left-requires
-seek-left-requires g c = (lit< tt, (c.new-path.ensures, (c.requires.ordered, (no_higher c.branch.inside.link c.args.branch.now c.branch.view_is c.branch.invariant, c.requires.fits))))
-
-pub invariant_of-result : goal.invariant_of-result
-invariant_of-result g c = (c.seek-left.ensures.path, c.seek-left.ensures.count)
+pub invariant_of-result-2 : goal.invariant_of-result-2
+invariant_of-result-2 g c =
+    let compare = g.K.Ord.cmp c.args.key.now in
+    let entries = c.deref-node.result.now.0 in
+    let rest = rw c.start-path.ensures at c.seek-leaf.ensures.pending in
+    (c.seek-leaf.ensures.path, omega (arith, ap length rest, length-append (entries_from compare entries) [], length-entries_from compare entries, c.depth-depth.ensures.fits))

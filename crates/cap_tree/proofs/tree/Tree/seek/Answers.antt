@@ -9,12 +9,12 @@ use Rattle.cap_tree.proofs.EntryLemmas.{parts_at, ordered_rest}
 use Rattle.cap_tree.proofs.tree.Tree.seek.Goals as goal
 
 pub returns-clause-parts : goal.returns-clause-parts
-returns-clause-parts g c = rw (c.from_key.ensures, ← c.self.view_is) (parts_at g.K.Ord.cmp g.met.K.Ord.total c.args.key.now c.self.inside.root.0 c.self.invariant)
+returns-clause-parts g c = rw (c.seek.ensures, ← c.self.view_is) (parts_at g.K.Ord.cmp g.met.K.Ord.total c.args.key.now c.self.inside.root c.self.invariant)
 
 pub returns-clause-ordered : goal.returns-clause-ordered
 returns-clause-ordered g c =
-    let parts = parts_at g.K.Ord.cmp g.met.K.Ord.total c.args.key.now c.self.inside.root.0 c.self.invariant in
-    rw c.from_key.ensures (ordered_rest g.K.Ord.cmp (entries_below (g.K.Ord.cmp c.args.key.now) c.self.inside.root.0) _ (subst (IsOrdered g.K.Ord.cmp) parts c.self.invariant))
+    let parts = parts_at g.K.Ord.cmp g.met.K.Ord.total c.args.key.now c.self.inside.root c.self.invariant in
+    rw c.seek.ensures (ordered_rest g.K.Ord.cmp (entries_below (g.K.Ord.cmp c.args.key.now) c.self.inside.root) _ (subst (IsOrdered g.K.Ord.cmp) parts c.self.invariant))
 
 pub returns-clause-runs : goal.returns-clause-runs
 returns-clause-runs g c = from_front (TakesFirst deref_pair) deref_pair (λ s. s) (λ s t h. ap length h.0) (λ s x t h. h)

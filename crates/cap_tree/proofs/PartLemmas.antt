@@ -1,0 +1,58 @@
+-- Parts as their parent sees them.
+use Rattle.std.proofs.Common.{◌≡◌, ℕ, zero, suc, add-one, ◌+◌, ◌-◌, ◌<◌, ◌≤◌, List, [], ◌∷◌, ◌++◌, length, take, drop, get_or, set, map, refl, sym, ap, ◌∙◌, arith, length-append}
+use Rattle.std.proofs.lemmas.List.{take_more, map-append, map-set, get_or-map, length-map}
+use Rattle.std.proofs.lemmas.Option.{get_or_from_slice_get}
+use Rattle.std.specs.Prelude.{Some, slice_get, ◌≢◌}
+use Rattle.std.specs.declared.cmp.Ordering.{Ordering}
+use Rattle.std.specs.declared.cmp.Ordering.TheVariants.{Less}
+use Rattle.std.specs.Cmp.{IsTotalOrder}
+use Rattle.cap_tree.specs.declared.node.Part.{Part}
+use Rattle.cap_tree.specs.Shape.{seen, entries_of, IsParts, place}
+use Rattle.cap_tree.proofs.PlaceLemmas.{place_last}
+
+module _ {K V Z : Type 0} where
+  -- one more part that is seen as the part at i
+  pub seen_push : (copies : List (Part K V Z)) (new : Part K V Z) (parts : List (Part K V Z)) (i : ℕ) (d : Part K V Z) → i < length parts → seen copies ≡ take i (seen parts) → d ≡ get_or parts i d → new.least ≡ d.least → new.node.value ≡ d.node.value → seen (copies ++ new ∷ []) ≡ take (i + 1) (seen parts)
+  seen_push copies new parts i d within so_far is least value =
+      let at = get_or-map {Y = K × (List (K × V) × ℕ × ℕ)} (λ (p : Part K V Z). (p.least, p.node.value)) parts i d (d.least, d.node.value) within in
+      let same : (new.least, new.node.value) ≡ get_or (seen parts) i (d.least, d.node.value) = rw (at, ← is, least, value) in
+      let more = take_more (seen parts) i (d.least, d.node.value) (rw length-map within) in
+      rw (map-append, so_far, more, same)
+
+  -- a part as its parent sees it
+  pub at_seen : (parts : List (Part K V Z)) (j : ℕ) (d : Part K V Z) → j < length parts → d ≡ get_or parts j d → get_or (seen parts) j (d.least, d.node.value) ≡ (d.least, d.node.value)
+  at_seen parts j d within is =
+      let at = get_or-map {Y = K × (List (K × V) × ℕ × ℕ)} (λ (p : Part K V Z). (p.least, p.node.value)) parts j d (d.least, d.node.value) within in
+      rw (at, ← is)
+
+  pub seen_set : (parts : List (Part K V Z)) (j : ℕ) (x : Part K V Z) → seen (set parts j x) ≡ set (seen parts) j (x.least, x.node.value)
+  seen_set parts j x = map-set (λ (p : Part K V Z). (p.least, p.node.value)) parts j x
+
+  pub length_seen : (parts : List (Part K V Z)) → length (seen parts) ≡ length parts
+  length_seen parts = rw length-map refl
+
+  -- the first part gets another least key
+  pub lowered : (parts : List (Part K V Z)) (d x : Part K V Z) (k : K) → 0 < length parts → d ≡ get_or parts 0 d → x.least ≡ k → x.node.value ≡ d.node.value → seen (set parts 0 x) ≡ set (seen parts) 0 (k, (get_or (seen parts) 0 (d.least, d.node.value)).1)
+  lowered parts d x k some is least node = rw (seen_set, at_seen parts 0 d some is, least, node)
+
+  -- the entries from the part at i on are its own and those of the parts behind it
+  pub rest_count : (parts : List (Part K V Z)) (i : ℕ) (d : Part K V Z) → i < length parts → d ≡ get_or parts i d → length (entries_of (seen (drop i parts))) ≡ length d.node.value.0 + length (entries_of (seen (drop (i + 1) parts)))
+  rest_count parts i d within is = rw add-one (step parts i within is)
+    where
+      step : (parts : List (Part K V Z)) (i : ℕ) → i < length parts → d ≡ get_or parts i d → length (entries_of (seen (drop i parts))) ≡ length d.node.value.0 + length (entries_of (seen (drop (suc i) parts)))
+      step [] i within is = absurd (omega arith)
+      step (p ∷ ps) zero within is = rw is (length-append p.node.value.0 (entries_of (seen ps)))
+      step (p ∷ ps) (suc i) within is = step ps i (omega arith) is
+
+  -- a key that is not below the last part's least key is below no part's
+  pub last_place : (cmp : K → K → Ordering) → IsTotalOrder cmp → (k : K) (height : ℕ) (parts : List (Part K V Z)) (x : Part K V Z) → IsParts cmp height (seen parts) → slice_get parts (length parts - 1) ≡ Some x → cmp k x.least ≢ Less → place cmp k (seen parts) ≡ length parts
+  last_place cmp o k height [] x h is not = refl
+  last_place cmp o k height (p ∷ ps) x h is not =
+      let within : length (p ∷ ps) - 1 < length (p ∷ ps) = omega arith in
+      let there = at_seen (p ∷ ps) (length (p ∷ ps) - 1) x within (sym (get_or_from_slice_get (p ∷ ps) (length (p ∷ ps) - 1) x x is)) in
+      place_last cmp o k height (seen (p ∷ ps)) (length (p ∷ ps) - 1) (x.least, x.node.value) h (omega (arith, length_seen (p ∷ ps))) (rw there not) ∙ length_seen (p ∷ ps)
+
+  -- a node with children is no leaf
+  pub high : (cmp : K → K → Ordering) (height : ℕ) (parts : List (Part K V Z)) → 0 < length parts → IsParts cmp height (seen parts) → 0 < height
+  high cmp height [] some h = absurd (omega arith)
+  high cmp height (p ∷ ps) some h = omega (arith, h.0.0)

@@ -1,0 +1,123 @@
+-- A part is changed in place: what its parent is seen as.
+use Rattle.std.proofs.Common.{◌≡◌, ℕ, ◌+◌, ◌<◌, ◌≤◌, List, length, get_or, set, refl, sym, ap, ◌∙◌, arith, inl, inr, Ok, Err, Result}
+use Rattle.std.specs.Prelude.{OnOk, OnErr, IfOk, Option, ◌⊎◌}
+use Rattle.std.specs.declared.cmp.Ordering.{Ordering}
+use Rattle.std.specs.Cmp.{IsTotalOrder}
+use Rattle.cap_tree.specs.declared.node.Part.{Part}
+use Rattle.cap_tree.specs.Tree.{IsOrdered, get, put_entry, take_entry}
+use Rattle.cap_tree.specs.Shape.{seen, entries_of, IsChild, IsParts, IsFit, AreFit, IsFilled, place}
+use Rattle.cap_tree.proofs.HeightLemmas.{fed}
+use Rattle.cap_tree.proofs.EntryLemmas.{ordered_put}
+use Rattle.cap_tree.proofs.PartLemmas.{at_seen, seen_set, length_seen}
+use Rattle.cap_tree.proofs.PlaceLemmas.{Seen, take_parts, parts_take, put_parts, get_parts, parts_put, entries_same, parts_same, child_at, ordered_at, fit_at, fit_set, count_at}
+
+pub either_way : {P : Type 0} → P ⊎ P → P
+either_way (inl p) = p
+either_way (inr p) = p
+
+pub on_err : {P A E : Type 0} (r : Result A E) → P → OnErr r P
+on_err (Ok a) p = tt
+on_err (Err e) p = p
+
+pub at_err : {P A E : Type 0} (r : Result A E) (e : E) → r ≡ Err e → OnErr r P → P
+at_err (Ok a) e is h = absurd (ok_is_not_err is)
+  where
+    ok_is_not_err : Ok a ≡ Err e → ⊥
+    ok_is_not_err q = cc
+at_err (Err x) e is h = h
+
+pub at_ok : {P A E : Type 0} (r : Result A E) (a : A) → r ≡ Ok a → OnOk r P → P
+at_ok (Ok x) a is h = h
+at_ok (Err e) a is h = absurd (err_is_not_ok is)
+  where
+    err_is_not_ok : Err e ≡ Ok a → ⊥
+    err_is_not_ok q = cc
+
+pub on_err_turn : {P Q A E : Type 0} (r : Result A E) → (P → Q) → OnErr r P → OnErr r Q
+on_err_turn (Ok a) f h = tt
+on_err_turn (Err e) f h = f h
+
+pub on_ok_turn : {P Q A E : Type 0} (r : Result A E) → (P → Q) → OnOk r P → OnOk r Q
+on_ok_turn (Ok a) f h = f h
+on_ok_turn (Err e) f h = tt
+
+module _ {K V Z : Type 0} (cmp : K → K → Ordering) (parts : List (Part K V Z)) (j : ℕ) (d : Part K V Z) (within : j < length parts) (is : d ≡ get_or parts j d) where
+  -- the part at j, as its parent sees it
+  at : get_or (seen parts) j (d.least, d.node.value) ≡ (d.least, d.node.value)
+  at = at_seen parts j d within is
+
+  pub child_is : (height : ℕ) → IsParts cmp height (seen parts) → IsChild height d.node.value
+  child_is height h = rw at at (child_at cmp height (seen parts) j (d.least, d.node.value) h (rw length_seen within))
+
+  pub child_ordered : IsOrdered cmp (entries_of (seen parts)) → IsOrdered cmp d.node.value.0
+  child_ordered s = rw at at (ordered_at cmp (seen parts) j (d.least, d.node.value) s (rw length_seen within))
+
+  pub get_child : IsTotalOrder cmp → (k : K) (height : ℕ) → IsParts cmp height (seen parts) → place cmp k (seen parts) ≡ j + 1 → get cmp (entries_of (seen parts)) k ≡ get cmp d.node.value.0 k
+  get_child o k height h belongs = rw at at (get_parts cmp o k height (seen parts) j (d.least, d.node.value) h belongs)
+
+  pub child_fit : AreFit (seen parts) → IsFit d.node.value
+  child_fit h = rw at at (fit_at (seen parts) j (d.least, d.node.value) h (rw length_seen within))
+
+  -- it has no more entries than all parts together
+  pub child_count : length d.node.value.0 ≤ length (entries_of (seen parts))
+  child_count = rw at at (count_at (seen parts) j (d.least, d.node.value) (rw length_seen within))
+
+  pub child_has : (P : ℕ → Type 0) → ((e : Seen K V) → P (get_or (seen parts) j e).1.2) → P d.node.value.2
+  child_has P h = rw at at (h (d.least, d.node.value))
+
+  module _ (x : Part K V Z) (least : x.least ≡ d.least) where
+    changed : seen (set parts j x) ≡ set (seen parts) j ((get_or (seen parts) j (d.least, d.node.value)).0, x.node.value)
+    changed = rw (seen_set, at, least)
+
+    pub kept_entries : x.node.value.0 ≡ d.node.value.0 → entries_of (seen (set parts j x)) ≡ entries_of (seen parts)
+    kept_entries same = rw changed (entries_same (seen parts) j (d.least, d.node.value) x.node.value _ (rw at same))
+
+    pub kept_parts : (height : ℕ) → IsParts cmp height (seen parts) → IsChild height x.node.value → x.node.value.0 ≡ d.node.value.0 → IsParts cmp height (seen (set parts j x))
+    kept_parts height h child same = rw changed (parts_same cmp height (seen parts) j (d.least, d.node.value) x.node.value h child (rw at same))
+
+    pub fit_still : AreFit (seen parts) → IsFit x.node.value → AreFit (seen (set parts j x))
+    fit_still h fit = rw changed (fit_set (seen parts) j (get_or (seen parts) j (d.least, d.node.value)).0 x.node.value h fit)
+
+    -- a child that stays at its height and is neither too full nor too lean
+    pub child_still : (height : ℕ) → IsParts cmp height (seen parts) → x.node.value.1 ≡ d.node.value.1 → IsFit x.node.value → IsChild height x.node.value
+    child_still height h level fit =
+        let is = child_is height h in
+        let some = fed x.node.value (omega (arith, fit.0)) fit.2 in
+        (omega (arith, level, is.0), some)
+
+    module _ (o : IsTotalOrder cmp) (k : K) (v : V) (height : ℕ) (h : IsParts cmp height (seen parts)) (belongs : place cmp k (seen parts) ≡ j + 1) where
+      pub put_there : x.node.value.0 ≡ put_entry cmp d.node.value.0 k v → entries_of (seen (set parts j x)) ≡ put_entry cmp (entries_of (seen parts)) k v
+      put_there new = rw changed (put_parts cmp o k v height (seen parts) j (d.least, d.node.value) x.node.value h belongs (rw at new))
+
+      pub put_child : {A E : Type 0} (r : Result A E) → IsChild height x.node.value → OnErr r (x.node.value.0 ≡ d.node.value.0) → OnOk r (x.node.value.0 ≡ put_entry cmp d.node.value.0 k v) → IsParts cmp height (seen (set parts j x))
+      put_child (Ok a) child e new = rw changed (parts_put cmp o k v height (seen parts) j (d.least, d.node.value) x.node.value h belongs child (rw at new))
+      put_child (Err e) child same new = kept_parts height h child same
+
+      pub put_child_err : {A E : Type 0} (r : Result A E) → OnErr r (x.node.value.0 ≡ d.node.value.0) → OnErr r (entries_of (seen (set parts j x)) ≡ entries_of (seen parts))
+      put_child_err (Ok a) e = tt
+      put_child_err (Err e) same = kept_entries same
+
+      pub put_child_ok : {A E : Type 0} (r : Result A E) → OnOk r (x.node.value.0 ≡ put_entry cmp d.node.value.0 k v) → OnOk r (entries_of (seen (set parts j x)) ≡ put_entry cmp (entries_of (seen parts)) k v)
+      put_child_ok (Ok a) new = put_there new
+      put_child_ok (Err e) new = tt
+
+    module _ (o : IsTotalOrder cmp) (k : K) (height : ℕ) (h : IsParts cmp height (seen parts)) (belongs : place cmp k (seen parts) ≡ j + 1) where
+      pub take_there : x.node.value.0 ≡ take_entry cmp d.node.value.0 k → entries_of (seen (set parts j x)) ≡ take_entry cmp (entries_of (seen parts)) k
+      take_there new = rw changed (take_parts cmp o k height (seen parts) j (d.least, d.node.value) x.node.value h belongs (rw at new))
+
+      pub take_child : {A E : Type 0} (r : Result A E) → IsChild height x.node.value → OnErr r (x.node.value.0 ≡ d.node.value.0) → OnOk r (x.node.value.0 ≡ take_entry cmp d.node.value.0 k) → IsParts cmp height (seen (set parts j x))
+      take_child (Ok a) child e new = rw changed (parts_take cmp o k height (seen parts) j (d.least, d.node.value) x.node.value h child (rw at new))
+      take_child (Err e) child same new = kept_parts height h child same
+
+      pub take_child_err : {A E : Type 0} (r : Result A E) → OnErr r (x.node.value.0 ≡ d.node.value.0) → OnErr r (entries_of (seen (set parts j x)) ≡ entries_of (seen parts))
+      take_child_err (Ok a) e = tt
+      take_child_err (Err e) same = kept_entries same
+
+      pub take_child_ok : {A E : Type 0} (r : Result A E) → OnOk r (x.node.value.0 ≡ take_entry cmp d.node.value.0 k) → OnOk r (entries_of (seen (set parts j x)) ≡ take_entry cmp (entries_of (seen parts)) k)
+      take_child_ok (Ok a) new = take_there new
+      take_child_ok (Err e) new = tt
+
+-- in order after a put, and where it failed
+pub ordered_either : {K V A E : Type 0} (cmp : K → K → Ordering) → IsTotalOrder cmp → (k : K) (v : V) (r : Result A E) (old new : List (K × V)) → IsOrdered cmp old → OnErr r (new ≡ old) → OnOk r (new ≡ put_entry cmp old k v) → IsOrdered cmp new
+ordered_either cmp o k v (Ok a) old new s e is = rw is (ordered_put cmp o k v old s)
+ordered_either cmp o k v (Err e) old new s is n = rw is s

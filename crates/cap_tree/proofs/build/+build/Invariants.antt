@@ -1,4 +1,0 @@
-use Rattle.cap_tree.proofs.build.+build.Given as goal
-
-abbrev pub decreases-build : goal.decreases-build
-decreases-build g l = l.count

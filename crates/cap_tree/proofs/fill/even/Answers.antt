@@ -1,0 +1,36 @@
+use Rattle.std.proofs.Common.{◌≡◌, ◌+◌, ◌-◌, ◌<◌, ◌≤◌, ◌^◌, ◌++◌, length, length-append, arith, refl, sym, ap, ◌∙◌}
+use Rattle.cap_tree.specs.Shape.{seen, entries_of, IsParts}
+use Rattle.cap_tree.proofs.PartLemmas.{high}
+use Rattle.cap_tree.proofs.fill.even.Goals as goal
+
+pub unreachable-requires : goal.unreachable-requires
+unreachable-requires g c =
+    let n = rw c.in-Inner-link.is at c.back.invariant in
+    let front = rw c.in-Leaf.is at c.front.view_is in
+    let back = rw c.in-Inner-link.is at c.back.view_is in
+    let up = high g.K.Ord.cmp c.in-Inner-link.field-0 c.in-Inner-link.field-2.items (omega (arith, n.0, c.in-Inner-link.field-2.ok.0)) n.2 in
+    absurd (omega (arith, up, ap (λ n. n.1) front, ap (λ n. n.1) back, c.requires.level))
+
+pub unreachable-requires-in-Leaf-link-2 : goal.unreachable-requires-in-Leaf-link-2
+unreachable-requires-in-Leaf-link-2 g c =
+    let n = rw c.in-Inner.is at c.front.invariant in
+    let front = rw c.in-Inner.is at c.front.view_is in
+    let back = rw c.in-Leaf-link-2.is at c.back.view_is in
+    let up = high g.K.Ord.cmp c.in-Inner.height c.in-Inner.parts.items (omega (arith, n.0, c.in-Inner.parts.ok.0)) n.2 in
+    absurd (omega (arith, up, ap (λ n. n.1) front, ap (λ n. n.1) back, c.requires.level))
+
+pub overflow_sub-count : goal.overflow_sub-count
+overflow_sub-count g c =
+    let nf = rw c.in-Inner.is at c.front.invariant in
+    let nb = rw c.in-Inner-link-2.is at c.back.invariant in
+    let e = c.in_ok-next-in-Inner-link-2.ensures in
+    let total = sym (length-append (entries_of (seen c.even_parts.new.front.items)) (entries_of (seen c.even_parts.new.back.items))) ∙ ap length e.entries ∙ length-append (entries_of (seen c.in-Inner.parts.items)) (entries_of (seen c.in-Inner-link-2.others.items)) in
+    omega (arith, total, e.behind, nf.4, nb.4)
+
+pub invariant_of-front-in-Inner-link-2 : goal.invariant_of-front-in-Inner-link-2
+invariant_of-front-in-Inner-link-2 g c =
+    let nf = rw c.in-Inner.is at c.front.invariant in
+    let nb = rw c.in-Inner-link-2.is at c.back.invariant in
+    let e = c.in_ok-next-in-Inner-link-2.ensures in
+    let total = sym (length-append (entries_of (seen c.even_parts.new.front.items)) (entries_of (seen c.even_parts.new.back.items))) ∙ ap length e.entries ∙ length-append (entries_of (seen c.in-Inner.parts.items)) (entries_of (seen c.in-Inner-link-2.others.items)) in
+    (omega (arith, e.front_len, c.requires.some), omega (arith, e.front_len, c.requires.most), e.front_parts, e.front_fit, omega (arith, total, e.behind, nf.4, nb.4))

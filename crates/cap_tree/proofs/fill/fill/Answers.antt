@@ -1,0 +1,23 @@
+use Rattle.std.proofs.Common.{◌≡◌, ℕ, ◌+◌, ◌/◌, ◌<◌, ◌≤◌, length, arith, sym, ap, ◌∙◌, inl, inr}
+use Rattle.std.specs.Prelude.{◌⊎◌}
+use Rattle.cap_tree.specs.Shape.{seen, items_at}
+use Rattle.cap_tree.proofs.PairLemmas.{seen_at}
+use Rattle.cap_tree.proofs.fill.fill.Goals as goal
+
+-- one of two is lean, and both are too many for one
+uneven : (a b : ℕ) → (a ≤ 4) ⊎ (b ≤ 4) → 16 < a + b → a ≤ 16 → b ≤ 16 → (a + b) / 2 ≡ a → ⊥
+uneven a b (inl lean) more most_a most_b q = omega arith
+uneven a b (inr lean) more most_a most_b q = omega arith
+
+at_each : {X : Type 0} {P Q : X → Type 0} → ((x : X) → P x) ⊎ ((x : X) → Q x) → (x : X) → P x ⊎ Q x
+at_each (inl h) x = inl (h x)
+at_each (inr h) x = inr (h x)
+
+pub even_children-requires-clause-uneven : goal.even_children-requires-clause-uneven
+even_children-requires-clause-uneven g c f q =
+    let items = c.args.parts.now.items in
+    let within : c.args.at + 1 < length items = omega (arith, c.requires.within, c.args.parts.now.ok.0) in
+    let a : c.len.result ≡ items_at c.args.at f (seen items) = c.len.ensures.value ∙ ap (λ n. n.2) c.deref.ensures ∙ sym (ap (λ p. p.1.2) (seen_at items c.args.at c.index.result.now f (omega (arith, within)) c.index.ensures)) in
+    let b : c.len-2.result ≡ items_at (c.args.at + 1) f (seen items) = c.len-2.ensures.value ∙ ap (λ n. n.2) c.deref-2.ensures ∙ sym (ap (λ p. p.1.2) (seen_at items (c.args.at + 1) c.index-2.result.now f within c.index-2.ensures)) in
+    let lean : (c.len.result ≤ 4) ⊎ (c.len-2.result ≤ 4) = rw (a, b) (at_each c.requires.lean f) in
+    uneven c.len.result c.len-2.result lean c.if-total-le-MOST.false c.len.ensures.most c.len-2.ensures.most (q ∙ sym a)

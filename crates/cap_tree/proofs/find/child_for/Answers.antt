@@ -1,0 +1,5 @@
+use Rattle.std.proofs.Common.{arith}
+use Rattle.cap_tree.proofs.find.child_for.Goals as goal
+
+pub returns : goal.returns
+returns g c = λ h parts. cc (c.count_up_to.ensures.place h parts, c.saturating_sub.ensures, c.split_at.ensures.back, c.in-Some.ensures.cases.0)

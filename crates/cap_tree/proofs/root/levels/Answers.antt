@@ -1,0 +1,8 @@
+use Rattle.std.proofs.Common.{◌≡◌, ◌<◌, length, arith}
+use Rattle.cap_tree.proofs.RootLemmas.{few_levels}
+use Rattle.cap_tree.proofs.root.levels.Goals as goal
+
+pub returns-clause-digits : goal.returns-clause-digits
+returns-clause-digits g c = λ digits fits.
+    let some : 0 < length c.args.node.now.0 = omega arith in
+    rw c.depth.ensures.value (few_levels c.args.node.now c.len-length.ensures.filled c.requires some digits fits)

@@ -1,0 +1,199 @@
+//! Changes of a root in place, each held back until another change is done.
+ghost use Rattle.std.specs.Prelude.{◌≡◌, ◌+◌, ◌<◌, ◌≤◌, ◌∷◌, [], ◌^◌, length, Ok, Err, IfOk, IfErr, IfSome, IfNone, OnOk, OnErr};
+ghost use Rattle.std.specs.Arc.{arc_value};
+ghost use Rattle.cap_tree.specs.Fault.{MatchFault};
+ghost use Rattle.cap_tree.specs.Tree.{IsOrdered, get, put_entry, take_entry};
+
+use crate::agree::Agree;
+use crate::confirm::{Confirm, ask};
+use crate::grow::grow;
+use crate::node::{Link, MOST, Node, Part};
+use crate::put_after::put_after;
+use crate::root::Root;
+use crate::take_after::take_after;
+use cap_value::{Exact, Fault};
+use std::alloc::{AllocError, Allocator};
+use std::sync::Arc;
+
+// A leaf of one entry.
+fn leaf_of<K: Ord + Drop, V: Drop, A: Allocator + Copy>(
+    alloc: A,
+    key: K,
+    value: V,
+) -> Result<Arc<Node<K, V, A>, A>, AllocError>
+    ensures { IfOk result (λ node. arc_value node ≡ ((key, value) ∷ [], 0, 1)) }
+{
+    let mut entries = Vec::with_capacity(alloc, MOST)?;
+    entries.push((key, value))?;
+    let node = Arc::new(
+        alloc,
+        Node {
+            link: Link::Leaf(entries),
+        },
+    )?;
+    Ok(node)
+}
+
+// Puts the entry below a root that has a node. The node is cut in two first if it is full.
+fn put_below<K: Ord + Exact + Drop, V: Exact + Drop, A: Allocator + Copy, C: Confirm>(
+    root: &mut Arc<Node<K, V, A>, A>,
+    alloc: A,
+    key: K,
+    value: V,
+    confirm: &mut C,
+) -> Result<Option<V>, Fault<C::Refusal>>
+    requires can_confirm { C.can_confirm confirm.old }
+    requires ordered { IsOrdered K.cmp (arc_value root.old).0 }
+    requires fits { length (arc_value root.old).0 + 1 < 2 ^ 64 }
+    requires two { 0 < (arc_value root.old).1 → 1 < (arc_value root.old).2 }
+    ensures confirmed { OnOk result (C.gives confirm.old (Ok tt) confirm.new) }
+    ensures refused { IfErr result (λ fault. MatchFault fault (confirm.new ≡ confirm.old) (λ why. C.gives confirm.old (Err why) confirm.new)) }
+    ensures two { 0 < (arc_value root.new).1 → 1 < (arc_value root.new).2 }
+    ensures err { OnErr result ((arc_value root.new).0 ≡ (arc_value root.old).0) }
+    ensures ok { OnOk result ((arc_value root.new).0 ≡ put_entry K.cmp (arc_value root.old).0 key value) }
+    ensures replaced { IfOk result (λ o. o ≡ get K.cmp (arc_value root.old).0 key) }
+{
+    let node = Arc::make_mut(root)?;
+    if node.len() == MOST {
+        let at = node.cut_for(&key);
+        grow(node, alloc, at)?;
+    }
+    put_after(node, key, value, confirm)
+}
+
+// The only child of a node that has no other, which leaves an empty node behind.
+fn lone_child<K: Ord + Drop, V: Drop, A: Allocator + Copy>(
+    node: &mut Node<K, V, A>,
+) -> Option<Arc<Node<K, V, A>, A>>
+    ensures none { IfNone result (node.new ≡ node.old) }
+    ensures two { IfNone result (0 < node.new.1 → 1 < node.new.2) }
+    ensures child { IfSome result (λ n. (arc_value n).0 ≡ node.old.0) }
+    ensures child_two { IfSome result (λ n. 0 < (arc_value n).1 → 1 < (arc_value n).2) }
+{
+    match &mut node.link {
+        Link::Leaf(_) => return None,
+        Link::Inner(_, _, parts) => {
+            if parts.len() > 1 {
+                return None;
+            }
+            let alloc = *parts.allocator();
+            let Some(only) = parts.pop() else {
+                unreachable!()
+            };
+            *node = Node::empty(alloc);
+            let Part {
+                least: _,
+                node: child,
+            } = only;
+            return Some(child);
+        }
+    }
+}
+
+// Takes the entry at the key out below a root that has a node. The node gives way to its child where only one is left.
+fn take_below<K: Ord + Exact + Drop, V: Exact + Drop, A: Allocator + Copy, C: Confirm>(
+    root: &mut Arc<Node<K, V, A>, A>,
+    key: &K,
+    confirm: &mut C,
+) -> Result<Option<V>, Fault<C::Refusal>>
+    requires can_confirm { C.can_confirm confirm.old }
+    requires ordered { IsOrdered K.cmp (arc_value root.old).0 }
+    requires two { 0 < (arc_value root.old).1 → 1 < (arc_value root.old).2 }
+    ensures confirmed { OnOk result (C.gives confirm.old (Ok tt) confirm.new) }
+    ensures refused { IfErr result (λ fault. MatchFault fault (confirm.new ≡ confirm.old) (λ why. C.gives confirm.old (Err why) confirm.new)) }
+    ensures two { 0 < (arc_value root.new).1 → 1 < (arc_value root.new).2 }
+    ensures err { OnErr result ((arc_value root.new).0 ≡ (arc_value root.old).0) }
+    ensures ok { OnOk result ((arc_value root.new).0 ≡ take_entry K.cmp (arc_value root.old).0 key.now) }
+    ensures removed { IfOk result (λ o. o ≡ get K.cmp (arc_value root.old).0 key.now) }
+{
+    let node = Arc::make_mut(root)?;
+    let removed = take_after(node, key, confirm);
+    match lone_child(node) {
+        None => removed,
+        Some(child) => {
+            *root = child;
+            removed
+        }
+    }
+}
+
+impl<K: Ord + Exact + Drop, V: Exact + Drop, A: Allocator + Copy> Root<K, V, A> {
+    // Puts the value at the key, once the last step of another change is done, and answers the value that was there.
+    pub(crate) fn put_after<C: Confirm>(
+        &mut self,
+        alloc: A,
+        key: K,
+        value: V,
+        confirm: &mut C,
+    ) -> Result<Option<V>, Fault<C::Refusal>>
+        requires can_confirm { C.can_confirm confirm.old }
+        requires ordered { IsOrdered K.cmp self.old }
+        requires fits { length self.old + 1 < 2 ^ 64 }
+        ensures confirmed { OnOk result (C.gives confirm.old (Ok tt) confirm.new) }
+        ensures refused { IfErr result (λ fault. MatchFault fault (confirm.new ≡ confirm.old) (λ why. C.gives confirm.old (Err why) confirm.new)) }
+        ensures err { OnErr result (self.new ≡ self.old) }
+        ensures ok { OnOk result (self.new ≡ put_entry K.cmp self.old key value) }
+        ensures replaced { IfOk result (λ o. o ≡ get K.cmp self.old key) }
+    {
+        match &mut self.node {
+            None => {
+                let leaf = leaf_of(alloc, key, value)?;
+                ask(confirm)?;
+                self.node = Some(leaf);
+                Ok(None)
+            }
+            Some(node) => put_below(node, alloc, key, value, confirm),
+        }
+    }
+
+    // Takes the entry at the key out, if there is one, once the last step of another change is done, and answers its
+    // value.
+    pub(crate) fn take_after<C: Confirm>(
+        &mut self,
+        key: &K,
+        confirm: &mut C,
+    ) -> Result<Option<V>, Fault<C::Refusal>>
+        requires can_confirm { C.can_confirm confirm.old }
+        requires ordered { IsOrdered K.cmp self.old }
+        ensures confirmed { OnOk result (C.gives confirm.old (Ok tt) confirm.new) }
+        ensures refused { IfErr result (λ fault. MatchFault fault (confirm.new ≡ confirm.old) (λ why. C.gives confirm.old (Err why) confirm.new)) }
+        ensures err { OnErr result (self.new ≡ self.old) }
+        ensures ok { OnOk result (self.new ≡ take_entry K.cmp self.old key.now) }
+        ensures removed { IfOk result (λ o. o ≡ get K.cmp self.old key.now) }
+    {
+        match &mut self.node {
+            None => {
+                ask(confirm)?;
+                Ok(None)
+            }
+            Some(node) => take_below(node, key, confirm),
+        }
+    }
+
+    // Puts the value at the key, and answers the value that was there.
+    pub(crate) fn put(&mut self, alloc: A, key: K, value: V) -> Result<Option<V>, AllocError>
+        requires ordered { IsOrdered K.cmp self.old }
+        requires fits { length self.old + 1 < 2 ^ 64 }
+        ensures err { OnErr result (self.new ≡ self.old) }
+        ensures ok { OnOk result (self.new ≡ put_entry K.cmp self.old key value) }
+        ensures replaced { IfOk result (λ o. o ≡ get K.cmp self.old key) }
+    {
+        match self.put_after(alloc, key, value, &mut Agree) {
+            Ok(replaced) => Ok(replaced),
+            Err(_) => Err(AllocError),
+        }
+    }
+
+    // Takes the entry at the key out, if there is one, and answers its value.
+    pub(crate) fn take(&mut self, key: &K) -> Result<Option<V>, AllocError>
+        requires { IsOrdered K.cmp self.old }
+        ensures err { OnErr result (self.new ≡ self.old) }
+        ensures ok { OnOk result (self.new ≡ take_entry K.cmp self.old key.now) }
+        ensures removed { IfOk result (λ o. o ≡ get K.cmp self.old key.now) }
+    {
+        match self.take_after(key, &mut Agree) {
+            Ok(removed) => Ok(removed),
+            Err(_) => Err(AllocError),
+        }
+    }
+}

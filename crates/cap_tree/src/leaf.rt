@@ -1,0 +1,94 @@
+//! Entries of a leaf.
+ghost use Rattle.std.specs.Prelude.{◌≡◌, ℕ, ◌+◌, ◌<◌, ◌≤◌, length, slice_set, slice_index_or, vec_len, true, MatchResult, Some, None};
+ghost use Rattle.std.specs.List.{insert, remove};
+ghost use Rattle.std.specs.Vec.{vec_capacity};
+ghost use Rattle.cap_tree.specs.Tree.{IsOrdered, get, put_entry, take_entry};
+ghost use Rattle.cap_tree.specs.Shape.{EachBelow};
+
+use std::alloc::Allocator;
+use std::cmp::Ordering;
+use std::mem;
+
+// Whether the key is above that of the last entry.
+fn is_past_last<K: Ord, V>(entries: &[(K, V)], key: &K) -> bool
+    requires { IsOrdered K.cmp entries.now }
+    ensures { result ≡ true → EachBelow K.cmp key.now entries.now }
+{
+    let Some(last) = entries.last() else {
+        return true;
+    };
+    match key.cmp(&last.0) {
+        Ordering::Less | Ordering::Equal => false,
+        Ordering::Greater => true,
+    }
+}
+
+// The place of the key, or the place where it would stand. It looks at the last entry first, since rising keys belong
+// behind it.
+pub(crate) fn search<K: Ord, V>(entries: &[(K, V)], key: &K) -> Result<usize, usize>
+    requires { IsOrdered K.cmp entries.now }
+    ensures within { MatchResult result (λ i. i < length entries.now) (λ i. i ≤ length entries.now) }
+    ensures put { MatchResult result (λ i. (v : V) → put_entry K.cmp entries.now key.now v ≡ slice_set entries.now i (key.now, v)) (λ i. (v : V) → put_entry K.cmp entries.now key.now v ≡ insert entries.now i (key.now, v)) }
+    ensures get { MatchResult result (λ i. (d : K × V) → get K.cmp entries.now key.now ≡ Some (slice_index_or entries.now i d).1) (λ i. get K.cmp entries.now key.now ≡ None) }
+    ensures take { MatchResult result (λ i. take_entry K.cmp entries.now key.now ≡ remove entries.now i) (λ i. take_entry K.cmp entries.now key.now ≡ entries.now) }
+{
+    if is_past_last(entries, key) {
+        return Err(entries.len());
+    }
+    let mut at = 0;
+    while at < entries.len() {
+        match key.cmp(&entries[at].0) {
+            Ordering::Less => return Err(at),
+            Ordering::Equal => return Ok(at),
+            Ordering::Greater => at += 1,
+        }
+    }
+    Err(at)
+}
+
+// Puts the entry, for which there is room, and answers the value in whose place it stands.
+pub(crate) fn put_in_leaf<K: Ord + Drop, V: Drop, A: Allocator>(
+    entries: &mut Vec<(K, V), A>,
+    key: K,
+    value: V,
+) -> Option<V>
+    requires ordered { IsOrdered K.cmp entries.old.items }
+    requires room { vec_len entries.old < vec_capacity entries.old }
+    ensures put { entries.new.items ≡ put_entry K.cmp entries.old.items key value }
+    ensures replaced { result ≡ get K.cmp entries.old.items key }
+    ensures not_less { vec_len entries.old ≤ vec_len entries.new }
+    ensures one_more { vec_len entries.new ≤ vec_len entries.old + 1 }
+{
+    match search(entries.as_slice(), &key) {
+        Ok(at) => {
+            let (_, replaced) = mem::replace(&mut entries[at], (key, value));
+            Some(replaced)
+        }
+        Err(at) => {
+            let Ok(()) = entries.insert(at, (key, value)) else {
+                unreachable!()
+            };
+            None
+        }
+    }
+}
+
+// Takes the entry at the key out, if there is one.
+pub(crate) fn take_from_leaf<K: Ord + Drop, V: Drop, A: Allocator>(
+    entries: &mut Vec<(K, V), A>,
+    key: &K,
+) -> Option<V>
+    requires { IsOrdered K.cmp entries.old.items }
+    ensures items { entries.new.items ≡ take_entry K.cmp entries.old.items key.now }
+    ensures removed { result ≡ get K.cmp entries.old.items key.now }
+    ensures not_more { vec_len entries.new ≤ vec_len entries.old }
+    ensures one_less { vec_len entries.old ≤ vec_len entries.new + 1 }
+{
+    match search(entries.as_slice(), key) {
+        Ok(at) => {
+            let (_, removed) = entries.remove(at);
+            Some(removed)
+        }
+        Err(_) => None,
+    }
+}

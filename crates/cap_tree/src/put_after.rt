@@ -1,0 +1,66 @@
+//! A put in place whose last step is held back until another change is done.
+ghost use Rattle.std.specs.Prelude.{if◌then◌else◌, ◌≡◌, ◌+◌, ◌<◌, ◌≤◌, ◌^◌, length, Ok, Err, IfOk, IfErr, OnOk, OnErr};
+ghost use Rattle.std.specs.Option.{is_some};
+ghost use Rattle.cap_tree.specs.Fault.{MatchFault};
+ghost use Rattle.cap_tree.specs.Tree.{IsOrdered, get, put_entry};
+
+use crate::confirm::{Confirm, ask};
+use crate::leaf::put_in_leaf;
+use crate::node::{Link, Node};
+use crate::part::part_for;
+use crate::split::make_room;
+use cap_value::{Exact, Fault};
+use std::alloc::{AllocError, Allocator};
+use std::sync::Arc;
+
+// Counts an entry that took no other's place.
+fn count_put<V>(count: &mut usize, replaced: &Option<V>)
+    requires fits { count.old + 1 < 2 ^ 64 }
+    ensures { count.new ≡ count.old + (if is_some replaced.now then 0 else 1) }
+{
+    if replaced.is_none() {
+        *count += 1;
+    }
+}
+
+// Puts the entry into a node that is not full. On the way down shared nodes are copied and full ones are cut, which
+// keeps the entries; `confirm` is asked at the bottom, where there is room.
+pub(crate) fn put_after<K: Ord + Exact + Drop, V: Exact + Drop, A: Allocator + Copy, C: Confirm>(
+    node: &mut Node<K, V, A>,
+    key: K,
+    value: V,
+    confirm: &mut C,
+) -> Result<Option<V>, Fault<C::Refusal>>
+    requires can_confirm { C.can_confirm confirm.old }
+    requires ordered { IsOrdered K.cmp node.old.0 }
+    requires room { node.old.2 < 16 }
+    requires fits { length node.old.0 + 1 < 2 ^ 64 }
+    ensures confirmed { OnOk result (C.gives confirm.old (Ok tt) confirm.new) }
+    ensures refused { IfErr result (λ fault. MatchFault fault (confirm.new ≡ confirm.old) (λ why. C.gives confirm.old (Err why) confirm.new)) }
+    ensures height { node.new.1 ≡ node.old.1 }
+    ensures not_less { node.old.2 ≤ node.new.2 }
+    ensures one_more { node.new.2 ≤ node.old.2 + 1 }
+    ensures err { OnErr result (node.new.0 ≡ node.old.0) }
+    ensures ok { OnOk result (node.new.0 ≡ put_entry K.cmp node.old.0 key value) }
+    ensures replaced { IfOk result (λ o. o ≡ get K.cmp node.old.0 key) }
+{
+    match &mut node.link {
+        Link::Leaf(entries) => {
+            entries.try_reserve(1)?;
+            ask(confirm)?;
+            return Ok(put_in_leaf(entries, key, value));
+        }
+        Link::Inner(height, count, parts) => {
+            let at = part_for(parts, *height, &key)?;
+            let at = make_room(parts, *height, at, &key)?;
+            let part = &mut parts[at];
+            let child = Arc::make_mut(&mut part.node)?;
+            let replaced = put_after(child, key, value, confirm);
+            // The length shows how many entries there are.
+            let _length = child.len();
+            let replaced = replaced?;
+            count_put(count, &replaced);
+            return Ok(replaced);
+        }
+    }
+}

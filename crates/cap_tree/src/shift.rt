@@ -1,0 +1,100 @@
+//! Items that move between two vectors, of which one goes on where the other ends.
+ghost use Rattle.std.specs.Prelude.{◌≡◌, ◌+◌, ◌<◌, ◌≤◌, ◌++◌, length, vec_len, take, drop, slice_index_or, OnOk};
+ghost use Rattle.std.specs.Vec.{vec_capacity};
+
+use std::alloc::{AllocError, Allocator};
+
+// Moves the items of the front one from `at` on to the back one, which has room for them.
+pub(crate) fn shift_back<T: Drop, A: Allocator>(
+    front: &mut Vec<T, A>,
+    back: &mut Vec<T, A>,
+    at: usize,
+)
+    requires within { at ≤ vec_len front.old }
+    requires room { vec_len front.old + vec_len back.old ≤ at + vec_capacity back.old }
+    ensures front { front.new.items ≡ take at (front.old.items ++ back.old.items) }
+    ensures front_len { vec_len front.new ≡ at }
+    ensures back { back.new.items ≡ drop at (front.old.items ++ back.old.items) }
+    ensures back_len { vec_len back.new + at ≡ vec_len front.old + vec_len back.old }
+{
+    while front.len() > at {
+        let Some(item) = front.pop() else {
+            unreachable!()
+        };
+        let Ok(()) = back.insert(0, item) else {
+            unreachable!()
+        };
+    }
+}
+
+// Moves as many of the first items of the back one to the front one that the front one has `at`, for which it has
+// room.
+pub(crate) fn shift_front<T: Drop, A: Allocator>(
+    front: &mut Vec<T, A>,
+    back: &mut Vec<T, A>,
+    at: usize,
+)
+    requires more { vec_len front.old ≤ at }
+    requires enough { at ≤ vec_len front.old + vec_len back.old }
+    requires room { at ≤ vec_capacity front.old }
+    ensures front { front.new.items ≡ take at (front.old.items ++ back.old.items) }
+    ensures front_len { vec_len front.new ≡ at }
+    ensures back { back.new.items ≡ drop at (front.old.items ++ back.old.items) }
+    ensures back_len { vec_len back.new + at ≡ vec_len front.old + vec_len back.old }
+{
+    while front.len() < at {
+        let item = back.remove(0);
+        let Ok(()) = front.push(item) else {
+            unreachable!()
+        };
+    }
+}
+
+// Divides the items of both anew, so that the front one has `at` of them.
+pub(crate) fn divide<T: Drop, A: Allocator>(front: &mut Vec<T, A>, back: &mut Vec<T, A>, at: usize)
+    requires enough { at ≤ vec_len front.old + vec_len back.old }
+    requires front_room { at ≤ vec_capacity front.old }
+    requires back_room { vec_len front.old + vec_len back.old ≤ at + vec_capacity back.old }
+    ensures front { front.new.items ≡ take at (front.old.items ++ back.old.items) }
+    ensures front_len { vec_len front.new ≡ at }
+    ensures back { back.new.items ≡ drop at (front.old.items ++ back.old.items) }
+    ensures back_len { vec_len back.new + at ≡ vec_len front.old + vec_len back.old }
+{
+    if at < front.len() {
+        shift_back(front, back, at);
+    } else {
+        shift_front(front, back, at);
+    }
+}
+
+// Finds the memory for `at` items in the front one and for the others in the back one.
+pub(crate) fn reserve_for<T, A: Allocator>(
+    front: &mut Vec<T, A>,
+    back: &mut Vec<T, A>,
+    at: usize,
+) -> Result<(), AllocError>
+    requires front_small { vec_len front.old ≤ 16 }
+    requires back_small { vec_len back.old ≤ 16 }
+    requires enough { at ≤ vec_len front.old + vec_len back.old }
+    ensures front { front.new.items ≡ front.old.items }
+    ensures front_len { vec_len front.new ≡ vec_len front.old }
+    ensures back { back.new.items ≡ back.old.items }
+    ensures back_len { vec_len back.new ≡ vec_len back.old }
+    ensures front_room { OnOk result (at ≤ vec_capacity front.new) }
+    ensures back_room { OnOk result (vec_len front.old + vec_len back.old ≤ at + vec_capacity back.new) }
+{
+    let rest = front.len() + back.len() - at;
+    front.try_reserve(at.saturating_sub(front.len()))?;
+    back.try_reserve(rest.saturating_sub(back.len()))
+}
+
+// The item that is at `at` where the back ones go on behind the front ones.
+pub(crate) fn item_at<'a, T>(front: &'a [T], back: &'a [T], at: usize) -> &'a T
+    requires { at < length front.now + length back.now }
+    ensures { result.now ≡ slice_index_or (front.now ++ back.now) at result.now }
+{
+    if at < front.len() {
+        return &front[at];
+    }
+    &back[at - front.len()]
+}

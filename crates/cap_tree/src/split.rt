@@ -1,0 +1,175 @@
+//! Full nodes are cut in two.
+ghost use Rattle.std.specs.Prelude.{List, ◌≡◌, ℕ, ◌+◌, ◌<◌, ◌≤◌, [], ◌++◌, length, vec_len, slice_index_or, IfOk, OnOk, OnErr};
+ghost use Rattle.std.specs.Arc.{arc_value};
+ghost use Rattle.cap_tree.specs.Tree.{IsOrdered};
+ghost use Rattle.cap_tree.specs.Shape.{seen, place, entries_of, IsParts, AreFit, IsFilled, EachBelow, NoneBelow};
+
+use crate::node::{Link, MOST, Node, Part};
+use crate::part::count_of;
+use crate::shift::shift_back;
+use cap_value::Exact;
+use std::alloc::{AllocError, Allocator};
+use std::cmp::Ordering;
+use std::sync::Arc;
+
+impl<K: Ord, V, A: Allocator> Node<K, V, A> {
+    // Where a full node is cut into which the key is to be put: near its end where the key belongs behind all items,
+    // so that rising keys leave full nodes behind, and else in the middle.
+    pub(crate) fn cut_for(&self, key: &K) -> usize
+        ensures least { 4 ≤ result }
+        ensures most { result ≤ 12 }
+    {
+        let last = match &self.link {
+            Link::Leaf(entries) => entries.last().map(|entry| &entry.0),
+            Link::Inner(_, _, parts) => parts.last().map(|part| &part.least),
+        };
+        match last {
+            Some(last) if key.cmp(last) == Ordering::Greater => 12,
+            _ => 8,
+        }
+    }
+}
+
+impl<K: Ord + Exact + Drop, V: Drop, A: Allocator + Copy> Node<K, V, A> {
+    // Cuts the node in two: its items from `at` on become a child of their own.
+    pub(crate) fn split(&mut self, at: usize) -> Result<Part<K, V, A>, AllocError>
+        requires front { 0 < at }
+        requires back { at < self.old.2 }
+        requires ordered { IsOrdered K.cmp self.old.0 }
+        ensures err { OnErr result (self.new ≡ self.old) }
+        ensures height { self.new.1 ≡ self.old.1 }
+        ensures len { OnOk result (self.new.2 ≡ at) }
+        ensures entries { IfOk result (λ p. self.old.0 ≡ self.new.0 ++ (arc_value p.node).0) }
+        ensures right_height { IfOk result (λ p. (arc_value p.node).1 ≡ self.old.1) }
+        ensures right_len { IfOk result (λ p. (arc_value p.node).2 + at ≡ self.old.2) }
+        ensures below { IfOk result (λ p. EachBelow K.cmp p.least self.new.0) }
+        ensures not_below { IfOk result (λ p. NoneBelow K.cmp p.least (arc_value p.node).0) }
+    {
+        match &mut self.link {
+            Link::Leaf(entries) => {
+                let alloc = *entries.allocator();
+                let least = entries[at].0.clone()?;
+                let mut back = Vec::with_capacity(alloc, MOST)?;
+                let mut node = Arc::new(alloc, Node::empty(alloc))?;
+                let Some(empty) = Arc::get_mut(&mut node) else {
+                    return Err(AllocError);
+                };
+                shift_back(entries, &mut back, at);
+                *empty = Node {
+                    link: Link::Leaf(back),
+                };
+                return Ok(Part { least, node });
+            }
+            Link::Inner(height, count, parts) => {
+                let alloc = *parts.allocator();
+                let least = parts[at].least.clone()?;
+                let mut back = Vec::with_capacity(alloc, MOST)?;
+                let mut node = Arc::new(alloc, Node::empty(alloc))?;
+                let Some(empty) = Arc::get_mut(&mut node) else {
+                    return Err(AllocError);
+                };
+                shift_back(parts, &mut back, at);
+                let moved = count_of(back.as_slice());
+                *count -= moved;
+                *empty = Node {
+                    link: Link::Inner(*height, moved, back),
+                };
+                return Ok(Part { least, node });
+            }
+        }
+    }
+}
+
+// Cuts a child in two: its items from `at` on become the child that is answered.
+fn split_part<K: Ord + Exact + Drop, V: Exact + Drop, A: Allocator + Copy>(
+    part: &mut Part<K, V, A>,
+    at: usize,
+) -> Result<Part<K, V, A>, AllocError>
+    requires front { 0 < at }
+    requires back { at < (arc_value part.old.node).2 }
+    requires ordered { IsOrdered K.cmp (arc_value part.old.node).0 }
+    ensures least { part.new.least ≡ part.old.least }
+    ensures err { OnErr result (arc_value part.new.node ≡ arc_value part.old.node) }
+    ensures height { (arc_value part.new.node).1 ≡ (arc_value part.old.node).1 }
+    ensures len { OnOk result ((arc_value part.new.node).2 ≡ at) }
+    ensures filled { OnOk result (IsFilled (arc_value part.new.node)) }
+    ensures entries { IfOk result (λ p. (arc_value part.old.node).0 ≡ (arc_value part.new.node).0 ++ (arc_value p.node).0) }
+    ensures right_height { IfOk result (λ p. (arc_value p.node).1 ≡ (arc_value part.old.node).1) }
+    ensures right_len { IfOk result (λ p. (arc_value p.node).2 + at ≡ (arc_value part.old.node).2) }
+    ensures right_filled { IfOk result (λ p. IsFilled (arc_value p.node)) }
+    ensures below { IfOk result (λ p. EachBelow K.cmp p.least (arc_value part.new.node).0) }
+    ensures not_below { IfOk result (λ p. NoneBelow K.cmp p.least (arc_value p.node).0) }
+{
+    let child = Arc::make_mut(&mut part.node)?;
+    let next = child.split(at)?;
+    // The lengths show how many entries there are.
+    let _lengths = (child.len(), next.node.len());
+    Ok(next)
+}
+
+// Cuts the full child at `at` in two, and answers which of the two the key belongs to.
+fn split_child<K: Ord + Exact + Drop, V: Exact + Drop, A: Allocator + Copy>(
+    parts: &mut Vec<Part<K, V, A>, A>,
+    height: u64,
+    at: usize,
+    cut: usize,
+    key: &K,
+) -> Result<usize, AllocError>
+    requires within { at < vec_len parts.old }
+    requires parts { IsParts K.cmp height (seen parts.old.items) }
+    requires fit { AreFit (seen parts.old.items) }
+    requires ordered { IsOrdered K.cmp (entries_of (seen parts.old.items)) }
+    requires place { place K.cmp key.now (seen parts.old.items) ≡ at + 1 }
+    requires full { (d : K × (List (K × V) × ℕ × ℕ)) → (slice_index_or (seen parts.old.items) at d).1.2 ≡ 16 }
+    requires front { 4 ≤ cut }
+    requires back { cut ≤ 12 }
+    ensures entries { entries_of (seen parts.new.items) ≡ entries_of (seen parts.old.items) }
+    ensures parts { IsParts K.cmp height (seen parts.new.items) }
+    ensures fit { AreFit (seen parts.new.items) }
+    ensures not_less { vec_len parts.old ≤ vec_len parts.new }
+    ensures one_more { vec_len parts.new ≤ vec_len parts.old + 1 }
+    ensures within { IfOk result (λ i. i < vec_len parts.new) }
+    ensures place { IfOk result (λ i. place K.cmp key.now (seen parts.new.items) ≡ i + 1) }
+    ensures room { IfOk result (λ i. (d : K × (List (K × V) × ℕ × ℕ)) → (slice_index_or (seen parts.new.items) i d).1.2 < 16) }
+{
+    parts.try_reserve(1)?;
+    let part = &mut parts[at];
+    let next = split_part(part, cut)?;
+    let below = key.cmp(&next.least);
+    let Ok(()) = parts.insert(at + 1, next) else {
+        unreachable!()
+    };
+    match below {
+        Ordering::Less => Ok(at),
+        Ordering::Equal | Ordering::Greater => Ok(at + 1),
+    }
+}
+
+// Sees to it that the child into which the key belongs is not full, and answers which it is then.
+pub(crate) fn make_room<K: Ord + Exact + Drop, V: Exact + Drop, A: Allocator + Copy>(
+    parts: &mut Vec<Part<K, V, A>, A>,
+    height: u64,
+    at: usize,
+    key: &K,
+) -> Result<usize, AllocError>
+    requires within { at < vec_len parts.old }
+    requires parts { IsParts K.cmp height (seen parts.old.items) }
+    requires fit { AreFit (seen parts.old.items) }
+    requires ordered { IsOrdered K.cmp (entries_of (seen parts.old.items)) }
+    requires place { place K.cmp key.now (seen parts.old.items) ≡ at + 1 }
+    ensures entries { entries_of (seen parts.new.items) ≡ entries_of (seen parts.old.items) }
+    ensures parts { IsParts K.cmp height (seen parts.new.items) }
+    ensures fit { AreFit (seen parts.new.items) }
+    ensures not_less { vec_len parts.old ≤ vec_len parts.new }
+    ensures one_more { vec_len parts.new ≤ vec_len parts.old + 1 }
+    ensures within { IfOk result (λ i. i < vec_len parts.new) }
+    ensures place { IfOk result (λ i. place K.cmp key.now (seen parts.new.items) ≡ i + 1) }
+    ensures room { IfOk result (λ i. (d : K × (List (K × V) × ℕ × ℕ)) → (slice_index_or (seen parts.new.items) i d).1.2 < 16) }
+{
+    let child = &parts[at].node;
+    if child.len() < MOST {
+        return Ok(at);
+    }
+    let cut = child.cut_for(key);
+    split_child(parts, height, at, cut, key)
+}
