@@ -1,3 +1,4 @@
+pub mod AfterLemmas
 pub mod KeptLemmas
 pub mod LawLemmas
 pub mod TableLemmas

@@ -1,3 +1,4 @@
+pub mod After
 pub mod Made
 pub mod Operation
 pub mod Scan

@@ -1,8 +1,10 @@
 //! Tables: rows under their primary keys, and rows without a key under ids.
 #![tactic(auto)]
 
+mod after;
 mod change;
 mod laws;
+mod not_made;
 mod replaced;
 mod row_name;
 mod row_ref;
@@ -14,6 +16,7 @@ mod tests;
 pub use laws::{
     delete_undoes_insert, insert_takes_next_id, operations_keep_columns, operations_keep_tables,
 };
+pub use not_made::NotMade;
 pub use replaced::Replaced;
 pub use row_name::RowName;
 pub use row_ref::RowRef;

@@ -1,5 +1,6 @@
-use crate::{IDS_END, RowName, RowRef, Table};
+use crate::{IDS_END, NotMade, RowName, RowRef, Table};
 use cap_row::{Key, Row, Schema};
+use cap_tree::Confirm;
 use cap_value::{AllocHandle, Fault, Refusal, Value};
 use linked_list_allocator::LocalHeap;
 use std::alloc::Global;
@@ -196,5 +197,83 @@ fn each_allocation_may_be_refused(rt: HostRuntime) -> Result<(), Fail> {
         assert_eq!(rt; heap.used(), 0);
     }
     assert!(rt; enough > 20, "{enough} blocks of 16 bytes were enough");
+    Ok(())
+}
+
+// A step outside that counts how often it is asked, and agrees or does not.
+#[derive(Drop)]
+struct Counted {
+    agrees: bool,
+    asked: u8,
+}
+
+impl Confirm for Counted {
+    type Refusal = ();
+
+    ghost can_confirm = { λ confirm. Unit {0} };
+
+    ghost gives = { λ old answer new. Unit {0} };
+
+    fn confirm(&mut self) -> Result<(), ()> {
+        self.asked = self.asked.saturating_add(1);
+        if self.agrees { Ok(()) } else { Err(()) }
+    }
+}
+
+// Each change is tried with a step that does not agree, and then with one that does.
+#[test]
+fn changes_wait_for_a_step_outside(rt: HostRuntime) -> Result<(), Fail> {
+    let alloc = rt.alloc();
+    let mut table = kv(alloc)?;
+    let (one, two) = (named(alloc, 1)?, named(alloc, 2)?);
+    let text = [(1, Value::text(alloc, "b")?)];
+    let key = [(0, Value::Int(2))];
+    let mut no = Counted {
+        agrees: false,
+        asked: 0,
+    };
+    let mut yes = Counted {
+        agrees: true,
+        asked: 0,
+    };
+    let disagreed = Err(NotMade::Disagreed(()));
+    let duplicate = Err(NotMade::Refused(Refusal::Duplicate));
+    let no_row = Err(NotMade::Refused(Refusal::NoRow));
+    assert_eq!(rt;
+        table.insert_after(row(alloc, Some(1), "a")?, &mut no),
+        disagreed
+    );
+    assert!(rt; table.get(&one).is_none());
+    assert_eq!(rt;
+        table.insert_after(row(alloc, Some(1), "a")?, &mut yes),
+        Ok(())
+    );
+    assert_eq!(rt;
+        table.insert_after(row(alloc, Some(1), "c")?, &mut no),
+        duplicate
+    );
+    assert_eq!(rt;
+        table.insert_after(row(alloc, None, "l")?, &mut no),
+        disagreed
+    );
+    assert_eq!(rt;
+        table.insert_after(row(alloc, None, "l")?, &mut yes),
+        Ok(())
+    );
+    assert_eq!(rt; table.update_after(&one, &text, &mut no), disagreed);
+    assert!(rt; has(&table, &one, "a") && has(&table, &RowRef::Loose(1), "l"));
+    assert_eq!(rt; table.update_after(&one, &text, &mut yes), Ok(()));
+    assert_eq!(rt; table.update_after(&one, &key, &mut no), disagreed);
+    assert!(rt; has(&table, &one, "b") && table.get(&two).is_none());
+    assert_eq!(rt; table.update_after(&one, &key, &mut yes), Ok(()));
+    assert!(rt; has(&table, &two, "b") && table.get(&one).is_none());
+    assert_eq!(rt; table.update_after(&one, &text, &mut no), no_row);
+    assert_eq!(rt; table.delete_after(&one, &mut no), no_row);
+    assert_eq!(rt; table.delete_after(&two, &mut no), disagreed);
+    assert!(rt; has(&table, &two, "b"));
+    assert_eq!(rt; table.delete_after(&two, &mut yes), Ok(()));
+    assert_eq!(rt; table.delete_after(&RowRef::Loose(1), &mut yes), Ok(()));
+    assert_eq!(rt; table.scan().left(), 0);
+    assert_eq!(rt; (no.asked, yes.asked), (5, 6));
     Ok(())
 }

@@ -44,6 +44,10 @@ module _ {A : Type 0} (ts : Tables A) (op : Op A) (t : TableState A) (there : ta
       before is = rw is
   row_told (Err e) f l = tt
 
+-- what an operation on its table leaves of the database
+pub act_step : {A : Type 0} (ts : Tables A) (op : Op A) (t after : TableState A) → table_of ts op.table ≡ Some t → act t op.action ≡ Ok after → step ts op ≡ Ok (put_entry bytes_cmp ts op.table after)
+act_step ts op t after there is = ap (λ found. stepped ts found op) there ∙ ap (in_place ts op.table) is
+
 pub kept_all : {X A : Type 0} (r : Result X (Fault Refusal)) (ts : Tables A) (i : ℕ) (d : List ℕ × TableState A) (new : TableState A) → i < length ts → OnErr r (new ≡ (get_or ts i d).1) → OnErr r (set ts i ((get_or ts i d).0, new) ≡ ts)
 kept_all (Ok x) ts i d new l same = tt
 kept_all (Err e) ts i d new l same = ap (λ t. set ts i ((get_or ts i d).0, t)) same ∙ set_same ts i d l

@@ -1,16 +1,19 @@
-ghost use Rattle.std.specs.Prelude.{◌≡◌, ◌≤◌, [], length, IfOk, OnErr};
+ghost use Rattle.std.specs.Prelude.{◌≡◌, ◌≤◌, [], length, Ok, IfOk, OnErr};
 ghost use Rattle.std.specs.Option.{option_copied};
 ghost use Rattle.cap_value.specs.Bytes.{bytes_cmp};
 ghost use Rattle.cap_tree.specs.Tree.{IsOrdered};
+ghost use Rattle.cap_table.specs.After.{LeavesOnceAgreed};
 ghost use Rattle.cap_table.specs.Made.{LeavesUnlessMemory, RefusesFirst};
-ghost use Rattle.cap_txn.specs.Tables.{create, refused_create, table_of};
+ghost use Rattle.cap_txn.specs.Tables.{Tables, create, refused_create, table_of};
 ghost use Rattle.cap_txn.specs.Operation.{step, changes_told, changes, row_before};
 ghost use Rattle.cap_txn.specs.Read.{read, rows_of, Lends};
 
-use crate::place::{copies, place_of, put_at, step_at};
-use crate::{Op, Step};
+use crate::place::{copies, place_of, put_at, step_at, step_at_after};
+use crate::told::changes_in;
+use crate::{Change, Op, Step};
 use cap_row::{Row, Schema};
-use cap_table::{RowRef, Scan, Table};
+use cap_table::{NotMade, RowRef, Scan, Table};
+use cap_tree::Confirm;
 use cap_value::{AllocHandle, Exact, Fault, Name, OutOfMemory, Refusal};
 use std::marker::Model;
 
@@ -102,6 +105,36 @@ impl<A: AllocHandle> Database<A> {
         match place_of(&self.tables, &op.table) {
             Ok(place) => step_at(&mut self.tables, place, op),
             Err(_) => Err(Fault::Refused(Refusal::NoTable)),
+        }
+    }
+
+    /// Makes one operation once the step outside agrees, with `step`'s refusals. The step is asked once, when all
+    /// memory was found, and only where nothing refuses the operation. On an error the database is as before.
+    pub fn step_after<C: Confirm>(
+        &mut self,
+        op: &Op<A>,
+        confirm: &mut C,
+    ) -> Result<(), NotMade<C::Refusal>>
+        requires { (after : Tables A) → step self.old op.now ≡ Ok after → C.can_confirm confirm.old }
+        ensures tables { LeavesOnceAgreed result (step self.old op.now) self.new
+            (confirm.new ≡ confirm.old) (λ answer. C.gives confirm.old answer confirm.new) }
+        ensures kept { OnErr result (self.new ≡ self.old) }
+    {
+        match place_of(&self.tables, &op.table) {
+            Ok(place) => step_at_after(&mut self.tables, place, op, confirm),
+            Err(_) => Err(NotMade::Refused(Refusal::NoTable)),
+        }
+    }
+
+    /// The changes that an operation makes if it is accepted, in order.
+    pub fn changes_of(&self, op: &Op<A>) -> Result<Vec<Change<A>, A>, OutOfMemory>
+        ensures { (after : Tables A) → step self.now op.now ≡ Ok after →
+            IfOk result (λ told. told.items ≡ changes self.now op.now) }
+    {
+        let alloc = *self.tables.allocator();
+        match self.table(&op.table) {
+            Some(table) => changes_in(alloc, table, op),
+            None => Ok(Vec::new(alloc)),
         }
     }
 

@@ -17,6 +17,7 @@ mod snapshot;
 mod step;
 #[cfg(test)]
 mod tests;
+mod told;
 mod txn;
 
 pub use assignments::Assignments;

@@ -1,14 +1,17 @@
 //! The place of a name among tables in the order of their names.
-ghost use Rattle.std.specs.Prelude.{◌≡◌, ◌<◌, ◌≤◌, List, ℕ, length, slice_set, slice_index_or, MatchResult, Some, None, IfOk, OnOk, OnErr, is_some, true, false};
+ghost use Rattle.std.specs.Prelude.{◌≡◌, ◌<◌, ◌≤◌, List, ℕ, length, slice_set, slice_index_or, MatchResult, Some, None, Ok, IfOk, OnOk, OnErr, is_some, true, false};
 ghost use Rattle.std.specs.List.{insert};
 ghost use Rattle.cap_value.specs.Bytes.{bytes_cmp};
 ghost use Rattle.cap_tree.specs.Tree.{IsOrdered, get, put_entry};
+ghost use Rattle.cap_table.specs.After.{LeavesOnceAgreed};
+ghost use Rattle.cap_txn.specs.Tables.{Tables};
 ghost use Rattle.cap_table.specs.Made.{LeavesUnlessMemory};
 ghost use Rattle.cap_table.specs.Table.{TableState};
-ghost use Rattle.cap_txn.specs.Operation.{step, changes_told, changes, row_before};
+ghost use Rattle.cap_txn.specs.Operation.{act, step, changes_told, changes, row_before};
 
-use crate::{Op, Step};
-use cap_table::Table;
+use crate::{Action, Op, Step};
+use cap_table::{NotMade, Table};
+use cap_tree::Confirm;
 use cap_value::{AllocHandle, Fault, Name, OutOfMemory, Refusal};
 use std::cmp::Ordering;
 
@@ -78,6 +81,50 @@ pub(crate) fn step_at<A: AllocHandle>(
 {
     let (_, table) = &mut tables[place];
     Step::make(table, op)
+}
+
+// Makes an operation on the table at the place of its name, once the step outside agrees.
+pub(crate) fn step_at_after<A: AllocHandle, C: Confirm>(
+    tables: &mut [(Name<A>, Table<A>)],
+    place: usize,
+    op: &Op<A>,
+    confirm: &mut C,
+) -> Result<(), NotMade<C::Refusal>>
+    requires within { place < length tables.old }
+    requires get { (d : List ℕ × TableState A) → get bytes_cmp tables.old op.now.table ≡ Some
+        (slice_index_or tables.old place d).1 }
+    requires put { (d : List ℕ × TableState A) (t : TableState A)
+        → put_entry bytes_cmp tables.old op.now.table t
+        ≡ slice_set tables.old place ((slice_index_or tables.old place d).0, t) }
+    requires can_confirm { (after : Tables A) → step tables.old op.now ≡ Ok after → C.can_confirm confirm.old }
+    ensures tables { LeavesOnceAgreed result (step tables.old op.now) tables.new
+        (confirm.new ≡ confirm.old) (λ answer. C.gives confirm.old answer confirm.new) }
+    ensures kept { OnErr result (tables.new ≡ tables.old) }
+    ensures ordered { IsOrdered bytes_cmp tables.old → IsOrdered bytes_cmp tables.new }
+{
+    let (_, table) = &mut tables[place];
+    act_after(table, &op.action, confirm)
+}
+
+// Makes what an operation does to its table, once the step outside agrees.
+fn act_after<A: AllocHandle, C: Confirm>(
+    table: &mut Table<A>,
+    action: &Action<A>,
+    confirm: &mut C,
+) -> Result<(), NotMade<C::Refusal>>
+    requires { (after : TableState A) → act table.old action.now ≡ Ok after → C.can_confirm confirm.old }
+    ensures table { LeavesOnceAgreed result (act table.old action.now) table.new
+        (confirm.new ≡ confirm.old) (λ answer. C.gives confirm.old answer confirm.new) }
+    ensures kept { OnErr result (table.new ≡ table.old) }
+{
+    match action {
+        Action::Insert(row) => match row.copy() {
+            Ok(row) => table.insert_after(row, confirm),
+            Err(_) => Err(NotMade::OutOfMemory),
+        },
+        Action::Update(name, fields) => table.update_after(name, fields.fields(), confirm),
+        Action::Delete(name) => table.delete_after(name, confirm),
+    }
 }
 
 pub(crate) fn copies<A: AllocHandle>(

@@ -98,14 +98,14 @@ fn delete<A: AllocHandle>(
     })
 }
 
-fn change<A: AllocHandle>(table: Name<A>, key: Option<Key<A>>, cause: Cause) -> Change<A>
+pub(crate) fn change<A: AllocHandle>(table: Name<A>, key: Option<Key<A>>, cause: Cause) -> Change<A>
     ensures { result ≡ record { table = table; key = key; cause = cause } }
 {
     Change { table, key, cause }
 }
 
 // The key of the row of this name, none of a loose row.
-fn key_named<A: AllocHandle>(name: &RowRef<A>) -> Result<Option<Key<A>>, OutOfMemory>
+pub(crate) fn key_named<A: AllocHandle>(name: &RowRef<A>) -> Result<Option<Key<A>>, OutOfMemory>
     ensures { IfOk result (λ key. key ≡ key_of_name name.now) }
 {
     match name {

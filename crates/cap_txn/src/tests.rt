@@ -3,7 +3,8 @@ use crate::{
     Snapshot, TABLES_MAX, Txn, run_ops,
 };
 use cap_row::{Key, Row, Schema};
-use cap_table::RowRef;
+use cap_table::{NotMade, RowRef};
+use cap_tree::Confirm;
 use cap_value::{AllocHandle, Fault, Name, Refusal, Value};
 use linked_list_allocator::LocalHeap;
 use std::alloc::Global;
@@ -241,5 +242,60 @@ fn each_allocation_may_be_refused(rt: HostRuntime) -> Result<(), Fail> {
         assert_eq!(rt; heap.used(), 0);
     }
     assert!(rt; enough > 20, "{enough} blocks of 16 bytes were enough");
+    Ok(())
+}
+
+// A step outside that counts how often it is asked, and agrees or does not.
+#[derive(Drop)]
+struct Counted {
+    agrees: bool,
+    asked: u8,
+}
+
+impl Confirm for Counted {
+    type Refusal = ();
+
+    ghost can_confirm = { λ confirm. Unit {0} };
+
+    ghost gives = { λ old answer new. Unit {0} };
+
+    fn confirm(&mut self) -> Result<(), ()> {
+        self.asked = self.asked.saturating_add(1);
+        if self.agrees { Ok(()) } else { Err(()) }
+    }
+}
+
+// Each operation is tried with a step that does not agree, and then with one that does.
+#[test]
+fn operations_wait_for_a_step_outside(rt: HostRuntime) -> Result<(), Fail> {
+    let alloc = rt.alloc();
+    let mut database = with_table(alloc)?;
+    let mut no = Counted {
+        agrees: false,
+        asked: 0,
+    };
+    let mut yes = Counted {
+        agrees: true,
+        asked: 0,
+    };
+    let ops = [
+        (insert(alloc, 1, "a")?, 1usize),
+        (set_text(alloc, 1, "b")?, 2),
+        (delete(alloc, 1)?, 1),
+    ];
+    for (op, changes) in &ops {
+        assert_eq!(rt; database.changes_of(op)?.len(), *changes);
+        assert_eq!(rt;
+            database.step_after(op, &mut no),
+            Err(NotMade::Disagreed(()))
+        );
+        assert_eq!(rt; database.step_after(op, &mut yes), Ok(()));
+    }
+    let refused = delete(alloc, 1)?;
+    assert_eq!(rt;
+        database.step_after(&refused, &mut no),
+        Err(NotMade::Refused(Refusal::NoRow))
+    );
+    assert_eq!(rt; (no.asked, yes.asked), (3, 3));
     Ok(())
 }
