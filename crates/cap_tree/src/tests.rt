@@ -56,6 +56,23 @@ fn each_call_succeeds_with_ample_memory(rt: HostRuntime) -> Result<(), Fail> {
     Ok(())
 }
 
+#[test]
+fn a_tree_of_a_sorted_list(rt: HostRuntime) -> Result<(), Fail> {
+    for count in [0u64, 1, 2, 3, 100, 1000] {
+        let entries: Vec<(u64, u64)> = (1..=count)
+            .map(|n| (n, n.wrapping_mul(10)))
+            .collect(rt.alloc())?;
+        let Some(tree) = Tree::from_sorted(rt.alloc(), entries)? else {
+            return Err(Fail::from("a rising list is refused"));
+        };
+        assert!(rt; is_rising(&tree, count));
+        assert!(rt; tree.height() <= u64::from(u64::BITS - count.leading_zeros()));
+    }
+    let twice = vec![in rt.alloc(); (1, 10), (2, 20), (2, 30)]?;
+    assert!(rt; Tree::from_sorted(rt.alloc(), twice)?.is_none());
+    Ok(())
+}
+
 // A last step that agrees or refuses, and counts how often it was asked.
 #[derive(Drop)]
 struct Step {
