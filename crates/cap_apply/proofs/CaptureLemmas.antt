@@ -32,7 +32,7 @@ use Rattle.cap_apply.proofs.ChangeLemmas.{HasTarget, applied_at}
 use Rattle.cap_apply.proofs.RowLemmas.{record_key}
 
 -- a table fits its own columns
-fit_self : (flags : List Bool) → columns_fit flags flags ≡ true
+pub fit_self : (flags : List Bool) → columns_fit flags flags ≡ true
 fit_self [] = refl
 fit_self (true ∷ flags) = fit_self flags
 fit_self (false ∷ flags) = fit_self flags

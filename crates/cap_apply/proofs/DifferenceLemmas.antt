@@ -13,7 +13,7 @@ use Rattle.cap_changes.specs.Patch.{patch_of}
 use Rattle.cap_apply.specs.Applied.{AppliedState}
 use Rattle.cap_apply.specs.Apply.{and_then, changes_applied, counted, with_row, with_row_in}
 use Rattle.cap_apply.specs.Asked.{Asked, asked_by_change, asked_by_patch}
-use Rattle.cap_apply.specs.Difference.{AllApplied, AreApart, Difference, IsDifference, RowsAfter, StandAfter, StandBefore, turned}
+use Rattle.cap_apply.specs.Difference.{AllApplied, AreApart, Difference, IsDifference, OtherTables, RowsAfter, StandAfter, StandBefore, turned}
 use Rattle.cap_apply.specs.declared.policy.Policy.{Policy}
 use Rattle.cap_apply.proofs.CaptureLemmas.{AsksFor, asks_by_change, asks_by_patch, captured_one, turned_difference}
 use Rattle.cap_apply.proofs.EntryLemmas.{get_put, get_put_other, get_take, ordered_take, unequal}
@@ -70,7 +70,8 @@ module _ {A : Type 0} where
   -- what applying differences leaves
   abbrev pub Left : Policy → ℕ → List ℕ → List Bool → TableState A → List (Difference A) → List (Asked A) → AppliedState A → Type 0
   Left policy number name flags table ds asks state =
-      (left : AppliedState A) × (changes_applied policy number name flags asks state ≡ Ok left) × RowsAfter name table ds state.database left.database × AllApplied ds state left
+      (left : AppliedState A) × (changes_applied policy number name flags asks state ≡ Ok left) × RowsAfter name table ds left.database
+      × OtherTables name state.database left.database × AllApplied ds state left
 
   module _ (policy : Policy) (name : List ℕ) (flags : List Bool) (f : Difference A → Asked A) (asks : (d : Difference A) → IsDifference flags d → AsksFor flags (f d) d.key d.before d.after) where
     pub apply_all : (ds : List (Difference A)) (number : ℕ) (table : TableState A) (state : AppliedState A) → table_of state.database name ≡ Some table → table.schema ≡ flags →
@@ -88,8 +89,8 @@ module _ {A : Type 0} where
             columns = refl;
             next_id = refl;
             ordered = ordered;
-            other_tables = λ other apart. refl;
           },
+          λ other apart. refl,
           ap (λ n. record state.report { applied = n }) none,
         )
     apply_all (d ∷ ds) number table state there columns ordered stand =
@@ -112,9 +113,9 @@ module _ {A : Type 0} where
             columns = rows.columns ∙ same_columns table d.key d.after;
             next_id = rows.next_id ∙ same_next_id table d.key d.after;
             ordered = rows.ordered;
-            other_tables = λ other apart. rows.other_tables other apart ∙ other_table state.database name other after apart;
           },
-          rest.3 ∙ ap (λ n. record state.report { applied = n }) more,
+          λ other apart. rest.3 other apart ∙ other_table state.database name other after apart,
+          rest.4 ∙ ap (λ n. record state.report { applied = n }) more,
         )
 
   pub changes_give : (policy : Policy) (number : ℕ) (name : List ℕ) (table : TableState A) (ds : List (Difference A)) (state : AppliedState A) → table_of state.database name ≡ Some table →
@@ -159,7 +160,7 @@ module _ {A : Type 0} where
       IsOrdered fields_cmp table.keyed → StandBefore table.schema table ds → (left : AppliedState A) × (again : AppliedState A)
       × (changes_applied policy number name table.schema (map (λ (d : Difference A). asked_by_change table.schema d.change) ds) state ≡ Ok left)
       × (changes_applied policy number name table.schema (map (λ (d : Difference A). asked_by_change table.schema (turned table.schema d).change) ds) left ≡ Ok again)
-      × RowsAfter name table (map (turned table.schema) ds) state.database again.database × AllApplied ds left again
+      × RowsAfter name table (map (turned table.schema) ds) again.database × OtherTables name state.database again.database × AllApplied ds left again
   inverse_gives policy number name table ds state there ordered stand =
       let flags = table.schema in
       let there_and = changes_give policy number name table ds state there ordered stand in
@@ -182,7 +183,7 @@ module _ {A : Type 0} where
           columns = last.columns ∙ rows.columns;
           next_id = last.next_id ∙ rows.next_id;
           ordered = last.ordered;
-          other_tables = λ other apart. last.other_tables other apart ∙ rows.other_tables other apart;
         },
-        back.3 ∙ ap (λ n. record left.report { applied = left.report.applied + n }) (as_many flags ds),
+        λ other apart. back.3 other apart ∙ there_and.3 other apart,
+        back.4 ∙ ap (λ n. record left.report { applied = left.report.applied + n }) (as_many flags ds),
       )

@@ -1,3 +1,4 @@
+pub mod BlobLemmas
 pub mod CaptureLemmas
 pub mod ChangeLemmas
 pub mod DifferenceLemmas

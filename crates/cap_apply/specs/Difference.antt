@@ -1,5 +1,5 @@
 -- How the rows of a table differ from what they were: what a capture of the table says.
-use Rattle.std.specs.Prelude.{◌≡◌, ℕ, ◌+◌, Bool, Option, Some, None, List, [], ◌∷◌, length}
+use Rattle.std.specs.Prelude.{◌≡◌, ℕ, ◌+◌, Bool, Option, Some, None, Ok, List, [], ◌∷◌, length, map}
 use Rattle.cap_row.specs.Fields.{Fields}
 use Rattle.cap_row.specs.Key.{fields_cmp, key_of}
 use Rattle.cap_tree.specs.Tree.{IsOrdered, get}
@@ -7,8 +7,12 @@ use Rattle.cap_table.specs.Table.{TableState}
 use Rattle.cap_txn.specs.Tables.{Tables, table_of}
 use Rattle.cap_changes.specs.Change.{change_of}
 use Rattle.cap_changes.specs.Invert.{inverse_of}
+use Rattle.cap_changes.specs.Patch.{patch_of}
 use Rattle.cap_changes.specs.declared.change.Change.{Change}
 use Rattle.cap_apply.specs.Applied.{AppliedState}
+use Rattle.cap_apply.specs.Apply.{changes_applied}
+use Rattle.cap_apply.specs.Asked.{Asked, asked_by_change, asked_by_patch}
+use Rattle.cap_apply.specs.declared.policy.Policy.{Policy}
 
 -- a key, the row that was under it, the row that is, and the change between them
 pub record Difference (A : Type 0) : Type 0 where
@@ -39,22 +43,31 @@ module _ {A : Type 0} where
   StandBefore flags table [] = Unit {0}
   StandBefore flags table (d ∷ ds) = IsDifference flags d × (get fields_cmp table.keyed d.key ≡ d.before) × AreApart d.key ds × StandBefore flags table ds
 
+  -- a database has the table of the name, and in it the rows that were there first
+  pub record RowsBefore (name : List ℕ) (table : TableState A) (ds : List (Difference A)) (database : Tables A) : Type 0 where
+    pub there : table_of database name ≡ Some table
+    pub rows : StandBefore table.schema table ds
+    pub ordered : IsOrdered fields_cmp table.keyed
+
   -- the table has at each key the row that is there now
   abbrev pub StandAfter : TableState A → List (Difference A) → Type 0
   StandAfter table [] = Unit {0}
   StandAfter table (d ∷ ds) = (get fields_cmp table.keyed d.key ≡ d.after) × StandAfter table ds
 
-  -- a database has in the table of the name the rows that are there now, and all else as it was
-  pub record RowsAfter (name : List ℕ) (table : TableState A) (ds : List (Difference A)) (start left : Tables A) : Type 0 where
+  -- a database has in the table of the name the rows that are there now, and all else of the table as it was
+  pub record RowsAfter (name : List ℕ) (table : TableState A) (ds : List (Difference A)) (database : Tables A) : Type 0 where
     pub found : TableState A
-    pub there : table_of left name ≡ Some found
+    pub there : table_of database name ≡ Some found
     pub rows : StandAfter found ds
     pub other_rows : (key : Fields A) → AreApart key ds → get fields_cmp found.keyed key ≡ get fields_cmp table.keyed key
     pub loose : found.loose ≡ table.loose
     pub columns : found.schema ≡ table.schema
     pub next_id : found.next_id ≡ table.next_id
     pub ordered : IsOrdered fields_cmp found.keyed
-    pub other_tables : (other : List ℕ) → (other ≡ name → ⊥) → table_of left other ≡ table_of start other
+
+  -- the tables of other names are as they were
+  abbrev pub OtherTables : List ℕ → Tables A → Tables A → Type 0
+  OtherTables name start left = (other : List ℕ) → (other ≡ name → ⊥) → table_of left other ≡ table_of start other
 
   -- each change counts as applied, none met a conflict, and nothing was omitted or skipped
   abbrev pub AllApplied : List (Difference A) → AppliedState A → AppliedState A → Type 0
@@ -63,3 +76,19 @@ module _ {A : Type 0} where
   -- the same rows the other way round, with the inverse change
   abbrev pub turned : List Bool → Difference A → Difference A
   turned flags d = record { key = d.key; before = d.after; after = d.before; change = inverse_of flags d.change }
+
+  -- what a changeset of the changes asks for, and its patchset, and its inverse
+  abbrev pub asked_by_changes : List Bool → List (Difference A) → List (Asked A)
+  asked_by_changes flags ds = map (λ d. asked_by_change flags d.change) ds
+
+  abbrev pub asked_by_patches : List Bool → List (Difference A) → List (Asked A)
+  asked_by_patches flags ds = map (λ d. asked_by_patch flags (patch_of flags d.change)) ds
+
+  abbrev pub asked_by_inverses : List Bool → List (Difference A) → List (Asked A)
+  asked_by_inverses flags ds = map (λ d. asked_by_change flags (inverse_of flags d.change)) ds
+
+  -- these changes of the table give the rows that are there now
+  abbrev pub GivesRowsNow : Policy → ℕ → List ℕ → TableState A → List (Difference A) → List (Asked A) → AppliedState A → Type 0
+  GivesRowsNow policy number name table ds asks state =
+      (left : AppliedState A) × (changes_applied policy number name table.schema asks state ≡ Ok left)
+      × RowsAfter name table ds left.database × OtherTables name state.database left.database × AllApplied ds state left

@@ -1,6 +1,7 @@
 pub mod Applied
 pub mod Apply
 pub mod Asked
+pub mod Captured
 pub mod Difference
 pub mod Operated
 pub mod Policy

@@ -16,7 +16,6 @@ use cap_value::{AllocHandle, Fault, Name, OutOfMemory, Refusal};
 use std::marker::Model;
 
 /// What applying a blob leaves: the database, the changes to its rows, in order, and the report.
-#[derive(Drop)]
 pub struct Applied<A: AllocHandle> {
     alloc: A,
     database: Database<A>,
@@ -30,6 +29,18 @@ impl<A: AllocHandle> Model for Applied<A> {
     ghost Value = { AppliedState A };
 
     ghost view = { λ a. record { database = a.database; changes = a.changes.items; report = a.report } };
+}
+
+// A derived `Drop` would be opened in each caller.
+impl<A: AllocHandle> Drop for Applied<A> {
+    fn drop(self) {
+        let Applied {
+            alloc: _,
+            database: _,
+            changes: _,
+            report: _,
+        } = self;
+    }
 }
 
 impl<A: AllocHandle> Applied<A> {
@@ -52,8 +63,8 @@ impl<A: AllocHandle> Applied<A> {
         &self.database
     }
 
-    /// The changes to the database's rows, in order: one for an insert or a delete, and two for an update or an insert
-    /// that replaced a row.
+    /// The changes to the database's rows, in order: one for an insert or a delete, and two for an update or an
+    /// insert that replaced a row.
     pub fn changes(&self) -> &[Change<A>]
         ensures { result.now ≡ self.now.changes }
     {

@@ -15,15 +15,16 @@ use cap_codec::Contents;
 use cap_txn::Database;
 use cap_value::{AllocHandle, Fault, Refusal};
 
-/// Applies a changeset or a patchset under a policy: the database after it, which shares rows with this one, the
-/// changes to its rows, and what became of the blob's changes. This database stays as it is.
+/// Applies a changeset or a patchset under a policy: the database after it, which shares rows with this one,
+/// the changes to its rows, and what became of the blob's changes. This database stays as it is.
 ///
-/// A group for which the database has no table is skipped: none of its name, one with fewer columns, with other
-/// key columns, or with a further one. Columns beyond the group's are NULL in new rows and are not looked at.
+/// A group for which the database has no table is skipped: none of its name, one with fewer columns, with
+/// other key columns, or with a further one. Columns beyond the group's are NULL in new rows and are not looked
+/// at.
 ///
-/// Refused with `Aborted` at the first change whose conflict the policy answers `Abort`, and with `Misuse` at the
-/// first that finds no row where the policy answers `Replace` to that, each with the number of the change, counted from 0
-/// over the whole blob (The Session Extension, "sqlite3changeset_apply").
+/// Refused with `Aborted` at the first change whose conflict the policy answers `Abort`, and with `Misuse` at
+/// the first that finds no row where the policy answers `Replace` to that, each with the number of the change,
+/// counted from 0 over the whole blob (The Session Extension, "sqlite3changeset_apply").
 pub fn apply<A: AllocHandle>(
     alloc: A,
     database: &Database<A>,

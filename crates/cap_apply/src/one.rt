@@ -47,7 +47,8 @@ impl<A: AllocHandle> Applied<A> {
         requires fits { IsTrue (meet (demands rules.Full columns.now) new.now) }
         requires target { IsTrue (is_some (target self.old.database table.now columns.now)) }
         ensures { (indirect : Bool) → LeavesUnlessMemory result (change_applied turn.policy turn.number
-            table.now columns.now (record { old = []; patch = patched.Insert indirect new.now }) self.old) self.new }
+            table.now columns.now (record { old = []; patch = patched.Insert indirect new.now }) self.old)
+            self.new }
     {
         let row = new_row(self.alloc(), width_of(self.database(), table), new)?;
         let op = operation(table, Action::Insert(row.copy()?))?;
@@ -78,7 +79,8 @@ impl<A: AllocHandle> Applied<A> {
         requires taken { (found : TableState A) → table_of self.old.database table.now ≡ Some found
             → IsTrue (is_some (get fields_cmp found.keyed (key_values columns.now new.now))) }
         ensures { (indirect : Bool) → LeavesUnlessMemory result (change_applied turn.policy turn.number
-            table.now columns.now (record { old = []; patch = patched.Insert indirect new.now }) self.old) self.new }
+            table.now columns.now (record { old = []; patch = patched.Insert indirect new.now }) self.old)
+            self.new }
     {
         let name = RowRef::Key(key_of_fields(self.alloc(), columns.flags(), new)?);
         let Some(_taken) = row_under(self.database(), table, &name) else {
@@ -140,7 +142,8 @@ impl<A: AllocHandle> Applied<A> {
         requires key { IsTrue (is_key (key_values columns.now key.now)) }
         requires target { IsTrue (is_some (target self.old.database table.now columns.now)) }
         ensures { (indirect : Bool) → LeavesUnlessMemory result (change_applied turn.policy turn.number
-            table.now columns.now (record { old = old.now; patch = patched.Delete indirect key.now }) self.old) self.new }
+            table.now columns.now (record { old = old.now; patch = patched.Delete indirect key.now }) self.old)
+            self.new }
     {
         let name = RowRef::Key(key_of_fields(self.alloc(), columns.flags(), key)?);
         let conflict = missed(

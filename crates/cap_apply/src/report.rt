@@ -4,9 +4,8 @@ use crate::Conflict;
 use cap_value::{AllocHandle, OutOfMemory};
 use std::marker::Model;
 
-/// What became of the changes of a blob. Changes and groups have numbers, counted from 0 over the whole blob; the
-/// changes of skipped groups keep theirs.
-#[derive(Drop)]
+/// What became of the changes of a blob. Changes and groups have numbers, counted from 0 over the whole blob;
+/// the changes of skipped groups keep theirs.
 pub struct Report<A: AllocHandle> {
     applied: u64,
     conflicts: Vec<Conflict, A>,
@@ -25,6 +24,18 @@ impl<A: AllocHandle> Model for Report<A> {
       omitted = r.omitted.items;
       skipped = r.skipped.items;
     } };
+}
+
+// A derived `Drop` would be opened in each caller.
+impl<A: AllocHandle> Drop for Report<A> {
+    fn drop(self) {
+        let Report {
+            applied: _,
+            conflicts: _,
+            omitted: _,
+            skipped: _,
+        } = self;
+    }
 }
 
 impl<A: AllocHandle> Report<A> {

@@ -110,6 +110,15 @@ fn has_row<A: AllocHandle>(
     })
 }
 
+fn applied_to<A: AllocHandle>(
+    alloc: A,
+    database: &Database<A>,
+    bytes: &[u8],
+    policy: Policy,
+) -> Result<Applied<A>, Fault<Refusal>> {
+    apply(alloc, database, &contents(alloc, bytes)?, policy)
+}
+
 fn applied<A: AllocHandle>(
     alloc: A,
     text: Option<&str>,
@@ -117,7 +126,7 @@ fn applied<A: AllocHandle>(
     policy: Policy,
 ) -> Result<Applied<A>, Fault<Refusal>> {
     let database = with_row(alloc, text)?;
-    Ok(apply(alloc, &database, &contents(alloc, bytes)?, policy)?)
+    applied_to(alloc, &database, bytes, policy)
 }
 
 // This answer to this kind of conflict, and another one to the others.
@@ -333,8 +342,7 @@ fn a_key_named_twice(rt: HostRuntime) -> Result<(), Fail> {
     );
     assert!(rt; has_row(rt.alloc(), replaced.database(), Some("z"))?);
     let database = with_row(rt.alloc(), None)?;
-    let blob = contents(rt.alloc(), &bytes)?;
-    let aborted = apply(rt.alloc(), &database, &blob, all(Answer::Abort));
+    let aborted = applied_to(rt.alloc(), &database, &bytes, all(Answer::Abort));
     assert_eq!(rt; refusal(aborted), Some(Refusal::Aborted { at: 1 }));
     assert!(rt; has_row(rt.alloc(), &database, None)?);
     Ok(())
@@ -388,56 +396,81 @@ fn ends_in<A: AllocHandle>(
     })
 }
 
+// Whether the blob applied to the database gives the row of key 1 this text and this last number, or no row.
+fn gives<A: AllocHandle>(
+    alloc: A,
+    database: &Database<A>,
+    bytes: &[u8],
+    policy: Policy,
+    row: Option<(&str, Option<i64>)>,
+) -> Result<bool, Fault<Refusal>> {
+    let applied = applied_to(alloc, database, bytes, policy)?;
+    let Some((text, number)) = row else {
+        return has_row(alloc, applied.database(), None);
+    };
+    Ok(
+        has_row(alloc, applied.database(), Some(text))?
+            && ends_in(alloc, applied.database(), number)?,
+    )
+}
+
 #[test]
 fn groups_of_fewer_columns(rt: HostRuntime) -> Result<(), Fail> {
-    let (alloc, policy) = (rt.alloc(), all(Answer::Abort));
+    let (alloc, abort) = (rt.alloc(), all(Answer::Abort));
     let empty = with_table(alloc, &[true, false, false])?;
-    let inserted = apply(alloc, &empty, &contents(alloc, &CHANGE_INSERT)?, policy)?;
-    assert!(rt; has_row(alloc, inserted.database(), Some("y"))?);
-    assert!(rt; ends_in(alloc, inserted.database(), None)?);
+    assert!(rt; gives(alloc, &empty, &CHANGE_INSERT, abort, Some(("y", None)))?);
     let database = with_wide_row(alloc, "x")?;
-    let updated = apply(alloc, &database, &contents(alloc, &CHANGE_UPDATE)?, policy)?;
-    assert!(rt; has_row(alloc, updated.database(), Some("y"))?);
-    assert!(rt; ends_in(alloc, updated.database(), Some(7))?);
-    let deleted = apply(alloc, &database, &contents(alloc, &CHANGE_DELETE)?, policy)?;
-    assert!(rt; has_row(alloc, deleted.database(), None)?);
+    assert!(rt;
+        gives(
+            alloc,
+            &database,
+            &CHANGE_UPDATE,
+            abort,
+            Some(("y", Some(7)))
+        )?
+    );
+    assert!(rt; gives(alloc, &database, &CHANGE_DELETE, abort, None)?);
     let replace = answering(ConflictKind::Conflict, Answer::Replace);
-    let replaced = apply(alloc, &database, &contents(alloc, &CHANGE_INSERT)?, replace)?;
-    assert!(rt; has_row(alloc, replaced.database(), Some("y"))?);
-    assert!(rt; ends_in(alloc, replaced.database(), None)?);
+    assert!(rt; gives(alloc, &database, &CHANGE_INSERT, replace, Some(("y", None)))?);
     assert!(rt; ends_in(alloc, &database, Some(7))?);
+    Ok(())
+}
+
+// The one group of the blob is skipped, and nothing else comes of it.
+fn skips(
+    rt: &impl Abort,
+    alloc: Global,
+    database: &Database<Global>,
+    bytes: &[u8],
+) -> Result<(), Fail> {
+    let applied = applied_to(alloc, database, bytes, all(Answer::Abort))?;
+    let report = applied.report();
+    assert_eq!(rt; report.skipped(), [0u64].as_slice());
+    assert_eq!(rt; (report.applied(), applied.changes().len()), (0, 0));
+    assert!(rt; report.conflicts().is_empty() && report.omitted().is_empty());
     Ok(())
 }
 
 #[test]
 fn groups_that_no_table_fits(rt: HostRuntime) -> Result<(), Fail> {
-    let alloc = rt.alloc();
     let others = [
-        with_table(alloc, &[true])?,
-        with_table(alloc, &[false, true])?,
-        with_table(alloc, &[true, true])?,
-        with_table(alloc, &[true, false, true])?,
-        with_table(alloc, &[false, true, false])?,
-        Database::empty(alloc),
+        [true].as_slice(),
+        [false, true].as_slice(),
+        [true, true].as_slice(),
+        [true, false, true].as_slice(),
+        [false, true, false].as_slice(),
     ];
-    for database in &others {
-        for bytes in [CHANGE_INSERT.as_slice(), PATCH_DELETE.as_slice()] {
-            let applied = apply(
-                alloc,
-                database,
-                &contents(alloc, bytes)?,
-                all(Answer::Abort),
-            )?;
-            assert_eq!(rt; applied.report().skipped(), [0u64].as_slice());
-            assert_eq!(rt;
-                (applied.report().applied(), applied.changes().len()),
-                (0, 0)
-            );
-            assert!(rt; applied.report().conflicts().is_empty());
-            assert!(rt; applied.report().omitted().is_empty());
-        }
+    for flags in others {
+        let database = with_table(rt.alloc(), flags)?;
+        skips(&rt, rt.alloc(), &database, &CHANGE_INSERT)?;
+        skips(&rt, rt.alloc(), &database, &PATCH_DELETE)?;
     }
-    Ok(())
+    skips(
+        &rt,
+        rt.alloc(),
+        &Database::empty(rt.alloc()),
+        &CHANGE_INSERT,
+    )
 }
 
 #[test]
@@ -470,8 +503,7 @@ fn loose_rows_stay(rt: HostRuntime) -> Result<(), Fail> {
     values.push(Value::Null)?;
     values.push(Value::Int(5))?;
     insert(&mut database, alloc, values)?;
-    let blob = contents(alloc, &CHANGE_DELETE)?;
-    let applied = apply(alloc, &database, &blob, all(Answer::Abort))?;
+    let applied = applied_to(alloc, &database, &CHANGE_DELETE, all(Answer::Abort))?;
     let (database, changes, report) = applied.into_parts();
     assert_eq!(rt; database.scan(&Name::new(alloc, "t")?)?.left(), 1);
     assert!(rt;

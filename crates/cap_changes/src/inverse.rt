@@ -7,8 +7,8 @@ use crate::{Change, ChangeList, Group};
 use cap_row::Schema;
 use cap_value::{AllocHandle, OutOfMemory};
 
-/// The changes that take these back: an insert for each delete and a delete for each insert, and an update with the
-/// values of its old and its new record swapped. Order and marks stay (The Session Extension,
+/// The changes that take these back: an insert for each delete and a delete for each insert, and an update with
+/// the values of its old and its new record swapped. Order and marks stay (The Session Extension,
 /// "sqlite3changeset_invert").
 pub fn invert<A: AllocHandle>(alloc: A, list: &ChangeList<A>) -> Result<ChangeList<A>, OutOfMemory>
     ensures inverse { IfOk result (λ inverse. inverse ≡ inverse_list_of list.now) }
