@@ -1,0 +1,4 @@
+pub mod Attached
+pub mod Note
+pub mod Records
+pub mod Session

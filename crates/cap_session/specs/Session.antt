@@ -1,0 +1,72 @@
+-- A session: its flags, the rule by which it attaches tables by itself, and the attached tables with their records.
+use Rattle.std.specs.Prelude.{ℕ, Bool, true, false, Option, List, [], ◌∷◌, ◌++◌, map, length, sum, nat_eq, if◌then◌else◌}
+use Rattle.std.specs.List.{list_any, list_all}
+use Rattle.cap_value.specs.Bytes.{bytes_eq}
+use Rattle.cap_row.specs.Fields.{Fields}
+use Rattle.cap_row.specs.Key.{fields_cmp}
+use Rattle.cap_tree.specs.Tree.{get}
+use Rattle.cap_filter.specs.Accepts.{accepts}
+use Rattle.cap_filter.specs.Rule.{Rule}
+use Rattle.cap_session.specs.declared.record.Record.{Record}
+use Rattle.cap_session.specs.declared.rule.AutomaticRule.{AutomaticRule}
+use Rattle.cap_session.specs.declared.rule.AutomaticRule.TheVariants.{Nothing, All, Filter}
+use Rattle.cap_session.specs.Records.{Records}
+
+-- the attached tables in the order in which they were attached, each with its records
+abbrev pub AttachedTables : Type 0 → Type 0
+AttachedTables A = List (List ℕ × Records A)
+
+pub record SessionState (A : Type 0) : Type 0 where
+  pub enabled : Bool
+  pub indirect : Bool
+  pub rule : AutomaticRule A
+  pub tables : AttachedTables A
+
+module _ {A : Type 0} where
+  abbrev pub new_session : SessionState A
+  new_session = record { enabled = true; indirect = false; rule = Nothing; tables = [] }
+
+  -- the name is in the attach list
+  abbrev pub is_listed : List ℕ → AttachedTables A → Bool
+  is_listed name tables = list_any (λ attached. bytes_eq name attached.0) tables
+
+  -- a name goes last in the attach list unless it is there
+  abbrev pub attach : List ℕ → AttachedTables A → AttachedTables A
+  attach name tables = if is_listed name tables then tables else tables ++ (name, []) ∷ []
+
+  -- the rule accepts the name
+  abbrev pub accepts_by : AutomaticRule A → List ℕ → Bool
+  accepts_by Nothing name = false
+  accepts_by All name = true
+  accepts_by (Filter rule) name = accepts rule name
+
+  -- every table, unless a filter decides
+  abbrev pub all_unless_filter : AutomaticRule A → AutomaticRule A
+  all_unless_filter Nothing = All
+  all_unless_filter All = All
+  all_unless_filter (Filter rule) = Filter rule
+
+  abbrev pub attach_all : SessionState A → SessionState A
+  attach_all session = record session { rule = all_unless_filter session.rule }
+
+  abbrev pub set_filter : Rule → SessionState A → SessionState A
+  set_filter rule session = record session { rule = Filter rule }
+
+  -- the records of the table of this name, none where it is not attached
+  abbrev pub records_of : AttachedTables A → List ℕ → Records A
+  records_of [] name = []
+  records_of (attached ∷ tables) name = if bytes_eq name attached.0 then attached.1 else records_of tables name
+
+  abbrev pub record_of : AttachedTables A → List ℕ → Fields A → Option (Record A)
+  record_of tables name key = get fields_cmp (records_of tables name) key
+
+  abbrev pub has_no_record : AttachedTables A → Bool
+  has_no_record tables = list_all (λ attached. nat_eq (length attached.1) 0) tables
+
+  -- the number of records
+  abbrev pub stored : AttachedTables A → ℕ
+  stored tables = sum (map (λ attached. length attached.1) tables)
+
+  -- the records are forgotten, and all else stays
+  abbrev pub restart : SessionState A → SessionState A
+  restart session = record session { tables = map (λ attached. (attached.0, [])) session.tables }

@@ -1,0 +1,159 @@
+ghost use Rattle.std.specs.Prelude.{◌≡◌, ◌++◌, [], IfOk, OnOk, OnErr};
+ghost use Rattle.cap_session.specs.Attached.{tables_of, waiting_tables};
+ghost use Rattle.cap_session.specs.Note.{attach_by, attach_by_rule, touch_tables};
+ghost use Rattle.cap_session.specs.Session.{is_listed};
+ghost use Rattle.std.specs.List.{list_any};
+ghost use Rattle.cap_value.specs.Bytes.{bytes_eq};
+
+use crate::touch::records_after;
+use crate::{AutomaticRule, Records};
+use cap_tree::Tree;
+use cap_txn::{Change, Database};
+use cap_value::{AllocHandle, Name, OutOfMemory};
+
+/// A table that is attached to a session.
+#[derive(Drop)]
+pub(crate) struct AttachedTable<A: AllocHandle> {
+    /// The table's name.
+    pub(crate) name: Name<A>,
+    /// Its records.
+    pub(crate) records: Records<A>,
+    /// Its records after changes that are not taken over yet, where they change.
+    pub(crate) waiting: Option<Records<A>>,
+}
+
+impl<A: AllocHandle> AttachedTable<A> {
+    /// A table without records.
+    pub(crate) fn new(alloc: A, name: Name<A>) -> Self
+        ensures name { result.name ≡ name }
+        ensures records { result.records ≡ [] }
+    {
+        AttachedTable {
+            name,
+            records: Tree::empty(alloc),
+            waiting: None,
+        }
+    }
+
+    /// The same table, whose records share their nodes with these.
+    pub(crate) fn copy(&self) -> Result<Self, OutOfMemory>
+        ensures name { IfOk result (λ copy. copy.name ≡ self.now.name) }
+        ensures records { IfOk result (λ copy. copy.records ≡ self.now.records) }
+    {
+        Ok(AttachedTable {
+            name: self.name.copy()?,
+            records: self.records.snapshot()?,
+            waiting: None,
+        })
+    }
+}
+
+/// Whether a table has the name.
+pub(crate) fn is_listed<A: AllocHandle>(tables: &[AttachedTable<A>], name: &Name<A>) -> bool
+    ensures { result ≡ is_listed name.now (tables_of tables.now) }
+{
+    has_table(tables, name)
+}
+
+fn has_table<A: AllocHandle>(tables: &[AttachedTable<A>], name: &Name<A>) -> bool
+    ensures { result ≡ list_any (λ table. bytes_eq name.now table.name) tables.now }
+{
+    tables.iter().any(|table| *name == table.name)
+}
+
+/// The same tables.
+pub(crate) fn copies_of<A: AllocHandle>(
+    alloc: A,
+    tables: &[AttachedTable<A>],
+) -> Result<Vec<AttachedTable<A>, A>, OutOfMemory>
+    ensures { IfOk result (λ copies. tables_of copies.items ≡ tables_of tables.now) }
+{
+    let mut copies = Vec::with_capacity(alloc, tables.len())?;
+    for table in tables {
+        copies.push(table.copy()?)?;
+    }
+    Ok(copies)
+}
+
+/// Notes changes: attaches the tables that the rule accepts, and makes the touches of all that are attached then.
+pub(crate) fn note_tables<A: AllocHandle>(
+    alloc: A,
+    tables: &mut Vec<AttachedTable<A>, A>,
+    rule: &AutomaticRule<A>,
+    before: &Database<A>,
+    indirect: bool,
+    changes: &[Change<A>],
+) -> Result<(), OutOfMemory>
+    ensures noted { OnOk result (tables_of tables.new.items ≡ touch_tables before.now indirect changes.now
+        (attach_by_rule rule.now changes.now (tables_of tables.old.items))) }
+    ensures err { OnErr result (tables_of tables.new.items ≡ tables_of tables.old.items) }
+{
+    let mut added = tables_attached(alloc, tables, rule, changes)?;
+    touch_tables(tables.as_mut_slice(), before, indirect, changes)?;
+    touch_tables(added.as_mut_slice(), before, indirect, changes)?;
+    tables.append(&mut added)?;
+    take_over(tables.as_mut_slice());
+    Ok(())
+}
+
+// The tables that the rule attaches, in the order of the changes.
+fn tables_attached<A: AllocHandle>(
+    alloc: A,
+    tables: &[AttachedTable<A>],
+    rule: &AutomaticRule<A>,
+    changes: &[Change<A>],
+) -> Result<Vec<AttachedTable<A>, A>, OutOfMemory>
+    ensures { IfOk result (λ added. tables_of tables.now ++ tables_of added.items
+        ≡ attach_by_rule rule.now changes.now (tables_of tables.now)) }
+{
+    let mut added = Vec::new(alloc);
+    for change in changes {
+        attach_by(alloc, tables, &mut added, rule, &change.table)?;
+    }
+    Ok(added)
+}
+
+fn attach_by<A: AllocHandle>(
+    alloc: A,
+    tables: &[AttachedTable<A>],
+    added: &mut Vec<AttachedTable<A>, A>,
+    rule: &AutomaticRule<A>,
+    name: &Name<A>,
+) -> Result<(), OutOfMemory>
+    ensures { OnOk result (tables_of tables.now ++ tables_of added.new.items
+        ≡ attach_by rule.now (tables_of tables.now ++ tables_of added.old.items) name.now) }
+{
+    if is_listed(tables, name) || is_listed(added, name) || !rule.accepts(name) {
+        return Ok(());
+    }
+    added.push(AttachedTable::new(alloc, name.copy()?))?;
+    Ok(())
+}
+
+// Makes the records after these changes, which wait until they are taken over.
+fn touch_tables<A: AllocHandle>(
+    tables: &mut [AttachedTable<A>],
+    before: &Database<A>,
+    indirect: bool,
+    changes: &[Change<A>],
+) -> Result<(), OutOfMemory>
+    ensures same { tables_of tables.new ≡ tables_of tables.old }
+    ensures waiting { OnOk result (waiting_tables tables.new
+        ≡ touch_tables before.now indirect changes.now (tables_of tables.old)) }
+{
+    for table in tables.iter_mut() {
+        table.waiting = records_after(&table.name, &table.records, before, indirect, changes)?;
+    }
+    Ok(())
+}
+
+// Takes over the records that wait.
+fn take_over<A: AllocHandle>(tables: &mut [AttachedTable<A>])
+    ensures { tables_of tables.new ≡ waiting_tables tables.old }
+{
+    for table in tables.iter_mut() {
+        if let Some(records) = table.waiting.take() {
+            table.records = records;
+        }
+    }
+}
