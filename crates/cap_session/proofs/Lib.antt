@@ -1,2 +1,3 @@
 mod ListLemmas
+mod NoteLemmas
 mod RecordLemmas

@@ -1,6 +1,7 @@
 -- A session: its flags, the rule by which it attaches tables by itself, and the attached tables with their records.
-use Rattle.std.specs.Prelude.{ℕ, Bool, true, false, Option, List, [], ◌∷◌, ◌++◌, map, length, sum, nat_eq, if◌then◌else◌}
-use Rattle.std.specs.List.{list_any, list_all}
+use Rattle.std.specs.Prelude.{ℕ, Bool, true, false, Option, option_and_then, List, [], ◌∷◌, ◌++◌, map, length, sum, if◌then◌else◌}
+use Rattle.std.specs.List.{list_any}
+use Rattle.std.specs.Map.{lookup}
 use Rattle.cap_value.specs.Bytes.{bytes_eq}
 use Rattle.cap_row.specs.Fields.{Fields}
 use Rattle.cap_row.specs.Key.{fields_cmp}
@@ -52,21 +53,20 @@ module _ {A : Type 0} where
   abbrev pub set_filter : Rule → SessionState A → SessionState A
   set_filter rule session = record session { rule = Filter rule }
 
-  -- the records of the table of this name, none where it is not attached
-  abbrev pub records_of : AttachedTables A → List ℕ → Records A
-  records_of [] name = []
-  records_of (attached ∷ tables) name = if bytes_eq name attached.0 then attached.1 else records_of tables name
+  -- the records of the table of this name, where it is attached
+  abbrev pub records_of : AttachedTables A → List ℕ → Option (Records A)
+  records_of tables name = lookup (bytes_eq name) tables
 
   abbrev pub record_of : AttachedTables A → List ℕ → Fields A → Option (Record A)
-  record_of tables name key = get fields_cmp (records_of tables name) key
-
-  abbrev pub has_no_record : AttachedTables A → Bool
-  has_no_record tables = list_all (λ attached. nat_eq (length attached.1) 0) tables
+  record_of tables name key = option_and_then (λ records. get fields_cmp records key) (records_of tables name)
 
   -- the number of records
   abbrev pub stored : AttachedTables A → ℕ
   stored tables = sum (map (λ attached. length attached.1) tables)
 
+  abbrev pub forget : AttachedTables A → AttachedTables A
+  forget tables = map (λ attached. (attached.0, [])) tables
+
   -- the records are forgotten, and all else stays
   abbrev pub restart : SessionState A → SessionState A
-  restart session = record session { tables = map (λ attached. (attached.0, [])) session.tables }
+  restart session = record session { tables = forget session.tables }

@@ -1,12 +1,15 @@
-ghost use Rattle.std.specs.Prelude.{◌≡◌, ◌++◌, [], IfOk, OnOk, OnErr};
+ghost use Rattle.std.specs.Prelude.{◌≡◌, ◌++◌, [], IfOk, OnOk, OnErr, nat_eq, if◌then◌else◌};
 ghost use Rattle.cap_session.specs.Attached.{tables_of, waiting_tables};
-ghost use Rattle.cap_session.specs.Note.{attach_by, attach_by_rule, touch_tables};
-ghost use Rattle.cap_session.specs.Session.{is_listed};
+ghost use Rattle.cap_session.specs.Note.{attach_by, attach_by_rule, touch_table, touch_tables, touches_found};
+ghost use Rattle.cap_session.specs.Records.{with_touches};
+ghost use Rattle.cap_session.specs.Session.{attach, forget, is_listed, records_of, stored};
+ghost use Rattle.std.specs.Option.{option_copied, unwrap_or};
 ghost use Rattle.std.specs.List.{list_any};
 ghost use Rattle.cap_value.specs.Bytes.{bytes_eq};
 
-use crate::touch::records_after;
+use crate::touch::{records_after, records_after_diff};
 use crate::{AutomaticRule, Records};
+use cap_compare::Difference;
 use cap_tree::Tree;
 use cap_txn::{Change, Database};
 use cap_value::{AllocHandle, Name, OutOfMemory};
@@ -123,7 +126,23 @@ fn attach_by<A: AllocHandle>(
     ensures { OnOk result (tables_of tables.now ++ tables_of added.new.items
         ≡ attach_by rule.now (tables_of tables.now ++ tables_of added.old.items) name.now) }
 {
-    if is_listed(tables, name) || is_listed(added, name) || !rule.accepts(name) {
+    if !rule.accepts(name) {
+        return Ok(());
+    }
+    attach_new(alloc, tables, added, name)
+}
+
+// Attaches a table behind these and those that were added, unless it is there.
+fn attach_new<A: AllocHandle>(
+    alloc: A,
+    tables: &[AttachedTable<A>],
+    added: &mut Vec<AttachedTable<A>, A>,
+    name: &Name<A>,
+) -> Result<(), OutOfMemory>
+    ensures { OnOk result (tables_of tables.now ++ tables_of added.new.items
+        ≡ attach name.now (tables_of tables.now ++ tables_of added.old.items)) }
+{
+    if is_listed(tables, name) || is_listed(added, name) {
         return Ok(());
     }
     added.push(AttachedTable::new(alloc, name.copy()?))?;
@@ -156,4 +175,106 @@ fn take_over<A: AllocHandle>(tables: &mut [AttachedTable<A>])
             table.records = records;
         }
     }
+}
+
+/// Notes a diff of the table of this name, which is attached unless it is.
+pub(crate) fn note_differences<A: AllocHandle>(
+    alloc: A,
+    tables: &mut Vec<AttachedTable<A>, A>,
+    name: &Name<A>,
+    indirect: bool,
+    differences: &[Difference<A>],
+) -> Result<(), OutOfMemory>
+    ensures noted { OnOk result (tables_of tables.new.items ≡ touch_table name.now
+        (touches_found indirect differences.now) (attach name.now (tables_of tables.old.items))) }
+    ensures err { OnErr result (tables_of tables.new.items ≡ tables_of tables.old.items) }
+{
+    let mut added = Vec::new(alloc);
+    attach_new(alloc, tables, &mut added, name)?;
+    touch_table(tables.as_mut_slice(), name, indirect, differences)?;
+    touch_table(added.as_mut_slice(), name, indirect, differences)?;
+    tables.append(&mut added)?;
+    take_over(tables.as_mut_slice());
+    Ok(())
+}
+
+// Makes the records of the table of this name after a diff, which wait until they are taken over.
+fn touch_table<A: AllocHandle>(
+    tables: &mut [AttachedTable<A>],
+    name: &Name<A>,
+    indirect: bool,
+    differences: &[Difference<A>],
+) -> Result<(), OutOfMemory>
+    ensures same { tables_of tables.new ≡ tables_of tables.old }
+    ensures waiting { OnOk result (waiting_tables tables.new
+        ≡ touch_table name.now (touches_found indirect differences.now) (tables_of tables.old)) }
+{
+    for table in tables.iter_mut() {
+        table.waiting = records_found(&table.name, &table.records, name, indirect, differences)?;
+    }
+    Ok(())
+}
+
+// The records of a table after a diff of the table of this name, or none where it is another.
+fn records_found<A: AllocHandle>(
+    own: &Name<A>,
+    records: &Records<A>,
+    name: &Name<A>,
+    indirect: bool,
+    differences: &[Difference<A>],
+) -> Result<Option<Records<A>>, OutOfMemory>
+    ensures { IfOk result (λ after. unwrap_or after records.now ≡ (if bytes_eq name.now own.now
+        then with_touches records.now (touches_found indirect differences.now) else records.now)) }
+{
+    if *name != *own {
+        return Ok(None);
+    }
+    Ok(Some(records_after_diff(records, indirect, differences)?))
+}
+
+/// Forgets all records.
+pub(crate) fn forget<A: AllocHandle>(alloc: A, tables: &mut [AttachedTable<A>])
+    ensures { tables_of tables.new ≡ forget (tables_of tables.old) }
+{
+    for table in tables.iter_mut() {
+        table.records = Tree::empty(alloc);
+    }
+}
+
+/// The records of the table of this name, where it is attached.
+pub(crate) fn records_of<'a, A: AllocHandle>(
+    tables: &'a [AttachedTable<A>],
+    name: &Name<A>,
+) -> Option<&'a Records<A>>
+    ensures { option_copied result ≡ records_of (tables_of tables.now) name.now }
+{
+    for table in tables {
+        if *name == table.name {
+            return Some(&table.records);
+        }
+    }
+    None
+}
+
+/// The number of records.
+pub(crate) fn stored<A: AllocHandle>(tables: &[AttachedTable<A>]) -> u128
+    ensures { result ≡ stored (tables_of tables.now) }
+{
+    let mut count = 0;
+    for table in tables {
+        count += table.records.len() as u128;
+    }
+    count
+}
+
+/// Whether there is no record.
+pub(crate) fn is_empty<A: AllocHandle>(tables: &[AttachedTable<A>]) -> bool
+    ensures { result ≡ nat_eq (stored (tables_of tables.now)) 0 }
+{
+    for table in tables {
+        if table.records.len() != 0 {
+            return false;
+        }
+    }
+    true
 }

@@ -1,12 +1,22 @@
 //! Sessions: which rows were touched, what they were when they were touched first, and whether only indirectly.
 #![tactic(auto)]
 
+mod attached;
 mod attached_table;
+mod laws;
 mod record;
 mod rule;
 mod session;
+#[cfg(test)]
+mod tests;
 mod touch;
 
+pub use attached::Attached;
+pub use laws::{
+    commits_touch_attached_tables, disabled_session_gains_nothing, filter_decides,
+    images_are_the_rows_before, marks_stay_direct, rule_attaches_changed_tables,
+    touches_make_these_records,
+};
 pub use record::Record;
 pub use rule::AutomaticRule;
 pub use session::Session;

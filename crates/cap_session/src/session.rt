@@ -1,11 +1,16 @@
-ghost use Rattle.std.specs.Prelude.{◌≡◌, IfOk, OnOk, OnErr, map, if◌then◌else◌};
+ghost use Rattle.std.specs.Prelude.{◌≡◌, ◌↔◌, IfOk, IsTrue, OnOk, OnErr};
 ghost use Rattle.std.specs.Option.{option_copied, unwrap_or};
 ghost use Rattle.cap_session.specs.Attached.{tables_of};
-ghost use Rattle.cap_session.specs.Note.{note};
-ghost use Rattle.cap_session.specs.Session.{SessionState, attach, attach_all, has_no_record, new_session, restart, record_of, set_filter};
+ghost use Rattle.cap_session.specs.Note.{note, note_diff};
+ghost use Rattle.cap_session.specs.Session.{attach, attach_all, new_session, record_of, records_of, restart, set_filter, stored};
 
-use crate::attached_table::{AttachedTable, copies_of, is_listed, note_tables};
+use crate::attached::Attached;
+use crate::attached_table::{
+    AttachedTable, copies_of, forget, is_empty, is_listed, note_differences, note_tables,
+    records_of, stored,
+};
 use crate::{AutomaticRule, Record, Records};
+use cap_compare::Difference;
 use cap_filter::TableFilter;
 use cap_row::Key;
 use cap_txn::{Change, Database};
@@ -142,6 +147,68 @@ impl<A: AllocHandle> Session<A> {
             self.indirect,
             changes,
         )
+    }
+
+    /// Notes a diff of a table (SQLite's sqlite3session_diff): attaches it unless it is attached, and touches each key
+    /// that differs, also where the session is not enabled. On an error the session is as before.
+    pub fn note_diff(
+        &mut self,
+        name: &Name<A>,
+        differences: &[Difference<A>],
+    ) -> Result<(), OutOfMemory>
+        ensures noted { OnOk result (self.new ≡ note_diff name.now differences.now self.old) }
+        ensures err { OnErr result (self.new ≡ self.old) }
+    {
+        note_differences(
+            self.alloc,
+            &mut self.tables,
+            name,
+            self.indirect,
+            differences,
+        )
+    }
+
+    /// Forgets all records. Flags, rule and attach list stay.
+    pub fn restart(&mut self)
+        ensures { self.new ≡ restart self.old }
+    {
+        forget(self.alloc, self.tables.as_mut_slice());
+    }
+
+    /// Whether there is no record (SQLite's sqlite3session_isempty). Where there is one, its row may still be as it
+    /// was.
+    pub fn is_empty(&self) -> bool
+        ensures { IsTrue result ↔ (stored self.now.tables ≡ 0) }
+    {
+        is_empty(&self.tables)
+    }
+
+    /// The number of records.
+    pub fn stored(&self) -> u128
+        ensures { result ≡ stored self.now.tables }
+    {
+        stored(&self.tables)
+    }
+
+    /// The attached tables in the order in which they were attached, each with its records.
+    pub fn attached(&self) -> Attached<'_, A>
+        ensures { result ≡ self.now.tables }
+    {
+        Attached::over(&self.tables)
+    }
+
+    /// The records of a table in the order of their keys, where it is attached.
+    pub fn records(&self, name: &Name<A>) -> Option<&Records<A>>
+        ensures { option_copied result ≡ records_of self.now.tables name.now }
+    {
+        records_of(&self.tables, name)
+    }
+
+    /// The record of a key, where there is one.
+    pub fn record(&self, name: &Name<A>, key: &Key<A>) -> Option<&Record<A>>
+        ensures { option_copied result ≡ record_of self.now.tables name.now key.now }
+    {
+        self.records(name)?.get(key)
     }
 
     /// The same session, which shares its records.

@@ -1,0 +1,22 @@
+use Rattle.std.proofs.Common.{get_or, arith, refl, ap, cond, true, false, ◌≡◌, ◌∙◌, Bool, ℕ, List}
+use Rattle.std.specs.Option.{unwrap_or}
+use Rattle.cap_value.specs.Bytes.{bytes_eq}
+use Rattle.cap_session.specs.Attached.{tables_of}
+use Rattle.cap_session.specs.Note.{touches_found}
+use Rattle.cap_session.specs.Records.{Records, with_touches}
+use Rattle.cap_session.proofs.ListLemmas.{loop-more}
+use Rattle.cap_session.proofs.attached_table.touch_table.Goals as goal
+
+-- a name with what is chosen
+named : {A : Type 0} (name : List ℕ) (b : Bool) (x y : Records A) → ◌≡◌ {A = List ℕ × Records A} (name, cond b x y) (cond b (name, x) (name, y))
+named name true x y = refl
+named name false x y = refl
+
+pub loop-table-preserved : goal.loop-table-preserved
+loop-table-preserved g c =
+    let old = get_or c.loop-table.tables c.loop-table.table-index c.table-item.result in
+    let touches = touches_found c.args.indirect c.args.differences.now in
+    loop-more (λ table. (table.name, table.records)) (λ table. (table.name, unwrap_or table.waiting table.records)) (λ attached. cond (bytes_eq c.args.name.now attached.0) (attached.0, with_touches attached.1 touches) attached)
+    c.loop-table.tables (tables_of c.args.tables.now) c.loop-table.table-index (record { name = old.name; records = old.records; waiting = c.in_ok-table.field-0 }) c.table-item.result
+    (omega (arith, c.loop-table-test.true, c.loop-table.auto.tables)) refl
+    (ap (λ records. (old.name, records)) c.in_ok-table.ensures ∙ named old.name (bytes_eq c.args.name.now old.name) (with_touches old.records touches) old.records) c.loop-table.invariant.0 c.loop-table.invariant.1

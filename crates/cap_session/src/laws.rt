@@ -1,0 +1,72 @@
+//! Laws of sessions, over the definitions alone. The functions do nothing.
+ghost use Rattle.std.specs.Prelude.{◌≡◌, ℕ, Bool, true, false, Some, None, [], ◌∷◌, ◌&&◌, List, if◌then◌else◌};
+ghost use Rattle.std.specs.List.{AllByRecursion, list_any};
+ghost use Rattle.std.specs.Option.{option_map};
+ghost use Rattle.cap_value.specs.Bytes.{bytes_eq};
+ghost use Rattle.cap_filter.specs.Rule.{Rule};
+ghost use Rattle.cap_row.specs.Key.{fields_cmp};
+ghost use Rattle.cap_tree.specs.Tree.{get};
+ghost use Rattle.cap_txn.specs.Read.{row_at};
+ghost use Rattle.cap_txn.specs.Tables.{Tables};
+ghost use Rattle.cap_txn.specs.declared.change.Change.{Change};
+ghost use Rattle.cap_session.specs.declared.record.Record.{Record};
+ghost use Rattle.cap_session.specs.declared.rule.AutomaticRule.{AutomaticRule};
+ghost use Rattle.cap_session.specs.Note.{attach_by_rule, note, touches_of};
+ghost use Rattle.cap_session.specs.Records.{AreTouched, Records, Touch, with_touches};
+ghost use Rattle.cap_session.specs.Session.{AttachedTables, SessionState, accepts_by, attach_all, records_of, set_filter};
+
+use cap_value::AllocHandle;
+
+/// Touches make these records: a record keeps its image, a key that is touched first has the image of its first
+/// touch, a mark is the old mark and those of all touches of the key together, and no other key gains or loses one.
+pub fn touches_make_these_records<A: AllocHandle>()
+    ensures { (before : Records A) (touches : List (Touch A)) → AreTouched before touches (with_touches before touches) }
+{}
+
+/// A mark is direct from the first direct touch of its key on, whatever touches follow.
+pub fn marks_stay_direct<A: AllocHandle>()
+    ensures { (before : Records A) (t : Touch A) (more : List (Touch A)) (r : Record A) → t.indirect ≡ false
+        → get fields_cmp (with_touches before (t ∷ more)) t.key ≡ Some r → r.indirect ≡ false }
+{}
+
+/// The touches by the changes of a commit have the rows of the database before it.
+pub fn images_are_the_rows_before<A: AllocHandle>()
+    ensures { (before : Tables A) (indirect : Bool) (name : List ℕ) (changes : List (Change A))
+        → AllByRecursion (λ (t : Touch A). t.image ≡ row_at before name t.key)
+        (touches_of before indirect name changes) }
+{}
+
+/// A commit touches the rows of just the tables that are attached after it, each with its own changes.
+pub fn commits_touch_attached_tables<A: AllocHandle>()
+    ensures { (before : Tables A) (changes : List (Change A)) (session : SessionState A) (name : List ℕ)
+        → session.enabled ≡ true → records_of (note before changes session).tables name
+        ≡ option_map (λ records. with_touches records (touches_of before session.indirect name changes))
+        (records_of (attach_by_rule session.rule changes session.tables) name) }
+{}
+
+/// What is attached stays so with its records, and of the other tables just those that the rule accepts and that have a
+/// change are attached, also where its row has no key.
+pub fn rule_attaches_changed_tables<A: AllocHandle>()
+    ensures stays { (rule : AutomaticRule A) (changes : List (Change A)) (tables : AttachedTables A)
+        (name : List ℕ) (records : Records A) → records_of tables name ≡ Some records
+        → records_of (attach_by_rule rule changes tables) name ≡ Some records }
+    ensures new { (rule : AutomaticRule A) (changes : List (Change A)) (tables : AttachedTables A)
+        (name : List ℕ) → records_of tables name ≡ None
+        → records_of (attach_by_rule rule changes tables) name
+        ≡ (if list_any (λ change. bytes_eq name change.table) changes && accepts_by rule name
+        then Some [] else None) }
+{}
+
+/// A session that is not enabled gains nothing from a commit.
+pub fn disabled_session_gains_nothing<A: AllocHandle>()
+    ensures { (before : Tables A) (changes : List (Change A)) (session : SessionState A)
+        → session.enabled ≡ false → note before changes session ≡ session }
+{}
+
+/// Where a filter is set, it decides, in whatever order the rules came.
+pub fn filter_decides<A: AllocHandle>()
+    ensures first { (rule : Rule) (session : SessionState A)
+        → attach_all (set_filter rule session) ≡ set_filter rule session }
+    ensures last { (rule : Rule) (session : SessionState A)
+        → set_filter rule (attach_all session) ≡ set_filter rule session }
+{}
