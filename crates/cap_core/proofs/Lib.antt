@@ -4,6 +4,7 @@ pub mod HistoryLemmas
 pub mod InsertLemmas
 pub mod KeyedLemmas
 pub mod LawLemmas
+pub mod MakeLemmas
 pub mod NextLemmas
 pub mod PrepareLemmas
 pub mod SmallLemmas

@@ -60,3 +60,25 @@ pub(crate) fn ask<A: AllocHandle, C: Confirm<A>>(
         Err(why) => Err(Fault::Refused(why)),
     }
 }
+
+/// The step outside as the tables ask it: it is told this reply.
+#[derive(Drop)]
+pub(crate) struct Asked<'a, 'b, A: AllocHandle, C: Confirm<A>> {
+    pub(crate) reply: &'a Reply<A>,
+    pub(crate) outside: &'b mut C,
+}
+
+impl<'a, 'b, A: AllocHandle, C: Confirm<A>> cap_tree::Confirm for Asked<'a, 'b, A, C> {
+    type Refusal = C::Refusal;
+
+    ghost use Rattle.std.specs.Prelude.{◌≡◌};
+
+    ghost can_confirm = { λ asked. C.can_confirm asked.outside.now asked.reply.now };
+
+    ghost gives = { λ old answer new. (new.outside.ghost_name ≡ old.outside.ghost_name)
+        × C.gives old.outside.now old.reply.now answer new.outside.now };
+
+    fn confirm(&mut self) -> Result<(), C::Refusal> {
+        self.outside.confirm(self.reply)
+    }
+}

@@ -1,20 +1,21 @@
 //! The server. The file is not called after its type, since no module may be called `core`.
-ghost use Rattle.std.specs.Prelude.{◌≡◌, ℕ, ◌+◌, ◌<◌, ◌^◌, ◌≤◌, [], ◌∷◌, ◌++◌, List, Some, None, Ok, Err, IfOk, IfErr, OnOk, OnErr, IsTrue, length};
+ghost use Rattle.std.specs.Prelude.{◌≡◌, ℕ, ◌+◌, ◌<◌, ◌^◌, ◌≤◌, [], ◌∷◌, ◌++◌, List, Some, None, Ok, Err, IfOk, IfErr, IsOk, OnOk, OnErr, IsTrue, length};
 ghost use Rattle.cap_core.specs.declared.event.Event.{Event};
 ghost use Rattle.cap_core.specs.Answer.{State, state, reply_of, IsLegal, event_by, history_of, answer, write_reply, session_reply, attach_reply, capture_reply, session_numbered, snapshot_of};
-ghost use Rattle.cap_core.specs.Code.Sound.{IsSoundWrite, KeepsColumns};
-ghost use Rattle.cap_core.specs.Confirm.{MatchFault};
+ghost use Rattle.cap_core.specs.Code.Sound.{IsSoundWrite, KeepsColumns, touches_stand};
+ghost use Rattle.cap_core.specs.Confirm.{MatchFault, MatchNotMade};
 ghost use Rattle.cap_core.specs.Outcome.{created, commit_unless, made, stale};
 ghost use Rattle.cap_core.specs.Transition.{next, one_more, after_write, after_new_session, after_attach, written};
-ghost use Rattle.cap_txn.specs.Operation.{run};
-ghost use Rattle.cap_txn.specs.Tables.{create};
+ghost use Rattle.cap_txn.specs.Operation.{run, step};
+ghost use Rattle.cap_txn.specs.Tables.{Tables, create};
 
 use crate::capture::changes_of;
-use crate::confirm::ask;
+use crate::confirm::{Asked, ask};
 use crate::session::{Session, copies_of_sessions, find_session, take_over, touch_sessions};
 use crate::touches::touches_by;
 use crate::{Agree, Capture, Command, Confirm, Reply, RowTouch, SESSIONS_MAX};
 use cap_row::Schema;
+use cap_table::NotMade;
 use cap_txn::{Batch, Database, Op, Outcome, Snapshot, run_ops, tables_keep_columns};
 use cap_value::{AllocHandle, Fault, Name, OutOfMemory, Refusal};
 use std::marker::Model;
@@ -208,11 +209,33 @@ impl<A: AllocHandle> Core<A> {
     {
         match stale(batch.base(), self.version) {
             Some(why) => self.keep(Reply::Refused { at: None, why }, confirm),
-            None => self.commit_ops(batch.ops(), confirm),
+            None => self.commit_now(batch.ops(), confirm),
         }
     }
 
-    // Commits operations on whatever version there is.
+    // Commits operations on whatever version there is: one in place, and others on a snapshot.
+    fn commit_now<C: Confirm<A>>(
+        &mut self,
+        ops: &[Op<A>],
+        confirm: &mut C,
+    ) -> Result<Reply<A>, Fault<C::Refusal>>
+        requires room { self.old.events + 1 < 2 ^ 63 }
+        requires can_confirm { C.can_confirm confirm.old
+            (write_reply self.old (made (run self.old.main ops.now))) }
+        ensures ok { IfOk result (λ reply. let effect = made (run self.old.main ops.now) in
+            (reply ≡ write_reply self.old effect) × (self.new ≡ after_write self.old effect)
+            × C.gives confirm.old (write_reply self.old effect) (Ok tt) confirm.new) }
+        ensures err { IfErr result (λ fault. let effect = made (run self.old.main ops.now) in
+            (self.new ≡ self.old) × MatchFault fault (confirm.new ≡ confirm.old)
+            (λ why. C.gives confirm.old (write_reply self.old effect) (Err why) confirm.new)) }
+    {
+        match ops {
+            [op] => self.commit_one(op, confirm),
+            _ => self.commit_ops(ops, confirm),
+        }
+    }
+
+    // Commits operations on a snapshot.
     fn commit_ops<C: Confirm<A>>(
         &mut self,
         ops: &[Op<A>],
@@ -237,6 +260,77 @@ impl<A: AllocHandle> Core<A> {
                 self.keep(Reply::Refused { at, why }, confirm)
             }
             Err(Fault::OutOfMemory) => Err(Fault::OutOfMemory),
+        }
+    }
+
+    // Commits one operation, in place.
+    fn commit_one<C: Confirm<A>>(
+        &mut self,
+        op: &Op<A>,
+        confirm: &mut C,
+    ) -> Result<Reply<A>, Fault<C::Refusal>>
+        requires room { self.old.events + 1 < 2 ^ 63 }
+        requires can_confirm { C.can_confirm confirm.old
+            (write_reply self.old (made (run self.old.main (op.now ∷ [])))) }
+        ensures ok { IfOk result (λ reply. let effect = made (run self.old.main (op.now ∷ [])) in
+            (reply ≡ write_reply self.old effect) × (self.new ≡ after_write self.old effect)
+            × C.gives confirm.old (write_reply self.old effect) (Ok tt) confirm.new) }
+        ensures err { IfErr result (λ fault. let effect = made (run self.old.main (op.now ∷ [])) in
+            (self.new ≡ self.old) × MatchFault fault (confirm.new ≡ confirm.old)
+            (λ why. C.gives confirm.old (write_reply self.old effect) (Err why) confirm.new)) }
+    {
+        let changes = self.main.changes_of(op)?;
+        let touches = touches_by(self.alloc, &self.main, changes.as_slice())?;
+        match self.make(op, touches.as_slice(), confirm) {
+            Ok(reply) => Ok(reply),
+            Err(NotMade::Refused(why)) => self.keep(Reply::Refused { at: Some(0), why }, confirm),
+            Err(NotMade::OutOfMemory) => Err(Fault::OutOfMemory),
+            Err(NotMade::Disagreed(why)) => Err(Fault::Refused(why)),
+        }
+    }
+
+    // Makes one operation in place, with these touches in each session.
+    fn make<C: Confirm<A>>(
+        &mut self,
+        op: &Op<A>,
+        touches: &[RowTouch<A>],
+        confirm: &mut C,
+    ) -> Result<Reply<A>, NotMade<C::Refusal>>
+        requires room { self.old.events + 1 < 2 ^ 63 }
+        requires images { IsTrue (touches_stand self.old.main touches.now) }
+        requires can_confirm { (after : Tables A) → step self.old.main op.now ≡ Ok after
+            → C.can_confirm confirm.old (Reply.Written (self.old.version + 1)) }
+        ensures ok { IfOk result (λ reply. (reply ≡ Reply.Written (self.old.version + 1))
+            × C.gives confirm.old (Reply.Written (self.old.version + 1)) (Ok tt) confirm.new) }
+        ensures state { OnOk result ((after : Tables A) × (step self.old.main op.now ≡ Ok after)
+            × (self.new ≡ written self.old after touches.now)) }
+        ensures kept { OnErr result (self.new ≡ self.old) }
+        ensures err { IfErr result (λ fault. MatchNotMade fault
+            (λ why. (step self.old.main op.now ≡ Err why) × (confirm.new ≡ confirm.old))
+            (confirm.new ≡ confirm.old)
+            (λ why. IsOk (step self.old.main op.now)
+            × C.gives confirm.old (Reply.Written (self.old.version + 1)) (Err why) confirm.new)) }
+    {
+        tables_keep_columns::<A>();
+        match touch_sessions(self.sessions.as_mut_slice(), touches) {
+            Ok(()) => {}
+            Err(_) => return Err(NotMade::OutOfMemory),
+        }
+        let reply = Reply::Written {
+            version: self.version + 1,
+        };
+        let mut asked = Asked {
+            reply: &reply,
+            outside: confirm,
+        };
+        match self.main.step_after(op, &mut asked) {
+            Ok(()) => {
+                take_over(self.sessions.as_mut_slice());
+                self.version += 1;
+                self.events += 1;
+                Ok(reply)
+            }
+            Err(fault) => Err(fault),
         }
     }
 

@@ -1,5 +1,5 @@
 -- Changes that wait for a step outside.
-use Rattle.std.specs.Prelude.{◌≡◌, ℕ, Some, Result, Ok, Err, List, length}
+use Rattle.std.specs.Prelude.{◌≡◌, ℕ, Some, Result, Ok, Err, IsOk, List, length}
 use Rattle.cap_value.specs.declared.refusal.Refusal.{Refusal as Why}
 use Rattle.cap_value.specs.declared.value.Value.{Value}
 use Rattle.cap_row.specs.Fields.{Fields}
@@ -11,12 +11,12 @@ use Rattle.cap_table.specs.declared.not_made.NotMade.TheVariants.{Refused, OutOf
 use Rattle.cap_table.specs.declared.row_ref.RowRef.{RowRef}
 
 -- The step agreed and the call left just this value; or the step was not asked, and the rules give just this refusal or
--- there was no memory; or the step did not agree.
+-- there was no memory; or the rules accept it, and the step did not agree.
 abbrev pub LeavesOnceAgreed : {S E : Type 0} → Result (Unit {0}) (NotMade E) → Result S Why → S → Type 0 → (Result (Unit {0}) E → Type 0) → Type 0
 LeavesOnceAgreed (Ok done) answer left unasked gives = (answer ≡ Ok left) × gives (Ok tt)
 LeavesOnceAgreed (Err (Refused why)) answer left unasked gives = (answer ≡ Err why) × unasked
 LeavesOnceAgreed (Err OutOfMemory) answer left unasked gives = unasked
-LeavesOnceAgreed (Err (Disagreed why)) answer left unasked gives = gives (Err why)
+LeavesOnceAgreed (Err (Disagreed why)) answer left unasked gives = IsOk answer × gives (Err why)
 
 module _ {A : Type 0} where
   -- an update leaves this row under this key, which is the one that the row had

@@ -1,0 +1,36 @@
+-- One operation as a batch of its own.
+use Rattle.std.proofs.Common.{◌≡◌, ◌+◌, ℕ, Some, Result, Ok, Err, IfOk, List, [], ◌∷◌, refl, ap, ◌∙◌}
+use Rattle.std.specs.Prelude.{IsOk}
+use Rattle.std.proofs.lemmas.List.{append-nil}
+use Rattle.cap_value.specs.declared.refusal.Refusal.{Refusal}
+use Rattle.cap_txn.specs.Operation.{and_then, changes, run, step}
+use Rattle.cap_txn.specs.Outcome.{OutcomeState}
+use Rattle.cap_txn.specs.Tables.{Tables, schema_of}
+use Rattle.cap_txn.specs.declared.change.Change.{Change}
+use Rattle.cap_txn.specs.declared.op.Op.{Op}
+use Rattle.cap_txn.specs.declared.refused_at.RefusedAt.{RefusedAt}
+use Rattle.cap_core.specs.declared.reply.Reply.TheVariants.{Written}
+use Rattle.cap_core.specs.Answer.{State, write_reply}
+use Rattle.cap_core.specs.Code.Sound.{KeepsColumns}
+use Rattle.cap_core.specs.Outcome.{made}
+use Rattle.cap_core.proofs.SoundLemmas.{run-columns}
+
+module _ {A : Type 0} (tables : Tables A) (op : Op A) where
+  one_run : (after : Tables A) → step tables op ≡ Ok after → run tables (op ∷ []) ≡ Ok (record { database = after; changes = changes tables op })
+  one_run after is =
+      ap (λ (r : Result (Tables A) Refusal). and_then (changes tables op) r (λ next. run next [])) is
+      ∙ ap (λ (cs : List (Change A)). let left : Result (OutcomeState A) RefusedAt = Ok (record { database = after; changes = cs }) in left) (append-nil (changes tables op))
+
+  pub one_made : (after : Tables A) → step tables op ≡ Ok after → made (run tables (op ∷ [])) ≡ Ok (record { database = after; changes = changes tables op })
+  one_made after is = ap made (one_run after is)
+
+  -- one operation that is accepted
+  pub one_written : (state : State A) → IsOk (step tables op) → write_reply state (made (run tables (op ∷ []))) ≡ Written (state.version + 1)
+  one_written state accepted = inner (step tables op) refl accepted
+    where
+      inner : (r : Result (Tables A) Refusal) → step tables op ≡ r → IsOk r → write_reply state (made (run tables (op ∷ []))) ≡ Written (state.version + 1)
+      inner (Ok after) is met = ap (write_reply state) (one_made after is)
+      inner (Err why) is met = cc
+
+  pub one_columns : ((tables : Tables A) (ops : List (Op A)) → IfOk (run tables ops) (λ left. (name : List ℕ) → schema_of left.database name ≡ schema_of tables name)) → (after : Tables A) → step tables op ≡ Ok after → KeepsColumns tables after
+  one_columns law after is = run-columns law tables (op ∷ []) (record { database = after; changes = changes tables op }) (one_run after is)
