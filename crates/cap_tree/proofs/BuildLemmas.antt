@@ -1,21 +1,74 @@
--- Entries in order, put one after another.
-use Rattle.std.proofs.Common.{◌≡◌, List, [], ◌∷◌, ◌++◌, refl, sym, ap, ◌∙◌, subst}
-use Rattle.std.proofs.lemmas.List.{append-nil}
+-- The last entries of a list become a node.
+use Rattle.std.proofs.Common.{◌≡◌, ℕ, zero, suc, ◌+◌, ◌-◌, ◌*◌, ◌^◌, ◌<◌, ◌≤◌, List, [], ◌∷◌, ◌++◌, length, take, drop, refl, sym, ap, ◌∙◌, subst, arith, append_assoc, length-append}
+use Rattle.std.proofs.Math.Nat.{lt_of_mul-lt-mul_right, mul-le-mul_right, pow-suc}
 use Rattle.std.specs.declared.cmp.Ordering.{Ordering}
-use Rattle.std.specs.declared.cmp.Ordering.TheVariants.{Less, Equal, Greater}
-use Rattle.std.specs.Ordering.{ordering_reverse}
-use Rattle.std.specs.Cmp.{IsTotalOrder}
-use Rattle.cap_tree.specs.Tree.{IsOrdered, put_entry}
-use Rattle.cap_tree.proofs.EntryLemmas.{Each, put_entry-past, equal_past_front}
+use Rattle.std.specs.declared.cmp.Ordering.TheVariants.{Greater}
+use Rattle.std.specs.List.{AllByRecursion}
+use Rattle.std.specs.Map.{keys_of}
+use Rattle.cap_tree.specs.declared.node.Part.{Part}
+use Rattle.cap_tree.specs.Shape.{seen, entries_of, EachBelow}
 
--- an answer that is the reverse of itself
-same_turned : (r : Ordering) → r ≡ ordering_reverse r → r ≡ Equal
-same_turned Less h = cc
-same_turned Equal h = refl
-same_turned Greater h = cc
+-- ---- how many entries each child gets
 
--- an entry above all others is put behind them
-pub put_last : {K V : Type 0} (cmp : K → K → Ordering) → IsTotalOrder cmp → (front : List (K × V)) (k : K) (v : V) (back : List (K × V)) → IsOrdered cmp (front ++ (k, v) ∷ back) → put_entry cmp front k v ≡ front ++ (k, v) ∷ []
-put_last cmp o front k v back s =
-    let above = equal_past_front cmp o k front (k, v) back s (same_turned (cmp k k) (o.antisymm k k)) in
-    ap (λ es. put_entry cmp es k v) (sym (append-nil front)) ∙ put_entry-past cmp k v front [] above
+-- all that is left goes to one more child
+pub one_more : (rest share m : ℕ) → 0 < rest → rest + m * share ≤ 16 * share → rest - rest + (m + 1) * share ≤ 16 * share
+one_more rest share m some room =
+    let fewer : m < 16 = lt_of_mul-lt-mul_right share (omega arith) in
+    let within : (m + 1) * share ≤ 16 * share = mul-le-mul_right share (omega arith) in
+    omega (arith, within)
+
+-- half of what is left goes to one more child
+pub half_more : (rest half share m : ℕ) → share < rest → rest - half ≤ share → rest + m * share ≤ 16 * share → rest - half + (m + 1) * share ≤ 16 * share
+half_more rest half share m more low room =
+    let fewer : m + 1 < 16 = lt_of_mul-lt-mul_right share (omega arith) in
+    let within : (m + 2) * share ≤ 16 * share = mul-le-mul_right share (omega arith) in
+    omega (arith, within)
+
+-- so many children at least, where each has so many entries at most
+pub at_least : (m n share : ℕ) → (m * share < n * share + share) → m ≤ n
+at_least m n share less =
+    let fewer : m < n + 1 = lt_of_mul-lt-mul_right share (omega arith) in
+    omega (arith, fewer)
+
+-- the share of a node one level down
+pub share_below : (height share : ℕ) → 0 < height → share ≡ 16 ^ height → 16 * (16 ^ (height - 1)) ≡ share
+share_below zero share some is = absurd (omega arith)
+share_below (suc h) share some is =
+    let below : suc h - 1 ≡ h = omega arith in
+    rw below (omega (arith, is, pow-suc 16 h))
+
+-- ---- the entries that are left
+
+pub cut_is : {X : Type 0} (front back : List X) (i : ℕ) → i ≡ length front → (take i (front ++ back) ≡ front) × (drop i (front ++ back) ≡ back)
+cut_is [] back zero is = (refl, refl)
+cut_is [] back (suc i) is = absurd (omega arith)
+cut_is (x ∷ xs) back zero is = absurd (omega arith)
+cut_is (x ∷ xs) back (suc i) is = let rest = cut_is xs back i (omega arith) in (ap (λ t. x ∷ t) rest.0, rest.1)
+
+pub nothing_left : {X : Type 0} (whole front back : List X) → whole ≡ front ++ back → length back ≡ length whole → back ≡ whole
+nothing_left whole [] back is all = sym is
+nothing_left whole (x ∷ xs) back is all = absurd (let count = ap length is in omega (arith, count, length-append xs back))
+
+module _ {K V : Type 0} where
+  keys_split : (P : K → Type 0) (front back : List (K × V)) → AllByRecursion P (keys_of (front ++ back)) → AllByRecursion P (keys_of front) × AllByRecursion P (keys_of back)
+  keys_split P [] back h = (tt, h)
+  keys_split P (e ∷ es) back h = let rest = keys_split P es back h.1 in ((h.0, rest.0), rest.1)
+
+  -- the entries are below each child
+  abbrev pub AreAbove : (K → K → Ordering) → List (K × V) → List (K × (List (K × V) × ℕ × ℕ)) → Type 0
+  AreAbove cmp es ps = AllByRecursion (λ q. EachBelow cmp q.0 es) ps
+
+  -- what is below each child is so in both parts
+  pub below_both : (cmp : K → K → Ordering) (ps : List (K × (List (K × V) × ℕ × ℕ))) (front back : List (K × V)) → AreAbove cmp (front ++ back) ps → AreAbove cmp front ps × AreAbove cmp back ps
+  below_both cmp [] front back h = (tt, tt)
+  below_both cmp (x ∷ xs) front back h =
+      let here = keys_split (λ y. cmp x.0 y ≡ Greater) front back h.0 in
+      let rest = below_both cmp xs front back h.1 in
+      ((here.0, rest.0), (here.1, rest.1))
+
+  -- a child more in front
+  pub more_entries : {Z : Type 0} (parts : List (Part K V Z)) (part : Part K V Z) (whole old front : List (K × V)) → whole ≡ old ++ entries_of (seen parts) → old ≡ front ++ part.node.value.0 → whole ≡ front ++ entries_of (seen (part ∷ parts))
+  more_entries parts part whole old front all is = all ∙ ap (λ l. l ++ entries_of (seen parts)) is ∙ append_assoc front part.node.value.0 (entries_of (seen parts))
+
+  pub more_count : {Z : Type 0} (parts : List (Part K V Z)) (part : Part K V Z) (size : ℕ) → length part.node.value.0 ≡ size → length (entries_of (seen (part ∷ parts))) ≡ size + length (entries_of (seen parts))
+  more_count parts part size is = rw (← is) (length-append part.node.value.0 (entries_of (seen parts)))

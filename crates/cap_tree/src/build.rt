@@ -1,11 +1,16 @@
-//! A root of a whole list of entries.
-ghost use Rattle.std.specs.Prelude.{◌≡◌, IsTrue, IfOk, ◌↔◌};
+//! The nodes of a whole list of entries at once, as full as they can be.
+ghost use Rattle.std.specs.Prelude.{◌≡◌, ℕ, ◌+◌, ◌-◌, ◌*◌, ◌^◌, ◌<◌, ◌≤◌, ◌++◌, length, vec_len, IsTrue, IfOk, ◌↔◌};
+ghost use Rattle.std.specs.Arc.{arc_value};
+ghost use Rattle.cap_tree.specs.Shape.{seen, entries_of, IsParts, IsFit, AreFit, EachBelow, NoneBelow};
 ghost use Rattle.cap_tree.specs.Tree.{IsOrdered};
 
+use crate::node::{Link, MOST, Node, Part};
 use crate::root::Root;
+use crate::shift::shift_back;
 use cap_value::Exact;
 use std::alloc::{AllocError, Allocator};
 use std::cmp::Ordering;
+use std::sync::Arc;
 
 // Whether each key is below the one that follows it.
 pub(crate) fn is_ordered<K: Ord, V>(entries: &[(K, V)]) -> bool
@@ -24,18 +29,179 @@ pub(crate) fn is_ordered<K: Ord, V>(entries: &[(K, V)]) -> bool
     true
 }
 
-// The root of these entries. Rising keys leave nodes behind that are three quarters full.
-pub(crate) fn build<K: Ord + Exact + Drop, V: Exact + Drop, A: Allocator + Copy>(
+// How many of so many entries the last child of a node gets, of which each has room for `share`: so many that no
+// child is less than half full.
+fn last_share(rest: usize, share: usize) -> usize
+    requires some { 0 < rest }
+    requires room { 0 < share }
+    requires half { share ≤ 2 * rest }
+    ensures some { 0 < result }
+    ensures within { result ≤ rest }
+    ensures most { result ≤ share }
+    ensures half { share ≤ 2 * result }
+    ensures rest_half { result < rest → share ≤ 2 * (rest - result) }
+    ensures count { (m : ℕ) → rest + m * share ≤ 16 * share → rest - result + (m + 1) * share ≤ 16 * share }
+{
+    if rest <= share {
+        return rest;
+    }
+    if rest - share < share {
+        return rest / 2;
+    }
+    share
+}
+
+// The last entries of the list, so many of them, which leave it, as a leaf.
+fn last_leaf<K: Ord + Drop, V: Drop, A: Allocator + Copy>(
+    alloc: A,
+    entries: &mut Vec<(K, V), A>,
+    count: usize,
+) -> Result<Node<K, V, A>, AllocError>
+    requires within { count ≤ vec_len entries.old }
+    requires most { count ≤ 16 }
+    ensures entries { IfOk result (λ n. entries.old.items ≡ entries.new.items ++ n.0) }
+    ensures count { IfOk result (λ n. length n.0 ≡ count) }
+    ensures height { IfOk result (λ n. n.1 ≡ 0) }
+    ensures items { IfOk result (λ n. n.2 ≡ count) }
+{
+    let mut leaf = Vec::with_capacity(alloc, MOST)?;
+    let at = entries.len() - count;
+    shift_back(entries, &mut leaf, at);
+    Ok(Node {
+        link: Link::Leaf(leaf),
+    })
+}
+
+// The last entries of the list, so many of them, which leave it, as a node of this height.
+#[cycle(last)]
+fn last_node<K: Ord + Exact + Drop, V: Drop, A: Allocator + Copy>(
+    alloc: A,
+    entries: &mut Vec<(K, V), A>,
+    height: u64,
+    share: usize,
+    count: usize,
+) -> Result<Node<K, V, A>, AllocError>
+    requires share { share ≡ 16 ^ height }
+    requires some { 0 < count }
+    requires half { share ≤ 2 * count }
+    requires most { count ≤ 16 * share }
+    requires within { count ≤ vec_len entries.old }
+    requires ordered { IsOrdered K.cmp entries.old.items }
+    ensures entries { IfOk result (λ n. entries.old.items ≡ entries.new.items ++ n.0) }
+    ensures count { IfOk result (λ n. length n.0 ≡ count) }
+    ensures height { IfOk result (λ n. n.1 ≡ height) }
+    ensures items { IfOk result (λ n. count ≤ n.2 * share) }
+{
+    if height == 0 {
+        return last_leaf(alloc, entries, count);
+    }
+    let parts = last_parts(alloc, entries, height, share, count)?;
+    Ok(Node {
+        link: Link::Inner(height, count, parts),
+    })
+}
+
+// The last entries of the list, so many of them, which leave it, as the children of a node of this height.
+#[cycle(last)]
+fn last_parts<K: Ord + Exact + Drop, V: Drop, A: Allocator + Copy>(
+    alloc: A,
+    entries: &mut Vec<(K, V), A>,
+    height: u64,
+    share: usize,
+    count: usize,
+) -> Result<Vec<Part<K, V, A>, A>, AllocError>
+    requires inner { 0 < height }
+    requires share { share ≡ 16 ^ height }
+    requires some { 0 < count }
+    requires half { share ≤ 2 * count }
+    requires most { count ≤ 16 * share }
+    requires within { count ≤ vec_len entries.old }
+    requires ordered { IsOrdered K.cmp entries.old.items }
+    ensures entries { IfOk result (λ ps. entries.old.items ≡ entries.new.items ++ entries_of (seen ps.items)) }
+    ensures count { IfOk result (λ ps. length (entries_of (seen ps.items)) ≡ count) }
+    ensures parts { IfOk result (λ ps. IsParts K.cmp height (seen ps.items)) }
+    ensures fit { IfOk result (λ ps. AreFit (seen ps.items)) }
+    ensures most { IfOk result (λ ps. vec_len ps ≤ 16) }
+    ensures items { IfOk result (λ ps. count ≤ vec_len ps * share) }
+{
+    let mut parts = Vec::with_capacity(alloc, MOST)?;
+    let mut rest = count;
+    while rest > 0 {
+        let size = last_share(rest, share);
+        let part = last_part(alloc, entries, height - 1, share / 16, size)?;
+        let Ok(()) = parts.insert(0, part) else {
+            unreachable!()
+        };
+        rest -= size;
+    }
+    Ok(parts)
+}
+
+// The last entries of the list, so many of them, which leave it, as a child of this height.
+#[cycle(last)]
+fn last_part<K: Ord + Exact + Drop, V: Drop, A: Allocator + Copy>(
+    alloc: A,
+    entries: &mut Vec<(K, V), A>,
+    height: u64,
+    share: usize,
+    count: usize,
+) -> Result<Part<K, V, A>, AllocError>
+    requires share { share ≡ 16 ^ height }
+    requires some { 0 < count }
+    requires half { 16 * share ≤ 2 * count }
+    requires most { count ≤ 16 * share }
+    requires within { count ≤ vec_len entries.old }
+    requires ordered { IsOrdered K.cmp entries.old.items }
+    ensures entries { IfOk result (λ p. entries.old.items ≡ entries.new.items ++ (arc_value p.node).0) }
+    ensures count { IfOk result (λ p. length (arc_value p.node).0 ≡ count) }
+    ensures height { IfOk result (λ p. (arc_value p.node).1 ≡ height) }
+    ensures fit { IfOk result (λ p. IsFit (arc_value p.node)) }
+    ensures below { IfOk result (λ p. EachBelow K.cmp p.least entries.new.items) }
+    ensures not_below { IfOk result (λ p. NoneBelow K.cmp p.least (arc_value p.node).0) }
+{
+    let least = entries[entries.len() - count].0.clone()?;
+    let node = last_node(alloc, entries, height, share, count)?;
+    // The length shows how many entries there are.
+    let _length = node.len();
+    let node = Arc::new(alloc, node)?;
+    Ok(Part { least, node })
+}
+
+// The least height at which a node has room for so many entries, and how many of them each of its children has room
+// for.
+fn lowest_for(count: usize) -> (u64, usize)
+    requires { 0 < count }
+    ensures share { result.1 ≡ 16 ^ result.0 }
+    ensures room { count ≤ 16 * result.1 }
+    ensures half { result.1 ≤ 2 * count }
+    ensures lowest { 0 < result.0 → result.1 < count }
+{
+    let mut height = 0u64;
+    let mut share = 1usize;
+    while (count - 1) / 16 >= share {
+        share *= 16;
+        height += 1;
+    }
+    (height, share)
+}
+
+// The root of these entries.
+pub(crate) fn build<K: Ord + Exact + Drop, V: Drop, A: Allocator + Copy>(
     alloc: A,
     entries: Vec<(K, V), A>,
 ) -> Result<Root<K, V, A>, AllocError>
     requires { IsOrdered K.cmp entries.items }
     ensures { IfOk result (λ root. root ≡ entries.items) }
 {
-    let mut root = Root::empty();
-    let mut rest = entries.into_iter();
-    while let Some((key, value)) = rest.next() {
-        root.put(alloc, key, value)?;
+    let mut entries = entries;
+    let count = entries.len();
+    if count == 0 {
+        return Ok(Root::empty());
     }
+    let (height, share) = lowest_for(count);
+    let node = last_node(alloc, &mut entries, height, share, count)?;
+    let root = Root {
+        node: Some(Arc::new(alloc, node)?),
+    };
     Ok(root)
 }

@@ -265,7 +265,7 @@ impl<K: Ord + Exact + Drop, V: Exact + Drop, A: Allocator + Copy> Tree<K, V, A> 
     }
 
     /// The tree of a list of entries, or none where some key is not below the one that follows it. It takes time in
-    /// proportion to the number of entries and its logarithm.
+    /// proportion to the number of entries, and its nodes are as full as they can be.
     pub fn from_sorted(alloc: A, entries: Vec<(K, V), A>) -> Result<Option<Self>, AllocError>
         ensures entries { IfOk result (λ o. IfSome o (λ t. t ≡ entries.items)) }
         ensures ordered { IfOk result (λ o. IsSome o ↔ IsOrdered K.cmp entries.items) }

@@ -1,0 +1,135 @@
+use Rattle.std.proofs.Common.{◌≡◌, ◌+◌, ◌-◌, ◌*◌, ◌/◌, ◌^◌, ◌<◌, ◌≤◌, ◌∷◌, ◌++◌, length, vec_len, take, drop, length-append, refl, sym, ap, ◌∙◌, subst, arith, lit<, rules}
+use Rattle.std.proofs.lemmas.List.{append-nil}
+use Rattle.std.proofs.Math.Nat.{lt_of_mul-lt-mul_right, one-le-pow}
+use Rattle.cap_tree.specs.Shape.{seen, entries_of, IsChild, EachBelow, NoneBelow}
+use Rattle.cap_tree.specs.Tree.{IsOrdered}
+use Rattle.cap_tree.proofs.BuildLemmas.{at_least, share_below, cut_is, below_both, more_entries, more_count}
+use Rattle.cap_tree.proofs.EntryLemmas.{ordered_front}
+use Rattle.cap_tree.proofs.SplitLemmas.{leaf_below, leaf_above}
+use Rattle.cap_tree.proofs.build.+last.Goals as goal
+
+pub last_part-index-requires : goal.last_part-index-requires
+last_part-index-requires g t c =
+    let at : c.len.result - c.args.count < vec_len c.args.entries.now = omega (arith, c.len.ensures, c.requires.some, c.requires.within) in
+    at
+
+pub last_part-last_node-requires : goal.last_part-last_node-requires
+last_part-last_node-requires g t c =
+    let half : c.args.share ≤ 2 * c.args.count = omega (arith, c.requires.half) in
+    let level : 3 * c.args.height + 2 < 3 * c.args.height + 3 = omega arith in
+    λ κs h. search rules
+
+pub last_part-returns-clause-fit : goal.last_part-returns-clause-fit
+last_part-returns-clause-fit g t c =
+    let some : 1 ≤ c.args.share = rw c.requires.share (one-le-pow c.args.height 16 (lit< tt)) in
+    let items = at_least 8 c.in_ok-node.node.2 c.args.share (omega (arith, c.requires.half, c.in_ok-node.ensures.items, some)) in
+    rw c.in_ok-node-2.ensures.ok (omega (arith, items), omega (arith, c.len-length.ensures.value, c.len-length.ensures.most), c.len-length.ensures.filled)
+
+pub last_part-returns-clause-below : goal.last_part-returns-clause-below
+last_part-returns-clause-below g t c =
+    let front = c.last_node.new.entries.items in
+    let back = c.in_ok-node.node.0 in
+    let es = c.args.entries.now.items in
+    let i = c.len.result - c.args.count in
+    let e = c.in_ok-node.ensures.entries in
+    let at : i ≡ length front = omega (arith, ap length e, length-append front back, c.in_ok-node.ensures.count, c.len.ensures, c.args.entries.now.ok.0, c.requires.within) in
+    let within : i < length es = omega (arith, c.len.ensures, c.args.entries.now.ok.0, c.requires.some, c.requires.within) in
+    let least = g.met.K.Exact.exact _ _ c.in_ok-least.ensures.cases in
+    subst (λ l. EachBelow g.K.Ord.cmp c.in_ok-least.least l) (ap (take i) e ∙ (cut_is front back i at).0) (leaf_below g.K.Ord.cmp g.met.K.Ord.total es i c.index.result.now c.in_ok-least.least within c.index.ensures least c.requires.ordered)
+
+pub last_part-returns-clause-not_below : goal.last_part-returns-clause-not_below
+last_part-returns-clause-not_below g t c =
+    let front = c.last_node.new.entries.items in
+    let back = c.in_ok-node.node.0 in
+    let es = c.args.entries.now.items in
+    let i = c.len.result - c.args.count in
+    let e = c.in_ok-node.ensures.entries in
+    let at : i ≡ length front = omega (arith, ap length e, length-append front back, c.in_ok-node.ensures.count, c.len.ensures, c.args.entries.now.ok.0, c.requires.within) in
+    let within : i < length es = omega (arith, c.len.ensures, c.args.entries.now.ok.0, c.requires.some, c.requires.within) in
+    let least = g.met.K.Exact.exact _ _ c.in_ok-least.ensures.cases in
+    rw c.in_ok-node-2.ensures.ok (subst (λ l. NoneBelow g.K.Ord.cmp c.in_ok-least.least l) (ap (drop i) e ∙ (cut_is front back i at).1) (leaf_above g.K.Ord.cmp g.met.K.Ord.total es i c.index.result.now c.in_ok-least.least within c.index.ensures least c.requires.ordered))
+
+pub last_parts-loop-rest-init : goal.last_parts-loop-rest-init
+last_parts-loop-rest-init g t c =
+    let none = c.in_ok-parts.ensures.items in
+    let len = c.in_ok-parts.ensures.len in
+    record {
+      all = rw none (sym (append-nil c.args.entries.now.items));
+      count = rw none (omega arith);
+      parts = rw none tt;
+      fit = rw none tt;
+      below = rw none tt;
+      half = λ _. c.requires.half;
+      room = rw len (omega (arith, c.requires.most));
+      covered = rw none (omega arith);
+      capacity = omega (arith, c.in_ok-parts.ensures.capacity);
+    }
+
+pub last_parts-last_share-size-requires-clause-half : goal.last_parts-last_share-size-requires-clause-half
+last_parts-last_share-size-requires-clause-half g t c = c.loop-rest.invariant.half c.loop-rest-test.true
+
+pub last_parts-last_part-requires : goal.last_parts-last_part-requires
+last_parts-last_part-requires g t c =
+    let i = c.loop-rest.invariant in
+    let s = c.last_share-size.ensures in
+    let whole = share_below c.args.height c.args.share c.requires.inner c.requires.share in
+    let down : c.args.share / 16 ≡ 16 ^ (c.args.height - 1) = omega (arith, whole) in
+    let some : 0 < c.last_share-size.result = s.some in
+    let half : 16 * (c.args.share / 16) ≤ 2 * c.last_share-size.result = omega (arith, whole, s.half) in
+    let most : c.last_share-size.result ≤ 16 * (c.args.share / 16) = omega (arith, whole, s.most) in
+    let within : c.last_share-size.result ≤ vec_len c.loop-rest.entries = omega (arith, s.within, i.count, c.requires.within, ap length i.all, length-append c.loop-rest.entries.items (entries_of (seen c.loop-rest.parts.items)), c.loop-rest.entries.ok.0, c.args.entries.now.ok.0) in
+    let ordered : IsOrdered g.K.Ord.cmp c.loop-rest.entries.items = ordered_front g.K.Ord.cmp c.loop-rest.entries.items (entries_of (seen c.loop-rest.parts.items)) (subst (IsOrdered g.K.Ord.cmp) i.all c.requires.ordered) in
+    let level : 3 * (c.args.height - 1) + 3 < 3 * c.args.height + 1 = omega (arith, c.requires.inner) in
+    λ κs h. search rules
+
+pub last_parts-unreachable-requires : goal.last_parts-unreachable-requires
+last_parts-unreachable-requires g t c =
+    let i = c.loop-rest.invariant in
+    let fewer : vec_len c.loop-rest.parts < 16 = lt_of_mul-lt-mul_right c.args.share (omega (arith, i.room, c.loop-rest-test.true)) in
+    omega (arith, fewer, i.capacity, c.in_default.ensures.full)
+
+pub last_parts-loop-rest-preserved : goal.last_parts-loop-rest-preserved
+last_parts-loop-rest-preserved g t c =
+    let i = c.loop-rest.invariant in
+    let s = c.last_share-size.ensures in
+    let e = c.in_ok-part.ensures in
+    let parts = c.loop-rest.parts.items in
+    let part = c.in_ok-part.part in
+    let front = c.last_part.new.entries.items in
+    let size = c.last_share-size.result in
+    let is : c.insert.new.self.items ≡ part ∷ parts = c.in-Ok.ensures.items in
+    let len = c.in-Ok.ensures.len in
+    let child : IsChild c.args.height part.node.value = (omega (arith, e.height, c.requires.inner), omega (arith, e.count, s.some)) in
+    let more = more_count parts part size e.count in
+    let both = below_both g.K.Ord.cmp (seen parts) front part.node.value.0 (rw e.entries at i.below) in
+    record {
+      all = rw is (more_entries parts part c.args.entries.now.items c.loop-rest.entries.items front i.all e.entries);
+      count = rw is (omega (arith, more, i.count, s.within));
+      parts = rw is (child, e.not_below, both.1, i.parts);
+      fit = rw is (e.fit, i.fit);
+      below = rw is (e.below, both.0);
+      half = λ some. s.rest_half (omega (arith, some));
+      room = rw len (s.count (vec_len c.loop-rest.parts) i.room);
+      covered = rw (is, len) (omega (arith, more, i.covered, s.most));
+      capacity = omega (arith, c.in-Ok.ensures.capacity, i.capacity);
+    }
+
+pub last_parts-returns-clause-entries : goal.last_parts-returns-clause-entries
+last_parts-returns-clause-entries g t c = c.loop-rest.invariant.all
+
+pub last_parts-returns-clause-count : goal.last_parts-returns-clause-count
+last_parts-returns-clause-count g t c = omega (arith, c.loop-rest.invariant.count, c.loop-rest-test.false)
+
+pub last_parts-returns-clause-parts : goal.last_parts-returns-clause-parts
+last_parts-returns-clause-parts g t c = c.loop-rest.invariant.parts
+
+pub last_parts-returns-clause-fit : goal.last_parts-returns-clause-fit
+last_parts-returns-clause-fit g t c = c.loop-rest.invariant.fit
+
+pub last_parts-returns-clause-most : goal.last_parts-returns-clause-most
+last_parts-returns-clause-most g t c =
+    let some : 1 ≤ c.args.share = rw c.requires.share (one-le-pow c.args.height 16 (lit< tt)) in
+    at_least (vec_len c.loop-rest.parts) 16 c.args.share (omega (arith, c.loop-rest.invariant.room, some))
+
+pub last_parts-returns-clause-items : goal.last_parts-returns-clause-items
+last_parts-returns-clause-items g t c = omega (arith, c.loop-rest.invariant.covered, c.loop-rest.invariant.count, c.loop-rest-test.false)
