@@ -11,7 +11,7 @@ use Rattle.cap_value.specs.declared.refusal.Refusal.{Refusal}
 use Rattle.cap_row.specs.Fields.{Fields}
 use Rattle.cap_row.specs.Key.{fields_cmp}
 use Rattle.cap_tree.specs.Tree.{get, put_entry}
-use Rattle.cap_table.specs.Made.{LeavesUnlessMemory}
+use Rattle.cap_value.specs.Memory.{LeavesUnlessMemory}
 use Rattle.cap_table.specs.Table.{TableState}
 use Rattle.cap_txn.specs.Tables.{Tables, table_of}
 use Rattle.cap_changes.specs.Entries.{TableEntries}

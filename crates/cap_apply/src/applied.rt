@@ -1,6 +1,5 @@
 ghost use Rattle.std.specs.Prelude.{◌≡◌, ◌≤◌, ◌+◌, ◌++◌, None, length, vec_len, vec_capacity, IfOk, OnOk, OnErr, is_some, if◌then◌else◌};
-ghost use Rattle.cap_value.specs.Memory.{AnswersUnlessMemory};
-ghost use Rattle.cap_table.specs.Made.{LeavesUnlessMemory};
+ghost use Rattle.cap_value.specs.Memory.{AnswersUnlessMemory, LeavesUnlessMemory};
 ghost use Rattle.cap_txn.specs.Operation.{changes_told};
 ghost use Rattle.cap_apply.specs.Apply.{counted, left_out, noted, nothing_applied, skipped};
 ghost use Rattle.cap_apply.specs.Operated.{operated};

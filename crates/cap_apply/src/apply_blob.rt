@@ -1,7 +1,6 @@
 //! A blob on a database.
 ghost use Rattle.std.specs.Prelude.{◌≡◌, ◌+◌, ◌<◌, ◌^◌, length, map, IsTrue, is_some};
-ghost use Rattle.cap_value.specs.Memory.{AnswersUnlessMemory};
-ghost use Rattle.cap_table.specs.Made.{LeavesUnlessMemory};
+ghost use Rattle.cap_value.specs.Memory.{AnswersUnlessMemory, LeavesUnlessMemory};
 ghost use Rattle.cap_apply.specs.Apply.{changes_applied, groups_applied};
 ghost use Rattle.cap_apply.specs.Apply as whole;
 ghost use Rattle.cap_apply.specs.Asked.{asked_in};

@@ -1,7 +1,7 @@
 //! Changes of a changeset and of a patchset, as they are applied.
 ghost use Rattle.std.specs.Prelude.{Bool, List, IsTrue, is_some};
 ghost use Rattle.cap_row.specs.Schema.{has_key};
-ghost use Rattle.cap_table.specs.Made.{LeavesUnlessMemory};
+ghost use Rattle.cap_value.specs.Memory.{LeavesUnlessMemory};
 ghost use Rattle.cap_apply.specs.Apply.{change_applied};
 ghost use Rattle.cap_apply.specs.Asked.{Asked};
 ghost use Rattle.cap_apply.specs.Target.{target};

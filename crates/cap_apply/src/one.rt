@@ -4,7 +4,7 @@ ghost use Rattle.cap_row.specs.Key.{fields_cmp, is_key};
 ghost use Rattle.cap_row.specs.Schema.{has_key};
 ghost use Rattle.cap_tree.specs.Tree.{get};
 ghost use Rattle.cap_table.specs.Table.{TableState};
-ghost use Rattle.cap_table.specs.Made.{LeavesUnlessMemory};
+ghost use Rattle.cap_value.specs.Memory.{LeavesUnlessMemory};
 ghost use Rattle.cap_txn.specs.Tables.{table_of};
 ghost use Rattle.cap_txn.specs.declared.cause.Cause.TheVariants.{Direct};
 ghost use Rattle.cap_changes.specs.Demands.{demands, meet};

@@ -1,6 +1,5 @@
 pub mod Answer
 pub mod Code
-pub mod Confirm
 pub mod History
 pub mod Insert
 pub mod Outcome

@@ -1,6 +1,6 @@
 ghost use Rattle.std.specs.Prelude.{◌≡◌, Result, Ok, IfErr, OnOk};
 ghost use Rattle.cap_core.specs.declared.reply.Reply.{Reply};
-ghost use Rattle.cap_core.specs.Confirm.{MatchFault};
+ghost use Rattle.cap_value.specs.Memory.{MatchFault};
 
 use crate::Reply;
 use cap_value::{AllocHandle, Fault};

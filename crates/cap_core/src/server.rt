@@ -3,7 +3,8 @@ ghost use Rattle.std.specs.Prelude.{◌≡◌, ℕ, ◌+◌, ◌<◌, ◌^◌, �
 ghost use Rattle.cap_core.specs.declared.event.Event.{Event};
 ghost use Rattle.cap_core.specs.Answer.{State, state, reply_of, IsLegal, event_by, history_of, answer, write_reply, session_reply, attach_reply, capture_reply, session_numbered, snapshot_of};
 ghost use Rattle.cap_core.specs.Code.Sound.{IsSoundWrite, KeepsColumns, touches_stand};
-ghost use Rattle.cap_core.specs.Confirm.{MatchFault, MatchNotMade};
+ghost use Rattle.cap_value.specs.Memory.{MatchFault};
+ghost use Rattle.cap_table.specs.NotMade.{MatchNotMade};
 ghost use Rattle.cap_core.specs.Outcome.{created, commit_unless, made, stale};
 ghost use Rattle.cap_core.specs.Transition.{next, one_more, after_write, after_new_session, after_attach, written};
 ghost use Rattle.cap_txn.specs.Operation.{run, step};

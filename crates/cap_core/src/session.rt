@@ -3,7 +3,7 @@ ghost use Rattle.std.specs.List.{list_any, position};
 ghost use Rattle.cap_value.specs.Bytes.{bytes_eq};
 ghost use Rattle.cap_core.specs.Answer.{session_numbered};
 ghost use Rattle.cap_core.specs.Code.Attached.{tables_of, sessions_of, waiting_sessions};
-ghost use Rattle.cap_core.specs.Confirm.{MatchFault};
+ghost use Rattle.cap_value.specs.Memory.{MatchFault};
 ghost use Rattle.cap_core.specs.Transition.{attach, touch_sessions};
 
 use crate::attached_table::{AttachedTable, take_over_tables, touch_tables};

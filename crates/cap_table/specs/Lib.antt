@@ -1,6 +1,6 @@
 pub mod After
-pub mod Made
 pub mod Operation
 pub mod Scan
 pub mod Sound
 pub mod Table
+pub mod NotMade

@@ -1,11 +1,10 @@
 //! Operations on one table, in place. Each finds all its memory before it changes anything.
 ghost use Rattle.std.specs.Prelude.{◌≡◌, ◌<◌, ◌^◌, length, IfOk, OnErr, IsTrue, Some, None, is_some};
 ghost use Rattle.std.specs.Ordering.{nat_cmp};
-ghost use Rattle.cap_value.specs.Memory.{AnswersUnlessMemory};
+ghost use Rattle.cap_value.specs.Memory.{AnswersUnlessMemory, LeavesUnlessMemory, RefusesFirst};
 ghost use Rattle.cap_row.specs.Key.{key_of, fields_cmp};
 ghost use Rattle.cap_row.specs.Row.{row_with};
 ghost use Rattle.cap_tree.specs.Tree.{get};
-ghost use Rattle.cap_table.specs.Made.{LeavesUnlessMemory, RefusesFirst};
 ghost use Rattle.cap_table.specs.Operation.{insert_row, update_row, delete_row, moved, rekeyed, under_key, under_next_id, with_id, without, row_of, refused_insert, refused_update};
 
 use crate::table::{IDS_END, Table};

@@ -4,4 +4,3 @@ pub mod Shape
 pub mod Falls
 pub mod Path
 pub mod Root
-pub mod Fault

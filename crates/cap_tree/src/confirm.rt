@@ -1,6 +1,6 @@
 //! Changes that wait until another one is done.
 ghost use Rattle.std.specs.Prelude.{Result, ◌≡◌, Ok, Err, IfErr, OnOk};
-ghost use Rattle.cap_tree.specs.Fault.{MatchFault};
+ghost use Rattle.cap_value.specs.Memory.{MatchFault};
 
 use cap_value::Fault;
 

@@ -1,6 +1,6 @@
 //! Several trees that change together.
 ghost use Rattle.std.specs.Prelude.{◌≡◌, ◌∷◌, Ok, Err, IfErr, OnOk, OnErr};
-ghost use Rattle.cap_tree.specs.Fault.{MatchFault};
+ghost use Rattle.cap_value.specs.Memory.{MatchFault};
 ghost use Rattle.cap_tree.specs.Tree.{put_entry, put_each};
 
 use crate::Tree;

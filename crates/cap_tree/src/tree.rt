@@ -4,7 +4,7 @@ ghost use Rattle.std.specs.Option.{option_copied};
 ghost use Rattle.std.specs.List.{All};
 ghost use Rattle.std.specs.BTreeMap.Range.{entries_below, entries_from};
 ghost use Rattle.std.specs.Map.Iter.{ShowsInOrder, ShowsValuesInOrder, deref_pair};
-ghost use Rattle.cap_tree.specs.Fault.{MatchFault};
+ghost use Rattle.cap_value.specs.Memory.{MatchFault};
 ghost use Rattle.cap_tree.specs.Tree.{IsOrdered, get, put_entry, take_entry, Updates};
 
 use crate::build::{build, is_ordered};

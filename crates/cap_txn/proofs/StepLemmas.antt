@@ -11,7 +11,7 @@ use Rattle.cap_value.specs.declared.memory.Fault.TheVariants.{Refused, OutOfMemo
 use Rattle.cap_value.specs.declared.refusal.Refusal.{Refusal}
 use Rattle.cap_row.specs.Fields.{Fields}
 use Rattle.cap_tree.specs.Tree.{IsOrdered, get, put_entry}
-use Rattle.cap_table.specs.Made.{LeavesUnlessMemory, RefusesFirst}
+use Rattle.cap_value.specs.Memory.{LeavesUnlessMemory, RefusesFirst}
 use Rattle.cap_table.specs.Operation.{empty_table}
 use Rattle.std.proofs.lemmas.List.{take_more}
 use Rattle.cap_txn.specs.Tables.{create, created}

@@ -1,5 +1,5 @@
 ghost use Rattle.std.specs.Prelude.{◌≡◌, ◌≤◌, Some, None, [], length, OnErr};
-ghost use Rattle.cap_table.specs.Made.{LeavesUnlessMemory, RefusesFirst};
+ghost use Rattle.cap_value.specs.Memory.{LeavesUnlessMemory, RefusesFirst};
 ghost use Rattle.cap_txn.specs.Batch.{push, refused_push};
 
 use crate::Op;

@@ -3,7 +3,7 @@ ghost use Rattle.std.specs.Option.{option_copied};
 ghost use Rattle.cap_value.specs.Bytes.{bytes_cmp};
 ghost use Rattle.cap_tree.specs.Tree.{IsOrdered};
 ghost use Rattle.cap_table.specs.After.{LeavesOnceAgreed};
-ghost use Rattle.cap_table.specs.Made.{LeavesUnlessMemory, RefusesFirst};
+ghost use Rattle.cap_value.specs.Memory.{LeavesUnlessMemory, RefusesFirst};
 ghost use Rattle.cap_txn.specs.Tables.{Tables, create, refused_create, table_of};
 ghost use Rattle.cap_txn.specs.Operation.{step, changes_told, changes, row_before};
 ghost use Rattle.cap_txn.specs.Read.{read, rows_of, Lends};

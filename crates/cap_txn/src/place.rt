@@ -5,7 +5,7 @@ ghost use Rattle.cap_value.specs.Bytes.{bytes_cmp};
 ghost use Rattle.cap_tree.specs.Tree.{IsOrdered, get, put_entry};
 ghost use Rattle.cap_table.specs.After.{LeavesOnceAgreed};
 ghost use Rattle.cap_txn.specs.Tables.{Tables};
-ghost use Rattle.cap_table.specs.Made.{LeavesUnlessMemory};
+ghost use Rattle.cap_value.specs.Memory.{LeavesUnlessMemory};
 ghost use Rattle.cap_table.specs.Table.{TableState};
 ghost use Rattle.cap_txn.specs.Operation.{act, step, changes_told, changes, row_before};
 

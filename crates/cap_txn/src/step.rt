@@ -1,5 +1,5 @@
 ghost use Rattle.std.specs.Prelude.{◌≡◌, IfOk, OnErr};
-ghost use Rattle.cap_table.specs.Made.{LeavesUnlessMemory};
+ghost use Rattle.cap_value.specs.Memory.{LeavesUnlessMemory};
 ghost use Rattle.cap_txn.specs.Operation.{act, changed_keys, changes_to, changes_told, old_row};
 ghost use Rattle.cap_table.specs.Operation.{key_of_name};
 

@@ -1,5 +1,5 @@
 ghost use Rattle.std.specs.Prelude.{◌≡◌, ◌<◌, ◌≤◌, ◌+◌, Some, None, length, take, slice_index_or, MatchOption, IfOk, OnErr};
-ghost use Rattle.cap_table.specs.Made.{LeavesUnlessMemory, RefusesFirst};
+ghost use Rattle.cap_value.specs.Memory.{LeavesUnlessMemory, RefusesFirst};
 ghost use Rattle.cap_txn.specs.Batch.{refused_push};
 ghost use Rattle.cap_txn.specs.Read.{read, rows_of, Lends};
 ghost use Rattle.cap_txn.specs.Transaction.{begin, after_op, after_savepoint, refused_savepoint, after_back, numbered, up_to, batch_of};

@@ -1,7 +1,7 @@
 use Rattle.std.proofs.Common.{ap, subst, ◌∙◌}
 use Rattle.std.proofs.lemmas.Bool.{and_parts}
 use Rattle.cap_row.specs.Key.{is_key}
-use Rattle.cap_table.specs.Made.{LeavesUnlessMemory}
+use Rattle.cap_value.specs.Memory.{LeavesUnlessMemory}
 use Rattle.cap_changes.specs.Demands.{demands, new_demands, meet}
 use Rattle.cap_changes.specs.declared.rule.Rule.TheVariants as rules
 use Rattle.cap_changes.proofs.PatchLemmas.{update_fits}
