@@ -117,7 +117,8 @@ fn last_parts<K: Ord + Exact + Drop, V: Drop, A: Allocator + Copy>(
     requires most { count ≤ 16 * share }
     requires within { count ≤ vec_len entries.old }
     requires ordered { IsOrdered K.cmp entries.old.items }
-    ensures entries { IfOk result (λ ps. entries.old.items ≡ entries.new.items ++ entries_of (seen ps.items)) }
+    ensures entries { IfOk result (λ ps. entries.old.items
+        ≡ entries.new.items ++ entries_of (seen ps.items)) }
     ensures count { IfOk result (λ ps. length (entries_of (seen ps.items)) ≡ count) }
     ensures parts { IfOk result (λ ps. IsParts K.cmp height (seen ps.items)) }
     ensures fit { IfOk result (λ ps. AreFit (seen ps.items)) }

@@ -47,7 +47,8 @@ fn put_below<K: Ord + Exact + Drop, V: Exact + Drop, A: Allocator + Copy, C: Con
     requires fits { length (arc_value root.old).0 + 1 < 2 ^ 64 }
     requires two { 0 < (arc_value root.old).1 → 1 < (arc_value root.old).2 }
     ensures confirmed { OnOk result (C.gives confirm.old (Ok tt) confirm.new) }
-    ensures refused { IfErr result (λ fault. MatchFault fault (confirm.new ≡ confirm.old) (λ why. C.gives confirm.old (Err why) confirm.new)) }
+    ensures refused { IfErr result (λ fault. MatchFault fault (confirm.new ≡ confirm.old)
+        (λ why. C.gives confirm.old (Err why) confirm.new)) }
     ensures two { 0 < (arc_value root.new).1 → 1 < (arc_value root.new).2 }
     ensures err { OnErr result ((arc_value root.new).0 ≡ (arc_value root.old).0) }
     ensures ok { OnOk result ((arc_value root.new).0 ≡ put_entry K.cmp (arc_value root.old).0 key value) }
@@ -100,7 +101,8 @@ fn take_below<K: Ord + Exact + Drop, V: Exact + Drop, A: Allocator + Copy, C: Co
     requires ordered { IsOrdered K.cmp (arc_value root.old).0 }
     requires two { 0 < (arc_value root.old).1 → 1 < (arc_value root.old).2 }
     ensures confirmed { OnOk result (C.gives confirm.old (Ok tt) confirm.new) }
-    ensures refused { IfErr result (λ fault. MatchFault fault (confirm.new ≡ confirm.old) (λ why. C.gives confirm.old (Err why) confirm.new)) }
+    ensures refused { IfErr result (λ fault. MatchFault fault (confirm.new ≡ confirm.old)
+        (λ why. C.gives confirm.old (Err why) confirm.new)) }
     ensures two { 0 < (arc_value root.new).1 → 1 < (arc_value root.new).2 }
     ensures err { OnErr result ((arc_value root.new).0 ≡ (arc_value root.old).0) }
     ensures ok { OnOk result ((arc_value root.new).0 ≡ take_entry K.cmp (arc_value root.old).0 key.now) }
@@ -130,7 +132,8 @@ impl<K: Ord + Exact + Drop, V: Exact + Drop, A: Allocator + Copy> Root<K, V, A> 
         requires ordered { IsOrdered K.cmp self.old }
         requires fits { length self.old + 1 < 2 ^ 64 }
         ensures confirmed { OnOk result (C.gives confirm.old (Ok tt) confirm.new) }
-        ensures refused { IfErr result (λ fault. MatchFault fault (confirm.new ≡ confirm.old) (λ why. C.gives confirm.old (Err why) confirm.new)) }
+        ensures refused { IfErr result (λ fault. MatchFault fault (confirm.new ≡ confirm.old)
+            (λ why. C.gives confirm.old (Err why) confirm.new)) }
         ensures err { OnErr result (self.new ≡ self.old) }
         ensures ok { OnOk result (self.new ≡ put_entry K.cmp self.old key value) }
         ensures replaced { IfOk result (λ o. o ≡ get K.cmp self.old key) }
@@ -156,7 +159,8 @@ impl<K: Ord + Exact + Drop, V: Exact + Drop, A: Allocator + Copy> Root<K, V, A> 
         requires can_confirm { C.can_confirm confirm.old }
         requires ordered { IsOrdered K.cmp self.old }
         ensures confirmed { OnOk result (C.gives confirm.old (Ok tt) confirm.new) }
-        ensures refused { IfErr result (λ fault. MatchFault fault (confirm.new ≡ confirm.old) (λ why. C.gives confirm.old (Err why) confirm.new)) }
+        ensures refused { IfErr result (λ fault. MatchFault fault (confirm.new ≡ confirm.old)
+            (λ why. C.gives confirm.old (Err why) confirm.new)) }
         ensures err { OnErr result (self.new ≡ self.old) }
         ensures ok { OnOk result (self.new ≡ take_entry K.cmp self.old key.now) }
         ensures removed { IfOk result (λ o. o ≡ get K.cmp self.old key.now) }

@@ -16,7 +16,8 @@ pub(crate) fn child_for<'a, K: Ord, V, A: Allocator>(
     key: &K,
 ) -> (&'a Part<K, V, A>, &'a [Part<K, V, A>])
     requires { 0 < length parts.now }
-    ensures { (h : ℕ) → IsParts K.cmp h (seen parts.now) → drop (place K.cmp key.now (seen parts.now) - 1) parts.now ≡ result.0.now ∷ result.1.now }
+    ensures { (h : ℕ) → IsParts K.cmp h (seen parts.now)
+        → drop (place K.cmp key.now (seen parts.now) - 1) parts.now ≡ result.0.now ∷ result.1.now }
 {
     let (_, from) = parts.split_at(count_up_to(parts, key).saturating_sub(1));
     let Some((child, behind)) = from.split_first() else {

@@ -60,7 +60,8 @@ pub(crate) fn next_leaf<'a, K: Ord, V, A: Allocator>(
 ) -> Option<&'a [(K, V)]>
     requires { IsPath ROOM path.old }
     ensures path { IsPath ROOM path.new }
-    ensures gives { MatchOption result ((pending path.old ≡ []) × (pending path.new ≡ [])) (λ leaf. (pending path.old ≡ leaf.now ++ pending path.new) × (0 < length leaf.now)) }
+    ensures gives { MatchOption result ((pending path.old ≡ []) × (pending path.new ≡ []))
+        (λ leaf. (pending path.old ≡ leaf.now ++ pending path.new) × (0 < length leaf.now)) }
 {
     while let Some(parts) = path.pop() {
         if let Some((child, behind)) = parts.split_first() {
@@ -95,7 +96,8 @@ pub(crate) fn seek<'a, K: Ord, V, A: Allocator>(
     requires ordered { IsOrdered K.cmp node.now.0 }
     requires path { IsPath ROOM path.old }
     requires fits { length path.old + node.now.1 ≤ ROOM }
-    ensures pending { result.now ++ pending path.new ≡ entries_from (K.cmp key.now) node.now.0 ++ pending path.old }
+    ensures pending { result.now ++ pending path.new
+        ≡ entries_from (K.cmp key.now) node.now.0 ++ pending path.old }
     ensures path { IsPath ROOM path.new }
 {
     match &node.link {

@@ -3,7 +3,8 @@ ghost use Rattle.std.specs.Prelude.{◌≡◌, ◌<◌, [], ◌∷◌, ◌++◌,
 
 use std::marker::Model;
 
-/// The most items that a stack holds. No tree is higher.
+/// The most items that a stack holds. No tree has as many levels of inner nodes: each has four children, but for the
+/// root, and a length has 64 binary digits.
 pub(crate) const ROOM: usize = 32;
 
 /// At most `ROOM` items, seen as their list, the last one on top.
@@ -45,7 +46,8 @@ impl<T: Copy> Stack<T> {
 
     #[inline]
     pub(crate) fn pop(&mut self) -> Option<T>
-        ensures { MatchOption result ((self.old ≡ []) × (self.new ≡ [])) (λ x. self.old ≡ self.new ++ x ∷ []) }
+        ensures { MatchOption result ((self.old ≡ []) × (self.new ≡ []))
+            (λ x. self.old ≡ self.new ++ x ∷ []) }
     {
         if self.len == 0 {
             return None;

@@ -154,7 +154,9 @@ impl<'a, K: Ord, V, A: Allocator + Copy> IntoIterator for &'a Tree<K, V, A> {
 
     type IntoIter = Iter<'a, K, V, A>;
 
-    ghost into_iter_gives = { λ t r. (r ≡ t.now) × IsOrdered K.cmp t.now × (length t.now < 2 ^ 64) × ShowsInOrder (deref_pair {K = K} {X = V}) × ShowsValuesInOrder (deref_pair {K = K} {X = V}) × All (λ e. get K.cmp t.now e.0 ≡ Some e.1) t.now };
+    ghost into_iter_gives = { λ t r. (r ≡ t.now) × IsOrdered K.cmp t.now × (length t.now < 2 ^ 64)
+        × ShowsInOrder (deref_pair {K = K} {X = V}) × ShowsValuesInOrder (deref_pair {K = K} {X = V})
+        × All (λ e. get K.cmp t.now e.0 ≡ Some e.1) t.now };
 
     fn into_iter(self) -> Iter<'a, K, V, A> {
         self.iter()
@@ -174,7 +176,8 @@ impl<K: Ord + Exact + Drop, V: Exact + Drop, A: Allocator + Copy> Tree<K, V, A> 
     ) -> Result<Option<V>, Fault<C::Refusal>>
         requires { C.can_confirm confirm.old }
         ensures confirmed { OnOk result (C.gives confirm.old (Ok tt) confirm.new) }
-        ensures refused { IfErr result (λ fault. MatchFault fault (confirm.new ≡ confirm.old) (λ why. C.gives confirm.old (Err why) confirm.new)) }
+        ensures refused { IfErr result (λ fault. MatchFault fault (confirm.new ≡ confirm.old)
+            (λ why. C.gives confirm.old (Err why) confirm.new)) }
         ensures err { OnErr result (self.new ≡ self.old) }
         ensures ok { OnOk result (self.new ≡ put_entry K.cmp self.old key value) }
         ensures replaced { IfOk result (λ o. o ≡ get K.cmp self.old key) }
@@ -197,7 +200,8 @@ impl<K: Ord + Exact + Drop, V: Exact + Drop, A: Allocator + Copy> Tree<K, V, A> 
     ) -> Result<Option<V>, Fault<C::Refusal>>
         requires { C.can_confirm confirm.old }
         ensures confirmed { OnOk result (C.gives confirm.old (Ok tt) confirm.new) }
-        ensures refused { IfErr result (λ fault. MatchFault fault (confirm.new ≡ confirm.old) (λ why. C.gives confirm.old (Err why) confirm.new)) }
+        ensures refused { IfErr result (λ fault. MatchFault fault (confirm.new ≡ confirm.old)
+            (λ why. C.gives confirm.old (Err why) confirm.new)) }
         ensures err { OnErr result (self.new ≡ self.old) }
         ensures ok { OnOk result (self.new ≡ take_entry K.cmp self.old key.now) }
         ensures removed { IfOk result (λ o. o ≡ get K.cmp self.old key.now) }
@@ -242,7 +246,8 @@ impl<K: Ord + Exact + Drop, V: Exact + Drop, A: Allocator + Copy> Tree<K, V, A> 
     pub fn take(&self, key: &K) -> Result<Self, AllocError>
         ensures entries { IfOk result (λ t. t ≡ take_entry K.cmp self.now key.now) }
         ensures updates { IfOk result (λ t. Updates K.cmp self.now t key.now None) }
-        ensures len { IfOk result (λ t. length t + (if is_some (get K.cmp self.now key.now) then 1 else 0) ≡ length self.now) }
+        ensures len { IfOk result (λ t. length t + (if is_some (get K.cmp self.now key.now) then 1 else 0)
+            ≡ length self.now) }
         ensures ordered { IfOk result (λ t. IsOrdered K.cmp t) }
     {
         let mut rest = self.snapshot()?;
@@ -256,7 +261,8 @@ impl<K: Ord + Exact + Drop, V: Exact + Drop, A: Allocator + Copy> Tree<K, V, A> 
     pub fn put(&self, key: K, value: V) -> Result<Self, AllocError>
         ensures entries { IfOk result (λ t. t ≡ put_entry K.cmp self.now key value) }
         ensures updates { IfOk result (λ t. Updates K.cmp self.now t key (Some value)) }
-        ensures len { IfOk result (λ t. length t ≡ length self.now + (if is_some (get K.cmp self.now key) then 0 else 1)) }
+        ensures len { IfOk result (λ t. length t ≡ length self.now
+            + (if is_some (get K.cmp self.now key) then 0 else 1)) }
         ensures ordered { IfOk result (λ t. IsOrdered K.cmp t) }
     {
         let mut whole = self.snapshot()?;
