@@ -1,9 +1,9 @@
 -- How many entries a node has at its height.
-use Rattle.std.proofs.Common.{◌≡◌, ℕ, zero, suc, ◌+◌, ◌*◌, ◌^◌, ◌<◌, ◌≤◌, List, [], ◌∷◌, length, length-append, refl, sym, ap, ◌∙◌, arith, lit<}
+use Rattle.std.proofs.Common.{◌≡◌, ℕ, ◌+◌, ◌*◌, ◌^◌, ◌<◌, ◌≤◌, List, [], ◌∷◌, length, length-append, sym, ap, ◌∙◌, arith, lit<}
 use Rattle.std.specs.declared.cmp.Ordering.{Ordering}
 use Rattle.std.proofs.Math.Nat.{mul-le-mul_right, pow-le-pow_right}
 use Rattle.std.proofs.lemmas.Grind.{pow_more}
-use Rattle.cap_tree.specs.Shape.{entries_of, IsFilled, IsFit, AreFit, IsChild, IsParts}
+use Rattle.cap_tree.specs.Shape.{entries_of, IsFilled, IsFit, AreFit, IsParts}
 use Rattle.cap_tree.proofs.PlaceLemmas.{Seen}
 
 module _ {K V : Type 0} where

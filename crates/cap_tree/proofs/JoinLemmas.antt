@@ -1,16 +1,15 @@
 -- Two neighbouring parts become one, or share their items anew.
-use Rattle.std.proofs.Common.{◌≡◌, ℕ, zero, suc, ◌+◌, ◌<◌, ◌≤◌, ◌≢◌, List, [], ◌∷◌, ◌++◌, length, take, drop, get_or, set, refl, sym, ap, ◌∙◌, subst, arith, add-one, length-append, inl, inr}
+use Rattle.std.proofs.Common.{◌≡◌, ℕ, zero, suc, ◌+◌, ◌<◌, ◌≤◌, ◌≢◌, List, [], ◌∷◌, ◌++◌, length, get_or, set, refl, sym, ap, ◌∙◌, subst, arith, length-append, inl, inr}
 use Rattle.std.specs.declared.cmp.Ordering.{Ordering}
-use Rattle.std.specs.declared.cmp.Ordering.TheVariants.{Less, Equal, Greater}
+use Rattle.std.specs.declared.cmp.Ordering.TheVariants.{Less, Greater}
 use Rattle.std.specs.Prelude.{◌⊎◌}
 use Rattle.std.specs.List.{AllByRecursion, insert, remove}
 use Rattle.std.specs.Cmp.{IsTotalOrder}
-use Rattle.std.specs.Map.{keys_of}
 use Rattle.std.proofs.lemmas.List.{append_assoc}
 use Rattle.cap_tree.specs.Tree.{IsOrdered}
 use Rattle.cap_tree.specs.Shape.{entries_of, IsChild, NoneBelow, EachBelow, IsParts, IsFit, AreFit, place}
 use Rattle.cap_tree.proofs.EntryLemmas.{each_turn, ordered_front, ordered_rest}
-use Rattle.cap_tree.proofs.PlaceLemmas.{Seen, all_turn, keys_append, below_least, below_parts, place_step, step_up}
+use Rattle.cap_tree.proofs.PlaceLemmas.{Seen, keys_append, below_least, below_parts, place_step, step_up}
 use Rattle.cap_tree.proofs.SplitLemmas.{first_is, less_not_greater, all_parts_at, entries_two, parts_two, place_first, place_second}
 
 module _ {K V : Type 0} (cmp : K → K → Ordering) (o : IsTotalOrder cmp) where

@@ -1,11 +1,11 @@
 -- A part is changed in place: what its parent is seen as.
-use Rattle.std.proofs.Common.{◌≡◌, ℕ, ◌+◌, ◌<◌, ◌≤◌, List, length, get_or, set, refl, sym, ap, ◌∙◌, arith, inl, inr, Ok, Err, Result}
-use Rattle.std.specs.Prelude.{OnOk, OnErr, IfOk, Option, ◌⊎◌}
+use Rattle.std.proofs.Common.{◌≡◌, ℕ, ◌+◌, ◌<◌, ◌≤◌, List, length, get_or, set, arith, inl, inr, Ok, Err, Result}
+use Rattle.std.specs.Prelude.{OnOk, OnErr, ◌⊎◌}
 use Rattle.std.specs.declared.cmp.Ordering.{Ordering}
 use Rattle.std.specs.Cmp.{IsTotalOrder}
 use Rattle.cap_tree.specs.declared.node.Part.{Part}
 use Rattle.cap_tree.specs.Tree.{IsOrdered, get, put_entry, take_entry}
-use Rattle.cap_tree.specs.Shape.{seen, entries_of, IsChild, IsParts, IsFit, AreFit, IsFilled, place}
+use Rattle.cap_tree.specs.Shape.{seen, entries_of, IsChild, IsParts, IsFit, AreFit, place}
 use Rattle.cap_tree.proofs.HeightLemmas.{fed}
 use Rattle.cap_tree.proofs.EntryLemmas.{ordered_put}
 use Rattle.cap_tree.proofs.PartLemmas.{at_seen, seen_set, length_seen}

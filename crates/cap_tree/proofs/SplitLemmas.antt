@@ -1,9 +1,7 @@
 -- A full node is cut in two.
-use Rattle.std.proofs.Common.{◌≡◌, ℕ, zero, suc, ◌+◌, ◌<◌, ◌≤◌, ◌≢◌, List, [], ◌∷◌, ◌++◌, length, take, drop, get_or, set, map, refl, sym, ap, ◌∙◌, subst, arith, add-one, length-append, inl, inr}
+use Rattle.std.proofs.Common.{◌≡◌, ℕ, zero, suc, ◌+◌, ◌<◌, ◌≢◌, List, [], ◌∷◌, ◌++◌, length, take, drop, get_or, set, refl, sym, ap, ◌∙◌, subst, arith, add-one, length-append}
 use Rattle.std.specs.declared.cmp.Ordering.{Ordering}
 use Rattle.std.specs.declared.cmp.Ordering.TheVariants.{Less, Equal, Greater}
-use Rattle.std.specs.Prelude.{◌⊎◌}
-use Rattle.std.specs.Ordering.{match_ordering}
 use Rattle.std.specs.List.{AllByRecursion, insert}
 use Rattle.std.specs.List.Sorted.{IsStrictlySortedBy}
 use Rattle.std.specs.Cmp.{IsTotalOrder}
@@ -12,9 +10,9 @@ use Rattle.std.proofs.lemmas.List.{append_assoc, take-map, map-append}
 use Rattle.cap_tree.specs.declared.node.Part.{Part}
 use Rattle.cap_tree.specs.Tree.{IsOrdered}
 use Rattle.cap_tree.specs.Shape.{seen, entries_of, IsChild, NoneBelow, EachBelow, IsParts, IsFit, AreFit, place}
-use Rattle.cap_tree.proofs.EntryLemmas.{Each, reversed, each_turn}
+use Rattle.cap_tree.proofs.EntryLemmas.{reversed, each_turn}
 use Rattle.cap_tree.proofs.PartLemmas.{at_seen, seen_set, length_seen}
-use Rattle.cap_tree.proofs.PlaceLemmas.{Seen, all_turn, keys_append, below_least, below_next, above_all_of, below_entries, below_parts, place_step, step_up, fit_renamed}
+use Rattle.cap_tree.proofs.PlaceLemmas.{Seen, all_turn, keys_append, below_entries, place_step, step_up, fit_renamed}
 use Rattle.cap_tree.proofs.LeafLemmas.{all_at}
 
 -- two reads of one place

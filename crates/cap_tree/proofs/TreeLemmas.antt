@@ -1,5 +1,5 @@
 -- What a put and a take leave of entries in order, whatever they answer.
-use Rattle.std.proofs.Common.{◌≡◌, ◌+◌, List, length, cond, Ok, Err, Result, refl, sym, ap, ◌∙◌, subst}
+use Rattle.std.proofs.Common.{◌≡◌, ◌+◌, List, length, cond, Ok, Err, Result}
 use Rattle.std.specs.Prelude.{Option, Some, None, IfOk, OnOk, OnErr}
 use Rattle.std.specs.Option.{is_some}
 use Rattle.std.specs.declared.cmp.Ordering.{Ordering}

@@ -1,5 +1,5 @@
 -- Each child of a node is lower than the node.
-use Rattle.std.specs.Prelude.{ℕ, ◌+◌, ◌≤◌, max, List, [], ◌∷◌}
+use Rattle.std.specs.Prelude.{ℕ, ◌≤◌, max, List, [], ◌∷◌}
 use Rattle.std.proofs.Common.{arith}
 use Rattle.std.specs.declared.cmp.Ord.{Ghosts as OrdGhosts}
 use Rattle.std.specs.declared.cmp.PartialEq.{Ghosts as PartialEqGhosts}

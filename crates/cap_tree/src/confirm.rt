@@ -27,7 +27,8 @@ pub trait Confirm {
 pub(crate) fn ask<C: Confirm>(confirm: &mut C) -> Result<(), Fault<C::Refusal>>
     requires { C.can_confirm confirm.old }
     ensures confirmed { OnOk result (C.gives confirm.old (Ok tt) confirm.new) }
-    ensures refused { IfErr result (λ fault. MatchFault fault (confirm.new ≡ confirm.old) (λ why. C.gives confirm.old (Err why) confirm.new)) }
+    ensures refused { IfErr result (λ fault. MatchFault fault (confirm.new ≡ confirm.old)
+        (λ why. C.gives confirm.old (Err why) confirm.new)) }
 {
     match confirm.confirm() {
         Ok(()) => Ok(()),

@@ -20,7 +20,8 @@ pub fn insert_each_after<K: Ord + Exact + Drop, V: Exact + Drop, A: AllocHandle,
 ) -> Result<(), Fault<C::Refusal>>
     requires { C.can_confirm confirm.old }
     ensures confirmed { OnOk result (C.gives confirm.old (Ok tt) confirm.new) }
-    ensures refused { IfErr result (λ fault. MatchFault fault (confirm.new ≡ confirm.old) (λ why. C.gives confirm.old (Err why) confirm.new)) }
+    ensures refused { IfErr result (λ fault. MatchFault fault (confirm.new ≡ confirm.old)
+        (λ why. C.gives confirm.old (Err why) confirm.new)) }
     ensures err { OnErr result (trees.new ≡ trees.old) }
     ensures ok { OnOk result (trees.new ≡ put_each K.cmp trees.old entries.now) }
 {
@@ -44,7 +45,8 @@ fn insert_first_after<K: Ord + Exact + Drop, V: Exact + Drop, A: AllocHandle, C:
 ) -> Result<(), Fault<C::Refusal>>
     requires { C.can_confirm confirm.old }
     ensures confirmed { OnOk result (C.gives confirm.old (Ok tt) confirm.new) }
-    ensures refused { IfErr result (λ fault. MatchFault fault (confirm.new ≡ confirm.old) (λ why. C.gives confirm.old (Err why) confirm.new)) }
+    ensures refused { IfErr result (λ fault. MatchFault fault (confirm.new ≡ confirm.old)
+        (λ why. C.gives confirm.old (Err why) confirm.new)) }
     ensures err { OnErr result (tree.new ≡ tree.old) }
     ensures rest_err { OnErr result (rest.new ≡ rest.old) }
     ensures ok { OnOk result (tree.new ≡ put_entry K.cmp tree.old entry.now.0 entry.now.1) }

@@ -58,10 +58,12 @@ fn even_parts<K: Ord + Exact + Drop, V: Drop, A: Allocator>(
     requires back_fit { AreFit (seen back.old.items) }
     requires below { EachBelow K.cmp least.now (entries_of (seen front.old.items)) }
     requires not_below { NoneBelow K.cmp least.now (entries_of (seen back.old.items)) }
-    requires fits { length (entries_of (seen front.old.items)) + length (entries_of (seen back.old.items)) < 2 ^ 64 }
+    requires fits { length (entries_of (seen front.old.items)) + length (entries_of (seen back.old.items))
+        < 2 ^ 64 }
     ensures err { OnErr result (front.new.items ≡ front.old.items) }
     ensures back_err { OnErr result (back.new.items ≡ back.old.items) }
-    ensures entries { OnOk result (entries_of (seen front.new.items) ++ entries_of (seen back.new.items) ≡ entries_of (seen front.old.items) ++ entries_of (seen back.old.items)) }
+    ensures entries { OnOk result (entries_of (seen front.new.items) ++ entries_of (seen back.new.items)
+        ≡ entries_of (seen front.old.items) ++ entries_of (seen back.old.items)) }
     ensures front_parts { OnOk result (IsParts K.cmp height (seen front.new.items)) }
     ensures back_parts { OnOk result (IsParts K.cmp height (seen back.new.items)) }
     ensures front_fit { OnOk result (AreFit (seen front.new.items)) }
@@ -101,7 +103,8 @@ fn join_parts<K: Ord + Exact + Drop, V: Drop, A: Allocator>(
     requires not_below { NoneBelow K.cmp least.now (entries_of (seen back.old.items)) }
     ensures err { OnErr result (front.new.items ≡ front.old.items) }
     ensures back_err { OnErr result (back.new.items ≡ back.old.items) }
-    ensures entries { OnOk result (entries_of (seen front.new.items) ≡ entries_of (seen front.old.items) ++ entries_of (seen back.old.items)) }
+    ensures entries { OnOk result (entries_of (seen front.new.items)
+        ≡ entries_of (seen front.old.items) ++ entries_of (seen back.old.items)) }
     ensures parts { OnOk result (IsParts K.cmp height (seen front.new.items)) }
     ensures fit { OnOk result (AreFit (seen front.new.items)) }
     ensures len { OnOk result (vec_len front.new ≡ vec_len front.old + vec_len back.old) }
@@ -214,9 +217,11 @@ fn join_pair<K: Ord + Exact + Drop, V: Exact + Drop, A: Allocator + Copy>(
     ensures back_least { back.new.least ≡ back.old.least }
     ensures err { OnErr result (arc_value front.new.node ≡ arc_value front.old.node) }
     ensures back_err { OnErr result (arc_value back.new.node ≡ arc_value back.old.node) }
-    ensures entries { OnOk result ((arc_value front.new.node).0 ≡ (arc_value front.old.node).0 ++ (arc_value back.old.node).0) }
+    ensures entries { OnOk result ((arc_value front.new.node).0
+        ≡ (arc_value front.old.node).0 ++ (arc_value back.old.node).0) }
     ensures height { (arc_value front.new.node).1 ≡ (arc_value front.old.node).1 }
-    ensures len { OnOk result ((arc_value front.new.node).2 ≡ (arc_value front.old.node).2 + (arc_value back.old.node).2) }
+    ensures len { OnOk result ((arc_value front.new.node).2
+        ≡ (arc_value front.old.node).2 + (arc_value back.old.node).2) }
     ensures filled { OnOk result (IsFilled (arc_value front.new.node)) }
 {
     let node = Arc::make_mut(&mut front.node)?;
@@ -247,11 +252,13 @@ fn even_pair<K: Ord + Exact + Drop, V: Exact + Drop, A: Allocator + Copy>(
     ensures back_least { OnErr result (back.new.least ≡ back.old.least) }
     ensures err { OnErr result (arc_value front.new.node ≡ arc_value front.old.node) }
     ensures back_err { OnErr result (arc_value back.new.node ≡ arc_value back.old.node) }
-    ensures entries { OnOk result ((arc_value front.new.node).0 ++ (arc_value back.new.node).0 ≡ (arc_value front.old.node).0 ++ (arc_value back.old.node).0) }
+    ensures entries { OnOk result ((arc_value front.new.node).0 ++ (arc_value back.new.node).0
+        ≡ (arc_value front.old.node).0 ++ (arc_value back.old.node).0) }
     ensures height { (arc_value front.new.node).1 ≡ (arc_value front.old.node).1 }
     ensures back_height { (arc_value back.new.node).1 ≡ (arc_value back.old.node).1 }
     ensures len { OnOk result ((arc_value front.new.node).2 ≡ at) }
-    ensures back_len { OnOk result ((arc_value back.new.node).2 + at ≡ (arc_value front.old.node).2 + (arc_value back.old.node).2) }
+    ensures back_len { OnOk result ((arc_value back.new.node).2 + at
+        ≡ (arc_value front.old.node).2 + (arc_value back.old.node).2) }
     ensures filled { OnOk result (IsFilled (arc_value front.new.node)) }
     ensures back_filled { OnOk result (IsFilled (arc_value back.new.node)) }
     ensures below { OnOk result (EachBelow K.cmp back.new.least (arc_value front.new.node).0) }
@@ -276,14 +283,17 @@ fn join_children<K: Ord + Exact + Drop, V: Exact + Drop, A: Allocator + Copy>(
     requires parts { IsParts K.cmp height (seen parts.old.items) }
     requires fit { AreFit (seen parts.old.items) }
     requires fits { length (entries_of (seen parts.old.items)) < 2 ^ 64 }
-    requires room { (d : K × (List (K × V) × ℕ × ℕ)) → items_at at d (seen parts.old.items) + items_at (at + 1) d (seen parts.old.items) ≤ 16 }
+    requires room { (d : K × (List (K × V) × ℕ × ℕ))
+        → items_at at d (seen parts.old.items) + items_at (at + 1) d (seen parts.old.items) ≤ 16 }
     ensures entries { entries_of (seen parts.new.items) ≡ entries_of (seen parts.old.items) }
     ensures parts { IsParts K.cmp height (seen parts.new.items) }
     ensures fit { AreFit (seen parts.new.items) }
     ensures err { OnErr result (vec_len parts.new ≡ vec_len parts.old) }
     ensures len { OnOk result (vec_len parts.new + 1 ≡ vec_len parts.old) }
-    ensures place { OnOk result ((k : K) → (place K.cmp k (seen parts.old.items) ≡ at + 1) ⊎ (place K.cmp k (seen parts.old.items) ≡ at + 2) → place K.cmp k (seen parts.new.items) ≡ at + 1) }
-    ensures spare { OnOk result ((d : K × (List (K × V) × ℕ × ℕ)) → 8 ≤ items_at at d (seen parts.new.items)) }
+    ensures place { OnOk result ((k : K) → (place K.cmp k (seen parts.old.items) ≡ at + 1)
+        ⊎ (place K.cmp k (seen parts.old.items) ≡ at + 2) → place K.cmp k (seen parts.new.items) ≡ at + 1) }
+    ensures spare { OnOk result ((d : K × (List (K × V) × ℕ × ℕ))
+        → 8 ≤ items_at at d (seen parts.new.items)) }
 {
     let (fronts, backs) = parts.as_mut_slice().split_at_mut(at + 1);
     join_pair(&mut fronts[at], &mut backs[0])?;
@@ -305,19 +315,23 @@ fn even_children<K: Ord + Exact + Drop, V: Exact + Drop, A: Allocator + Copy>(
     requires fit { AreFit (seen parts.old.items) }
     requires ordered { IsOrdered K.cmp (entries_of (seen parts.old.items)) }
     requires fits { length (entries_of (seen parts.old.items)) < 2 ^ 64 }
-    requires place { (place K.cmp key.now (seen parts.old.items) ≡ at + 1) ⊎ (place K.cmp key.now (seen parts.old.items) ≡ at + 2) }
+    requires place { (place K.cmp key.now (seen parts.old.items) ≡ at + 1)
+        ⊎ (place K.cmp key.now (seen parts.old.items) ≡ at + 2) }
     requires front { 4 < cut }
     requires most { cut ≤ 16 }
     requires uneven { (d : K × (List (K × V) × ℕ × ℕ)) → cut ≢ items_at at d (seen parts.old.items) }
-    requires back { (d : K × (List (K × V) × ℕ × ℕ)) → cut + 4 < items_at at d (seen parts.old.items) + items_at (at + 1) d (seen parts.old.items) }
-    requires back_most { (d : K × (List (K × V) × ℕ × ℕ)) → items_at at d (seen parts.old.items) + items_at (at + 1) d (seen parts.old.items) ≤ cut + 16 }
+    requires back { (d : K × (List (K × V) × ℕ × ℕ))
+        → cut + 4 < items_at at d (seen parts.old.items) + items_at (at + 1) d (seen parts.old.items) }
+    requires back_most { (d : K × (List (K × V) × ℕ × ℕ))
+        → items_at at d (seen parts.old.items) + items_at (at + 1) d (seen parts.old.items) ≤ cut + 16 }
     ensures entries { entries_of (seen parts.new.items) ≡ entries_of (seen parts.old.items) }
     ensures parts { IsParts K.cmp height (seen parts.new.items) }
     ensures fit { AreFit (seen parts.new.items) }
     ensures len { vec_len parts.new ≡ vec_len parts.old }
     ensures within { IfOk result (λ i. i < vec_len parts.new) }
     ensures place { IfOk result (λ i. place K.cmp key.now (seen parts.new.items) ≡ i + 1) }
-    ensures spare { IfOk result (λ i. (d : K × (List (K × V) × ℕ × ℕ)) → 4 < items_at i d (seen parts.new.items)) }
+    ensures spare { IfOk result (λ i. (d : K × (List (K × V) × ℕ × ℕ))
+        → 4 < items_at i d (seen parts.new.items)) }
 {
     let (fronts, backs) = parts.as_mut_slice().split_at_mut(at + 1);
     even_pair(&mut fronts[at], &mut backs[0], cut)?;
@@ -340,8 +354,10 @@ fn fill<K: Ord + Exact + Drop, V: Exact + Drop, A: Allocator + Copy>(
     requires fit { AreFit (seen parts.old.items) }
     requires ordered { IsOrdered K.cmp (entries_of (seen parts.old.items)) }
     requires fits { length (entries_of (seen parts.old.items)) < 2 ^ 64 }
-    requires place { (place K.cmp key.now (seen parts.old.items) ≡ at + 1) ⊎ (place K.cmp key.now (seen parts.old.items) ≡ at + 2) }
-    requires lean { ((d : K × (List (K × V) × ℕ × ℕ)) → items_at at d (seen parts.old.items) ≤ 4) ⊎ ((d : K × (List (K × V) × ℕ × ℕ)) → items_at (at + 1) d (seen parts.old.items) ≤ 4) }
+    requires place { (place K.cmp key.now (seen parts.old.items) ≡ at + 1)
+        ⊎ (place K.cmp key.now (seen parts.old.items) ≡ at + 2) }
+    requires lean { ((d : K × (List (K × V) × ℕ × ℕ)) → items_at at d (seen parts.old.items) ≤ 4)
+        ⊎ ((d : K × (List (K × V) × ℕ × ℕ)) → items_at (at + 1) d (seen parts.old.items) ≤ 4) }
     ensures entries { entries_of (seen parts.new.items) ≡ entries_of (seen parts.old.items) }
     ensures parts { IsParts K.cmp height (seen parts.new.items) }
     ensures fit { AreFit (seen parts.new.items) }
@@ -349,7 +365,8 @@ fn fill<K: Ord + Exact + Drop, V: Exact + Drop, A: Allocator + Copy>(
     ensures one_less { vec_len parts.old ≤ vec_len parts.new + 1 }
     ensures within { IfOk result (λ i. i < vec_len parts.new) }
     ensures place { IfOk result (λ i. place K.cmp key.now (seen parts.new.items) ≡ i + 1) }
-    ensures spare { IfOk result (λ i. (d : K × (List (K × V) × ℕ × ℕ)) → 4 < items_at i d (seen parts.new.items)) }
+    ensures spare { IfOk result (λ i. (d : K × (List (K × V) × ℕ × ℕ))
+        → 4 < items_at i d (seen parts.new.items)) }
 {
     let total = parts[at].node.len() + parts[at + 1].node.len();
     if total <= MOST {
@@ -380,7 +397,8 @@ pub(crate) fn make_spare<K: Ord + Exact + Drop, V: Exact + Drop, A: Allocator + 
     ensures one_less { vec_len parts.old ≤ vec_len parts.new + 1 }
     ensures within { IfOk result (λ i. i < vec_len parts.new) }
     ensures place { IfOk result (λ i. place K.cmp key.now (seen parts.new.items) ≡ i + 1) }
-    ensures spare { IfOk result (λ i. (d : K × (List (K × V) × ℕ × ℕ)) → 4 < items_at i d (seen parts.new.items)) }
+    ensures spare { IfOk result (λ i. (d : K × (List (K × V) × ℕ × ℕ))
+        → 4 < items_at i d (seen parts.new.items)) }
 {
     if parts[at].node.len() > FEWEST {
         return Ok(at);

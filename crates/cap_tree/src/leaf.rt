@@ -28,9 +28,15 @@ fn is_past_last<K: Ord, V>(entries: &[(K, V)], key: &K) -> bool
 pub(crate) fn search<K: Ord, V>(entries: &[(K, V)], key: &K) -> Result<usize, usize>
     requires { IsOrdered K.cmp entries.now }
     ensures within { MatchResult result (λ i. i < length entries.now) (λ i. i ≤ length entries.now) }
-    ensures put { MatchResult result (λ i. (v : V) → put_entry K.cmp entries.now key.now v ≡ slice_set entries.now i (key.now, v)) (λ i. (v : V) → put_entry K.cmp entries.now key.now v ≡ insert entries.now i (key.now, v)) }
-    ensures get { MatchResult result (λ i. (d : K × V) → get K.cmp entries.now key.now ≡ Some (slice_index_or entries.now i d).1) (λ i. get K.cmp entries.now key.now ≡ None) }
-    ensures take { MatchResult result (λ i. take_entry K.cmp entries.now key.now ≡ remove entries.now i) (λ i. take_entry K.cmp entries.now key.now ≡ entries.now) }
+    ensures put { MatchResult result
+        (λ i. (v : V) → put_entry K.cmp entries.now key.now v ≡ slice_set entries.now i (key.now, v))
+        (λ i. (v : V) → put_entry K.cmp entries.now key.now v ≡ insert entries.now i (key.now, v)) }
+    ensures get { MatchResult result
+        (λ i. (d : K × V) → get K.cmp entries.now key.now ≡ Some (slice_index_or entries.now i d).1)
+        (λ i. get K.cmp entries.now key.now ≡ None) }
+    ensures take { MatchResult result
+        (λ i. take_entry K.cmp entries.now key.now ≡ remove entries.now i)
+        (λ i. take_entry K.cmp entries.now key.now ≡ entries.now) }
 {
     if is_past_last(entries, key) {
         return Err(entries.len());

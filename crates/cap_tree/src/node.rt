@@ -52,7 +52,8 @@ impl<K: Ord, V, A: Allocator> Model for Node<K, V, A> {
 
     ghost use Rattle.cap_tree.specs.Falls.{depth_le-height};
 
-    ghost size_decreases = { λ a h. depth_le-height K V A K.Ord K.PartialEq K.PartialOrd A.Allocator a.link h };
+    ghost size_decreases = { λ a h.
+        depth_le-height K V A K.Ord K.PartialEq K.PartialOrd A.Allocator a.link h };
 }
 
 // The same entries, in a vector with room for as many as a leaf can have.

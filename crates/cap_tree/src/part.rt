@@ -51,7 +51,8 @@ pub(crate) fn count_of<K: Ord, V, A: Allocator>(parts: &[Part<K, V, A>]) -> usiz
 
 // Whether the last child is not above the key.
 fn is_up_to_last<K: Ord, V, A: Allocator>(parts: &[Part<K, V, A>], key: &K) -> bool
-    ensures { (h : ℕ) → IsParts K.cmp h (seen parts.now) → result ≡ true → place K.cmp key.now (seen parts.now) ≡ length parts.now }
+    ensures { (h : ℕ) → IsParts K.cmp h (seen parts.now) → result ≡ true
+        → place K.cmp key.now (seen parts.now) ≡ length parts.now }
 {
     let Some(last) = parts.last() else {
         return true;
@@ -66,7 +67,8 @@ fn is_up_to_last<K: Ord, V, A: Allocator>(parts: &[Part<K, V, A>], key: &K) -> b
 // keys belong there.
 pub(crate) fn count_up_to<K: Ord, V, A: Allocator>(parts: &[Part<K, V, A>], key: &K) -> usize
     ensures within { result ≤ length parts.now }
-    ensures place { (h : ℕ) → IsParts K.cmp h (seen parts.now) → result ≡ place K.cmp key.now (seen parts.now) }
+    ensures place { (h : ℕ) → IsParts K.cmp h (seen parts.now)
+        → result ≡ place K.cmp key.now (seen parts.now) }
 {
     if is_up_to_last(parts, key) {
         return parts.len();

@@ -36,7 +36,8 @@ pub(crate) fn put_after<K: Ord + Exact + Drop, V: Exact + Drop, A: Allocator + C
     requires room { node.old.2 < 16 }
     requires fits { length node.old.0 + 1 < 2 ^ 64 }
     ensures confirmed { OnOk result (C.gives confirm.old (Ok tt) confirm.new) }
-    ensures refused { IfErr result (λ fault. MatchFault fault (confirm.new ≡ confirm.old) (λ why. C.gives confirm.old (Err why) confirm.new)) }
+    ensures refused { IfErr result (λ fault. MatchFault fault (confirm.new ≡ confirm.old)
+        (λ why. C.gives confirm.old (Err why) confirm.new)) }
     ensures height { node.new.1 ≡ node.old.1 }
     ensures not_less { node.old.2 ≤ node.new.2 }
     ensures one_more { node.new.2 ≤ node.old.2 + 1 }

@@ -93,7 +93,8 @@ fn split_part<K: Ord + Exact + Drop, V: Exact + Drop, A: Allocator + Copy>(
     ensures height { (arc_value part.new.node).1 ≡ (arc_value part.old.node).1 }
     ensures len { OnOk result ((arc_value part.new.node).2 ≡ at) }
     ensures filled { OnOk result (IsFilled (arc_value part.new.node)) }
-    ensures entries { IfOk result (λ p. (arc_value part.old.node).0 ≡ (arc_value part.new.node).0 ++ (arc_value p.node).0) }
+    ensures entries { IfOk result (λ p. (arc_value part.old.node).0
+        ≡ (arc_value part.new.node).0 ++ (arc_value p.node).0) }
     ensures right_height { IfOk result (λ p. (arc_value p.node).1 ≡ (arc_value part.old.node).1) }
     ensures right_len { IfOk result (λ p. (arc_value p.node).2 + at ≡ (arc_value part.old.node).2) }
     ensures right_filled { IfOk result (λ p. IsFilled (arc_value p.node)) }
@@ -130,7 +131,8 @@ fn split_child<K: Ord + Exact + Drop, V: Exact + Drop, A: Allocator + Copy>(
     ensures one_more { vec_len parts.new ≤ vec_len parts.old + 1 }
     ensures within { IfOk result (λ i. i < vec_len parts.new) }
     ensures place { IfOk result (λ i. place K.cmp key.now (seen parts.new.items) ≡ i + 1) }
-    ensures room { IfOk result (λ i. (d : K × (List (K × V) × ℕ × ℕ)) → (slice_index_or (seen parts.new.items) i d).1.2 < 16) }
+    ensures room { IfOk result (λ i. (d : K × (List (K × V) × ℕ × ℕ))
+        → (slice_index_or (seen parts.new.items) i d).1.2 < 16) }
 {
     parts.try_reserve(1)?;
     let part = &mut parts[at];
@@ -164,7 +166,8 @@ pub(crate) fn make_room<K: Ord + Exact + Drop, V: Exact + Drop, A: Allocator + C
     ensures one_more { vec_len parts.new ≤ vec_len parts.old + 1 }
     ensures within { IfOk result (λ i. i < vec_len parts.new) }
     ensures place { IfOk result (λ i. place K.cmp key.now (seen parts.new.items) ≡ i + 1) }
-    ensures room { IfOk result (λ i. (d : K × (List (K × V) × ℕ × ℕ)) → (slice_index_or (seen parts.new.items) i d).1.2 < 16) }
+    ensures room { IfOk result (λ i. (d : K × (List (K × V) × ℕ × ℕ))
+        → (slice_index_or (seen parts.new.items) i d).1.2 < 16) }
 {
     let child = &parts[at].node;
     if child.len() < MOST {

@@ -34,7 +34,8 @@ pub(crate) fn take_after<K: Ord + Exact + Drop, V: Exact + Drop, A: Allocator + 
     requires ordered { IsOrdered K.cmp node.old.0 }
     requires two { 0 < node.old.1 → 1 < node.old.2 }
     ensures confirmed { OnOk result (C.gives confirm.old (Ok tt) confirm.new) }
-    ensures refused { IfErr result (λ fault. MatchFault fault (confirm.new ≡ confirm.old) (λ why. C.gives confirm.old (Err why) confirm.new)) }
+    ensures refused { IfErr result (λ fault. MatchFault fault (confirm.new ≡ confirm.old)
+        (λ why. C.gives confirm.old (Err why) confirm.new)) }
     ensures height { node.new.1 ≡ node.old.1 }
     ensures not_more { node.new.2 ≤ node.old.2 }
     ensures one_less { node.old.2 ≤ node.new.2 + 1 }

@@ -1,5 +1,5 @@
-use Rattle.std.proofs.Common.{◌≡◌, ◌+◌, ◌-◌, ◌<◌, ◌≤◌, ◌^◌, ◌++◌, length, length-append, arith, refl, sym, ap, ◌∙◌}
-use Rattle.cap_tree.specs.Shape.{seen, entries_of, IsParts}
+use Rattle.std.proofs.Common.{length, length-append, arith, sym, ap, ◌∙◌}
+use Rattle.cap_tree.specs.Shape.{seen, entries_of}
 use Rattle.cap_tree.proofs.PartLemmas.{high}
 use Rattle.cap_tree.proofs.fill.even.Goals as goal
 

@@ -1,6 +1,5 @@
-use Rattle.std.proofs.Common.{◌≡◌, ◌≢◌, ◌+◌, ◌<◌, ◌≤◌, ◌^◌, ◌++◌, length, take, drop, get_or, set, arith, refl, sym, ap, ◌∙◌, inl, inr}
-use Rattle.std.specs.declared.cmp.Ordering.TheVariants.{Less}
-use Rattle.cap_tree.specs.Shape.{seen, entries_of, IsParts, IsChild, IsFit, AreFit}
+use Rattle.std.proofs.Common.{◌≡◌, ◌≢◌, ◌+◌, ◌<◌, ◌≤◌, length, take, drop, get_or, arith, refl, sym, ap, ◌∙◌}
+use Rattle.cap_tree.specs.Shape.{IsChild, IsFit}
 use Rattle.cap_tree.proofs.HeightLemmas.{fed}
 use Rattle.cap_tree.proofs.PlaceLemmas.{is_not_less}
 use Rattle.cap_tree.proofs.PutLemmas.{child_is}

@@ -1,4 +1,4 @@
-use Rattle.std.proofs.Common.{◌≡◌, ◌+◌, ◌<◌, ◌++◌, length, length-append, take, drop, arith, refl, sym, ap, ◌∙◌}
+use Rattle.std.proofs.Common.{◌≡◌, ◌<◌, ◌++◌, length, length-append, take, drop, arith, refl, ◌∙◌}
 use Rattle.cap_tree.proofs.SplitLemmas.{leaf_below, leaf_above}
 use Rattle.cap_tree.proofs.fill.even_entries.Goals as goal
 

@@ -1,6 +1,6 @@
-use Rattle.std.proofs.Common.{◌≡◌, ◌≢◌, ◌+◌, ◌<◌, ◌^◌, ◌++◌, length, length-append, length-set, set, get_or, take, drop, arith, refl, sym, ap, ◌∙◌}
+use Rattle.std.proofs.Common.{◌≡◌, ◌≢◌, ◌+◌, ◌<◌, ◌^◌, ◌++◌, length, length-append, length-set, set, get_or, arith, refl, sym, ap, ◌∙◌}
 use Rattle.cap_tree.specs.declared.node.Part.{Part}
-use Rattle.cap_tree.specs.Shape.{seen, entries_of, IsParts, AreFit}
+use Rattle.cap_tree.specs.Shape.{seen, entries_of, IsParts}
 use Rattle.cap_tree.proofs.SplitLemmas.{inner_below, inner_above, inner_entries, inner_front, inner_back, inner_fit_front, inner_fit_back, inner_count, joined_entries, joined_parts, joined_fit, other_read}
 use Rattle.cap_tree.proofs.fill.even_parts.Goals as goal
 

@@ -1,5 +1,4 @@
-use Rattle.std.proofs.Common.{◌≡◌, ◌+◌, ◌-◌, ◌<◌, ◌≤◌, ◌^◌, ◌++◌, length, length-append, arith, refl, sym, ap, ◌∙◌}
-use Rattle.cap_tree.specs.Shape.{seen, entries_of, IsParts}
+use Rattle.std.proofs.Common.{arith, refl, ap, ◌∙◌}
 use Rattle.cap_tree.proofs.PartLemmas.{high}
 use Rattle.cap_tree.proofs.fill.join.Goals as goal
 

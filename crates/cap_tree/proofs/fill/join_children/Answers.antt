@@ -1,9 +1,7 @@
-use Rattle.std.proofs.Common.{◌≡◌, ◌≢◌, ◌+◌, ◌<◌, ◌≤◌, ◌^◌, ◌++◌, length, take, drop, get_or, set, arith, refl, sym, ap, ◌∙◌, inl, inr}
-use Rattle.std.specs.declared.cmp.Ordering.TheVariants.{Less}
+use Rattle.std.proofs.Common.{◌≡◌, ◌+◌, ◌<◌, ◌≤◌, length, take, drop, get_or, set, arith, refl, ap, ◌∙◌}
 use Rattle.std.specs.List.{remove}
-use Rattle.cap_tree.specs.Shape.{seen, entries_of, IsParts, IsChild, IsFit, AreFit}
+use Rattle.cap_tree.specs.Shape.{IsChild, IsFit}
 use Rattle.cap_tree.proofs.HeightLemmas.{fed}
-use Rattle.cap_tree.proofs.PlaceLemmas.{is_not_less}
 use Rattle.cap_tree.proofs.PutLemmas.{child_is, child_fit}
 use Rattle.cap_tree.proofs.PairLemmas.{seam, front_read, back_read, removed_set, kept_pair, pair_has, below_pair, not_below_pair, count_pair, one_entries, one_parts, one_fit, one_place, one_at}
 use Rattle.cap_tree.proofs.fill.join_children.Goals as goal

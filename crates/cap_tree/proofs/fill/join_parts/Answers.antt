@@ -1,6 +1,5 @@
-use Rattle.std.proofs.Common.{◌≡◌, ◌+◌, ◌<◌, ◌++◌, length, set, arith, refl, sym, ap, ◌∙◌}
+use Rattle.std.proofs.Common.{◌<◌, length, arith, refl, ◌∙◌}
 use Rattle.cap_tree.specs.declared.node.Part.{Part}
-use Rattle.cap_tree.specs.Shape.{seen, entries_of, IsParts}
 use Rattle.cap_tree.proofs.SplitLemmas.{joined_entries, joined_parts, joined_fit}
 use Rattle.cap_tree.proofs.fill.join_parts.Goals as goal
 

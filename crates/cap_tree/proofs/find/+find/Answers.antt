@@ -1,4 +1,4 @@
-use Rattle.std.proofs.Common.{◌≡◌, ◌<◌, arith, refl, ap, rules}
+use Rattle.std.proofs.Common.{◌<◌, arith, refl, ap, rules}
 use Rattle.cap_tree.specs.Tree.{IsOrdered}
 use Rattle.cap_tree.proofs.WayLemmas.{child_ordered, child_and_behind, get_child}
 use Rattle.cap_tree.proofs.find.+find.Goals as goal

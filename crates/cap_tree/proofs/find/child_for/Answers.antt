@@ -1,4 +1,3 @@
-use Rattle.std.proofs.Common.{arith}
 use Rattle.cap_tree.proofs.find.child_for.Goals as goal
 
 pub returns : goal.returns

@@ -1,4 +1,4 @@
-use Rattle.std.proofs.Common.{◌≡◌, ◌+◌, ◌++◌, length, arith, refl, ap, ◌∙◌}
+use Rattle.std.proofs.Common.{◌≡◌, ◌+◌, length, arith, refl, ap, ◌∙◌}
 use Rattle.std.proofs.lemmas.List.{append-nil}
 use Rattle.cap_tree.specs.Shape.{IsChild, IsFit, IsFilled, EachBelow, NoneBelow}
 use Rattle.cap_tree.proofs.HeightLemmas.{fed}

@@ -1,4 +1,4 @@
-use Rattle.std.proofs.Common.{◌≡◌, sym, ◌∙◌}
+use Rattle.std.proofs.Common.{sym, ◌∙◌}
 use Rattle.cap_tree.proofs.LeafLemmas.{past_last}
 use Rattle.cap_tree.proofs.leaf.is_past_last.Goals as goal
 

@@ -1,7 +1,6 @@
-use Rattle.std.proofs.Common.{◌≡◌, length, take, arith, refl, sym, ◌∙◌}
+use Rattle.std.proofs.Common.{length, take, arith, refl, sym, ◌∙◌}
 use Rattle.std.proofs.Math.Seq.{take-length}
 use Rattle.std.specs.declared.cmp.Ordering.TheVariants.{Greater}
-use Rattle.std.proofs.lemmas.Grind.{common_steps}
 use Rattle.cap_tree.proofs.LeafLemmas.{put_less, put_equal, get_equal, get_less, put_end, get_end, take_equal}
 use Rattle.cap_tree.proofs.EntryLemmas.{Each, take_entry-absent}
 use Rattle.cap_tree.proofs.leaf.search.Goals as goal

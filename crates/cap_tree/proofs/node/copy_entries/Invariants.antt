@@ -1,4 +1,4 @@
-use Rattle.std.proofs.Common.{◌≡◌, ◌≤◌, vec_len, take}
+use Rattle.std.proofs.Common.{◌≡◌, vec_len, take}
 use Rattle.cap_tree.proofs.node.copy_entries.Given as goal
 
 abbrev pub invariant-loop-entry : goal.invariant-loop-entry

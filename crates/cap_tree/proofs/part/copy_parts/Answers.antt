@@ -1,4 +1,4 @@
-use Rattle.std.proofs.Common.{◌≡◌, arith, rules, ap, ◌∙◌, sym}
+use Rattle.std.proofs.Common.{arith}
 use Rattle.std.proofs.lemmas.Grind.{common_steps}
 use Rattle.cap_tree.proofs.PartLemmas.{seen_push}
 use Rattle.cap_tree.proofs.part.copy_parts.Goals as goal

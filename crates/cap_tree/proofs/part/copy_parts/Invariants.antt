@@ -1,4 +1,4 @@
-use Rattle.std.proofs.Common.{◌≡◌, ◌≤◌, vec_len, take}
+use Rattle.std.proofs.Common.{◌≡◌, vec_len, take}
 use Rattle.cap_tree.specs.Shape.{seen}
 use Rattle.cap_tree.proofs.part.copy_parts.Given as goal
 

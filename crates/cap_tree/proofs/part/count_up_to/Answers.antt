@@ -1,4 +1,4 @@
-use Rattle.std.proofs.Common.{◌≡◌, sym}
+use Rattle.std.proofs.Common.{sym}
 use Rattle.cap_tree.proofs.part.count_up_to.Goals as goal
 
 pub returns-then-is_up_to_last-clause-place : goal.returns-then-is_up_to_last-clause-place

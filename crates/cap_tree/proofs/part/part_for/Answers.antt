@@ -1,6 +1,6 @@
-use Rattle.std.proofs.Common.{◌≡◌, ◌+◌, ◌<◌, length, set, arith, refl, sym, ap, subst, ◌∙◌}
-use Rattle.cap_tree.specs.Shape.{IsParts, place, seen}
-use Rattle.cap_tree.proofs.PartLemmas.{at_seen, seen_set, length_seen, lowered}
+use Rattle.std.proofs.Common.{arith, refl, sym, ◌∙◌}
+use Rattle.cap_tree.specs.Shape.{seen}
+use Rattle.cap_tree.proofs.PartLemmas.{length_seen, lowered}
 use Rattle.cap_tree.proofs.PlaceLemmas.{parts_lowered, place_lowered, place_within, fit_renamed}
 use Rattle.cap_tree.proofs.part.part_for.Goals as goal
 

@@ -1,5 +1,5 @@
-use Rattle.std.proofs.Common.{◌≡◌, ◌+◌, ◌<◌, ◌≤◌, length, arith, ap, ◌∙◌, lit<, rules}
-use Rattle.cap_tree.specs.Path.{IsPath, pending}
+use Rattle.std.proofs.Common.{◌+◌, ◌<◌, ◌≤◌, length, arith, ap, ◌∙◌, lit<, rules}
+use Rattle.cap_tree.specs.Path.{IsPath}
 use Rattle.cap_tree.proofs.PathLemmas.{down_lower, down_room, down_path, down_fits, down_some, down_first}
 use Rattle.cap_tree.proofs.path.+descend.Goals as goal
 

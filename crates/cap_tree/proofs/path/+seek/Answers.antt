@@ -1,5 +1,5 @@
-use Rattle.std.proofs.Common.{◌≡◌, ◌+◌, ◌<◌, ◌≤◌, length, arith, ap, ◌∙◌, lit<, rules}
-use Rattle.cap_tree.specs.Path.{IsPath, pending}
+use Rattle.std.proofs.Common.{◌+◌, ◌<◌, ◌≤◌, length, arith, ap, ◌∙◌, lit<, rules}
+use Rattle.cap_tree.specs.Path.{IsPath}
 use Rattle.cap_tree.specs.Tree.{IsOrdered}
 use Rattle.cap_tree.proofs.PathLemmas.{down_lower, down_room, down_path, down_fits, down_key}
 use Rattle.cap_tree.proofs.WayLemmas.{child_ordered}

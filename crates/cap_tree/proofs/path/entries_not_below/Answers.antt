@@ -1,4 +1,4 @@
-use Rattle.std.proofs.Common.{◌≡◌, [], sym, ◌∙◌, inl, inr}
+use Rattle.std.proofs.Common.{[], sym, ◌∙◌, inl, inr}
 use Rattle.cap_tree.proofs.EntryLemmas.{ordered_back, entries_from-left, entries_from-here, entries_from-right}
 use Rattle.cap_tree.proofs.path.entries_not_below.Goals as goal
 

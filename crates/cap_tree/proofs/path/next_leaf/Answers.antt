@@ -1,5 +1,4 @@
-use Rattle.std.proofs.Common.{◌≡◌, ◌++◌, sym, ◌∙◌, lit<}
-use Rattle.cap_tree.specs.Path.{pending}
+use Rattle.std.proofs.Common.{sym, ◌∙◌, lit<}
 use Rattle.cap_tree.proofs.PathLemmas.{next_path, next_none, next_room, next_down, next_fits, next_some, next_pending}
 use Rattle.cap_tree.proofs.path.next_leaf.Goals as goal
 

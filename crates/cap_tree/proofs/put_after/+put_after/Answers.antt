@@ -1,7 +1,7 @@
-use Rattle.std.proofs.Common.{◌≡◌, ◌+◌, ◌<◌, ◌≤◌, ◌^◌, length, arith, refl, sym, ap, ◌∙◌, rules}
+use Rattle.std.proofs.Common.{◌≡◌, ◌+◌, ◌<◌, ◌^◌, length, arith, refl, sym, ap, ◌∙◌, rules}
 use Rattle.cap_tree.specs.declared.node.Part.{Part}
 use Rattle.cap_tree.specs.Tree.{IsOrdered, put_entry, get}
-use Rattle.cap_tree.specs.Shape.{IsParts, IsChild, IsFit, AreFit, seen, entries_of}
+use Rattle.cap_tree.specs.Shape.{IsFit, seen, entries_of}
 use Rattle.cap_tree.proofs.EntryLemmas.{length-put_entry}
 use Rattle.cap_tree.proofs.PutLemmas.{either_way, at_err, on_err, child_is, child_fit, child_has, child_count, child_still, child_ordered, kept_entries, kept_parts, fit_still, put_child, put_there, get_child}
 use Rattle.cap_tree.proofs.put_after.+put_after.Goals as goal

@@ -1,4 +1,4 @@
-use Rattle.std.proofs.Common.{◌≡◌, ◌<◌, length, arith}
+use Rattle.std.proofs.Common.{◌<◌, length, arith}
 use Rattle.cap_tree.proofs.RootLemmas.{few_levels}
 use Rattle.cap_tree.proofs.root.levels.Goals as goal
 

@@ -1,5 +1,4 @@
-use Rattle.std.proofs.Common.{◌≡◌, ◌+◌, ◌<◌, ◌≤◌, ◌≢◌, length, arith, refl, sym, ap, ◌∙◌}
-use Rattle.std.specs.declared.cmp.Ordering.TheVariants.{Less}
+use Rattle.std.proofs.Common.{◌≡◌, ◌<◌, length, arith, sym, ap, ◌∙◌}
 use Rattle.cap_tree.specs.Shape.{seen, IsParts, IsChild, IsFit, AreFit, entries_of}
 use Rattle.cap_tree.proofs.HeightLemmas.{fed}
 use Rattle.cap_tree.proofs.PlaceLemmas.{is_not_less}

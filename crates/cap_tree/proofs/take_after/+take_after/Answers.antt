@@ -1,10 +1,10 @@
-use Rattle.std.proofs.Common.{◌≡◌, ◌+◌, ◌-◌, ◌<◌, ◌≤◌, ◌^◌, length, cond, set, arith, refl, sym, ap, ◌∙◌, rules}
+use Rattle.std.proofs.Common.{◌≡◌, ◌+◌, ◌<◌, length, cond, set, arith, refl, sym, ap, ◌∙◌, rules}
 use Rattle.std.specs.Option.{is_some}
 use Rattle.cap_tree.specs.declared.node.Part.{Part}
 use Rattle.cap_tree.specs.Tree.{IsOrdered, take_entry, get}
-use Rattle.cap_tree.specs.Shape.{IsParts, IsChild, IsFit, AreFit, seen, entries_of}
+use Rattle.cap_tree.specs.Shape.{IsFit, seen, entries_of}
 use Rattle.cap_tree.proofs.EntryLemmas.{length-take_entry, take_entry-absent, get-some-length}
-use Rattle.cap_tree.proofs.PartLemmas.{high, length_seen}
+use Rattle.cap_tree.proofs.PartLemmas.{high}
 use Rattle.cap_tree.proofs.PlaceLemmas.{get_none}
 use Rattle.cap_tree.proofs.PutLemmas.{either_way, at_err, on_err, child_is, child_fit, child_has, child_still, child_ordered, kept_entries, kept_parts, fit_still, take_child, take_there, get_child}
 use Rattle.cap_tree.proofs.take_after.+take_after.Goals as goal

@@ -1,4 +1,4 @@
-use Rattle.std.proofs.Common.{◌≡◌, ◌<◌, length, arith, refl, sym, ap, ◌∙◌, rules}
+use Rattle.std.proofs.Common.{◌<◌, length, arith, ap}
 use Rattle.cap_tree.proofs.SplitLemmas.{leaf_above, inner_above}
 use Rattle.cap_tree.proofs.node.Node.least.Goals as goal
 

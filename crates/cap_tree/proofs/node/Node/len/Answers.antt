@@ -1,4 +1,4 @@
-use Rattle.std.proofs.Common.{◌≡◌, ◌+◌, ◌*◌, ◌≤◌, length, vec_len, arith, ap}
+use Rattle.std.proofs.Common.{◌≡◌, length, vec_len, arith}
 use Rattle.cap_tree.specs.Shape.{seen}
 use Rattle.cap_tree.proofs.HeightLemmas.{parts_filled}
 use Rattle.cap_tree.proofs.PartLemmas.{length_seen}

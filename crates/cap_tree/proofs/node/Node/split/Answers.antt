@@ -1,6 +1,6 @@
-use Rattle.std.proofs.Common.{◌≡◌, ◌+◌, ◌-◌, ◌<◌, ◌≤◌, ◌^◌, ◌++◌, length, take, drop, arith, refl, sym, ap, ◌∙◌}
+use Rattle.std.proofs.Common.{◌≡◌, ◌<◌, ◌++◌, length, take, drop, arith, refl, sym, ap, ◌∙◌}
 use Rattle.std.proofs.lemmas.List.{append-nil}
-use Rattle.cap_tree.specs.Shape.{seen, entries_of, IsParts}
+use Rattle.cap_tree.specs.Shape.{seen, entries_of}
 use Rattle.cap_tree.proofs.SplitLemmas.{leaf_below, leaf_above, inner_below, inner_above, inner_entries, inner_front, inner_back, inner_fit_front, inner_fit_back, inner_count}
 use Rattle.cap_tree.proofs.node.Node.split.Goals as goal
 

@@ -1,6 +1,6 @@
-use Rattle.std.proofs.Common.{◌≡◌, ◌++◌, ap, sym, subst, ◌∙◌}
+use Rattle.std.proofs.Common.{ap, subst}
 use Rattle.std.proofs.iter.runs.Sources.{from_front}
-use Rattle.std.specs.BTreeMap.Range.{entries_below, entries_from}
+use Rattle.std.specs.BTreeMap.Range.{entries_below}
 use Rattle.std.specs.Map.{values_of}
 use Rattle.std.specs.Map.Iter.{TakesFirst, deref_pair}
 use Rattle.std.specs.Prelude.{length}
