@@ -536,11 +536,3 @@ fn each_growth_refused(rt: HostRuntime) -> Result<(), Fail> {
     }
     Ok(())
 }
-
-fn travels<T: Send + Sync>(_value: &T) {}
-
-#[test]
-fn what_is_applied_travels_between_threads(rt: HostRuntime) -> Result<(), Fail> {
-    travels(&applied(rt.alloc(), None, &CHANGE_INSERT, all(Answer::Abort))?);
-    Ok(())
-}
