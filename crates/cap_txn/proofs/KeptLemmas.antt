@@ -38,11 +38,11 @@ if_ok P Q says (Err e) h = tt
 
 -- ---- tables by name
 
-names_same : IsAntisymmetric bytes_cmp
+pub names_same : IsAntisymmetric bytes_cmp
 names_same = slice_cmp-IsAntisymmetric nat_cmp-IsAntisymmetric
 
 module _ {X : Type 0} where
-  get-find : (es : List (List ℕ × X)) (q : List ℕ) → get bytes_cmp es q ≡ find bytes_cmp q es
+  pub get-find : (es : List (List ℕ × X)) (q : List ℕ) → get bytes_cmp es q ≡ find bytes_cmp q es
   get-find [] q = refl
   get-find (e ∷ es) q = ap (cond (eq_by_cmp bytes_cmp q e.0) (Some e.1)) (get-find es q)
 
@@ -56,12 +56,12 @@ module _ {X : Type 0} where
       ] refl
 
   -- what a name has after a put
-  get-put : (es : List (List ℕ × X)) (name : List ℕ) (x : X) (q : List ℕ) → get bytes_cmp (put_entry bytes_cmp es name x) q ≡ cond (eq_by_cmp bytes_cmp q name) (Some x) (get bytes_cmp es q)
+  pub get-put : (es : List (List ℕ × X)) (name : List ℕ) (x : X) (q : List ℕ) → get bytes_cmp (put_entry bytes_cmp es name x) q ≡ cond (eq_by_cmp bytes_cmp q name) (Some x) (get bytes_cmp es q)
   get-put es name x q =
       ap (λ l. get bytes_cmp l q) (put_entry-put es name x) ∙ get-find _ q ∙ find-put bytes_cmp nat_list_cmp_total q name x es
       ∙ ap (λ found. cond (eq_by_cmp bytes_cmp q name) (Some x) found) (sym (get-find es q))
 
-  sorted-put : (es : List (List ℕ × X)) (name : List ℕ) (x : X) → is_sorted bytes_cmp es ≡ true → is_sorted bytes_cmp (put_entry bytes_cmp es name x) ≡ true
+  pub sorted-put : (es : List (List ℕ × X)) (name : List ℕ) (x : X) → is_sorted bytes_cmp es ≡ true → is_sorted bytes_cmp (put_entry bytes_cmp es name x) ≡ true
   sorted-put es name x s = ap (is_sorted bytes_cmp) (put_entry-put es name x) ∙ truth _ (is_sorted-put bytes_cmp nat_list_cmp_total name x es (subst T (sym s) tt))
 
   module _ (P : X → Type 0) where
@@ -82,7 +82,7 @@ module _ {X : Type 0} where
           | false ↦ λ later. each-found es name x all.1 later
         ] is
 
-same_name : (q name : List ℕ) → eq_by_cmp bytes_cmp q name ≡ true → q ≡ name
+pub same_name : (q name : List ℕ) → eq_by_cmp bytes_cmp q name ≡ true → q ≡ name
 same_name q name t = names_same q name ((Equal-is (bytes_cmp q name)).0 t)
 
 absent : {X : Type 0} (found : Option X) → is_some found ≡ false → found ≡ None

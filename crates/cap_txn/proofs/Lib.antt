@@ -1,3 +1,5 @@
+pub mod CommuteLemmas
+pub mod FrontLemmas
 pub mod KeptLemmas
 pub mod PlaceLemmas
 pub mod RunLemmas

@@ -1,5 +1,6 @@
 pub mod Assigned
 pub mod Batch
+pub mod Front
 pub mod Operation
 pub mod Outcome
 pub mod Read

@@ -1,10 +1,13 @@
 //! Laws of lists of operations, over the definitions alone. The functions do nothing.
-ghost use Rattle.std.specs.Prelude.{◌≡◌, ℕ, Bool, Some, [], ◌∷◌, ◌++◌, List, Ok, Err, IfOk, length};
+ghost use Rattle.std.specs.Prelude.{◌≡◌, ℕ, Bool, false, Some, [], ◌∷◌, ◌++◌, List, Ok, Err, IfOk, length};
+ghost use Rattle.cap_value.specs.Bytes.{bytes_eq};
 ghost use Rattle.cap_value.specs.declared.refusal.Refusal.{Refusal};
+ghost use Rattle.cap_txn.specs.Front.{IsFirstRefused};
 ghost use Rattle.cap_txn.specs.Operation.{changes, run, step};
 ghost use Rattle.cap_txn.specs.Outcome.{OutcomeState};
 ghost use Rattle.cap_txn.specs.Tables.{AreRising, Tables, create, schema_of};
 ghost use Rattle.cap_txn.specs.declared.op.Op.{Op};
+ghost use Rattle.cap_txn.specs.declared.refused_at.RefusedAt.{RefusedAt};
 
 use cap_table::{operations_keep_columns, operations_keep_tables};
 use cap_value::AllocHandle;
@@ -16,6 +19,21 @@ pub fn first_refusal_ends_the_list<A: AllocHandle>()
         (left : OutcomeState A) (why : Refusal) →
         run tables front ≡ Ok left → step left.database op ≡ Err why →
         run tables (front ++ op ∷ back) ≡ Err (record { at = length front; why = why }) }
+{}
+
+/// A list that is refused has operations in front of the refused one that are all accepted, and leave what they leave
+/// alone; on that the one at the place that is told is refused.
+pub fn operations_in_front_are_accepted<A: AllocHandle>()
+    ensures { (tables : Tables A) (ops : List (Op A)) (refused : RefusedAt) → run tables ops ≡ Err refused →
+        IsFirstRefused tables ops refused }
+{}
+
+/// Two operations on different tables, of which the second is accepted after the first, are accepted the other way
+/// round as well and leave the same database.
+pub fn operations_on_different_tables_commute<A: AllocHandle>()
+    ensures { (tables one both : Tables A) (first second : Op A) → AreRising tables →
+        bytes_eq first.table second.table ≡ false → step tables first ≡ Ok one → step one second ≡ Ok both →
+        (other : Tables A) × (step tables second ≡ Ok other) × (step other first ≡ Ok both) }
 {}
 
 /// One operation more, which is accepted on what the others leave, adds its changes to theirs.

@@ -26,8 +26,8 @@ pub use cause::Cause;
 pub use change::Change;
 pub use database::{Database, TABLES_MAX};
 pub use laws::{
-    first_refusal_ends_the_list, last_operation_adds_its_changes, tables_keep_columns,
-    tables_keep_order,
+    first_refusal_ends_the_list, last_operation_adds_its_changes, operations_in_front_are_accepted,
+    operations_on_different_tables_commute, tables_keep_columns, tables_keep_order,
 };
 pub use op::{Action, Op};
 pub use outcome::Outcome;
