@@ -1,4 +1,4 @@
-use Rattle.std.proofs.Common.{◌≡◌, ◌+◌, ◌-◌, ◌*◌, ◌/◌, ◌^◌, ◌<◌, ◌≤◌, ◌∷◌, ◌++◌, length, vec_len, take, drop, length-append, refl, sym, ap, ◌∙◌, subst, arith, lit<, rules}
+use Rattle.std.proofs.Common.{◌≡◌, ◌+◌, ◌-◌, ◌*◌, ◌/◌, ◌^◌, ◌<◌, ◌≤◌, ◌∷◌, length, vec_len, take, drop, length-append, sym, ap, ◌∙◌, subst, arith, lit<, rules}
 use Rattle.std.proofs.lemmas.List.{append-nil}
 use Rattle.std.proofs.Math.Nat.{lt_of_mul-lt-mul_right, one-le-pow}
 use Rattle.cap_tree.specs.Shape.{seen, entries_of, IsChild, EachBelow, NoneBelow}
