@@ -1,8 +1,8 @@
-ghost use Rattle.std.specs.Prelude.{◌≡◌, ◌++◌, [], IfOk, OnOk, OnErr, nat_eq, if◌then◌else◌};
+ghost use Rattle.std.specs.Prelude.{◌≡◌, ◌||◌, ◌++◌, [], IfOk, OnOk, OnErr, nat_eq, if◌then◌else◌};
 ghost use Rattle.cap_session.specs.Attached.{tables_of, waiting_tables};
-ghost use Rattle.cap_session.specs.Note.{attach_by, attach_by_rule, touch_table, touch_tables, touches_found};
+ghost use Rattle.cap_session.specs.Note.{attach_by, attach_by_rule, concerns, touch_table, touch_tables, touches_found};
 ghost use Rattle.cap_session.specs.Records.{with_touches};
-ghost use Rattle.cap_session.specs.Session.{attach, forget, is_listed, records_of, stored};
+ghost use Rattle.cap_session.specs.Session.{accepts_by, attach, forget, is_listed, records_of, stored};
 ghost use Rattle.std.specs.Option.{option_copied, unwrap_or};
 ghost use Rattle.std.specs.List.{list_any};
 ghost use Rattle.cap_value.specs.Bytes.{bytes_eq};
@@ -76,6 +76,32 @@ pub(crate) fn copies_of<A: AllocHandle>(
         copies.push(table.copy()?)?;
     }
     Ok(copies)
+}
+
+/// Whether one of these changes is of a table that is attached, or that the rule attaches.
+pub(crate) fn is_concerned<A: AllocHandle>(
+    tables: &[AttachedTable<A>],
+    rule: &AutomaticRule<A>,
+    changes: &[Change<A>],
+) -> bool
+    ensures { result ≡ list_any (concerns rule.now (tables_of tables.now)) changes.now }
+{
+    for change in changes {
+        if concerns(tables, rule, &change.table) {
+            return true;
+        }
+    }
+    false
+}
+
+fn concerns<A: AllocHandle>(
+    tables: &[AttachedTable<A>],
+    rule: &AutomaticRule<A>,
+    name: &Name<A>,
+) -> bool
+    ensures { result ≡ (is_listed name.now (tables_of tables.now) || accepts_by rule.now name.now) }
+{
+    is_listed(tables, name) || rule.accepts(name)
 }
 
 /// Notes changes: attaches the tables that the rule accepts, and makes the touches of all that are attached then.

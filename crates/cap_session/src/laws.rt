@@ -20,7 +20,8 @@ use cap_value::AllocHandle;
 /// Touches make these records: a record keeps its image, a key that is touched first has the image of its first
 /// touch, a mark is the old mark and those of all touches of the key together, and no other key gains or loses one.
 pub fn touches_make_these_records<A: AllocHandle>()
-    ensures { (before : Records A) (touches : List (Touch A)) → AreTouched before touches (with_touches before touches) }
+    ensures { (before : Records A) (touches : List (Touch A))
+        → AreTouched before touches (with_touches before touches) }
 {}
 
 /// A mark is direct from the first direct touch of its key on, whatever touches follow.

@@ -1,20 +1,20 @@
-ghost use Rattle.std.specs.Prelude.{◌≡◌, ◌↔◌, IfOk, IsTrue, OnOk, OnErr};
+ghost use Rattle.std.specs.Prelude.{◌≡◌, ◌↔◌, false, Ok, None, IfOk, IsTrue, OnOk, OnErr};
 ghost use Rattle.std.specs.Option.{option_copied, unwrap_or};
 ghost use Rattle.cap_session.specs.Attached.{tables_of};
-ghost use Rattle.cap_session.specs.Note.{note, note_diff};
+ghost use Rattle.cap_session.specs.Note.{is_concerned, note, note_diff};
 ghost use Rattle.cap_session.specs.Session.{attach, attach_all, new_session, record_of, records_of, restart, set_filter, stored};
 
 use crate::attached::Attached;
 use crate::attached_table::{
-    AttachedTable, copies_of, forget, is_empty, is_listed, note_differences, note_tables,
-    records_of, stored,
+    AttachedTable, copies_of, forget, is_concerned, is_empty, is_listed, note_differences,
+    note_tables, records_of, stored,
 };
 use crate::{AutomaticRule, Record, Records};
 use cap_compare::Difference;
 use cap_filter::TableFilter;
 use cap_row::Key;
 use cap_txn::{Change, Database};
-use cap_value::{AllocHandle, Name, OutOfMemory};
+use cap_value::{AllocHandle, Exact, Name, OutOfMemory};
 use std::marker::Model;
 
 /// What is kept of the rows that changes touch: of each attached table the touched keys, each with the row as it was
@@ -79,7 +79,8 @@ impl<A: AllocHandle> Session<A> {
     /// Attaches a table, last in the list, unless it is attached. The table need not exist. On an error the session
     /// is as before.
     pub fn attach(&mut self, name: &Name<A>) -> Result<(), OutOfMemory>
-        ensures attached { OnOk result (self.new ≡ record self.old { tables = attach name.now self.old.tables }) }
+        ensures attached { OnOk result
+            (self.new ≡ record self.old { tables = attach name.now self.old.tables }) }
         ensures err { OnErr result (self.new ≡ self.old) }
     {
         if is_listed(&self.tables, name) {
@@ -147,6 +148,40 @@ impl<A: AllocHandle> Session<A> {
             self.indirect,
             changes,
         )
+    }
+
+    /// The session after the changes of one commit, or none where it stays as it is: for who changes several things
+    /// together, and puts each in place once all are made. Takes no memory where the session is not enabled, or no
+    /// change is of a table that is attached or that the rule attaches.
+    #[tactic(auto, using(crate::proofs::NoteLemmas::note_stays))]
+    pub fn noted(
+        &self,
+        before: &Database<A>,
+        changes: &[Change<A>],
+    ) -> Result<Option<Self>, OutOfMemory>
+        ensures noted { IfOk result
+            (λ after. unwrap_or after self.now ≡ note before.now changes.now self.now) }
+        ensures unconcerned { is_concerned self.now changes.now ≡ false → result ≡ Ok None }
+    {
+        if self.is_concerned(changes) {
+            Ok(Some(self.after(before, changes)?))
+        } else {
+            Ok(None)
+        }
+    }
+
+    fn is_concerned(&self, changes: &[Change<A>]) -> bool
+        ensures { result ≡ is_concerned self.now changes.now }
+    {
+        self.enabled && is_concerned(&self.tables, &self.rule, changes)
+    }
+
+    fn after(&self, before: &Database<A>, changes: &[Change<A>]) -> Result<Self, OutOfMemory>
+        ensures { IfOk result (λ after. after ≡ note before.now changes.now self.now) }
+    {
+        let mut after = self.copy()?;
+        after.note(before, changes)?;
+        Ok(after)
     }
 
     /// Notes a diff of a table (SQLite's sqlite3session_diff): attaches it unless it is attached, and touches each key
@@ -223,4 +258,19 @@ impl<A: AllocHandle> Session<A> {
             tables: copies_of(self.alloc, &self.tables)?,
         })
     }
+}
+
+/// The same session, which shares its records.
+impl<A: AllocHandle> Clone for Session<A> {
+    ghost use Rattle.std.specs.Prelude.{◌≡◌};
+
+    ghost is_clone = { λ session clone. clone ≡ session };
+
+    fn clone(&self) -> Result<Self, OutOfMemory> {
+        self.copy()
+    }
+}
+
+impl<A: AllocHandle> Exact for Session<A> {
+    ghost exact = { λ session clone same. same };
 }

@@ -1,5 +1,5 @@
 use crate::Session;
-use cap_compare::compare;
+use cap_compare::{Difference, compare};
 use cap_filter::TableFilter;
 use cap_row::{Key, Row, Schema};
 use cap_table::RowRef;
@@ -126,6 +126,18 @@ fn recorded<A: AllocHandle>(
         _ => false,
     };
     Ok(Some((record.indirect, same)))
+}
+
+fn differences<A: AllocHandle>(
+    alloc: A,
+    from: &Database<A>,
+    to: &Database<A>,
+    name: &Name<A>,
+) -> Result<Vec<Difference<A>, A>, Fault<Refusal>> {
+    match to.table(name) {
+        Some(table) => compare(alloc, from.table(name), table),
+        None => Err(Fault::Refused(Refusal::NoTable)),
+    }
 }
 
 #[test]
@@ -261,10 +273,7 @@ fn diff_is_noted(rt: HostRuntime) -> Result<(), Fail> {
     let ops = [delete(alloc, 1)?, insert(alloc, "t", 2, "y")?];
     commit(alloc, &mut database, &mut session, &ops)?;
     let name = Name::new(alloc, "t")?;
-    let Some(table) = database.table(&name) else {
-        return Err(Fail::Failed);
-    };
-    let found = compare(alloc, from.table(&name), table)?;
+    let found = differences(alloc, &from, &database, &name)?;
     session.note_diff(&name, &found)?;
     assert_eq!(rt; recorded(alloc, &session, 1, None)?, Some((false, true)));
     assert_eq!(rt; recorded(alloc, &session, 2, None)?, Some((false, true)));
@@ -273,6 +282,28 @@ fn diff_is_noted(rt: HostRuntime) -> Result<(), Fail> {
     let x = row(alloc, 1, "x")?;
     assert_eq!(rt; recorded(alloc, &other, 1, Some(&x))?, Some((false, true)));
     assert_eq!(rt; other.stored(), 2);
+    Ok(())
+}
+
+// A row without a key attaches its table by rule, and leaves no record. What does not concern a session leaves it.
+#[test]
+fn row_without_key_attaches(rt: HostRuntime) -> Result<(), Fail> {
+    let alloc = rt.alloc();
+    let mut database = with_tables(alloc, &["t", "u"])?;
+    let fields = vec![in alloc; Value::Null, Value::text(alloc, "n")?]?;
+    let action = Action::Insert(Row::new(fields)?);
+    let outcome = run_ops(alloc, &database, &[op(alloc, "u", Cause::Direct, action)?])?;
+    let mut session = attached(alloc, "t")?;
+    assert!(rt; session.noted(&database, outcome.changes())?.is_none());
+    session.attach_all();
+    let after = session.noted(&database, outcome.changes())?;
+    assert!(rt; matches!(&after, Some(after) if after.is_empty() && after.attached().count() == 2));
+    assert_eq!(rt; session.attached().count(), 1);
+    session.note(&database, outcome.changes())?;
+    assert_eq!(rt; session.clone()?.attached().count(), 2);
+    assert!(rt; session.is_empty());
+    database = outcome.into_database();
+    assert_eq!(rt; database.len(), 2);
     Ok(())
 }
 
