@@ -1,5 +1,5 @@
 -- After any history the tables' names rise, and in each table keys and ids rise and rows stand where they belong.
-use Rattle.std.proofs.Common.{◌≡◌, ◌<◌, ℕ, Bool, true, false, cond, Option, Some, None, Result, Ok, Err, List, [], ◌∷◌, ◌&&◌, length, refl, sym, ap, subst, ◌∙◌, arith, not, Ordering, Less, Equal, Greater, nat_eq, nat_lt}
+use Rattle.std.proofs.Common.{◌≡◌, ◌<◌, ℕ, Bool, true, false, cond, Option, Some, None, Result, Ok, Err, List, [], ◌∷◌, ◌&&◌, length, refl, arith, not, Ordering, Less, Equal, Greater, nat_eq, nat_lt}
 use Rattle.std.specs.Prelude.{IfOk, is_some, reverse}
 use Rattle.std.specs.List.{All, AllByRecursion, list_all}
 use Rattle.std.specs.List.Sorted.{IsStrictlySortedBy}
@@ -10,7 +10,6 @@ use Rattle.std.proofs.lemmas.Bool.Decides.{nat_tests}
 use Rattle.std.proofs.lemmas.List.Elements.{All-from_recursion}
 use Rattle.cap_value.specs.Bytes.{bytes_cmp}
 use Rattle.cap_value.specs.declared.refusal.Refusal.{Refusal}
-use Rattle.cap_row.specs.Fields.{Fields}
 use Rattle.cap_row.specs.Key.{fields_cmp, key_of}
 use Rattle.cap_tree.specs.Tree.{IsOrdered}
 use Rattle.cap_table.specs.Sound.{IsRising, keyed_stands, loose_stands}

@@ -1,5 +1,5 @@
 -- One operation as a batch of its own.
-use Rattle.std.proofs.Common.{◌≡◌, ◌+◌, ℕ, Some, Result, Ok, Err, IfOk, List, [], ◌∷◌, refl, ap, ◌∙◌}
+use Rattle.std.proofs.Common.{◌≡◌, ◌+◌, ℕ, Result, Ok, Err, IfOk, List, [], ◌∷◌, refl, ap, ◌∙◌}
 use Rattle.std.specs.Prelude.{IsOk}
 use Rattle.std.proofs.lemmas.List.{append-nil}
 use Rattle.cap_value.specs.declared.refusal.Refusal.{Refusal}

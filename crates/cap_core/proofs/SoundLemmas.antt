@@ -1,7 +1,7 @@
 -- Images that stand under their own keys, after touches and where one is found.
 use Rattle.std.proofs.Common.{◌≡◌, ℕ, ◌+◌, ◌<◌, Bool, true, false, cond, Option, Some, None, List, [], ◌∷◌, ◌&&◌, ◌++◌, map, length, refl, sym, ap, ap₂, subst, ◌∙◌, arith, not, Ordering, Less, Equal, Greater, IsTrue, Bor, Result, Ok, Err, get_or, take, drop, drop-cons, add-one, nat_eq}
-use Rattle.std.specs.Prelude.{fold, IfSome, IfOk, nat_le, is_some, option_and_then}
-use Rattle.std.specs.Option.{option_copied, option_map}
+use Rattle.std.specs.Prelude.{fold, IfSome, IfOk, nat_le, is_some}
+use Rattle.std.specs.Option.{option_copied}
 use Rattle.std.specs.List.{cons_option, list_all, list_any}
 use Rattle.std.specs.Ordering.{eq_by_cmp, is_eq, match_ordering}
 use Rattle.std.specs.FinMap.{IsAntisymmetric}
@@ -21,7 +21,7 @@ use Rattle.cap_table.specs.Table.{TableState}
 use Rattle.cap_tree.specs.Tree.{get, put_entry}
 use Rattle.cap_txn.specs.Operation.{run}
 use Rattle.cap_txn.specs.Outcome.{OutcomeState}
-use Rattle.cap_txn.specs.Tables.{Tables, create, schema_of, table_of}
+use Rattle.cap_txn.specs.Tables.{Tables, create, schema_of}
 use Rattle.cap_txn.specs.declared.op.Op.{Op}
 use Rattle.cap_core.specs.declared.row_touch.RowTouch.{RowTouch}
 use Rattle.cap_core.specs.declared.touched_row.TouchedRow.{TouchedRow}

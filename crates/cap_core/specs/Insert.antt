@@ -8,7 +8,6 @@ use Rattle.cap_changes.specs.Group.{TableChanges}
 use Rattle.cap_changes.specs.declared.change.Change.{Change}
 use Rattle.cap_tree.specs.Tree.{get}
 use Rattle.cap_table.specs.Table.{TableState}
-use Rattle.cap_txn.specs.Batch.{BatchState}
 use Rattle.cap_txn.specs.Tables.{table_of}
 use Rattle.cap_txn.specs.declared.cause.Cause.TheVariants.{Direct}
 use Rattle.cap_txn.specs.declared.op.Action.TheVariants.{Insert}

@@ -177,7 +177,8 @@ impl<A: AllocHandle> Core<A> {
         ensures ok { IfOk result (λ reply. let effect = created (create self.old.main name.now schema.now) in
             (reply ≡ write_reply self.old effect) × (self.new ≡ after_write self.old effect)
             × C.gives confirm.old (write_reply self.old effect) (Ok tt) confirm.new) }
-        ensures err { IfErr result (λ fault. let effect = created (create self.old.main name.now schema.now) in
+        ensures err { IfErr result (λ fault.
+            let effect = created (create self.old.main name.now schema.now) in
             (self.new ≡ self.old) × MatchFault fault (confirm.new ≡ confirm.old)
             (λ why. C.gives confirm.old (write_reply self.old effect) (Err why) confirm.new)) }
     {

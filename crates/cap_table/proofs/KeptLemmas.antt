@@ -1,5 +1,5 @@
 -- What an operation keeps of a table: its columns, the order of keys and ids, and that rows stand where they belong.
-use Rattle.std.proofs.Common.{◌≡◌, ℕ, ◌+◌, ◌^◌, ◌<◌, Bool, true, false, cond, Option, Some, None, Result, Ok, Err, List, [], ◌∷◌, ◌&&◌, length, refl, sym, ap, subst, ◌∙◌, arith, Ordering, Less, Equal, Greater, IsTrue, T}
+use Rattle.std.proofs.Common.{◌≡◌, ℕ, ◌+◌, ◌^◌, ◌<◌, Bool, true, false, cond, Option, Some, None, Result, Ok, Err, List, [], ◌∷◌, length, refl, sym, ap, subst, ◌∙◌, arith, Ordering, Less, Equal, Greater, T}
 use Rattle.std.specs.Prelude.{IfOk, is_some, ◌==◌, nat_lt}
 use Rattle.std.specs.List.{enumerate_from}
 use Rattle.std.specs.Map.{remove_entry}
@@ -13,12 +13,12 @@ use Rattle.std.proofs.lemmas.Cmp.{nat_cmp_total}
 use Rattle.std.proofs.lemmas.List.{length-map}
 use Rattle.std.proofs.lemmas.List.FromFn.{length-enumerate_from}
 use Rattle.cap_value.specs.declared.refusal.Refusal.{Refusal}
-use Rattle.cap_value.specs.declared.refusal.Refusal.TheVariants.{WrongWidth, BadColumn, Duplicate, NoRow, IdsSpent}
+use Rattle.cap_value.specs.declared.refusal.Refusal.TheVariants.{WrongWidth, BadColumn, NoRow, IdsSpent}
 use Rattle.cap_value.specs.declared.value.Value.{Value}
 use Rattle.cap_row.specs.Fields.{Fields}
 use Rattle.cap_row.specs.Key.{fields_cmp, fields_cmp_total, fields_eq, key_of}
 use Rattle.cap_row.specs.Row.{are_columns, columns_of, new_value, row_with}
-use Rattle.cap_tree.specs.Tree.{get, put_entry, take_entry}
+use Rattle.cap_tree.specs.Tree.{get, put_entry}
 use Rattle.cap_table.specs.declared.row_ref.RowRef.{RowRef}
 use Rattle.cap_table.specs.declared.row_ref.RowRef.TheVariants.{Key, Loose}
 use Rattle.cap_table.specs.Operation.{delete_row, empty_table, insert_row, moved, placed, rekeyed, row_of, under_key, under_next_id, updated, update_row, with_id, with_key, without}

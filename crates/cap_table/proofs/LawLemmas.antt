@@ -1,7 +1,6 @@
 -- A row that is inserted and then deleted, and ids that are given.
-use Rattle.std.proofs.Common.{◌≡◌, ℕ, ◌+◌, Bool, true, false, cond, Option, Some, None, Ok, Err, List, [], ◌∷◌, length, refl, sym, ap, subst, ◌∙◌, Ordering, Less, Equal, Greater}
+use Rattle.std.proofs.Common.{◌≡◌, ◌+◌, Bool, true, false, cond, Option, Some, None, Ok, Err, List, [], ◌∷◌, length, refl, ap, subst, ◌∙◌, Ordering, Less, Equal, Greater}
 use Rattle.std.specs.Prelude.{is_some, ◌==◌, ◌^◌, nat_lt}
-use Rattle.std.specs.BTreeMap.{is_at}
 use Rattle.std.specs.Ordering.{is_eq, match_ordering, nat_cmp}
 use Rattle.std.proofs.lemmas.Cmp.{nat_cmp_total}
 use Rattle.std.specs.Cmp.{tied_itself}
@@ -9,8 +8,8 @@ use Rattle.cap_value.specs.declared.refusal.Refusal.TheVariants.{WrongWidth, NoR
 use Rattle.cap_row.specs.Fields.{Fields}
 use Rattle.cap_row.specs.Key.{fields_cmp, fields_cmp_total, key_of}
 use Rattle.cap_tree.specs.Tree.{get, put_entry, take_entry}
-use Rattle.cap_table.specs.declared.row_ref.RowRef.TheVariants.{Key, Loose}
-use Rattle.cap_table.specs.Operation.{delete_row, insert_row, placed, under_key, under_next_id, with_key, with_id, without}
+use Rattle.cap_table.specs.declared.row_ref.RowRef.TheVariants.{Key}
+use Rattle.cap_table.specs.Operation.{delete_row, insert_row, placed, under_key, with_key, without}
 use Rattle.cap_table.specs.Table.{TableState}
 
 module _ {K X : Type 0} (R : K → K → Ordering) (k : K) (v : X) (self : R k k ≡ Equal) where

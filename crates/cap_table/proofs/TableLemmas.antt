@@ -1,5 +1,5 @@
 -- Rows that stand where they belong, after a row is put and after one is taken.
-use Rattle.std.proofs.Common.{◌≡◌, ℕ, suc, ◌+◌, ◌^◌, ◌<◌, ◌≤◌, Bool, true, false, cond, Option, Some, None, List, [], ◌∷◌, ◌&&◌, length, refl, sym, ap, subst, ◌∙◌, arith, Ordering, Less, Equal, Greater, IsTrue, Bor}
+use Rattle.std.proofs.Common.{◌≡◌, ℕ, ◌+◌, ◌^◌, ◌<◌, Bool, true, false, cond, Option, Some, None, List, [], ◌∷◌, ◌&&◌, length, refl, sym, ap, subst, ◌∙◌, arith, Ordering, Less, Equal, Greater, Bor}
 use Rattle.std.specs.Prelude.{is_some, ◌==◌, not, nat_lt, IfSome}
 use Rattle.std.specs.Option.{option_copied}
 use Rattle.std.specs.List.{list_all}
@@ -10,9 +10,8 @@ use Rattle.std.specs.FinMap.{IsAntisymmetric, nat_cmp-IsAntisymmetric}
 use Rattle.std.specs.Cmp.{Equal-is, tied_itself}
 use Rattle.std.proofs.lemmas.Bool.Decides.{nat_tests}
 use Rattle.cap_row.specs.Fields.{Fields}
-use Rattle.cap_row.specs.Key.{fields_cmp, fields_cmp_total, fields_cmp-Equal, fields_eq, key_of}
+use Rattle.cap_row.specs.Key.{fields_cmp, fields_cmp_total, fields_cmp-Equal, key_of}
 use Rattle.cap_tree.specs.Tree.{get, put_entry, take_entry}
-use Rattle.cap_table.specs.Operation.{row_of}
 use Rattle.cap_table.specs.Sound.{is_key_of, keyed_stands, loose_stands, IsTable}
 use Rattle.cap_table.specs.Table.{TableState}
 

@@ -1,5 +1,5 @@
 -- What holds of every table: keyed rows stand under their own keys, loose rows under ids that were given.
-use Rattle.std.specs.Prelude.{ℕ, ◌≤◌, ◌^◌, Bool, true, false, Option, Some, None, List, length, is_some, nat_lt, ◌==◌, ◌&&◌, not, IsTrue}
+use Rattle.std.specs.Prelude.{ℕ, ◌≤◌, ◌^◌, Bool, false, Option, Some, None, List, length, is_some, nat_lt, ◌==◌, ◌&&◌, not, IsTrue}
 use Rattle.std.specs.List.{list_all}
 use Rattle.std.specs.Ordering.{nat_cmp}
 use Rattle.std.specs.FinMap.Entries.{is_sorted}

@@ -1,11 +1,10 @@
 -- The operations in front of a refused one.
-use Rattle.std.proofs.Common.{◌≡◌, ℕ, suc, ◌+◌, Result, Ok, Err, List, [], ◌∷◌, ◌++◌, length, refl, sym, ap, subst, ◌∙◌, arith}
+use Rattle.std.proofs.Common.{◌≡◌, ◌+◌, Result, Ok, Err, List, [], ◌∷◌, ◌++◌, refl, sym, ap, ◌∙◌, arith}
 use Rattle.cap_value.specs.declared.refusal.Refusal.{Refusal}
 use Rattle.cap_txn.specs.Front.{IsFirstRefused}
 use Rattle.cap_txn.specs.Operation.{and_then, changes, one_later, run, step, with_changes}
 use Rattle.cap_txn.specs.Outcome.{OutcomeState}
 use Rattle.cap_txn.specs.Tables.{Tables}
-use Rattle.cap_txn.specs.declared.change.Change.{Change}
 use Rattle.cap_txn.specs.declared.op.Op.{Op}
 use Rattle.cap_txn.specs.declared.refused_at.RefusedAt.{RefusedAt}
 

@@ -1,5 +1,5 @@
 -- What operations and new tables keep of a database: the columns of its tables, and that names, keys and ids rise.
-use Rattle.std.proofs.Common.{◌≡◌, ℕ, Bool, true, false, cond, Option, Some, None, Result, Ok, Err, List, [], ◌∷◌, refl, sym, ap, subst, ◌∙◌, Ordering, Less, Equal, Greater, T}
+use Rattle.std.proofs.Common.{◌≡◌, ℕ, Bool, true, false, cond, Option, Some, None, Result, Ok, Err, List, [], ◌∷◌, refl, sym, ap, subst, ◌∙◌, Less, Equal, Greater, T}
 use Rattle.std.specs.Prelude.{IfOk, is_some, length, nat_lt}
 use Rattle.std.specs.Option.{option_map}
 use Rattle.std.specs.List.{AllByRecursion}
@@ -10,7 +10,7 @@ use Rattle.std.specs.FinMap.Entries.{by_order, find, find-put, is_sorted, is_sor
 use Rattle.std.proofs.lemmas.Cmp.{nat_list_cmp_total}
 use Rattle.cap_value.specs.Bytes.{bytes_cmp}
 use Rattle.cap_value.specs.declared.refusal.Refusal.{Refusal}
-use Rattle.cap_value.specs.declared.refusal.Refusal.TheVariants.{NoTable, TableExists, TooMany}
+use Rattle.cap_value.specs.declared.refusal.Refusal.TheVariants.{TableExists, TooMany}
 use Rattle.cap_row.specs.Fields.{Fields}
 use Rattle.cap_tree.specs.Tree.{get, put_entry}
 use Rattle.cap_table.specs.Operation.{delete_row, empty_table, insert_row, update_row}

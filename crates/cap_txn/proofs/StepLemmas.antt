@@ -1,5 +1,5 @@
 -- An operation on the table at its place, and what it does to the database.
-use Rattle.std.proofs.Common.{Bool, true, false, ◌≡◌, ℕ, zero, suc, ◌+◌, ◌<◌, ◌≤◌, Option, Some, None, Result, Ok, Err, List, [], ◌∷◌, ◌++◌, length, take, get_or, set, refl, sym, ap, subst, ◌∙◌, arith, length-set}
+use Rattle.std.proofs.Common.{Bool, true, false, ◌≡◌, ℕ, zero, suc, ◌+◌, ◌<◌, ◌≤◌, Option, Some, None, Result, Ok, Err, List, [], ◌∷◌, ◌++◌, length, take, get_or, set, refl, sym, ap, subst, ◌∙◌, arith}
 use Rattle.std.specs.Prelude.{IfOk, OnErr, is_some, nat_lt}
 use Rattle.std.proofs.lemmas.Bool.Decides.{nat_tests}
 use Rattle.cap_value.specs.declared.refusal.Refusal.TheVariants.{TableExists, TooMany}
@@ -10,7 +10,7 @@ use Rattle.cap_value.specs.declared.memory.Fault.{Fault}
 use Rattle.cap_value.specs.declared.memory.Fault.TheVariants.{Refused, OutOfMemory}
 use Rattle.cap_value.specs.declared.refusal.Refusal.{Refusal}
 use Rattle.cap_row.specs.Fields.{Fields}
-use Rattle.cap_tree.specs.Tree.{IsOrdered, get, put_entry}
+use Rattle.cap_tree.specs.Tree.{IsOrdered, put_entry}
 use Rattle.cap_value.specs.Memory.{LeavesUnlessMemory, RefusesFirst}
 use Rattle.cap_table.specs.Operation.{empty_table}
 use Rattle.std.proofs.lemmas.List.{take_more}

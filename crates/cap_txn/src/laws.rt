@@ -50,9 +50,9 @@ pub fn last_operation_adds_its_changes<A: AllocHandle>()
 pub fn tables_keep_columns<A: AllocHandle>()
     ensures run { (tables : Tables A) (ops : List (Op A)) → IfOk (run tables ops)
         (λ left. (name : List ℕ) → schema_of left.database name ≡ schema_of tables name) }
-    ensures create { (tables : Tables A) (name : List ℕ) (schema : List Bool) → IfOk (create tables name schema)
-        (λ after. (other : List ℕ) (columns : List Bool) → schema_of tables other ≡ Some columns
-        → schema_of after other ≡ Some columns) }
+    ensures create { (tables : Tables A) (name : List ℕ) (schema : List Bool) →
+        IfOk (create tables name schema) (λ after. (other : List ℕ) (columns : List Bool)
+        → schema_of tables other ≡ Some columns → schema_of after other ≡ Some columns) }
 {
     operations_keep_columns::<A>();
 }

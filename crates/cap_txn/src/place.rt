@@ -96,7 +96,8 @@ pub(crate) fn step_at_after<A: AllocHandle, C: Confirm>(
     requires put { (d : List ℕ × TableState A) (t : TableState A)
         → put_entry bytes_cmp tables.old op.now.table t
         ≡ slice_set tables.old place ((slice_index_or tables.old place d).0, t) }
-    requires can_confirm { (after : Tables A) → step tables.old op.now ≡ Ok after → C.can_confirm confirm.old }
+    requires can_confirm { (after : Tables A) → step tables.old op.now ≡ Ok after
+        → C.can_confirm confirm.old }
     ensures tables { LeavesOnceAgreed result (step tables.old op.now) tables.new
         (confirm.new ≡ confirm.old) (λ answer. C.gives confirm.old answer confirm.new) }
     ensures kept { OnErr result (tables.new ≡ tables.old) }

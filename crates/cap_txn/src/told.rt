@@ -33,8 +33,9 @@ fn changes_of_insert<A: AllocHandle>(
     op: &Op<A>,
     row: &Row<A>,
 ) -> Result<Vec<Change<A>, A>, OutOfMemory>
-    ensures { (after : TableState A) → insert_row table.now row.now ≡ Ok after → IfOk result (λ told. told.items
-        ≡ changes_to op.now.table op.now.cause (changed_keys table.now (action.Insert row.now))) }
+    ensures { (after : TableState A) → insert_row table.now row.now ≡ Ok after →
+        IfOk result (λ told. told.items ≡ changes_to op.now.table op.now.cause
+        (changed_keys table.now (action.Insert row.now))) }
 {
     if row.width() != table.schema().width() {
         return Ok(Vec::new(alloc));

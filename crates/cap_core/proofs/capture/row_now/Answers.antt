@@ -1,5 +1,3 @@
-use Rattle.std.proofs.Common.{sym, ◌∙◌, ap}
-use Rattle.std.specs.Option.{option_copied}
 use Rattle.cap_core.proofs.SoundLemmas.{found-stands-own}
 use Rattle.cap_core.proofs.capture.row_now.Goals as goal
 

@@ -1,4 +1,4 @@
-use Rattle.std.proofs.Common.{◌≡◌, ◌++◌, List, Ok, Result, sym, ap, ◌∙◌, arith}
+use Rattle.std.proofs.Common.{◌++◌, List, Ok, Result, sym, ap, ◌∙◌, arith}
 use Rattle.cap_txn.specs.declared.change.Change.{Change}
 use Rattle.cap_txn.specs.declared.refused_at.RefusedAt.{RefusedAt}
 use Rattle.cap_txn.specs.Outcome.{OutcomeState}

@@ -1,5 +1,4 @@
-use Rattle.std.proofs.Common.{ap, subst}
-use Rattle.cap_txn.specs.Tables.{Tables}
+use Rattle.std.proofs.Common.{subst}
 use Rattle.cap_core.specs.Answer.{State}
 use Rattle.cap_core.specs.Code.Sound.{KeepsColumns}
 use Rattle.cap_core.proofs.SoundLemmas.{run-columns}

@@ -1,5 +1,5 @@
-use Rattle.std.proofs.Common.{refl, sym, ap, subst, ◌∙◌}
-use Rattle.cap_txn.specs.Tables.{Tables, create}
+use Rattle.std.proofs.Common.{ap, subst, ◌∙◌}
+use Rattle.cap_txn.specs.Tables.{Tables}
 use Rattle.cap_core.specs.Answer.{State}
 use Rattle.cap_core.specs.Code.Sound.{KeepsColumns}
 use Rattle.cap_core.proofs.SoundLemmas.{created-columns, touches_stand-none}

@@ -1,7 +1,6 @@
-use Rattle.std.proofs.Common.{◌≡◌, ◌+◌, length, arith, sym, ap, subst, ◌∙◌, Ok, IsTrue}
+use Rattle.std.proofs.Common.{◌≡◌, ◌+◌, length, arith, sym, ap, subst, ◌∙◌, IsTrue}
 use Rattle.std.specs.Vec.{with_items}
 use Rattle.std.proofs.lemmas.List.{with_items_is}
-use Rattle.cap_txn.specs.Operation.{step}
 use Rattle.cap_core.specs.Answer.{State}
 use Rattle.cap_core.specs.Code.Attached.{sessions_of, waiting_sessions}
 use Rattle.cap_core.specs.Code.Sound.{IsSoundWrite, sessions_stand, touches_stand}
