@@ -1,5 +1,5 @@
 -- The text of rows, one value and one row at a time.
-use Rattle.std.proofs.Common.{◌≡◌, ℕ, ◌+◌, ◌<◌, List, [], ◌∷◌, ◌++◌, Option, Result, Ok, Err, Bor, length, get_or, drop, drop-cons, add-one, refl, sym, ap, ap₂, ◌∙◌, append_assoc, codes}
+use Rattle.std.proofs.Common.{◌≡◌, ℕ, ◌+◌, ◌<◌, List, ◌∷◌, ◌++◌, Option, Result, Ok, Err, Bor, length, get_or, drop, drop-cons, add-one, sym, ap, ap₂, ◌∙◌, append_assoc, codes}
 use Rattle.std.specs.Option.{option_copied}
 use Rattle.std.specs.Result.{result_map_both}
 use Rattle.cap_value.specs.declared.refusal.Refusal.{Refusal}

@@ -4,7 +4,6 @@ use Rattle.cap_value.specs.declared.memory.Fault.{Fault}
 use Rattle.cap_value.specs.declared.memory.Fault.TheVariants.{Refused, OutOfMemory}
 use Rattle.cap_run.specs.declared.fault.RunFault.{RunFault}
 use Rattle.cap_run.specs.declared.fault.RunFault.TheVariants.{Script, NotUtf8, NotHex, Blob, Call, Read, Write, Memory}
-use Rattle.cap_run.specs.declared.script.fault.ScriptFault.{ScriptFault}
 
 -- the exit status: 1 where the input is refused, and 3 where a call, a read or a write failed, or for want of memory
 abbrev pub exit_status : RunFault → ℕ

@@ -1,4 +1,4 @@
-use Rattle.std.proofs.Common.{◌≡◌, ◌∙◌, ℕ, List, Option, Some, None, Result, Ok, Err, IfSome, IsErrAnd, IsUtf8, ap, inl, subst, ◌⊎◌}
+use Rattle.std.proofs.Common.{◌≡◌, ◌∙◌, ℕ, List, Option, Some, None, Result, Ok, Err, IfSome, IsUtf8, ap, inl, subst, ◌⊎◌}
 use Rattle.std.proofs.lemmas.Result.{err_from_is_err_and}
 use Rattle.cap_run.specs.RunFault.{IsUnread, input_fault}
 use Rattle.cap_run.specs.declared.fault.RunFault.TheVariants.{NotUtf8}

@@ -1,7 +1,6 @@
-use Rattle.std.proofs.Common.{◌≡◌, ◌+◌, ◌<◌, ◌≤◌, ℕ, List, [], ◌++◌, length, refl, sym, ap, arith, string_bytes}
+use Rattle.std.proofs.Common.{◌+◌, ◌<◌, ◌≤◌, ℕ, List, [], ◌++◌, length, sym, ap, arith, string_bytes}
 use Rattle.std.proofs.KnownBytes.{Appends-nil, Appends-trans}
 use Rattle.std.proofs.lemmas.Result.{err_from_is_err_and}
-use Rattle.cap_run.specs.Run.{events_max}
 use Rattle.cap_run.proofs.RunLemmas.{begins_front, ends_at, reached-events, reached-none, reached-push, reached-run, reached_regroup, run_same}
 use Rattle.cap_run.proofs.run.write_replies.Goals as goal
 
