@@ -1,4 +1,4 @@
-ghost use Rattle.std.specs.Prelude.{◌≡◌, ◌↔◌, false, Ok, None, IfOk, IsTrue, OnOk, OnErr};
+ghost use Rattle.std.specs.Prelude.{◌≡◌, ◌<◌, ◌^◌, ◌↔◌, false, length, Ok, None, IfOk, IsTrue, OnOk, OnErr};
 ghost use Rattle.std.specs.Option.{option_copied, unwrap_or};
 ghost use Rattle.cap_session.specs.Attached.{tables_of};
 ghost use Rattle.cap_session.specs.Note.{is_concerned, note, note_diff};
@@ -227,7 +227,8 @@ impl<A: AllocHandle> Session<A> {
 
     /// The attached tables in the order in which they were attached, each with its records.
     pub fn attached(&self) -> Attached<'_, A>
-        ensures { result ≡ self.now.tables }
+        ensures tables { result ≡ self.now.tables }
+        ensures fits { length result < 2 ^ 64 }
     {
         Attached::over(&self.tables)
     }

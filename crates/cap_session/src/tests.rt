@@ -335,13 +335,17 @@ fn noted<A: AllocHandle>(alloc: A) -> Result<(u128, u128), Fault<Refusal>> {
     let mut session = attached(alloc, "t")?;
     session.attach_all();
     let first = session.stored();
-    let ops = [
-        insert(alloc, "t", 1, "x")?,
-        insert(alloc, "u", 1, "x")?,
-        insert(alloc, "u", 2, "y")?,
-    ];
+    let mut ops = Vec::new(alloc);
+    if ops.push(insert(alloc, "t", 1, "x")?).is_err()
+        || ops.push(insert(alloc, "u", 1, "x")?).is_err()
+        || ops.push(insert(alloc, "u", 2, "y")?).is_err()
+    {
+        return Err(Fault::OutOfMemory);
+    }
     let done = commit(alloc, &mut database, &mut session, &ops);
-    if done.is_err() && (!session.is_empty() || session.attached().count() != 1) {
+    if done.is_err()
+        && (!session.is_empty() || session.records(&Name::new(alloc, "u")?).is_some())
+    {
         return Err(Fault::Refused(Refusal::TooMany));
     }
     done?;
