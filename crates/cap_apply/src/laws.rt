@@ -47,8 +47,10 @@ pub fn inverse_gives_the_first_rows_again<A: AllocHandle>()
     ensures { (policy : Policy) (number : ℕ) (name : List ℕ) (table : TableState A) (ds : List (Difference A))
         (state : AppliedState A) → RowsBefore name table ds state.database →
         (left : AppliedState A) × (again : AppliedState A)
-        × (changes_applied policy number name table.schema (rows.asked_by_changes table.schema ds) state ≡ Ok left)
-        × (changes_applied policy number name table.schema (rows.asked_by_inverses table.schema ds) left ≡ Ok again)
+        × (changes_applied policy number name table.schema
+        (rows.asked_by_changes table.schema ds) state ≡ Ok left)
+        × (changes_applied policy number name table.schema
+        (rows.asked_by_inverses table.schema ds) left ≡ Ok again)
         × RowsAfter name table (map (turned table.schema) ds) again.database
         × OtherTables name state.database again.database × AllApplied ds left again }
 {}

@@ -25,7 +25,8 @@ fn take_change<'a, A: AllocHandle>(
     operation: Operation,
     bytes: &'a [u8],
 ) -> Result<(Change<A>, &'a [u8]), Fault<BlobFault>>
-    ensures gives { ShowsUnlessMemory (λ x. (x.0, x.1.now)) result (change_at total schema.now (operation_byte operation) bytes.now) }
+    ensures gives { ShowsUnlessMemory (λ x. (x.0, x.1.now)) result
+        (change_at total schema.now (operation_byte operation) bytes.now) }
     ensures behind { IfOk result (λ x. length x.1.now ≤ length bytes.now) }
     ensures fits { IfOk result (λ x. IsTrue (change_fits schema.now x.0)) }
 {
@@ -58,7 +59,8 @@ fn take_patch<'a, A: AllocHandle>(
     operation: Operation,
     bytes: &'a [u8],
 ) -> Result<(Patch<A>, &'a [u8]), Fault<BlobFault>>
-    ensures gives { ShowsUnlessMemory (λ x. (x.0, x.1.now)) result (patch_at total schema.now (operation_byte operation) bytes.now) }
+    ensures gives { ShowsUnlessMemory (λ x. (x.0, x.1.now)) result
+        (patch_at total schema.now (operation_byte operation) bytes.now) }
     ensures behind { IfOk result (λ x. length x.1.now ≤ length bytes.now) }
     ensures fits { IfOk result (λ x. IsTrue (patch_fits schema.now x.0)) }
 {

@@ -193,7 +193,8 @@ fn write_long<A: AllocHandle, W: Write>(
     writer: &mut W,
     pending: &mut String<A>,
 ) -> Result<(), RunFault>
-    ensures ok { OnOk result ((front : List ℕ) × (string_bytes pending.old ≡ front ++ string_bytes pending.new)
+    ensures ok { OnOk result ((front : List ℕ)
+        × (string_bytes pending.old ≡ front ++ string_bytes pending.new)
         × Appends (W.contents writer.old) (W.contents writer.new) front) }
     ensures err { IfErr result (λ fault. (fault ≡ RunFault.Write)
         × AppendsFront (W.contents writer.old) (W.contents writer.new) (string_bytes pending.old)) }
