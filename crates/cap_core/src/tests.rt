@@ -308,6 +308,10 @@ fn batches_are_made_whole_or_not_at_all(rt: HostRuntime) -> Result<(), Fail> {
 fn a_prepared_command_is_another_server(rt: HostRuntime) -> Result<(), Fail> {
     let alloc = rt.alloc();
     let core = Core::new(alloc);
+    if core.events() >= 1000 {
+        assert!(rt; false, "a new server has no event");
+        return Ok(());
+    }
     let (made, reply) = core.prepare(&create(alloc, "t")?)?;
     assert!(rt; matches!(reply, Reply::Written { version: 1 }));
     assert_eq!(rt; (core.events(), made.events()), (0, 1));
