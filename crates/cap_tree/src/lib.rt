@@ -1,8 +1,5 @@
-//! Ordered maps whose old versions stay readable: trees that share nodes, changed in place where no other tree holds
-//! the nodes.
-//!
-//! A [`Tree`] is a B+ tree whose nodes hold up to sixteen items each and are shared through `Arc`. A change copies the
-//! shared nodes on one way down, and changes the others where they stand.
+//! Ordered maps whose old versions stay readable: a [`Tree`] is a B+ tree with up to sixteen items a node. Trees share
+//! nodes through `Arc`; a change copies the shared ones on one way down, and changes the others where they stand.
 #![tactic(auto)]
 
 mod agree;
