@@ -7,19 +7,19 @@ ghost use Rattle.cap_tree.specs.Tree.{IsOrdered, get};
 
 use crate::Tree;
 use crate::iter::Iter;
-use std::alloc::Allocator;
+use cap_value::AllocHandle;
 use std::cmp::Ordering;
 use std::iter::FusedIterator;
 use std::marker::Model;
 
 // Entries to go over, the next of them at hand.
 #[derive(Drop)]
-struct Ahead<'a, K: Ord, V, A: Allocator> {
+struct Ahead<'a, K: Ord, V, A: AllocHandle> {
     next: Option<(&'a K, &'a V)>,
     behind: Iter<'a, K, V, A>,
 }
 
-impl<'a, K: Ord, V, A: Allocator> Model for Ahead<'a, K, V, A> {
+impl<'a, K: Ord, V, A: AllocHandle> Model for Ahead<'a, K, V, A> {
     ghost use Rattle.std.specs.Prelude.{List};
 
     ghost Value = { List (K × V) };
@@ -29,7 +29,7 @@ impl<'a, K: Ord, V, A: Allocator> Model for Ahead<'a, K, V, A> {
     ghost view = { λ s. taken s.next s.behind };
 }
 
-impl<'a, K: Ord, V, A: Allocator> Ahead<'a, K, V, A> {
+impl<'a, K: Ord, V, A: AllocHandle> Ahead<'a, K, V, A> {
     fn of(behind: Iter<'a, K, V, A>) -> Self
         ensures { result ≡ behind.entry }
     {
@@ -58,12 +58,12 @@ impl<'a, K: Ord, V, A: Allocator> Ahead<'a, K, V, A> {
 /// The keys of two trees that are still to come, in order, each with what either tree has there: at least one of
 /// them has a value.
 #[derive(Drop)]
-pub struct Beside<'a, K: Ord, V, W, A: Allocator> {
+pub struct Beside<'a, K: Ord, V, W, A: AllocHandle> {
     firsts: Ahead<'a, K, V, A>,
     seconds: Ahead<'a, K, W, A>,
 }
 
-impl<'a, K: Ord, V, W, A: Allocator> Model for Beside<'a, K, V, W, A> {
+impl<'a, K: Ord, V, W, A: AllocHandle> Model for Beside<'a, K, V, W, A> {
     ghost use Rattle.std.specs.Prelude.{List, Option};
 
     ghost Value = { List (K × (Option V × Option W)) };
@@ -76,7 +76,7 @@ impl<'a, K: Ord, V, W, A: Allocator> Model for Beside<'a, K, V, W, A> {
     ghost invariant = { λ s. IsOrdered K.cmp s.firsts × IsOrdered K.cmp s.seconds };
 }
 
-impl<'a, K: Ord, V, W, A: Allocator> Beside<'a, K, V, W, A> {
+impl<'a, K: Ord, V, W, A: AllocHandle> Beside<'a, K, V, W, A> {
     // The entries of both, each in the order of their keys.
     pub(crate) fn over(firsts: Iter<'a, K, V, A>, seconds: Iter<'a, K, W, A>) -> Self
         requires first { IsOrdered K.cmp firsts }
@@ -90,7 +90,7 @@ impl<'a, K: Ord, V, W, A: Allocator> Beside<'a, K, V, W, A> {
     }
 }
 
-impl<'a, K: Ord, V, W, A: Allocator> Iterator for Beside<'a, K, V, W, A> {
+impl<'a, K: Ord, V, W, A: AllocHandle> Iterator for Beside<'a, K, V, W, A> {
     type Item = (&'a K, Option<&'a V>, Option<&'a W>);
 
     ghost next_gives = { TakesFirst lent_beside };
@@ -127,9 +127,9 @@ impl<'a, K: Ord, V, W, A: Allocator> Iterator for Beside<'a, K, V, W, A> {
     }
 }
 
-impl<'a, K: Ord, V, W, A: Allocator> FusedIterator for Beside<'a, K, V, W, A> {}
+impl<'a, K: Ord, V, W, A: AllocHandle> FusedIterator for Beside<'a, K, V, W, A> {}
 
-impl<K: Ord, V, A: Allocator + Copy> Tree<K, V, A> {
+impl<K: Ord, V, A: AllocHandle> Tree<K, V, A> {
     /// The keys of this tree and of another one, each key once and in order, with what either has there. Going over
     /// all of them takes time in proportion to the entries of both.
     pub fn beside<'a, W>(&'a self, other: &'a Tree<K, W, A>) -> Beside<'a, K, V, W, A>

@@ -7,8 +7,8 @@ ghost use Rattle.cap_tree.specs.Tree.{IsOrdered};
 use crate::node::{Link, MOST, Node, Part};
 use crate::root::Root;
 use crate::shift::shift_back;
-use cap_value::Exact;
-use std::alloc::{AllocError, Allocator};
+use cap_value::{AllocHandle, Exact};
+use std::alloc::AllocError;
 use std::cmp::Ordering;
 use std::sync::Arc;
 
@@ -52,7 +52,7 @@ fn last_share(rest: usize, share: usize) -> usize
 }
 
 // The last entries of the list, so many of them, which leave it, as a leaf.
-fn last_leaf<K: Ord + Drop, V: Drop, A: Allocator + Copy>(
+fn last_leaf<K: Ord + Drop, V: Drop, A: AllocHandle>(
     alloc: A,
     entries: &mut Vec<(K, V), A>,
     count: usize,
@@ -74,7 +74,7 @@ fn last_leaf<K: Ord + Drop, V: Drop, A: Allocator + Copy>(
 
 // The last entries of the list, so many of them, which leave it, as a node of this height.
 #[cycle(last)]
-fn last_node<K: Ord + Exact + Drop, V: Drop, A: Allocator + Copy>(
+fn last_node<K: Ord + Exact + Drop, V: Drop, A: AllocHandle>(
     alloc: A,
     entries: &mut Vec<(K, V), A>,
     height: u64,
@@ -103,7 +103,7 @@ fn last_node<K: Ord + Exact + Drop, V: Drop, A: Allocator + Copy>(
 
 // The last entries of the list, so many of them, which leave it, as the children of a node of this height.
 #[cycle(last)]
-fn last_parts<K: Ord + Exact + Drop, V: Drop, A: Allocator + Copy>(
+fn last_parts<K: Ord + Exact + Drop, V: Drop, A: AllocHandle>(
     alloc: A,
     entries: &mut Vec<(K, V), A>,
     height: u64,
@@ -140,7 +140,7 @@ fn last_parts<K: Ord + Exact + Drop, V: Drop, A: Allocator + Copy>(
 
 // The last entries of the list, so many of them, which leave it, as a child of this height.
 #[cycle(last)]
-fn last_part<K: Ord + Exact + Drop, V: Drop, A: Allocator + Copy>(
+fn last_part<K: Ord + Exact + Drop, V: Drop, A: AllocHandle>(
     alloc: A,
     entries: &mut Vec<(K, V), A>,
     height: u64,
@@ -187,7 +187,7 @@ fn lowest_for(count: usize) -> (u64, usize)
 }
 
 // The root of these entries.
-pub(crate) fn build<K: Ord + Exact + Drop, V: Drop, A: Allocator + Copy>(
+pub(crate) fn build<K: Ord + Exact + Drop, V: Drop, A: AllocHandle>(
     alloc: A,
     entries: Vec<(K, V), A>,
 ) -> Result<Root<K, V, A>, AllocError>

@@ -11,12 +11,12 @@ use crate::node::{Link, MOST, Node, Part};
 use crate::put_after::put_after;
 use crate::root::Root;
 use crate::take_after::take_after;
-use cap_value::{Exact, Fault};
-use std::alloc::{AllocError, Allocator};
+use cap_value::{AllocHandle, Exact, Fault};
+use std::alloc::AllocError;
 use std::sync::Arc;
 
 // A leaf of one entry.
-fn leaf_of<K: Ord + Drop, V: Drop, A: Allocator + Copy>(
+fn leaf_of<K: Ord + Drop, V: Drop, A: AllocHandle>(
     alloc: A,
     key: K,
     value: V,
@@ -35,7 +35,7 @@ fn leaf_of<K: Ord + Drop, V: Drop, A: Allocator + Copy>(
 }
 
 // Puts the entry below a root that has a node. The node is cut in two first if it is full.
-fn put_below<K: Ord + Exact + Drop, V: Exact + Drop, A: Allocator + Copy, C: Confirm>(
+fn put_below<K: Ord + Exact + Drop, V: Exact + Drop, A: AllocHandle, C: Confirm>(
     root: &mut Arc<Node<K, V, A>, A>,
     alloc: A,
     key: K,
@@ -63,7 +63,7 @@ fn put_below<K: Ord + Exact + Drop, V: Exact + Drop, A: Allocator + Copy, C: Con
 }
 
 // The only child of a node that has no other, which leaves an empty node behind.
-fn lone_child<K: Ord + Drop, V: Drop, A: Allocator + Copy>(
+fn lone_child<K: Ord + Drop, V: Drop, A: AllocHandle>(
     node: &mut Node<K, V, A>,
 ) -> Option<Arc<Node<K, V, A>, A>>
     ensures none { IfNone result (node.new ≡ node.old) }
@@ -92,7 +92,7 @@ fn lone_child<K: Ord + Drop, V: Drop, A: Allocator + Copy>(
 }
 
 // Takes the entry at the key out below a root that has a node. The node gives way to its child where only one is left.
-fn take_below<K: Ord + Exact + Drop, V: Exact + Drop, A: Allocator + Copy, C: Confirm>(
+fn take_below<K: Ord + Exact + Drop, V: Exact + Drop, A: AllocHandle, C: Confirm>(
     root: &mut Arc<Node<K, V, A>, A>,
     key: &K,
     confirm: &mut C,
@@ -119,7 +119,7 @@ fn take_below<K: Ord + Exact + Drop, V: Exact + Drop, A: Allocator + Copy, C: Co
     }
 }
 
-impl<K: Ord + Exact + Drop, V: Exact + Drop, A: Allocator + Copy> Root<K, V, A> {
+impl<K: Ord + Exact + Drop, V: Exact + Drop, A: AllocHandle> Root<K, V, A> {
     // Puts the value at the key, once the last step of another change is done, and answers the value that was there.
     pub(crate) fn put_after<C: Confirm>(
         &mut self,

@@ -7,14 +7,14 @@ ghost use Rattle.cap_tree.specs.Shape.{seen, place, items_at, entries_of, IsPart
 use crate::node::{FEWEST, Link, MOST, Node, Part};
 use crate::part::count_of;
 use crate::shift::{divide, item_at, reserve_for};
-use cap_value::Exact;
-use std::alloc::{AllocError, Allocator};
+use cap_value::{AllocHandle, Exact};
+use std::alloc::AllocError;
 use std::cmp::Ordering;
 use std::sync::Arc;
 
 // Divides the entries of two neighbouring leaves anew, so that the front one has `at` of them, and answers the first
 // key of the back one.
-fn even_entries<K: Ord + Exact + Drop, V: Drop, A: Allocator>(
+fn even_entries<K: Ord + Exact + Drop, V: Drop, A: AllocHandle>(
     front: &mut Vec<(K, V), A>,
     back: &mut Vec<(K, V), A>,
     at: usize,
@@ -40,7 +40,7 @@ fn even_entries<K: Ord + Exact + Drop, V: Drop, A: Allocator>(
 
 // Divides the children of two neighbouring nodes anew, so that the front one has `at` of them, and answers the least
 // key of the back one and the number of its entries. Its own least key was `least`, which its first child gets.
-fn even_parts<K: Ord + Exact + Drop, V: Drop, A: Allocator>(
+fn even_parts<K: Ord + Exact + Drop, V: Drop, A: AllocHandle>(
     front: &mut Vec<Part<K, V, A>, A>,
     back: &mut Vec<Part<K, V, A>, A>,
     height: u64,
@@ -88,7 +88,7 @@ fn even_parts<K: Ord + Exact + Drop, V: Drop, A: Allocator>(
 
 // Moves the children of the back node behind those of the front one. The back node's least key was `least`, which its
 // first child gets.
-fn join_parts<K: Ord + Exact + Drop, V: Drop, A: Allocator>(
+fn join_parts<K: Ord + Exact + Drop, V: Drop, A: AllocHandle>(
     front: &mut Vec<Part<K, V, A>, A>,
     back: &mut Vec<Part<K, V, A>, A>,
     height: u64,
@@ -120,7 +120,7 @@ fn join_parts<K: Ord + Exact + Drop, V: Drop, A: Allocator>(
 }
 
 // Moves the items of the back node behind those of the front one, which go on from `least`.
-fn join<K: Ord + Exact + Drop, V: Drop, A: Allocator + Copy>(
+fn join<K: Ord + Exact + Drop, V: Drop, A: AllocHandle>(
     front: &mut Node<K, V, A>,
     back: &mut Node<K, V, A>,
     least: &K,
@@ -160,7 +160,7 @@ fn join<K: Ord + Exact + Drop, V: Drop, A: Allocator + Copy>(
 
 // Divides the items of two neighbouring nodes anew, so that the front one has `at` of them, and answers the least key
 // of the back one, which was `least`.
-fn even<K: Ord + Exact + Drop, V: Drop, A: Allocator + Copy>(
+fn even<K: Ord + Exact + Drop, V: Drop, A: AllocHandle>(
     front: &mut Node<K, V, A>,
     back: &mut Node<K, V, A>,
     least: &K,
@@ -204,7 +204,7 @@ fn even<K: Ord + Exact + Drop, V: Drop, A: Allocator + Copy>(
 }
 
 // The back child's items go behind those of the front one. What is left of the back child is to be thrown away.
-fn join_pair<K: Ord + Exact + Drop, V: Exact + Drop, A: Allocator + Copy>(
+fn join_pair<K: Ord + Exact + Drop, V: Exact + Drop, A: AllocHandle>(
     front: &mut Part<K, V, A>,
     back: &mut Part<K, V, A>,
 ) -> Result<(), AllocError>
@@ -233,7 +233,7 @@ fn join_pair<K: Ord + Exact + Drop, V: Exact + Drop, A: Allocator + Copy>(
 }
 
 // Divides the items of two neighbouring children anew, so that the front one has `at` of them.
-fn even_pair<K: Ord + Exact + Drop, V: Exact + Drop, A: Allocator + Copy>(
+fn even_pair<K: Ord + Exact + Drop, V: Exact + Drop, A: AllocHandle>(
     front: &mut Part<K, V, A>,
     back: &mut Part<K, V, A>,
     at: usize,
@@ -274,7 +274,7 @@ fn even_pair<K: Ord + Exact + Drop, V: Exact + Drop, A: Allocator + Copy>(
 }
 
 // Joins the child at `at` with the one behind it.
-fn join_children<K: Ord + Exact + Drop, V: Exact + Drop, A: Allocator + Copy>(
+fn join_children<K: Ord + Exact + Drop, V: Exact + Drop, A: AllocHandle>(
     parts: &mut Vec<Part<K, V, A>, A>,
     height: u64,
     at: usize,
@@ -303,7 +303,7 @@ fn join_children<K: Ord + Exact + Drop, V: Exact + Drop, A: Allocator + Copy>(
 
 // Divides the items of the child at `at` and of the one behind it anew, so that the front one has `cut` of them, and
 // answers which of the two the key belongs to.
-fn even_children<K: Ord + Exact + Drop, V: Exact + Drop, A: Allocator + Copy>(
+fn even_children<K: Ord + Exact + Drop, V: Exact + Drop, A: AllocHandle>(
     parts: &mut Vec<Part<K, V, A>, A>,
     height: u64,
     at: usize,
@@ -343,7 +343,7 @@ fn even_children<K: Ord + Exact + Drop, V: Exact + Drop, A: Allocator + Copy>(
 
 // Fills the child at `at` or the one behind it, of which one is lean, from the other, and answers where the key, which
 // belongs to one of them, belongs then.
-fn fill<K: Ord + Exact + Drop, V: Exact + Drop, A: Allocator + Copy>(
+fn fill<K: Ord + Exact + Drop, V: Exact + Drop, A: AllocHandle>(
     parts: &mut Vec<Part<K, V, A>, A>,
     height: u64,
     at: usize,
@@ -377,7 +377,7 @@ fn fill<K: Ord + Exact + Drop, V: Exact + Drop, A: Allocator + Copy>(
 }
 
 // Sees to it that the child into which the key belongs can lose an item, and answers which it is then.
-pub(crate) fn make_spare<K: Ord + Exact + Drop, V: Exact + Drop, A: Allocator + Copy>(
+pub(crate) fn make_spare<K: Ord + Exact + Drop, V: Exact + Drop, A: AllocHandle>(
     parts: &mut Vec<Part<K, V, A>, A>,
     height: u64,
     at: usize,

@@ -7,11 +7,11 @@ ghost use Rattle.cap_tree.specs.Shape.{seen, place, IsParts};
 use crate::leaf::search;
 use crate::node::{Link, Node, Part};
 use crate::part::count_up_to;
-use std::alloc::Allocator;
+use cap_value::AllocHandle;
 
 // The child among whose entries the key belongs, and the children behind it. It is the first one where all entries
 // are above the key.
-pub(crate) fn child_for<'a, K: Ord, V, A: Allocator>(
+pub(crate) fn child_for<'a, K: Ord, V, A: AllocHandle>(
     parts: &'a [Part<K, V, A>],
     key: &K,
 ) -> (&'a Part<K, V, A>, &'a [Part<K, V, A>])
@@ -27,7 +27,7 @@ pub(crate) fn child_for<'a, K: Ord, V, A: Allocator>(
 }
 
 // The value at the key.
-pub(crate) fn find<'a, K: Ord, V, A: Allocator>(node: &'a Node<K, V, A>, key: &K) -> Option<&'a V>
+pub(crate) fn find<'a, K: Ord, V, A: AllocHandle>(node: &'a Node<K, V, A>, key: &K) -> Option<&'a V>
     requires { IsOrdered K.cmp node.now.0 }
     ensures { option_copied result ≡ get K.cmp node.now.0 key.now }
 {
@@ -44,7 +44,7 @@ pub(crate) fn find<'a, K: Ord, V, A: Allocator>(node: &'a Node<K, V, A>, key: &K
 }
 
 // The first entry.
-pub(crate) fn first<K: Ord, V, A: Allocator>(node: &Node<K, V, A>) -> Option<&(K, V)>
+pub(crate) fn first<K: Ord, V, A: AllocHandle>(node: &Node<K, V, A>) -> Option<&(K, V)>
     ensures none { IfNone result (node.now.0 ≡ []) }
     ensures first { IfSome result (λ e. slice_get node.now.0 0 ≡ Some e.now) }
 {
@@ -58,7 +58,7 @@ pub(crate) fn first<K: Ord, V, A: Allocator>(node: &Node<K, V, A>) -> Option<&(K
 }
 
 // The last entry.
-pub(crate) fn last<K: Ord, V, A: Allocator>(node: &Node<K, V, A>) -> Option<&(K, V)>
+pub(crate) fn last<K: Ord, V, A: AllocHandle>(node: &Node<K, V, A>) -> Option<&(K, V)>
     ensures none { IfNone result (node.now.0 ≡ []) }
     ensures last { IfSome result (λ e. slice_get node.now.0 (length node.now.0 - 1) ≡ Some e.now) }
 {

@@ -5,12 +5,12 @@ ghost use Rattle.cap_tree.specs.Tree.{IsOrdered};
 
 use crate::node::{Link, MOST, Node, Part};
 use crate::path::depth;
-use cap_value::Exact;
-use std::alloc::{AllocError, Allocator};
+use cap_value::{AllocHandle, Exact};
+use std::alloc::AllocError;
 use std::mem;
 use std::sync::Arc;
 
-impl<K: Ord + Exact, V, A: Allocator> Node<K, V, A> {
+impl<K: Ord + Exact, V, A: AllocHandle> Node<K, V, A> {
     // A key that no entry is below.
     fn least(&self) -> Result<K, AllocError>
         requires some { 0 < self.now.2 }
@@ -31,7 +31,7 @@ impl<K: Ord + Exact, V, A: Allocator> Node<K, V, A> {
 }
 
 // Cuts a full node in two, and puts a node over the two in its place. The first of them has `at` items.
-pub(crate) fn grow<K: Ord + Exact + Drop, V: Exact + Drop, A: Allocator + Copy>(
+pub(crate) fn grow<K: Ord + Exact + Drop, V: Exact + Drop, A: AllocHandle>(
     node: &mut Node<K, V, A>,
     alloc: A,
     at: usize,

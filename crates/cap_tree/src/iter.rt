@@ -10,20 +10,20 @@ ghost use Rattle.std.specs.Map.Iter.{TakesFirst, deref_pair};
 use crate::node::{Node, Part};
 use crate::path::{count_of_path, depth, descend, next_leaf, seek, start};
 use crate::stack::Stack;
-use std::alloc::Allocator;
+use cap_value::AllocHandle;
 use std::iter::{ExactSizeIterator, FusedIterator};
 use std::marker::Model;
 use std::sync::Arc;
 
 /// The entries of a tree that are still to come, in the order of their keys.
 #[derive(Drop)]
-pub struct Iter<'a, K: Ord, V, A: Allocator> {
+pub struct Iter<'a, K: Ord, V, A: AllocHandle> {
     // Those of the leaf that was reached, and after them those of the path.
     leaf: &'a [(K, V)],
     path: Stack<&'a [Part<K, V, A>]>,
 }
 
-impl<'a, K: Ord, V, A: Allocator> Model for Iter<'a, K, V, A> {
+impl<'a, K: Ord, V, A: AllocHandle> Model for Iter<'a, K, V, A> {
     ghost use Rattle.std.specs.Prelude.{◌^◌, ◌<◌, ◌++◌, List, length};
 
     ghost Value = { List (K × V) };
@@ -35,7 +35,7 @@ impl<'a, K: Ord, V, A: Allocator> Model for Iter<'a, K, V, A> {
     ghost invariant = { λ s. IsPath 32 s.path × (length (s.leaf.now ++ pending s.path) < 2 ^ 64) };
 }
 
-impl<'a, K: Ord, V, A: Allocator> Iter<'a, K, V, A> {
+impl<'a, K: Ord, V, A: AllocHandle> Iter<'a, K, V, A> {
     // All entries of the root.
     pub(crate) fn over(root: &'a Option<Arc<Node<K, V, A>, A>>) -> Self
         ensures { result ≡ root_entries root.now }
@@ -72,7 +72,7 @@ impl<'a, K: Ord, V, A: Allocator> Iter<'a, K, V, A> {
     }
 }
 
-impl<'a, K: Ord, V, A: Allocator> Iterator for Iter<'a, K, V, A> {
+impl<'a, K: Ord, V, A: AllocHandle> Iterator for Iter<'a, K, V, A> {
     type Item = (&'a K, &'a V);
 
     ghost next_gives = { TakesFirst deref_pair };
@@ -96,9 +96,9 @@ impl<'a, K: Ord, V, A: Allocator> Iterator for Iter<'a, K, V, A> {
     }
 }
 
-impl<'a, K: Ord, V, A: Allocator> FusedIterator for Iter<'a, K, V, A> {}
+impl<'a, K: Ord, V, A: AllocHandle> FusedIterator for Iter<'a, K, V, A> {}
 
-impl<'a, K: Ord, V, A: Allocator> ExactSizeIterator for Iter<'a, K, V, A> {
+impl<'a, K: Ord, V, A: AllocHandle> ExactSizeIterator for Iter<'a, K, V, A> {
     fn len(&self) -> usize {
         self.left()
     }

@@ -5,7 +5,7 @@ ghost use Rattle.std.specs.Vec.{vec_capacity};
 ghost use Rattle.cap_tree.specs.Tree.{IsOrdered, get, put_entry, take_entry};
 ghost use Rattle.cap_tree.specs.Shape.{EachBelow};
 
-use std::alloc::Allocator;
+use cap_value::AllocHandle;
 use std::cmp::Ordering;
 use std::mem;
 
@@ -53,7 +53,7 @@ pub(crate) fn search<K: Ord, V>(entries: &[(K, V)], key: &K) -> Result<usize, us
 }
 
 // Puts the entry, for which there is room, and answers the value in whose place it stands.
-pub(crate) fn put_in_leaf<K: Ord + Drop, V: Drop, A: Allocator>(
+pub(crate) fn put_in_leaf<K: Ord + Drop, V: Drop, A: AllocHandle>(
     entries: &mut Vec<(K, V), A>,
     key: K,
     value: V,
@@ -80,7 +80,7 @@ pub(crate) fn put_in_leaf<K: Ord + Drop, V: Drop, A: Allocator>(
 }
 
 // Takes the entry at the key out, if there is one.
-pub(crate) fn take_from_leaf<K: Ord + Drop, V: Drop, A: Allocator>(
+pub(crate) fn take_from_leaf<K: Ord + Drop, V: Drop, A: AllocHandle>(
     entries: &mut Vec<(K, V), A>,
     key: &K,
 ) -> Option<V>

@@ -3,8 +3,8 @@ ghost use Rattle.std.specs.Prelude.{◌≡◌, ℕ, ◌≤◌, [], length, IfOk,
 ghost use Rattle.cap_tree.specs.Shape.{IsFilled};
 
 use crate::part::copy_parts;
-use cap_value::Exact;
-use std::alloc::{AllocError, Allocator};
+use cap_value::{AllocHandle, Exact};
+use std::alloc::AllocError;
 use std::marker::Model;
 use std::sync::Arc;
 
@@ -17,13 +17,13 @@ pub(crate) const FEWEST: usize = 4;
 /// A node, seen as its entries in order, its height, which is 0 for a leaf, and the number of its own items.
 #[cycle(node)]
 #[derive(Drop)]
-pub(crate) struct Node<K: Ord, V, A: Allocator> {
+pub(crate) struct Node<K: Ord, V, A: AllocHandle> {
     pub(crate) link: Link<K, V, A>,
 }
 
 #[cycle(node)]
 #[derive(Drop)]
-pub(crate) enum Link<K: Ord, V, A: Allocator> {
+pub(crate) enum Link<K: Ord, V, A: AllocHandle> {
     Leaf(Vec<(K, V), A>),
     // The height, the number of entries, and the children.
     Inner(u64, usize, Vec<Part<K, V, A>, A>),
@@ -32,12 +32,12 @@ pub(crate) enum Link<K: Ord, V, A: Allocator> {
 /// A child, and a key that none of its entries is below and that each entry in front of it is below.
 #[cycle(node)]
 #[derive(Drop)]
-pub(crate) struct Part<K: Ord, V, A: Allocator> {
+pub(crate) struct Part<K: Ord, V, A: AllocHandle> {
     pub(crate) least: K,
     pub(crate) node: Arc<Node<K, V, A>, A>,
 }
 
-impl<K: Ord, V, A: Allocator> Model for Node<K, V, A> {
+impl<K: Ord, V, A: AllocHandle> Model for Node<K, V, A> {
     ghost use Rattle.std.specs.Prelude.{ℕ, List};
 
     ghost Value = { List (K × V) × ℕ × ℕ };
@@ -57,7 +57,7 @@ impl<K: Ord, V, A: Allocator> Model for Node<K, V, A> {
 }
 
 // The same entries, in a vector with room for as many as a leaf can have.
-fn copy_entries<K: Exact + Drop, V: Exact + Drop, A: Allocator + Copy>(
+fn copy_entries<K: Exact + Drop, V: Exact + Drop, A: AllocHandle>(
     entries: &Vec<(K, V), A>,
 ) -> Result<Vec<(K, V), A>, AllocError>
     requires { vec_len entries.now ≤ 16 }
@@ -71,7 +71,7 @@ fn copy_entries<K: Exact + Drop, V: Exact + Drop, A: Allocator + Copy>(
     Ok(copies)
 }
 
-impl<K: Ord + Exact + Drop, V: Exact + Drop, A: Allocator + Copy> Clone for Node<K, V, A> {
+impl<K: Ord + Exact + Drop, V: Exact + Drop, A: AllocHandle> Clone for Node<K, V, A> {
     ghost is_clone = { λ n m. m ≡ n };
 
     fn clone(&self) -> Result<Self, AllocError> {
@@ -86,7 +86,7 @@ impl<K: Ord + Exact + Drop, V: Exact + Drop, A: Allocator + Copy> Clone for Node
     }
 }
 
-impl<K: Ord, V, A: Allocator> Node<K, V, A> {
+impl<K: Ord, V, A: AllocHandle> Node<K, V, A> {
     // A leaf with no entry, which takes no memory.
     pub(crate) fn empty(alloc: A) -> Self
         ensures { result ≡ ([], 0, 0) }

@@ -4,13 +4,13 @@ ghost use Rattle.std.specs.Arc.{arc_value};
 ghost use Rattle.cap_tree.specs.Shape.{seen, entries_of, place, IsParts, AreFit};
 
 use crate::node::{MOST, Part};
-use cap_value::Exact;
-use std::alloc::{AllocError, Allocator};
+use cap_value::{AllocHandle, Exact};
+use std::alloc::AllocError;
 use std::cmp::Ordering;
 use std::sync::Arc;
 
 // The same child once more.
-fn share<K: Ord + Exact + Drop, V: Drop, A: Allocator>(
+fn share<K: Ord + Exact + Drop, V: Drop, A: AllocHandle>(
     part: &Part<K, V, A>,
 ) -> Result<Part<K, V, A>, AllocError>
     ensures least { IfOk result (λ p. p.least ≡ part.now.least) }
@@ -23,7 +23,7 @@ fn share<K: Ord + Exact + Drop, V: Drop, A: Allocator>(
 }
 
 // The same children, in a vector with room for as many as a node can have.
-pub(crate) fn copy_parts<K: Ord + Exact + Drop, V: Drop, A: Allocator + Copy>(
+pub(crate) fn copy_parts<K: Ord + Exact + Drop, V: Drop, A: AllocHandle>(
     parts: &Vec<Part<K, V, A>, A>,
 ) -> Result<Vec<Part<K, V, A>, A>, AllocError>
     requires { vec_len parts.now ≤ 16 }
@@ -38,7 +38,7 @@ pub(crate) fn copy_parts<K: Ord + Exact + Drop, V: Drop, A: Allocator + Copy>(
 }
 
 // The number of entries of the children.
-pub(crate) fn count_of<K: Ord, V, A: Allocator>(parts: &[Part<K, V, A>]) -> usize
+pub(crate) fn count_of<K: Ord, V, A: AllocHandle>(parts: &[Part<K, V, A>]) -> usize
     requires fits { length (entries_of (seen parts.now)) < 2 ^ 64 }
     ensures { result ≡ length (entries_of (seen parts.now)) }
 {
@@ -50,7 +50,7 @@ pub(crate) fn count_of<K: Ord, V, A: Allocator>(parts: &[Part<K, V, A>]) -> usiz
 }
 
 // Whether the last child is not above the key.
-fn is_up_to_last<K: Ord, V, A: Allocator>(parts: &[Part<K, V, A>], key: &K) -> bool
+fn is_up_to_last<K: Ord, V, A: AllocHandle>(parts: &[Part<K, V, A>], key: &K) -> bool
     ensures { (h : ℕ) → IsParts K.cmp h (seen parts.now) → result ≡ true
         → place K.cmp key.now (seen parts.now) ≡ length parts.now }
 {
@@ -65,7 +65,7 @@ fn is_up_to_last<K: Ord, V, A: Allocator>(parts: &[Part<K, V, A>], key: &K) -> b
 
 // How many of the children, from the first on, are not above the key. It looks at the last one first, since rising
 // keys belong there.
-pub(crate) fn count_up_to<K: Ord, V, A: Allocator>(parts: &[Part<K, V, A>], key: &K) -> usize
+pub(crate) fn count_up_to<K: Ord, V, A: AllocHandle>(parts: &[Part<K, V, A>], key: &K) -> usize
     ensures within { result ≤ length parts.now }
     ensures place { (h : ℕ) → IsParts K.cmp h (seen parts.now)
         → result ≡ place K.cmp key.now (seen parts.now) }
@@ -84,7 +84,7 @@ pub(crate) fn count_up_to<K: Ord, V, A: Allocator>(parts: &[Part<K, V, A>], key:
 }
 
 // The child into which the key belongs. Where all are above it, the first one's least key becomes this one.
-pub(crate) fn part_for<K: Ord + Exact + Drop, V: Drop, A: Allocator>(
+pub(crate) fn part_for<K: Ord + Exact + Drop, V: Drop, A: AllocHandle>(
     parts: &mut Vec<Part<K, V, A>, A>,
     height: u64,
     key: &K,

@@ -8,11 +8,11 @@ use crate::find::child_for;
 use crate::node::{Link, Node, Part};
 use crate::part::count_of;
 use crate::stack::{ROOM, Stack};
-use std::alloc::Allocator;
+use cap_value::AllocHandle;
 use std::cmp::Ordering;
 
 // How many levels there are below the node: fewer than a path has room for.
-pub(crate) fn depth<K: Ord, V, A: Allocator>(node: &Node<K, V, A>) -> u64
+pub(crate) fn depth<K: Ord, V, A: AllocHandle>(node: &Node<K, V, A>) -> u64
     ensures value { result ≡ node.now.1 }
     ensures low { node.now.1 < ROOM }
     ensures fits { length node.now.0 < 2 ^ 64 }
@@ -24,7 +24,7 @@ pub(crate) fn depth<K: Ord, V, A: Allocator>(node: &Node<K, V, A>) -> u64
 }
 
 // A path on which nothing is to come.
-pub(crate) fn start<'a, K: Ord, V, A: Allocator>() -> Stack<&'a [Part<K, V, A>]>
+pub(crate) fn start<'a, K: Ord, V, A: AllocHandle>() -> Stack<&'a [Part<K, V, A>]>
     ensures { result ≡ [] }
 {
     let none: &'a [Part<K, V, A>] = &[];
@@ -32,7 +32,7 @@ pub(crate) fn start<'a, K: Ord, V, A: Allocator>() -> Stack<&'a [Part<K, V, A>]>
 }
 
 // Goes down to the first leaf of the node, whose entries come next, and pushes what follows it.
-pub(crate) fn descend<'a, K: Ord, V, A: Allocator>(
+pub(crate) fn descend<'a, K: Ord, V, A: AllocHandle>(
     path: &mut Stack<&'a [Part<K, V, A>]>,
     node: &'a Node<K, V, A>,
 ) -> &'a [(K, V)]
@@ -55,7 +55,7 @@ pub(crate) fn descend<'a, K: Ord, V, A: Allocator>(
 }
 
 // The leaf that comes next, after which the path leads to what follows it.
-pub(crate) fn next_leaf<'a, K: Ord, V, A: Allocator>(
+pub(crate) fn next_leaf<'a, K: Ord, V, A: AllocHandle>(
     path: &mut Stack<&'a [Part<K, V, A>]>,
 ) -> Option<&'a [(K, V)]>
     requires { IsPath ROOM path.old }
@@ -88,7 +88,7 @@ fn entries_not_below<'a, K: Ord, V>(entries: &'a [(K, V)], key: &K) -> &'a [(K, 
 }
 
 // Goes down to the first entry whose key is not below this one, and pushes what follows its leaf.
-pub(crate) fn seek<'a, K: Ord, V, A: Allocator>(
+pub(crate) fn seek<'a, K: Ord, V, A: AllocHandle>(
     path: &mut Stack<&'a [Part<K, V, A>]>,
     node: &'a Node<K, V, A>,
     key: &K,
@@ -111,7 +111,7 @@ pub(crate) fn seek<'a, K: Ord, V, A: Allocator>(
 }
 
 // The number of entries that are still to come on the path.
-pub(crate) fn count_of_path<K: Ord, V, A: Allocator>(path: &[&[Part<K, V, A>]]) -> usize
+pub(crate) fn count_of_path<K: Ord, V, A: AllocHandle>(path: &[&[Part<K, V, A>]]) -> usize
     requires fits { length (pending path.now) < 2 ^ 64 }
     ensures { result ≡ length (pending path.now) }
 {

@@ -9,8 +9,8 @@ use crate::leaf::put_in_leaf;
 use crate::node::{Link, Node};
 use crate::part::part_for;
 use crate::split::make_room;
-use cap_value::{Exact, Fault};
-use std::alloc::{AllocError, Allocator};
+use cap_value::{AllocHandle, Exact, Fault};
+use std::alloc::AllocError;
 use std::sync::Arc;
 
 // Counts an entry that took no other's place.
@@ -25,7 +25,7 @@ fn count_put<V>(count: &mut usize, replaced: &Option<V>)
 
 // Puts the entry into a node that is not full. On the way down shared nodes are copied and full ones are cut, which
 // keeps the entries; `confirm` is asked at the bottom, where there is room.
-pub(crate) fn put_after<K: Ord + Exact + Drop, V: Exact + Drop, A: Allocator + Copy, C: Confirm>(
+pub(crate) fn put_after<K: Ord + Exact + Drop, V: Exact + Drop, A: AllocHandle, C: Confirm>(
     node: &mut Node<K, V, A>,
     key: K,
     value: V,

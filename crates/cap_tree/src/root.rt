@@ -8,16 +8,17 @@ use crate::find::{find, first, last};
 use crate::iter::Iter;
 use crate::node::Node;
 use crate::path::depth;
-use std::alloc::{AllocError, Allocator};
+use cap_value::AllocHandle;
+use std::alloc::AllocError;
 use std::marker::Model;
 use std::sync::Arc;
 
 /// The root of a tree, seen as the entries in order. A tree that never had an entry has no node.
-pub(crate) struct Root<K: Ord, V, A: Allocator> {
+pub(crate) struct Root<K: Ord, V, A: AllocHandle> {
     pub(crate) node: Option<Arc<Node<K, V, A>, A>>,
 }
 
-impl<K: Ord, V, A: Allocator> Model for Root<K, V, A> {
+impl<K: Ord, V, A: AllocHandle> Model for Root<K, V, A> {
     ghost use Rattle.std.specs.Prelude.{List};
 
     ghost Value = { List (K × V) };
@@ -30,13 +31,13 @@ impl<K: Ord, V, A: Allocator> Model for Root<K, V, A> {
 }
 
 // A derived `Drop` would be opened in each caller's loop.
-impl<K: Ord + Drop, V: Drop, A: Allocator> Drop for Root<K, V, A> {
+impl<K: Ord + Drop, V: Drop, A: AllocHandle> Drop for Root<K, V, A> {
     fn drop(self) {
         let Root { node: _ } = self;
     }
 }
 
-impl<K: Ord, V, A: Allocator> Root<K, V, A> {
+impl<K: Ord, V, A: AllocHandle> Root<K, V, A> {
     pub(crate) fn empty() -> Self
         ensures { result ≡ [] }
     {
@@ -128,7 +129,7 @@ impl<K: Ord, V, A: Allocator> Root<K, V, A> {
 }
 
 // The number of nodes on each way down from the root, 0 where there is no entry.
-fn levels<K: Ord, V, A: Allocator>(node: &Node<K, V, A>) -> u64
+fn levels<K: Ord, V, A: AllocHandle>(node: &Node<K, V, A>) -> u64
     requires { 0 < node.now.1 → 2 ≤ node.now.2 }
     ensures empty { (result ≡ 0) ↔ (node.now.0 ≡ []) }
     ensures most { length node.now.0 ≤ 16 ^ result }

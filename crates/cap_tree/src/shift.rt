@@ -2,10 +2,11 @@
 ghost use Rattle.std.specs.Prelude.{◌≡◌, ◌+◌, ◌<◌, ◌≤◌, ◌++◌, length, vec_len, take, drop, slice_index_or, OnOk};
 ghost use Rattle.std.specs.Vec.{vec_capacity};
 
-use std::alloc::{AllocError, Allocator};
+use cap_value::AllocHandle;
+use std::alloc::AllocError;
 
 // Moves the items of the front one from `at` on to the back one, which has room for them.
-pub(crate) fn shift_back<T: Drop, A: Allocator>(
+pub(crate) fn shift_back<T: Drop, A: AllocHandle>(
     front: &mut Vec<T, A>,
     back: &mut Vec<T, A>,
     at: usize,
@@ -29,7 +30,7 @@ pub(crate) fn shift_back<T: Drop, A: Allocator>(
 
 // Moves as many of the first items of the back one to the front one that the front one has `at`, for which it has
 // room.
-pub(crate) fn shift_front<T: Drop, A: Allocator>(
+pub(crate) fn shift_front<T: Drop, A: AllocHandle>(
     front: &mut Vec<T, A>,
     back: &mut Vec<T, A>,
     at: usize,
@@ -51,7 +52,11 @@ pub(crate) fn shift_front<T: Drop, A: Allocator>(
 }
 
 // Divides the items of both anew, so that the front one has `at` of them.
-pub(crate) fn divide<T: Drop, A: Allocator>(front: &mut Vec<T, A>, back: &mut Vec<T, A>, at: usize)
+pub(crate) fn divide<T: Drop, A: AllocHandle>(
+    front: &mut Vec<T, A>,
+    back: &mut Vec<T, A>,
+    at: usize,
+)
     requires enough { at ≤ vec_len front.old + vec_len back.old }
     requires front_room { at ≤ vec_capacity front.old }
     requires back_room { vec_len front.old + vec_len back.old ≤ at + vec_capacity back.old }
@@ -68,7 +73,7 @@ pub(crate) fn divide<T: Drop, A: Allocator>(front: &mut Vec<T, A>, back: &mut Ve
 }
 
 // Finds the memory for `at` items in the front one and for the others in the back one.
-pub(crate) fn reserve_for<T, A: Allocator>(
+pub(crate) fn reserve_for<T, A: AllocHandle>(
     front: &mut Vec<T, A>,
     back: &mut Vec<T, A>,
     at: usize,

@@ -7,12 +7,12 @@ ghost use Rattle.cap_tree.specs.Shape.{seen, place, entries_of, IsParts, AreFit,
 use crate::node::{Link, MOST, Node, Part};
 use crate::part::count_of;
 use crate::shift::shift_back;
-use cap_value::Exact;
-use std::alloc::{AllocError, Allocator};
+use cap_value::{AllocHandle, Exact};
+use std::alloc::AllocError;
 use std::cmp::Ordering;
 use std::sync::Arc;
 
-impl<K: Ord, V, A: Allocator> Node<K, V, A> {
+impl<K: Ord, V, A: AllocHandle> Node<K, V, A> {
     // Where a full node is cut into which the key is to be put: near its end where the key belongs behind all items,
     // so that rising keys leave full nodes behind, and else in the middle.
     pub(crate) fn cut_for(&self, key: &K) -> usize
@@ -30,7 +30,7 @@ impl<K: Ord, V, A: Allocator> Node<K, V, A> {
     }
 }
 
-impl<K: Ord + Exact + Drop, V: Drop, A: Allocator + Copy> Node<K, V, A> {
+impl<K: Ord + Exact + Drop, V: Drop, A: AllocHandle> Node<K, V, A> {
     // Cuts the node in two: its items from `at` on become a child of their own.
     pub(crate) fn split(&mut self, at: usize) -> Result<Part<K, V, A>, AllocError>
         requires front { 0 < at }
@@ -81,7 +81,7 @@ impl<K: Ord + Exact + Drop, V: Drop, A: Allocator + Copy> Node<K, V, A> {
 }
 
 // Cuts a child in two: its items from `at` on become the child that is answered.
-fn split_part<K: Ord + Exact + Drop, V: Exact + Drop, A: Allocator + Copy>(
+fn split_part<K: Ord + Exact + Drop, V: Exact + Drop, A: AllocHandle>(
     part: &mut Part<K, V, A>,
     at: usize,
 ) -> Result<Part<K, V, A>, AllocError>
@@ -109,7 +109,7 @@ fn split_part<K: Ord + Exact + Drop, V: Exact + Drop, A: Allocator + Copy>(
 }
 
 // Cuts the full child at `at` in two, and answers which of the two the key belongs to.
-fn split_child<K: Ord + Exact + Drop, V: Exact + Drop, A: Allocator + Copy>(
+fn split_child<K: Ord + Exact + Drop, V: Exact + Drop, A: AllocHandle>(
     parts: &mut Vec<Part<K, V, A>, A>,
     height: u64,
     at: usize,
@@ -148,7 +148,7 @@ fn split_child<K: Ord + Exact + Drop, V: Exact + Drop, A: Allocator + Copy>(
 }
 
 // Sees to it that the child into which the key belongs is not full, and answers which it is then.
-pub(crate) fn make_room<K: Ord + Exact + Drop, V: Exact + Drop, A: Allocator + Copy>(
+pub(crate) fn make_room<K: Ord + Exact + Drop, V: Exact + Drop, A: AllocHandle>(
     parts: &mut Vec<Part<K, V, A>, A>,
     height: u64,
     at: usize,

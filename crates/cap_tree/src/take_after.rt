@@ -9,8 +9,8 @@ use crate::fill::make_spare;
 use crate::leaf::take_from_leaf;
 use crate::node::{Link, Node};
 use crate::part::count_up_to;
-use cap_value::{Exact, Fault};
-use std::alloc::{AllocError, Allocator};
+use cap_value::{AllocHandle, Exact, Fault};
+use std::alloc::AllocError;
 use std::sync::Arc;
 
 // Counts an entry off that was taken out.
@@ -25,7 +25,7 @@ fn count_take<V>(count: &mut usize, removed: &Option<V>)
 
 // Takes the entry at the key out of a node, if there is one. On the way down shared nodes are copied and lean ones are
 // filled from a neighbour, which keeps the entries; `confirm` is asked at the bottom, also where no key is equal.
-pub(crate) fn take_after<K: Ord + Exact + Drop, V: Exact + Drop, A: Allocator + Copy, C: Confirm>(
+pub(crate) fn take_after<K: Ord + Exact + Drop, V: Exact + Drop, A: AllocHandle, C: Confirm>(
     node: &mut Node<K, V, A>,
     key: &K,
     confirm: &mut C,

@@ -11,8 +11,8 @@ use crate::build::{build, is_ordered};
 use crate::confirm::Confirm;
 use crate::iter::Iter;
 use crate::root::Root;
-use cap_value::{Exact, Fault, OutOfMemory};
-use std::alloc::{AllocError, Allocator};
+use cap_value::{AllocHandle, Exact, Fault, OutOfMemory};
+use std::alloc::AllocError;
 use std::marker::Model;
 
 /// A map whose old versions stay readable: a snapshot costs the same whatever the tree holds.
@@ -22,12 +22,12 @@ use std::marker::Model;
 /// Errors are those of the allocator; an error leaves every tree as it was.
 ///
 /// In a clause a tree is the list of its entries, in the order of the keys. No two keys are equal by `Ord`.
-pub struct Tree<K: Ord, V, A: Allocator> {
+pub struct Tree<K: Ord, V, A: AllocHandle> {
     alloc: A,
     root: Root<K, V, A>,
 }
 
-impl<K: Ord, V, A: Allocator> Model for Tree<K, V, A> {
+impl<K: Ord, V, A: AllocHandle> Model for Tree<K, V, A> {
     ghost use Rattle.std.specs.Prelude.{List};
     ghost use Rattle.cap_tree.specs.Tree.{IsOrdered};
 
@@ -39,13 +39,13 @@ impl<K: Ord, V, A: Allocator> Model for Tree<K, V, A> {
 }
 
 // A derived `Drop` would be opened in each caller's loop.
-impl<K: Ord + Drop, V: Drop, A: Allocator> Drop for Tree<K, V, A> {
+impl<K: Ord + Drop, V: Drop, A: AllocHandle> Drop for Tree<K, V, A> {
     fn drop(self) {
         let Tree { alloc: _, root: _ } = self;
     }
 }
 
-impl<K: Ord, V, A: Allocator + Copy> Tree<K, V, A> {
+impl<K: Ord, V, A: AllocHandle> Tree<K, V, A> {
     /// A tree with no entry, which takes no memory.
     pub fn empty(alloc: A) -> Self
         ensures { result ≡ [] }
@@ -149,7 +149,7 @@ impl<K: Ord, V, A: Allocator + Copy> Tree<K, V, A> {
     }
 }
 
-impl<'a, K: Ord, V, A: Allocator + Copy> IntoIterator for &'a Tree<K, V, A> {
+impl<'a, K: Ord, V, A: AllocHandle> IntoIterator for &'a Tree<K, V, A> {
     type Item = (&'a K, &'a V);
 
     type IntoIter = Iter<'a, K, V, A>;
@@ -163,7 +163,7 @@ impl<'a, K: Ord, V, A: Allocator + Copy> IntoIterator for &'a Tree<K, V, A> {
     }
 }
 
-impl<K: Ord + Exact + Drop, V: Exact + Drop, A: Allocator + Copy> Tree<K, V, A> {
+impl<K: Ord + Exact + Drop, V: Exact + Drop, A: AllocHandle> Tree<K, V, A> {
     /// Puts the value at the key, once the last step of another change is done, and answers the value that was there.
     ///
     /// `confirm` is asked once, when all memory has been found. Where it refuses, or there is no memory, the tree is
@@ -241,7 +241,7 @@ impl<K: Ord + Exact + Drop, V: Exact + Drop, A: Allocator + Copy> Tree<K, V, A> 
     }
 }
 
-impl<K: Ord + Exact + Drop, V: Exact + Drop, A: Allocator + Copy> Tree<K, V, A> {
+impl<K: Ord + Exact + Drop, V: Exact + Drop, A: AllocHandle> Tree<K, V, A> {
     /// A tree without the entry at the key, which has the same entries where no key is equal.
     pub fn take(&self, key: &K) -> Result<Self, AllocError>
         ensures entries { IfOk result (λ t. t ≡ take_entry K.cmp self.now key.now) }
