@@ -29,6 +29,3 @@ pub use confirm::Confirm;
 pub use each::insert_each_after;
 pub use iter::Iter;
 pub use tree::Tree;
-
-#[cfg(test)]
-mod tests;

@@ -1,4 +1,4 @@
-use crate::{Confirm, Tree, insert_each_after};
+use cap_tree::{Confirm, Tree, insert_each_after};
 use cap_value::{AllocHandle, Fault};
 use linked_list_allocator::LocalHeap;
 use std::alloc::{AllocError, Global};
@@ -127,36 +127,60 @@ fn undo_change<A: AllocHandle>(tree: &mut Numbers<A>, change: Change) -> Result<
     Ok(())
 }
 
+type Block<'a> = Box<[u64; 2], &'a LocalHeap>;
+
+// Small blocks that fill the heap, but for as many as are to be free.
+fn blocks_but<'a>(
+    alloc: Global,
+    heap: &'a LocalHeap,
+    free: usize,
+) -> Result<Vec<Block<'a>>, AllocError> {
+    let mut blocks = Vec::new(alloc);
+    for _ in 0..2048 {
+        match Box::new(heap, [0u64; 2]) {
+            Ok(block) => blocks.push(block)?,
+            Err(_) => break,
+        }
+    }
+    blocks.truncate(blocks.len().saturating_sub(free));
+    Ok(blocks)
+}
+
+// Makes the change with so many small blocks of memory. Where it is refused them, the answer is how often the last step
+// was asked.
+fn starve<'a>(
+    alloc: Global,
+    heap: &'a LocalHeap,
+    tree: &mut Numbers<&'a LocalHeap>,
+    change: Change,
+    free: usize,
+) -> Result<Option<u32>, AllocError> {
+    let _blocks = blocks_but(alloc, heap, free)?;
+    let mut step = last_step(true);
+    match make_change(tree, change, &mut step) {
+        Ok(_) => Ok(None),
+        Err(_) => Ok(Some(step.asked)),
+    }
+}
+
 #[test]
 fn each_allocation_refused_in_turn(rt: HostRuntime) -> Result<(), Fail> {
     let heap = LocalHeap::new(rt.alloc(), 16384)?;
     let mut tree = rising(&heap, 100)?;
-    for kind in [Change::Insert, Change::Remove, Change::InsertAfter] {
+    for change in [Change::Insert, Change::Remove, Change::InsertAfter] {
         let mut refused = 0u32;
         for free in 0..96usize {
             // Every node is shared, so that a change needs memory.
             let snapshot = tree.snapshot()?;
-            // The heap is filled but for a few small blocks.
-            let mut blocks = Vec::new(rt.alloc());
-            for _ in 0..2048 {
-                match Box::new(&heap, [0u64; 2]) {
-                    Ok(block) => blocks.push(block)?,
-                    Err(_) => break,
-                }
-            }
-            blocks.truncate(blocks.len().saturating_sub(free));
-            let mut starved = last_step(true);
-            let failed = make_change(&mut tree, kind, &mut starved).is_err();
-            drop(blocks);
-            if failed {
+            if let Some(asked) = starve(rt.alloc(), &heap, &mut tree, change, free)? {
                 refused = refused.saturating_add(1);
-                assert_eq!(rt; starved.asked, 0);
+                assert_eq!(rt; asked, 0);
                 assert!(rt; is_rising(&tree, 100));
-                assert!(rt; make_change(&mut tree, kind, &mut last_step(true)).is_ok());
+                assert!(rt; make_change(&mut tree, change, &mut last_step(true)).is_ok());
             }
             assert!(rt; is_rising(&snapshot, 100));
             drop(snapshot);
-            undo_change(&mut tree, kind)?;
+            undo_change(&mut tree, change)?;
             assert!(rt; is_rising(&tree, 100));
         }
         assert!(rt; 4 < refused && refused < 96, "{refused}");
@@ -173,27 +197,30 @@ fn next_random(seed: u64) -> u64 {
     mixed ^ (mixed << 17)
 }
 
+// Whether the tree has just those entries.
+fn has_just(tree: &Numbers<Global>, entries: &[(u64, u64)]) -> bool {
+    tree.len() == entries.len()
+        && tree
+            .iter()
+            .zip(entries.iter())
+            .all(|((key, value), entry)| *entry == (*key, *value))
+}
+
+// Nothing else holds a node that was made a tree's own, so no call wants for memory that is there.
 #[test]
 fn ten_thousand_changes_beside_a_map_and_snapshots(rt: HostRuntime) -> Result<(), Fail> {
     let mut tree: Numbers<Global> = Tree::empty(rt.alloc());
     let mut map = BTreeMap::new(rt.alloc());
     let mut snapshots = Vec::new(rt.alloc());
     let mut seed = 88_172_645_463_325_252u64;
-    // Nothing else holds a node that was made a tree's own, so the calls never want for memory that is there.
-    let mut refused = 0u32;
     for n in 0..10_000u64 {
         seed = next_random(seed);
         let key = seed % 512;
-        let (changed, was) = if seed % 3 == 0 {
-            (tree.remove(&key), map.remove(&key))
+        if seed % 3 == 0 {
+            assert_eq!(rt; tree.remove(&key)?, map.remove(&key));
         } else {
-            (tree.insert(key, n), map.insert(key, n)?)
-        };
-        match changed {
-            Ok(value) => assert_eq!(rt; value, was),
-            Err(AllocError) => refused = refused.saturating_add(1),
+            assert_eq!(rt; tree.insert(key, n)?, map.insert(key, n)?);
         }
-        assert_eq!(rt; tree.len(), map.len());
         if n % 500 == 0 {
             let entries: Vec<(u64, u64)> = map
                 .iter()
@@ -203,12 +230,9 @@ fn ten_thousand_changes_beside_a_map_and_snapshots(rt: HostRuntime) -> Result<()
         }
     }
     for (snapshot, entries) in &snapshots {
-        assert_eq!(rt; snapshot.len(), entries.len());
-        for (entry, (key, value)) in entries.iter().zip(snapshot.iter()) {
-            assert_eq!(rt; *entry, (*key, *value));
-        }
+        assert!(rt; has_just(snapshot, entries.as_slice()));
     }
-    assert_eq!(rt; (snapshots.len(), refused), (20, 0));
+    assert_eq!(rt; snapshots.len(), 20);
     Ok(())
 }
 
@@ -248,15 +272,7 @@ fn three_trees_change_together_or_not_at_all(rt: HostRuntime) -> Result<(), Fail
     assert_eq!(rt; no.asked, 1);
     let mut starved = 0u32;
     for free in 0..64usize {
-        // The heap is filled but for a few small blocks.
-        let mut blocks = Vec::new(rt.alloc());
-        for _ in 0..2048 {
-            match Box::new(&heap, [0u64; 2]) {
-                Ok(block) => blocks.push(block)?,
-                Err(_) => break,
-            }
-        }
-        blocks.truncate(blocks.len().saturating_sub(free * 8));
+        let blocks = blocks_but(rt.alloc(), &heap, free * 8)?;
         let mut yes = last_step(true);
         match insert_each_after(trees.as_mut_slice(), &entries, &mut yes) {
             Ok(()) => {
