@@ -39,7 +39,7 @@ is_below m n h = grind (arith, nat_tests)
 -- ---- keys that rise
 
 module _ {K X : Type 0} (R : K → K → Ordering) where
-  put_entry-put : IsAntisymmetric R → (es : List (K × X)) (k : K) (v : X) → put_entry R es k v ≡ put R k v es
+  pub put_entry-put : IsAntisymmetric R → (es : List (K × X)) (k : K) (v : X) → put_entry R es k v ≡ put R k v es
   put_entry-put same [] k v = refl
   put_entry-put same (e ∷ es) k v =
       elim (R k e.0) as (λ r. R k e.0 ≡ r → match_ordering r ((k, v) ∷ e ∷ es) ((k, v) ∷ es) (e ∷ put_entry R es k v) ≡ by_order r ((k, v) ∷ e ∷ es) ((e.0, v) ∷ es) (e ∷ put R k v es)) [
@@ -48,7 +48,7 @@ module _ {K X : Type 0} (R : K → K → Ordering) where
         | Greater ↦ λ p. ap (λ x. e ∷ x) (put_entry-put same es k v)
       ] refl
 
-  sorted-put : IsTotalOrder R → IsAntisymmetric R → (es : List (K × X)) (k : K) (v : X) → is_sorted R es ≡ true → is_sorted R (put_entry R es k v) ≡ true
+  pub sorted-put : IsTotalOrder R → IsAntisymmetric R → (es : List (K × X)) (k : K) (v : X) → is_sorted R es ≡ true → is_sorted R (put_entry R es k v) ≡ true
   sorted-put o same es k v s = ap (is_sorted R) (put_entry-put same es k v) ∙ truth _ (is_sorted-put R o k v es (subst T (sym s) tt))
 
   below-remove : (x : K) (gone : K → Bool) (es : List (K × X)) → below_all R x es ≡ true → below_all R x (remove_entry gone es) ≡ true
@@ -60,7 +60,7 @@ module _ {K X : Type 0} (R : K → K → Ordering) where
         | false ↦ both (is_lt (R x e.0)) _ (first (is_lt (R x e.0)) (below_all R x es) below) (below-remove x gone es rest)
       ]
 
-  sorted-remove : (gone : K → Bool) (es : List (K × X)) → is_sorted R es ≡ true → is_sorted R (remove_entry gone es) ≡ true
+  pub sorted-remove : (gone : K → Bool) (es : List (K × X)) → is_sorted R es ≡ true → is_sorted R (remove_entry gone es) ≡ true
   sorted-remove gone [] s = refl
   sorted-remove gone (e ∷ es) s =
       let rest = second (below_all R e.0 es) (is_sorted R es) s in

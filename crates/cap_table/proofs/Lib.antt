@@ -1,4 +1,5 @@
 pub mod AfterLemmas
+pub mod IdLemmas
 pub mod KeptLemmas
 pub mod LawLemmas
 pub mod TableLemmas

@@ -1,4 +1,5 @@
 pub mod After
+pub mod Ids
 pub mod Operation
 pub mod Scan
 pub mod Sound

@@ -5,6 +5,7 @@ ghost use Rattle.cap_row.specs.Fields.{Fields};
 ghost use Rattle.cap_row.specs.Key.{key_of};
 ghost use Rattle.cap_value.specs.declared.value.Value.{Value};
 ghost use Rattle.cap_tree.specs.Tree.{get};
+ghost use Rattle.cap_table.specs.Ids.{GivesIdsOnce};
 ghost use Rattle.cap_table.specs.Operation.{delete_row, empty_table, insert_row, update_row};
 ghost use Rattle.cap_table.specs.Sound.{IsRising};
 ghost use Rattle.cap_table.specs.Table.{TableState};
@@ -24,6 +25,20 @@ pub fn insert_takes_next_id<A: AllocHandle>()
     ensures { (before after : TableState A) (row : Fields A) → key_of before.schema row ≡ None
         → insert_row before row ≡ Ok after →
         (after.next_id ≡ before.next_id + 1) × (get nat_cmp after.loose before.next_id ≡ Some row) }
+{}
+
+/// Ids are never given again: the next id never falls, a row under an id that no row had stands under one that was not
+/// given before and is now, and an id that was given and whose row is gone names no row ever after. It holds from each
+/// state to the next, and so over any number of operations.
+pub fn ids_are_given_once<A: AllocHandle>()
+    ensures insert { (table : TableState A) (row : Fields A) → IfOk (insert_row table row) (GivesIdsOnce table) }
+    ensures update { (table : TableState A) (name : RowRef A) (fields : List (ℕ × Value A)) →
+        IfOk (update_row table name fields) (GivesIdsOnce table) }
+    ensures delete { (table : TableState A) (name : RowRef A) →
+        IfOk (delete_row table name) (GivesIdsOnce table) }
+    ensures none { (table : TableState A) → GivesIdsOnce table table }
+    ensures over { (before between after : TableState A) → GivesIdsOnce before between → GivesIdsOnce between after
+        → GivesIdsOnce before after }
 {}
 
 /// An operation leaves the columns as they were.

@@ -14,7 +14,8 @@ mod table;
 mod tests;
 
 pub use laws::{
-    delete_undoes_insert, insert_takes_next_id, operations_keep_columns, operations_keep_tables,
+    delete_undoes_insert, ids_are_given_once, insert_takes_next_id, operations_keep_columns,
+    operations_keep_tables,
 };
 pub use not_made::NotMade;
 pub use replaced::Replaced;
