@@ -31,14 +31,15 @@ pub fn insert_takes_next_id<A: AllocHandle>()
 /// given before and is now, and an id that was given and whose row is gone names no row ever after. It holds from each
 /// state to the next, and so over any number of operations.
 pub fn ids_are_given_once<A: AllocHandle>()
-    ensures insert { (table : TableState A) (row : Fields A) → IfOk (insert_row table row) (GivesIdsOnce table) }
+    ensures insert { (table : TableState A) (row : Fields A) →
+        IfOk (insert_row table row) (GivesIdsOnce table) }
     ensures update { (table : TableState A) (name : RowRef A) (fields : List (ℕ × Value A)) →
         IfOk (update_row table name fields) (GivesIdsOnce table) }
     ensures delete { (table : TableState A) (name : RowRef A) →
         IfOk (delete_row table name) (GivesIdsOnce table) }
     ensures none { (table : TableState A) → GivesIdsOnce table table }
-    ensures over { (before between after : TableState A) → GivesIdsOnce before between → GivesIdsOnce between after
-        → GivesIdsOnce before after }
+    ensures over { (before between after : TableState A) → GivesIdsOnce before between
+        → GivesIdsOnce between after → GivesIdsOnce before after }
 {}
 
 /// An operation leaves the columns as they were.

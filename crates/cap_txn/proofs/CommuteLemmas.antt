@@ -35,14 +35,14 @@ module _ {X : Type 0} where
 
 module _ {A : Type 0} where
   -- what an accepted operation found and left
-  record Stepped (tables : Tables A) (op : Op A) (after : Tables A) : Type 0 where
-    table : TableState A
-    left : TableState A
-    there : table_of tables op.table ≡ Some table
-    acts : act table op.action ≡ Ok left
-    is : put_entry bytes_cmp tables op.table left ≡ after
+  pub record Stepped (tables : Tables A) (op : Op A) (after : Tables A) : Type 0 where
+    pub table : TableState A
+    pub left : TableState A
+    pub there : table_of tables op.table ≡ Some table
+    pub acts : act table op.action ≡ Ok left
+    pub is : put_entry bytes_cmp tables op.table left ≡ after
 
-  was_stepped : (tables : Tables A) (op : Op A) (after : Tables A) → step tables op ≡ Ok after → Stepped tables op after
+  pub was_stepped : (tables : Tables A) (op : Op A) (after : Tables A) → step tables op ≡ Ok after → Stepped tables op after
   was_stepped tables op after ok = found (table_of tables op.table) refl ok
     where
       found : (o : Option (TableState A)) → table_of tables op.table ≡ o → stepped tables o op ≡ Ok after → Stepped tables op after
@@ -53,7 +53,7 @@ module _ {A : Type 0} where
           acted (Ok left) acts ok = record { table = table; left = left; there = there; acts = acts; is = cc }
           acted (Err why) acts ok = cc
 
-  steps : (tables : Tables A) (op : Op A) (table left : TableState A) → table_of tables op.table ≡ Some table → act table op.action ≡ Ok left → step tables op ≡ Ok (put_entry bytes_cmp tables op.table left)
+  pub steps : (tables : Tables A) (op : Op A) (table left : TableState A) → table_of tables op.table ≡ Some table → act table op.action ≡ Ok left → step tables op ≡ Ok (put_entry bytes_cmp tables op.table left)
   steps tables op table left there acts = ap (λ found. stepped tables found op) there ∙ ap (in_place tables op.table) acts
 
   -- another table is as it was

@@ -32,7 +32,7 @@ truth true t = refl
 truth false t = absurd t
 
 -- what is so of an answer is so where it says more
-if_ok : {X E : Type 0} (P Q : X → Type 0) → ((x : X) → P x → Q x) → (r : Result X E) → IfOk r P → IfOk r Q
+pub if_ok : {X E : Type 0} (P Q : X → Type 0) → ((x : X) → P x → Q x) → (r : Result X E) → IfOk r P → IfOk r Q
 if_ok P Q says (Ok x) h = says x h
 if_ok P Q says (Err e) h = tt
 
@@ -74,7 +74,7 @@ module _ {X : Type 0} where
           | Greater ↦ (all.0, each-put es name x all.1 new)
         ]
 
-    each-found : (es : List (List ℕ × X)) (name : List ℕ) (x : X) → AllByRecursion (λ e. P e.1) es → get bytes_cmp es name ≡ Some x → P x
+    pub each-found : (es : List (List ℕ × X)) (name : List ℕ) (x : X) → AllByRecursion (λ e. P e.1) es → get bytes_cmp es name ≡ Some x → P x
     each-found [] name x all is = cc
     each-found (e ∷ es) name x all is =
         elim (eq_by_cmp bytes_cmp name e.0) as (λ b. cond b (Some e.1) (get bytes_cmp es name) ≡ Some x → P x) [
@@ -114,7 +114,7 @@ module _ {A : Type 0} where
   -- ---- lists of operations
 
   -- what the others leave of what the first leaves
-  and_then-leaves : (P : Tables A → Type 0) (before : List (Change A)) (first : Result (Tables A) Refusal) (others : Tables A → Result (OutcomeState A) RefusedAt)
+  pub and_then-leaves : (P : Tables A → Type 0) (before : List (Change A)) (first : Result (Tables A) Refusal) (others : Tables A → Result (OutcomeState A) RefusedAt)
       → IfOk first (λ next. IfOk (others next) (λ left. P left.database)) → IfOk (and_then before first others) (λ left. P left.database)
   and_then-leaves P before (Ok next) others h = inner (others next) h
     where

@@ -26,8 +26,10 @@ pub use cause::Cause;
 pub use change::Change;
 pub use database::{Database, TABLES_MAX};
 pub use laws::{
-    first_refusal_ends_the_list, last_operation_adds_its_changes, operations_in_front_are_accepted,
-    operations_on_different_tables_commute, tables_keep_columns, tables_keep_order,
+    deletes_undo_inserts, first_refusal_ends_the_list, last_operation_adds_its_changes,
+    lists_give_ids_once, operations_in_front_are_accepted, operations_on_different_rows_commute,
+    operations_on_different_tables_commute, refused_batches_leave_nothing, tables_keep_columns,
+    tables_keep_order, transactions_stand,
 };
 pub use op::{Action, Op};
 pub use outcome::Outcome;

@@ -1,0 +1,115 @@
+-- Writes to a list of entries in the order of their keys: each puts an entry or takes one away.
+use Rattle.std.proofs.Common.{◌≡◌, Bool, true, false, cond, ◌&&◌, Option, Some, None, List, [], ◌∷◌, refl, sym, ap, subst, ◌∙◌, Ordering, Less, Equal, Greater, T}
+use Rattle.std.specs.List.{AllByRecursion}
+use Rattle.std.specs.BTreeMap.{is_at}
+use Rattle.std.specs.Ordering.{eq_by_cmp, is_eq, is_lt}
+use Rattle.std.specs.Cmp.{Equal-is, IsTotalOrder}
+use Rattle.std.specs.FinMap.{IsAntisymmetric}
+use Rattle.std.specs.FinMap.Entries.{below_all, find, find-put, is_sorted, put, same_entries}
+use Rattle.cap_tree.specs.Tree.{get, put_entry, take_entry}
+use Rattle.cap_table.proofs.KeptLemmas.{put_entry-put, sorted-put, sorted-remove}
+use Rattle.cap_table.proofs.TableLemmas.{first, second}
+
+module _ {X : Type 0} where
+  -- two tests that do not both pass, in either order
+  pub picks : (x y : Bool) (a b found : Option X) → (x ≡ true → y ≡ true → ⊥) → cond x a (cond y b found) ≡ cond y b (cond x a found)
+  picks true true a b found apart = absurd (apart refl refl)
+  picks true false a b found apart = refl
+  picks false y a b found apart = refl
+
+tied : {K : Type 0} (R : K → K → Ordering) → IsAntisymmetric R → (x y : K) → eq_by_cmp R x y ≡ true → x ≡ y
+tied R same x y t = same x y ((Equal-is (R x y)).0 t)
+
+module _ {K X : Type 0} (R : K → K → Ordering) (o : IsTotalOrder R) (same : IsAntisymmetric R) where
+  get-find : (es : List (K × X)) (q : K) → get R es q ≡ find R q es
+  get-find [] q = refl
+  get-find (e ∷ es) q = ap (cond (eq_by_cmp R q e.0) (Some e.1)) (get-find es q)
+
+  get-put : (es : List (K × X)) (k : K) (x : X) (q : K) → get R (put_entry R es k x) q ≡ cond (eq_by_cmp R q k) (Some x) (get R es q)
+  get-put es k x q =
+      ap (λ l. get R l q) (put_entry-put R same es k x) ∙ get-find (put R k x es) q ∙ find-put R o q k x es
+      ∙ ap (λ found. cond (eq_by_cmp R q k) (Some x) found) (sym (get-find es q))
+
+  absent-below : (x : K) (es : List (K × X)) → below_all R x es ≡ true → get R es x ≡ None
+  absent-below x [] below = refl
+  absent-below x (e ∷ es) below =
+      elim (R x e.0) as (λ r. (is_lt r && below_all R x es) ≡ true → cond (is_eq r) (Some e.1) (get R es x) ≡ None) [
+        | Less ↦ λ b. absent-below x es b
+        | Equal ↦ λ b. cc
+        | Greater ↦ λ b. cc
+      ] below
+
+  get-take : (es : List (K × X)) (k q : K) → is_sorted R es ≡ true → get R (take_entry R es k) q ≡ cond (eq_by_cmp R q k) None (get R es q)
+  get-take [] k q s = elim (eq_by_cmp R q k) as (λ b. None ≡ cond {A = Option X} b None None) [ true ↦ refl | false ↦ refl ]
+  get-take (e ∷ es) k q s =
+      elim (is_at (R k) e.0) as (λ b. is_at (R k) e.0 ≡ b → get R (cond b es (e ∷ take_entry R es k)) q ≡ cond (eq_by_cmp R q k) None (cond (eq_by_cmp R q e.0) (Some e.1) (get R es q))) [
+        | true ↦ λ at.
+            let here : k ≡ e.0 = tied R same k e.0 at in
+            elim (eq_by_cmp R q k) as (λ b. eq_by_cmp R q k ≡ b → get R es q ≡ cond b None (cond (eq_by_cmp R q e.0) (Some e.1) (get R es q))) [
+              | true ↦ λ t. ap (get R es) (tied R same q k t ∙ here) ∙ absent-below e.0 es (first (below_all R e.0 es) (is_sorted R es) s)
+              | false ↦ λ f. sym (ap (λ b. cond b (Some e.1) (get R es q)) (ap (eq_by_cmp R q) (sym here) ∙ f))
+            ] refl
+        | false ↦ λ at.
+            ap (λ found. cond (eq_by_cmp R q e.0) (Some e.1) found) (get-take es k q (second (below_all R e.0 es) (is_sorted R es) s))
+            ∙ picks (eq_by_cmp R q e.0) (eq_by_cmp R q k) (Some e.1) None (get R es q) (λ here there.
+            let self : eq_by_cmp R k e.0 ≡ true = ap (λ x. eq_by_cmp R x e.0) (sym (tied R same q k there)) ∙ here in
+            let clash : true ≡ false = sym self ∙ at in cc)
+      ] refl
+
+  -- an entry at a key, or none
+  abbrev pub set_at : List (K × X) → K → Option X → List (K × X)
+  set_at es k None = take_entry R es k
+  set_at es k (Some x) = put_entry R es k x
+
+  pub sorted-set : (es : List (K × X)) (k : K) (x : Option X) → is_sorted R es ≡ true → is_sorted R (set_at es k x) ≡ true
+  sorted-set es k None s = sorted-remove R (is_at (R k)) es s
+  sorted-set es k (Some x) s = sorted-put R o same es k x s
+
+  pub get-set : (es : List (K × X)) (k : K) (x : Option X) (q : K) → is_sorted R es ≡ true → get R (set_at es k x) q ≡ cond (eq_by_cmp R q k) x (get R es q)
+  get-set es k None q s = get-take es k q s
+  get-set es k (Some x) q s = get-put es k x q
+
+  set-set : (es : List (K × X)) (k j : K) (x y : Option X) → (k ≡ j → ⊥) → is_sorted R es ≡ true → set_at (set_at es k x) j y ≡ set_at (set_at es j y) k x
+  set-set es k j x y apart s =
+      same_entries R o same (set_at (set_at es k x) j y) (set_at (set_at es j y) k x)
+      (subst T (sym (sorted-set (set_at es k x) j y (sorted-set es k x s))) tt)
+      (subst T (sym (sorted-set (set_at es j y) k x (sorted-set es j y s))) tt)
+      (λ q. sym (get-find (set_at (set_at es k x) j y) q)
+      ∙ get-set (set_at es k x) j y q (sorted-set es k x s)
+      ∙ ap (λ found. cond (eq_by_cmp R q j) y found) (get-set es k x q s)
+      ∙ picks (eq_by_cmp R q j) (eq_by_cmp R q k) y x (get R es q) (λ here there. apart (sym (tied R same q k there) ∙ tied R same q j here))
+      ∙ ap (λ found. cond (eq_by_cmp R q k) x found) (sym (get-set es j y q s))
+      ∙ sym (get-set (set_at es j y) k x q (sorted-set es j y s))
+      ∙ get-find (set_at (set_at es j y) k x) q)
+
+  -- one write after another
+  abbrev pub sets : List (K × X) → List (K × Option X) → List (K × X)
+  sets es [] = es
+  sets es (w ∷ ws) = sets (set_at es w.0 w.1) ws
+
+  pub sorted-sets : (es : List (K × X)) (ws : List (K × Option X)) → is_sorted R es ≡ true → is_sorted R (sets es ws) ≡ true
+  sorted-sets es [] s = s
+  sorted-sets es (w ∷ ws) s = sorted-sets (set_at es w.0 w.1) ws (sorted-set es w.0 w.1 s)
+
+  -- what no write is at stays
+  pub get-sets : (es : List (K × X)) (ws : List (K × Option X)) (q : K) → is_sorted R es ≡ true → AllByRecursion (λ w. w.0 ≡ q → ⊥) ws → get R (sets es ws) q ≡ get R es q
+  get-sets es [] q s apart = refl
+  get-sets es (w ∷ ws) q s apart =
+      get-sets (set_at es w.0 w.1) ws q (sorted-set es w.0 w.1 s) apart.1
+      ∙ get-set es w.0 w.1 q s
+      ∙ elim (eq_by_cmp R q w.0) as (λ b. eq_by_cmp R q w.0 ≡ b → cond b w.1 (get R es q) ≡ get R es q) [
+        | true ↦ λ t. absurd (apart.0 (sym (tied R same q w.0 t)))
+        | false ↦ λ _. refl
+      ] refl
+
+  -- a write past others
+  past : (es : List (K × X)) (k : K) (x : Option X) (ws : List (K × Option X)) → AllByRecursion (λ w. k ≡ w.0 → ⊥) ws → is_sorted R es ≡ true → sets (set_at es k x) ws ≡ set_at (sets es ws) k x
+  past es k x [] apart s = refl
+  past es k x (w ∷ ws) apart s =
+      ap (λ l. sets l ws) (set-set es k w.0 x w.1 apart.0 s) ∙ past (set_at es w.0 w.1) k x ws apart.1 (sorted-set es w.0 w.1 s)
+
+  -- writes at different keys, in either order
+  pub sets-commute : (es : List (K × X)) (ws vs : List (K × Option X)) → AllByRecursion (λ w. AllByRecursion (λ v. w.0 ≡ v.0 → ⊥) vs) ws → is_sorted R es ≡ true → sets (sets es ws) vs ≡ sets (sets es vs) ws
+  sets-commute es [] vs apart s = refl
+  sets-commute es (w ∷ ws) vs apart s =
+      sets-commute (set_at es w.0 w.1) ws vs apart.1 (sorted-set es w.0 w.1 s) ∙ ap (λ l. sets l ws) (past es w.0 w.1 vs apart.0 s)
