@@ -12,7 +12,7 @@ ghost use Rattle.cap_tree.specs.Tree.{IsOrdered, get, put_entry};
 ghost use Rattle.cap_core.specs.declared.command.Command.{Command};
 ghost use Rattle.cap_core.specs.declared.event.Event.{Event};
 ghost use Rattle.cap_core.specs.declared.touched_row.TouchedRow.{TouchedRow};
-ghost use Rattle.cap_core.specs.Answer.{IsLegal, IsLegalPast, event_by, reply_of, state};
+ghost use Rattle.cap_core.specs.Answer.{IsLegal, IsLegalPast, answer, event_by, reply_of, state};
 ghost use Rattle.cap_core.specs.History.{Past, is_accepted, main, session_of, touches};
 ghost use Rattle.cap_core.specs.Insert.{HasChange, IsInsertOfAbsent, changes_by_key};
 ghost use Rattle.cap_core.specs.Replies.{replies_after};
@@ -34,6 +34,11 @@ pub fn legal_histories_grow<A: AllocHandle>()
     ensures next { (h : List (Event A)) (by : ℕ) (command : Command A) → IsLegal h
         → state (h ++ event_by by command (reply_of h command) ∷ []) ≡ next (state h) command }
     ensures count { (h : List (Event A)) → (state h).events ≡ length h }
+{}
+
+/// The reply to a command after a history is the answer of the state that the history leaves.
+pub fn replies_follow_from_states<A: AllocHandle>()
+    ensures { (h : List (Event A)) (command : Command A) → reply_of h command ≡ answer (state h) command }
 {}
 
 /// A session without touches captures nothing.

@@ -25,7 +25,7 @@ pub use event::Event;
 pub use fault::CallFault;
 pub use laws::{
     insert_is_captured, legal_histories_grow, one_touched_row_a_key, refusal_changes_no_reply,
-    restored_row_is_no_change, rows_stand_under_own_keys, untouched_captures_nothing,
+    replies_follow_from_states, restored_row_is_no_change, rows_stand_under_own_keys, untouched_captures_nothing,
 };
 pub use limits::SESSIONS_MAX;
 pub use reply::Reply;

@@ -1,0 +1,18 @@
+-- What is said of histories beside what they leave.
+use Rattle.std.specs.Prelude.{ℕ, ◌<◌, ◌^◌, List, filter, length, nat_eq, nat_lt, if◌then◌else◌}
+use Rattle.cap_core.specs.declared.event.Event.{Event}
+use Rattle.cap_core.specs.Answer.{IsLegal}
+
+module _ {A : Type 0} where
+  -- the events of a seat, in their order
+  abbrev pub own : ℕ → List (Event A) → List (Event A)
+  own number history = filter (λ event. nat_eq event.by number) history
+
+  -- what the one history is at each of its moments: legal, and of at most 2^63 - 1 events
+  pub record IsHistory (history : List (Event A)) : Type 0 where
+    pub legal : IsLegal history
+    pub few : length history < 2 ^ 63
+
+  -- the longer of two lists; the first where they are as long
+  abbrev pub longer : List (Event A) → List (Event A) → List (Event A)
+  longer first second = if nat_lt (length first) (length second) then second else first

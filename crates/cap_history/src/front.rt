@@ -1,0 +1,70 @@
+ghost use Rattle.std.specs.Prelude.{◌≡◌, ◌+◌, ◌<◌, ◌^◌, [], ◌∷◌, ◌++◌, length, OnOk, IfErr};
+ghost use mathlib.Core.List.{IsPrefix};
+ghost use Rattle.cap_core.specs.Answer.{event_by, reply_of};
+ghost use Rattle.cap_history.specs.History.{longer, own};
+ghost use Rattle.cap_history.specs.Rules.{word_of};
+ghost use Rattle.cap_history.specs.Seat.{HasCalled, SeesMore, calls};
+
+use crate::law::Law;
+use crate::{List, Naming, Overtaken, Seat};
+use cap_core::{Command, Event, Reply};
+use cap_value::AllocHandle;
+use logbook::Word;
+use std::marker::PhantomData;
+
+/// The word that all threads share: the number of events of the one history.
+#[derive(Drop)]
+pub struct Front<J: Naming, A: AllocHandle> {
+    pub(crate) word: Word<Event<A>, u64, Law>,
+    pub(crate) of: PhantomData<J>,
+    ghost word_is: { word ≡ word_of J.book },
+}
+
+impl<J: Naming, A: AllocHandle> Front<J, A> {
+    /// Lets the seat see the history as it is, and answers how many events that has. It waits for nobody.
+    pub fn look(&self, seat: &mut Seat<J, A>) -> u64
+        ensures seen { SeesMore seat.old seat.new }
+        ensures front { result ≡ length seat.new.seen }
+    {
+        seat.seen.look(self);
+        seat.seen.len()
+    }
+
+    /// Lets the second seat see what the first has seen. It waits for nobody.
+    pub fn meet(&self, first: &Seat<J, A>, second: &mut Seat<J, A>)
+        ensures seen { SeesMore second.old second.new }
+        ensures both { second.new.seen ≡ longer second.old.seen first.now.seen }
+        ensures first { IsPrefix first.now.seen second.new.seen }
+    {
+        second.see(&first.seen);
+    }
+
+    /// Adds the seat's call with its reply to a list, where that is the history as it is. Else the history is longer,
+    /// and the seat has seen it. It is one exchange of the word, and waits for nobody.
+    pub fn append(
+        &self,
+        seat: &mut Seat<J, A>,
+        at: &List<J, A>,
+        command: &Command<A>,
+        reply: &Reply<A>,
+    ) -> Result<(), Overtaken>
+        requires room { length at.now + 1 < 2 ^ 63 }
+        requires reply { reply.now ≡ reply_of at.now command.now }
+        requires calls { length (own seat.old.number at.now) ≡ length (calls seat.old) }
+        ensures called { OnOk result (HasCalled seat.old seat.new command.now reply.now) }
+        ensures added { OnOk result (seat.new.seen ≡ at.now ++ event_by seat.old.number command.now reply.now ∷ []) }
+        ensures seen { IfErr result (λ overtaken. SeesMore seat.old seat.new
+            × (length seat.new.seen ≡ overtaken.front)) }
+        ensures overtaken { IfErr result (λ overtaken. length at.now < overtaken.front) }
+    {
+        let number = seat.number;
+        match seat.seen.append(self, at, number, command, reply) {
+            Ok(()) => {
+                seat.answered = seat.seen.again();
+                seat.calls += 1;
+                Ok(())
+            }
+            Err(overtaken) => Err(overtaken),
+        }
+    }
+}

@@ -1,0 +1,81 @@
+//! The rule of the front word, and the two steps on it.
+use cap_core::{Command, Event, Reply};
+use cap_value::AllocHandle;
+use logbook::{Gain, Plain, Play, Rule};
+
+/// The rule that every step on the front word keeps: the word is the number of events of a legal history.
+pub struct Law;
+
+impl<A: AllocHandle> Rule<Event<A>, u64> for Law {
+    ghost use Rattle.std.specs.Prelude.{[]};
+    ghost use base.Fml.{ftrue};
+    ghost use Rattle.cap_history.specs.Rules.{IsKept};
+
+    ghost holds = { λ cells log. IsKept cells log };
+
+    ghost first = { [] };
+
+    ghost hinted = { λ n log. Unit {0} };
+
+    ghost shows = { λ log. [] };
+
+    ghost keeps = { λ names log. ftrue };
+
+    ghost moves = { λ ask before after answer. Unit {0} };
+}
+
+// Callers trade nothing.
+pub(crate) struct Nothing;
+
+impl<A: AllocHandle> Gain<Event<A>, u64> for Nothing {
+    ghost use base.Fml.{ftrue};
+
+    ghost after = { λ names about answer. ftrue };
+}
+
+// A load.
+pub(crate) struct Look;
+
+impl<A: AllocHandle> Play<Event<A>, u64> for Look {
+    ghost use Rattle.cap_history.specs.Rules.{Looks};
+
+    ghost then = { Looks };
+}
+
+// A load asks for no event; the word takes some event as what is asked.
+impl<A: AllocHandle> Plain<(), Event<A>, u64> for Look {
+    ghost use Rattle.std.specs.Prelude.{None};
+    ghost use Rattle.cap_core.specs.Answer.{event_by};
+    ghost use Rattle.cap_core.specs.declared.command.Command.TheVariants.{Read};
+    ghost use Rattle.cap_core.specs.declared.reply.Reply.TheVariants.{Done};
+
+    ghost ask = { λ nothing. event_by 0 Read Done };
+
+    ghost state = { λ nothing. None };
+}
+
+// An exchange that adds an event.
+pub(crate) struct Add;
+
+impl<A: AllocHandle> Play<Event<A>, u64> for Add {
+    ghost use Rattle.cap_history.specs.Rules.{Adds};
+
+    ghost then = { Adds };
+}
+
+// The event to be added, of which no value is made.
+#[derive(Drop)]
+pub(crate) struct Call<'c, 'r, A: AllocHandle> {
+    pub(crate) by: u64,
+    pub(crate) command: &'c Command<A>,
+    pub(crate) reply: &'r Reply<A>,
+}
+
+impl<'c, 'r, A: AllocHandle> Plain<Call<'c, 'r, A>, Event<A>, u64> for Add {
+    ghost use Rattle.std.specs.Prelude.{None};
+    ghost use Rattle.cap_core.specs.Answer.{event_by};
+
+    ghost ask = { λ call. event_by call.by call.command.now call.reply.now };
+
+    ghost state = { λ call. None };
+}

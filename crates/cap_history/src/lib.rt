@@ -1,0 +1,18 @@
+//! The one history that all threads share: a word that counts its events, and what each caller has seen of it.
+#![tactic(auto)]
+
+mod front;
+mod law;
+mod list;
+mod naming;
+mod opened;
+mod overtaken;
+mod seat;
+
+pub use front::Front;
+pub use law::Law;
+pub use list::{List, one_begins_the_other};
+pub use naming::Naming;
+pub use opened::Opened;
+pub use overtaken::Overtaken;
+pub use seat::Seat;

@@ -1,0 +1,87 @@
+ghost use Rattle.std.specs.Prelude.{◌≡◌, ◌<◌, [], length};
+ghost use mathlib.Core.List.{IsPrefix};
+ghost use Rattle.cap_history.specs.History.{IsHistory, longer};
+ghost use Rattle.cap_history.specs.Seat.{SeesMore, calls, newcomer};
+
+use crate::{List, Naming};
+use cap_value::AllocHandle;
+use std::marker::Model;
+
+/// A caller's place in the one history: what it has seen, and how many of its calls were answered. It can't be copied,
+/// so that each event is of one caller.
+#[derive(Drop)]
+pub struct Seat<J: Naming, A: AllocHandle> {
+    pub(crate) number: u64,
+    pub(crate) calls: u64,
+    pub(crate) seen: List<J, A>,
+    // What it had seen when its last call was answered.
+    pub(crate) answered: List<J, A>,
+}
+
+impl<J: Naming, A: AllocHandle> Model for Seat<J, A> {
+    ghost use Rattle.std.specs.Prelude.{◌≡◌, ◌<◌, length};
+    ghost use mathlib.Core.List.{IsPrefix};
+    ghost use Rattle.cap_history.specs.History.{own};
+    ghost use Rattle.cap_history.specs.Seat.{SeatState};
+
+    ghost Value = { SeatState A };
+
+    ghost view = { λ s. record { number = s.number; seen = s.seen; answered = s.answered } };
+
+    ghost invariant = { λ s. (s.number < J.seats) × (s.calls ≡ length (own s.number s.answered))
+        × IsPrefix s.answered s.seen };
+}
+
+impl<J: Naming, A: AllocHandle> Seat<J, A> {
+    pub(crate) fn new(number: u64, list: &List<J, A>) -> Self
+        requires number { number < J.seats }
+        requires empty { list.now ≡ [] }
+        ensures { result ≡ newcomer number }
+    {
+        Seat {
+            number,
+            calls: 0,
+            seen: list.again(),
+            answered: list.again(),
+        }
+    }
+
+    /// Its number, from 0.
+    pub fn number(&self) -> u64
+        ensures number { result ≡ self.now.number }
+        ensures known { result < J.seats }
+    {
+        self.number
+    }
+
+    /// How many events it has seen.
+    pub fn seen(&self) -> u64
+        ensures length { result ≡ length self.now.seen }
+        ensures history { IsHistory self.now.seen }
+    {
+        self.seen.len()
+    }
+
+    /// How many of its calls were answered.
+    pub fn calls(&self) -> u64
+        ensures { result ≡ length (calls self.now) }
+    {
+        self.calls
+    }
+
+    /// Sees what the list has.
+    pub fn see(&mut self, list: &List<J, A>)
+        ensures seen { SeesMore self.old self.new }
+        ensures both { self.new.seen ≡ longer self.old.seen list.now }
+        ensures list { IsPrefix list.now self.new.seen }
+    {
+        self.seen.meet(list);
+    }
+
+    /// What it has seen.
+    pub fn list(&self) -> List<J, A>
+        ensures { result ≡ self.now.seen }
+    {
+        self.seen.again()
+    }
+}
