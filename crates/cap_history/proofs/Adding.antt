@@ -11,7 +11,7 @@ use Rattle.cap_core.specs.declared.reply.Reply.{Reply}
 use Rattle.cap_core.specs.Answer.{IsLegal, event_by, reply_of}
 use Rattle.cap_history.specs.History.{IsHistory}
 use Rattle.cap_history.specs.Rules.{IsKept, Adds}
-use Rattle.cap_history.proofs.Beginnings.{prefix-whole, prefix-trans}
+use Rattle.cap_history.specs.Beginnings.{prefix-whole, prefix-trans}
 
 -- a legal history stays legal with one more command and its reply
 abbrev pub Grows : Type 0 → Type 0

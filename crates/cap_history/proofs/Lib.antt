@@ -1,3 +1,2 @@
 pub mod Adding
-pub mod Beginnings
-pub mod Owns
+pub mod Calling

@@ -1,3 +1,5 @@
+pub mod Beginnings
 pub mod History
+pub mod Own
 pub mod Rules
 pub mod Seat

@@ -64,7 +64,8 @@ impl<J: Naming, A: AllocHandle> Seat<J, A> {
 
     /// How many of its calls were answered.
     pub fn calls(&self) -> u64
-        ensures { result ≡ length (calls self.now) }
+        ensures calls { result ≡ length (calls self.now) }
+        ensures seen { IsPrefix self.now.answered self.now.seen }
     {
         self.calls
     }
@@ -74,6 +75,7 @@ impl<J: Naming, A: AllocHandle> Seat<J, A> {
         ensures seen { SeesMore self.old self.new }
         ensures both { self.new.seen ≡ longer self.old.seen list.now }
         ensures list { IsPrefix list.now self.new.seen }
+        ensures history { IsHistory self.new.seen }
     {
         self.seen.meet(list);
     }

@@ -1,7 +1,7 @@
 use Rattle.std.proofs.Common.{ap, subst, List, ◌⊎◌}
 use mathlib.Core.List.{IsPrefix}
 use Rattle.cap_core.specs.declared.event.Event.{Event}
-use Rattle.cap_history.proofs.Beginnings.{prefix-either}
+use Rattle.cap_history.specs.Beginnings.{prefix-either}
 use Rattle.cap_history.proofs.list.one_begins_the_other.Goals as goal
 
 pub returns : goal.returns

@@ -1,7 +1,8 @@
 use Rattle.std.proofs.Common.{ap, sym, ◌∙◌, ◌≡◌, length, arith}
 use Rattle.cap_history.specs.History.{own}
 use Rattle.cap_history.specs.Seat.{SeatState}
-use Rattle.cap_history.proofs.Owns.{called, own-few}
+use Rattle.cap_history.specs.Own.{own-few}
+use Rattle.cap_history.proofs.Calling.{called}
 use Rattle.cap_history.proofs.front.Front.append.Goals as goal
 
 pub overflow_add-seat : goal.overflow_add-seat

@@ -1,0 +1,46 @@
+-- A history that all seats agree on is the one that a closed server leaves.
+use Rattle.std.proofs.Common.{◌≡◌, inl, inr, ℕ, ◌≤◌, List, [], length, refl, ap, sym, subst, ◌∙◌, arith, All, slice_index_or}
+use Rattle.std.proofs.lemmas.Bool.{cases_lt}
+use mathlib.Core.List.{IsPrefix}
+use Rattle.cap_core.specs.declared.event.Event.{Event}
+use Rattle.cap_core.specs.Answer.{State, IsLegal, state}
+use Rattle.cap_history.specs.Beginnings.{prefix-of-none, prefix-trans, prefix-whole}
+use Rattle.cap_history.specs.Own.{own-same}
+use Rattle.cap_history.specs.Seat.{SeatState}
+use Rattle.cap_server.specs.Close.{FirstHasSeen, HasAll, IsClosed, IsMissing}
+use Rattle.cap_server.specs.Code.Counts.{Agrees, IsCounted}
+use Rattle.cap_server.specs.Fault.{MatchCloseFault}
+use Rattle.cap_server.specs.declared.fault.CloseFault.{CloseFault}
+use Rattle.cap_server.specs.declared.fault.CloseFault.TheVariants.{MissingSeat, Overtaken}
+
+module _ {A : Type 0} where
+  -- the history that stands under the lock begins the one that was seen last, and is as long
+  pub closed : (seats : List (SeatState A)) (count events : ℕ) (counts : List ℕ) (core : State A) (history shown : List (Event A)) → IsCounted count counts history → core ≡ state history
+      → IsLegal history → IsPrefix history shown → length shown ≡ events → events ≤ length history → All (λ seat. IsPrefix seat.seen shown) seats → All (Agrees count counts) seats → HasAll seats count
+      → IsClosed seats events core
+  closed seats count events counts core history shown counted left legal begins long few seen agrees all =
+      let same : history ≡ shown = prefix-whole history shown begins (omega (arith, long, few)) in
+      let seen' = subst (λ (h : List (Event A)). All (λ (seat : SeatState A). IsPrefix seat.seen h) seats) (sym same) seen in
+      record {
+        history = history;
+        legal = legal;
+        events_are = ap length same ∙ long;
+        core_is = left;
+        seen = seen';
+        own_calls = λ k d within.
+            let seat = slice_index_or seats k d in
+            let agreed = agrees k d within in
+            own-same seat.number seat.answered history (prefix-trans seat.answered seat.seen history agreed.begins (seen' k d within))
+            (omega (arith, counted.each seat.number agreed.known, agreed.counted));
+        no_others = λ number missing. elim (cases_lt number count) [
+          | inl within ↦ absurd (let found = all number within in missing found.0 found.1)
+          | inr beyond ↦ counted.others number beyond
+        ];
+      }
+
+  -- what the first seat has seen begins with any shorter list too
+  pub shown_by_any : (fault : CloseFault) (missing : ℕ → Type 0) (all : Type 0) (old new : List (SeatState A)) (least : List (Event A)) → MatchCloseFault fault missing (λ front. all × FirstHasSeen old new least front)
+      → MatchCloseFault fault missing (λ front. all × FirstHasSeen old new [] front)
+  shown_by_any (MissingSeat number) missing all old new least is = is
+  shown_by_any (Overtaken front) missing all old new least is =
+      (is.0, record { place = is.1.place; first = is.1.first; history = is.1.history; legal = is.1.legal; front_is = is.1.front_is; seen = is.1.seen; begins = prefix-of-none is.1.history; seats = is.1.seats })

@@ -1,0 +1,45 @@
+-- What a closed server leaves, and which seats it misses.
+use Rattle.std.specs.Prelude.{◌≡◌, ℕ, ◌<◌, Some, List, [], All, length, slice_get, slice_set}
+use mathlib.Core.List.{IsPrefix}
+use Rattle.cap_core.specs.declared.event.Event.{Event}
+use Rattle.cap_core.specs.Answer.{State, IsLegal, state}
+use Rattle.cap_history.specs.History.{own}
+use Rattle.cap_history.specs.Seat.{SeatState, calls}
+
+module _ {A : Type 0} where
+  -- the seat with this number stands at this place
+  pub record StandsAt (seats : List (SeatState A)) (number place : ℕ) : Type 0 where
+    pub seat : SeatState A
+    pub at : slice_get seats place ≡ Some seat
+    pub is : seat.number ≡ number
+
+  -- no seat has the number
+  abbrev pub IsMissing : List (SeatState A) → ℕ → Type 0
+  IsMissing seats number = (place : ℕ) → ¬ StandsAt seats number place
+
+  -- each number below the count is a seat's
+  abbrev pub HasAll : List (SeatState A) → ℕ → Type 0
+  HasAll seats count = (number : ℕ) → number < count → (place : ℕ) × StandsAt seats number place
+
+  -- One legal history has just the calls of these seats, each seat's in their order, begins with all that any of them had
+  -- seen, and leaves the core.
+  pub record IsClosed (seats : List (SeatState A)) (events : ℕ) (core : State A) : Type 0 where
+    pub history : List (Event A)
+    pub legal : IsLegal history
+    pub events_are : length history ≡ events
+    pub core_is : core ≡ state history
+    pub seen : All (λ seat. IsPrefix seat.seen history) seats
+    pub own_calls : All (λ seat. own seat.number history ≡ calls seat) seats
+    pub no_others : (number : ℕ) → IsMissing seats number → own number history ≡ []
+
+  -- A first seat has seen a history of this length, which begins with all that any seat had seen, and with this least one.
+  -- The other seats are as before.
+  pub record FirstHasSeen (old new : List (SeatState A)) (least : List (Event A)) (front : ℕ) : Type 0 where
+    pub place : ℕ
+    pub first : StandsAt old 0 place
+    pub history : List (Event A)
+    pub legal : IsLegal history
+    pub front_is : length history ≡ front
+    pub seen : All (λ seat. IsPrefix seat.seen history) old
+    pub begins : IsPrefix least history
+    pub seats : new ≡ slice_set old place (record first.seat { seen = history })

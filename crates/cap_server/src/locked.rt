@@ -1,0 +1,133 @@
+ghost use Rattle.std.specs.Prelude.{◌≡◌, ◌≢◌, ◌+◌, ◌<◌, ◌^◌, ◌⊎◌, ⊤, Any, [], ◌∷◌, ◌++◌, length, IfOk, IfErr, OnOk, OnErr, Err};
+ghost use Rattle.cap_core.specs.Answer.{event_by, reply_of};
+ghost use Rattle.cap_history.specs.History.{own};
+ghost use Rattle.cap_history.specs.Seat.{HasCalled, calls};
+ghost use Rattle.cap_server.specs.Close.{FirstHasSeen, HasAll, IsClosed, IsMissing};
+ghost use Rattle.cap_server.specs.Fault.{LeavesSeat, MatchCallFault, MatchCloseFault};
+ghost use Rattle.cap_server.specs.declared.fault.CallFault.TheVariants.{HistoryFull};
+
+use crate::exchange::step_after;
+use crate::handed_back::{calls_agree, first_sees_all, missing_seat};
+use crate::{CallFault, CloseFault, Closed};
+use cap_core::{Command, Core, Reply};
+use cap_history::{Front, List, Naming, Seat};
+use cap_value::{AllocHandle, Fault, OutOfMemory};
+use std::marker::Model;
+
+// The most events that a history may have.
+const EVENTS_MAX: u64 = (1 << 63) - 1;
+
+/// What stands under the lock: the sequential server, the history that leaves it, and how many of its events each seat
+/// made. Contracts see the history.
+#[derive(Drop)]
+pub struct Locked<J: Naming, A: AllocHandle> {
+    core: Core<A>,
+    list: List<J, A>,
+    counts: Vec<u64, A>,
+}
+
+impl<J: Naming, A: AllocHandle> Model for Locked<J, A> {
+    ghost use Rattle.std.specs.Prelude.{◌≡◌, List};
+    ghost use Rattle.cap_core.specs.declared.event.Event.{Event};
+    ghost use Rattle.cap_core.specs.Answer.{state};
+    ghost use Rattle.cap_server.specs.Code.Counts.{IsCounted};
+
+    ghost Value = { List (Event A) };
+
+    ghost view = { λ l. l.list };
+
+    ghost invariant = { λ l. (l.core ≡ state l.list) × IsCounted J.seats l.counts.items l.list };
+}
+
+impl<J: Naming, A: AllocHandle> Locked<J, A> {
+    /// A sequential server after no command, with a list that has seen nothing.
+    pub fn open(alloc: A, list: List<J, A>, seats: u64) -> Result<Self, OutOfMemory>
+        requires list { list ≡ [] }
+        requires seats { seats ≡ J.seats }
+        requires some { 0 < seats }
+        ensures { IfOk result (λ locked. locked ≡ []) }
+    {
+        let counts = vec![in alloc; 0u64; seats as usize]?;
+        Ok(Locked {
+            core: Core::new(alloc),
+            list,
+            counts,
+        })
+    }
+
+    /// Carries out a seat's command, once the front word was exchanged for it. Without a reply nothing has changed but
+    /// what the seat has seen.
+    pub fn step(
+        &mut self,
+        front: &Front<J, A>,
+        seat: &mut Seat<J, A>,
+        command: &Command<A>,
+    ) -> Result<Reply<A>, CallFault>
+        ensures called { IfOk result (λ reply. HasCalled seat.old seat.new command.now reply) }
+        ensures reply { IfOk result (λ reply. reply ≡ reply_of self.old command.now) }
+        ensures added { IfOk result (λ reply. self.new
+            ≡ self.old ++ event_by seat.old.number command.now reply ∷ []) }
+        ensures seen { OnOk result (seat.new.seen ≡ self.new) }
+        ensures unchanged { OnErr result (self.new ≡ self.old) }
+        ensures refused { IfErr result (λ fault. LeavesSeat fault seat.old seat.new) }
+        ensures overtaken { IfErr result (λ fault. MatchCallFault fault ⊤
+            (λ front. (length self.old < front) ⊎ (length (own seat.old.number self.old) ≢ length (calls seat.old))) ⊤) }
+        // S2 comes exactly where the history is full.
+        ensures full { IfErr result (λ fault. MatchCallFault fault ⊤ (λ _. ⊤) (length self.old + 1 ≡ 2 ^ 63)) }
+        ensures full_first { length self.old + 1 ≡ 2 ^ 63 → result ≡ Err HistoryFull }
+    {
+        if self.list.len() >= EVENTS_MAX {
+            seat.see(&self.list);
+            return Err(CallFault::HistoryFull);
+        }
+        let number = seat.number() as usize;
+        let count = self.counts[number];
+        match step_after(&mut self.core, &self.list, count, front, seat, command) {
+            Ok(reply) => {
+                self.list = seat.list();
+                self.counts[number] = count + 1;
+                Ok(reply)
+            }
+            Err(Fault::Refused(overtaken)) => Err(CallFault::Overtaken {
+                front: overtaken.front,
+            }),
+            Err(Fault::OutOfMemory) => Err(CallFault::OutOfMemory),
+        }
+    }
+    /// Takes all seats back, and hands out the sequential server. First each number has to be a seat's; then the first
+    /// seat sees all that any seat has seen, and the history as it is, and that has to be what stands under the lock.
+    pub fn close(
+        self,
+        front: &Front<J, A>,
+        mut seats: Vec<Seat<J, A>, A>,
+    ) -> Result<Closed<A>, (Self, Vec<Seat<J, A>, A>, CloseFault)>
+        ensures closed { IfOk result (λ closed. IsClosed seats.items closed.events closed.core
+            × HasAll seats.items J.seats) }
+        ensures locked { IfErr result (λ r. r.0 ≡ self) }
+        ensures refused { IfErr result (λ r. MatchCloseFault r.2
+            (λ number. (r.1.items ≡ seats.items) × (number < J.seats) × IsMissing seats.items number
+            × HasAll seats.items number)
+            (λ front. HasAll seats.items J.seats × FirstHasSeen seats.items r.1.items self front)) }
+        ensures overtaken { IfErr result (λ r. MatchCloseFault r.2 (λ number. ⊤) (λ front. (length self < front)
+            ⊎ Any (λ seat. length (own seat.number self) ≢ length (calls seat)) seats.items)) }
+    {
+        let count = self.counts.len() as u64;
+        if let Some(number) = missing_seat(seats.as_slice(), count) {
+            return Err((self, seats, CloseFault::MissingSeat { number }));
+        }
+        let agree = calls_agree(seats.as_slice(), self.counts.as_slice());
+        let events = first_sees_all(&mut seats, &self.list, front);
+        if !agree {
+            return Err((self, seats, CloseFault::Overtaken { front: events }));
+        }
+        if events > self.list.len() {
+            return Err((self, seats, CloseFault::Overtaken { front: events }));
+        }
+        let Locked {
+            core,
+            list: _,
+            counts: _,
+        } = self;
+        Ok(Closed { events, core })
+    }
+}

@@ -1,0 +1,89 @@
+ghost use Rattle.std.specs.Prelude.{◌≡◌, ◌<◌, ◌≤◌, [], IfOk, IfErr, length};
+ghost use mathlib.Core.List.{IsPrefix};
+ghost use Rattle.cap_history.specs.History.{longer};
+ghost use Rattle.cap_history.specs.Seat.{HasCalled, SeesMore, newcomers};
+ghost use Rattle.cap_server.specs.Close.{FirstHasSeen, HasAll, IsClosed, IsMissing};
+ghost use Rattle.cap_server.specs.Fault.{LeavesSeat, MatchCloseFault};
+
+use crate::{CallFault, CloseFault, Closed, Locked};
+use cap_core::{Command, Reply};
+use cap_history::{Front, Naming, Opened, Seat};
+use cap_value::{AllocHandle, OutOfMemory};
+use std::sync::{Mutex, Wait};
+
+/// A server that threads share by reference. Each has a seat of its own, through which it calls.
+#[derive(Drop)]
+pub struct Server<J: Naming, A: AllocHandle> {
+    front: Front<J, A>,
+    locked: Mutex<Locked<J, A>>,
+}
+
+impl<J: Naming, A: AllocHandle> Server<J, A> {
+    /// Opens a server without tables and sessions, with so many seats, numbered from 0.
+    pub fn open(
+        opened: Opened<A>,
+        alloc: A,
+        seats: u64,
+    ) -> Result<(Self, Vec<Seat<J, A>, A>), OutOfMemory>
+        requires history { opened.seen.book ≡ J.book }
+        requires seats { seats ≡ J.seats }
+        requires some { (1 ≤ seats) × (seats ≤ 64) }
+        ensures { IfOk result (λ r. r.1.items ≡ newcomers seats) }
+    {
+        let (front, list, made) = opened.named::<J>(alloc, seats)?;
+        let locked = Mutex::new(Locked::open(alloc, list, seats)?);
+        Ok((Server { front, locked }, made))
+    }
+
+    /// Carries out a seat's command. It waits for the calls of other seats.
+    pub fn call<R: Wait>(
+        &self,
+        rt: &R,
+        seat: &mut Seat<J, A>,
+        command: &Command<A>,
+    ) -> Result<Reply<A>, CallFault>
+        ensures called { IfOk result (λ reply. HasCalled seat.old seat.new command.now reply) }
+        ensures refused { IfErr result (λ fault. LeavesSeat fault seat.old seat.new) }
+    {
+        self.locked.lock(rt).step(&self.front, seat, command)
+    }
+
+    /// Lets the seat see the history as it is, and answers how many events that has. It waits for nobody.
+    pub fn front(&self, seat: &mut Seat<J, A>) -> u64
+        ensures seen { SeesMore seat.old seat.new }
+        ensures front { result ≡ length seat.new.seen }
+    {
+        self.front.look(seat)
+    }
+
+    /// Lets the second seat see what the first has seen. It waits for nobody.
+    pub fn meet(&self, first: &Seat<J, A>, second: &mut Seat<J, A>)
+        ensures seen { SeesMore second.old second.new }
+        ensures both { second.new.seen ≡ longer second.old.seen first.now.seen }
+        ensures first { IsPrefix first.now.seen second.new.seen }
+    {
+        self.front.meet(first, second);
+    }
+
+    /// Takes all seats back, and hands out the sequential server after the history of all calls. It waits for nobody.
+    pub fn close(
+        self,
+        seats: Vec<Seat<J, A>, A>,
+    ) -> Result<Closed<A>, (Self, Vec<Seat<J, A>, A>, CloseFault)>
+        ensures closed { IfOk result (λ closed. IsClosed seats.items closed.events closed.core
+            × HasAll seats.items J.seats) }
+        ensures refused { IfErr result (λ r. MatchCloseFault r.2
+            (λ number. (r.1.items ≡ seats.items) × (number < J.seats) × IsMissing seats.items number
+            × HasAll seats.items number)
+            (λ front. HasAll seats.items J.seats × FirstHasSeen seats.items r.1.items [] front)) }
+    {
+        let Server { front, locked } = self;
+        match locked.into_inner().close(&front, seats) {
+            Ok(closed) => Ok(closed),
+            Err((locked, seats, fault)) => {
+                let locked = Mutex::new(locked);
+                Err((Server { front, locked }, seats, fault))
+            }
+        }
+    }
+}
