@@ -145,7 +145,7 @@ no_replacement number Replace e = cc
 no_replacement number Abort e = cc
 
 module _ {A : Type 0} where
-  missed_made : (policy : Policy) (number : ℕ) (flags : List Bool) (old : RecordFields A) (before : Option (Fields A)) →
+  pub missed_made : (policy : Policy) (number : ℕ) (flags : List Bool) (old : RecordFields A) (before : Option (Fields A)) →
       is_made policy number (missed flags old before) ≡ Ok true → (row : Fields A) × (before ≡ Some row)
   missed_made policy number flags old None e = absurd (no_replacement number policy.on_notfound e)
   missed_made policy number flags old (Some row) e = (row, refl)

@@ -1,8 +1,10 @@
 pub mod BlobLemmas
 pub mod CaptureLemmas
 pub mod ChangeLemmas
+pub mod ColumnLemmas
 pub mod DifferenceLemmas
 pub mod EntryLemmas
 pub mod GroupLemmas
 pub mod OperationLemmas
+pub mod OrderLemmas
 pub mod RowLemmas

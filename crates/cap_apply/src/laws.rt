@@ -1,16 +1,19 @@
 //! Laws of captured changes that are applied, over the definitions alone. The functions do nothing.
-ghost use Rattle.std.specs.Prelude.{◌≡◌, ℕ, List, Ok, map};
+ghost use Rattle.std.specs.Prelude.{◌≡◌, ℕ, List, Ok, IfOk, map};
 ghost use Rattle.cap_table.specs.Table.{TableState};
-ghost use Rattle.cap_txn.specs.Tables.{Tables};
+ghost use Rattle.cap_txn.specs.Tables.{AreRising, Tables, schema_of};
 ghost use Rattle.cap_changes.specs.Patch.{patch_list_of};
+ghost use Rattle.cap_codec.specs.Writable.{IsWritable};
+ghost use Rattle.cap_codec.specs.declared.read.Contents.{Contents};
 ghost use Rattle.cap_codec.specs.declared.read.Contents.TheVariants.{Changes, Patches};
 ghost use Rattle.cap_apply.specs.Applied.{AppliedState};
-ghost use Rattle.cap_apply.specs.Apply.{changes_applied};
+ghost use Rattle.cap_apply.specs.Apply.{apply, changes_applied};
 ghost use Rattle.cap_apply.specs.Difference as rows;
 ghost use Rattle.cap_apply.specs.Difference.{AllApplied, Difference, GivesRowsNow, OtherTables, RowsAfter, RowsBefore, turned};
 ghost use Rattle.cap_apply.specs.Captured.{AllBefore, GivesAllRowsNow, TableRows, changes_of};
 ghost use Rattle.cap_apply.specs.declared.policy.Policy.{Policy};
 
+use cap_txn::tables_keep_order;
 use cap_value::AllocHandle;
 
 /// A captured changeset, applied where each key has the row that was there first, gives the rows that are there
@@ -54,3 +57,18 @@ pub fn inverse_gives_the_first_rows_again<A: AllocHandle>()
         × RowsAfter name table (map (turned table.schema) ds) again.database
         × OtherTables name state.database again.database × AllApplied ds left again }
 {}
+
+/// Whatever is applied, and under any policy, each table keeps its columns.
+pub fn applied_blobs_keep_columns<A: AllocHandle>()
+    ensures { (tables : Tables A) (blob : Contents A) (policy : Policy) → IfOk (apply tables blob policy)
+        (λ left. (name : List ℕ) → schema_of left.database name ≡ schema_of tables name) }
+{}
+
+/// In a database in which names, keys and ids rise and rows stand where they belong, they do so after a blob that can
+/// be written was applied.
+pub fn applied_blobs_keep_order<A: AllocHandle>()
+    ensures { (tables : Tables A) (blob : Contents A) (policy : Policy) → AreRising tables → IsWritable blob →
+        IfOk (apply tables blob policy) (λ left. AreRising left.database) }
+{
+    tables_keep_order::<A>();
+}

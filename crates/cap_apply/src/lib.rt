@@ -20,8 +20,9 @@ pub use applied::Applied;
 pub use apply_blob::apply;
 pub use conflict::{Conflict, ConflictKind};
 pub use laws::{
-    a_changeset_gives_the_rows_now, a_patchset_gives_the_rows_now, changes_give_the_rows_now,
-    inverse_gives_the_first_rows_again, patches_give_the_rows_now,
+    a_changeset_gives_the_rows_now, a_patchset_gives_the_rows_now, applied_blobs_keep_columns,
+    applied_blobs_keep_order, changes_give_the_rows_now, inverse_gives_the_first_rows_again,
+    patches_give_the_rows_now,
 };
 pub use policy::{Answer, Policy};
 pub use report::Report;

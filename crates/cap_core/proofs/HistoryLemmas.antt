@@ -1,9 +1,9 @@
--- What one more event makes of what a history leaves.
+-- What one more event makes of the attach list and of the touches of a session.
 use Rattle.std.proofs.lemmas.List.{append-nil, map-append}
 use Rattle.std.proofs.lemmas.List.Elements.{filter-append}
-use Rattle.std.proofs.lemmas.List.Folds.{list_all-append}
+use Rattle.std.proofs.lemmas.List.Folds.{list_all-append, list_any-append}
 use Rattle.std.proofs.lemmas.Bool.Decides.{nat_tests}
-use Rattle.std.proofs.Common.{◌≡◌, ◌≤◌, ℕ, ◌+◌, true, false, cond, Some, None, List, [], ◌∷◌, ◌++◌, ◌&&◌, ◌||◌, not, map, length, refl, sym, ap, ap₂, subst, ◌∙◌, arith}
+use Rattle.std.proofs.Common.{◌≡◌, ◌≤◌, ℕ, ◌+◌, Bool, true, false, cond, Option, Some, None, List, [], ◌∷◌, ◌++◌, ◌&&◌, ◌||◌, not, map, length, refl, sym, ap, ap₂, subst, append_assoc, ◌∙◌, arith}
 use Rattle.std.specs.Prelude.{filter, fold, nat_eq, nat_le, nat_lt}
 use Rattle.std.specs.List.{cons_option, enumerate_from, filter_map, list_all, list_any}
 use Rattle.std.specs.Option.{option_map}
@@ -13,54 +13,61 @@ use Rattle.cap_value.specs.Bytes.{bytes_eq}
 use Rattle.cap_row.specs.Fields.{Fields}
 use Rattle.cap_txn.specs.Read.{row_at}
 use Rattle.cap_txn.specs.declared.change.Change.{Change}
-use Rattle.cap_core.specs.declared.event.Event.{Event}
-use Rattle.cap_core.specs.declared.row_touch.RowTouch.{RowTouch}
-use Rattle.cap_core.specs.History.{Past, is_accepted, main, snapshot, event_effect, session_of, names_attached, attachings, event_attachings, attach_list, event_touches, touches, touch_of}
-use Rattle.cap_core.specs.Session.{SessionState, TouchedRows, is_listed, first_of_each, touched_rows}
-use Rattle.cap_core.specs.Touch.{Attaching, Touch, is_cascade, is_in_time, is_recorded, touches_of}
-use Rattle.cap_core.specs.Transition.{touch_key, touch_table, touch_session, touches_by}
-use Rattle.cap_core.proofs.SmallLemmas.{both, first, second, either_false, other_false}
-use Rattle.cap_core.proofs.TouchedLemmas.{touch_more, touched_rows-append}
+use Rattle.cap_compare.specs.declared.difference.Difference.{Difference}
+use Rattle.cap_session.specs.declared.rule.AutomaticRule.{AutomaticRule}
+use Rattle.cap_session.specs.Note.{attach_by, is_cascade, touches_of as told_by}
+use Rattle.cap_session.specs.Records.{Records}
+use Rattle.cap_session.specs.Session.{AttachedTables, accepts_by, attach}
+use Rattle.cap_core.specs.Flags.{is_enabled, is_indirect, rule as rule_of}
+use Rattle.cap_core.specs.History.{event_effect, main, snapshot}
+use Rattle.cap_core.specs.Past.{Past, is_accepted}
+use Rattle.cap_core.specs.Touch.{Attaching, Touch, attach_list, attaching_at, attaching_by, attachings, changes_touch, diff_touches, event_changes, event_diff, event_touches, first_of_each, is_in_time, is_recorded, names_attached, names_compared, restarts, touch_found, touch_of, touches, touches_of}
+use Rattle.cap_core.proofs.SmallLemmas.{both, either_false, first, other_false, second}
+use Rattle.cap_core.proofs.TouchedLemmas.{told}
+
+-- the name is among these
+abbrev pub is_among : List ℕ → List (List ℕ) → Bool
+is_among name names = list_any (bytes_eq name) names
 
 -- ---- names
 
-same_bytes : (x : List ℕ) → bytes_eq x x ≡ true
+pub same_bytes : (x : List ℕ) → bytes_eq x x ≡ true
 same_bytes x = nat_list_eq_equiv.refl x
 
 -- a name is still listed after others are left out
-pub is_listed-filter : (x y : List ℕ) (names : List (List ℕ)) → bytes_eq x y ≡ false → is_listed x (filter (λ other. not (bytes_eq y other)) names) ≡ is_listed x names
-is_listed-filter x y [] apart = refl
-is_listed-filter x y (z ∷ names) apart =
-    elim (bytes_eq y z) as (λ b. bytes_eq y z ≡ b → is_listed x (cond (not b) (z ∷ filter (λ other. not (bytes_eq y other)) names) (filter (λ other. not (bytes_eq y other)) names)) ≡ (bytes_eq x z || is_listed x names)) [
-      | true ↦ λ t. is_listed-filter x y names apart ∙ ap (λ b. b || is_listed x names) (sym apart ∙ nat_list_eq_equiv.symm x y ∙ nat_list_eq_equiv.congr y z x t ∙ nat_list_eq_equiv.symm z x)
-      | false ↦ λ t. ap (λ b. bytes_eq x z || b) (is_listed-filter x y names apart)
+pub is_among-filter : (x y : List ℕ) (names : List (List ℕ)) → bytes_eq x y ≡ false → is_among x (filter (λ other. not (bytes_eq y other)) names) ≡ is_among x names
+is_among-filter x y [] apart = refl
+is_among-filter x y (z ∷ names) apart =
+    elim (bytes_eq y z) as (λ b. bytes_eq y z ≡ b → is_among x (cond (not b) (z ∷ filter (λ other. not (bytes_eq y other)) names) (filter (λ other. not (bytes_eq y other)) names)) ≡ (bytes_eq x z || is_among x names)) [
+      | true ↦ λ t. is_among-filter x y names apart ∙ ap (λ b. b || is_among x names) (sym apart ∙ nat_list_eq_equiv.symm x y ∙ nat_list_eq_equiv.congr y z x t ∙ nat_list_eq_equiv.symm z x)
+      | false ↦ λ t. ap (λ b. bytes_eq x z || b) (is_among-filter x y names apart)
     ] refl
 
-pub is_listed-first_of_each : (x : List ℕ) (names : List (List ℕ)) → is_listed x (first_of_each names) ≡ is_listed x names
-is_listed-first_of_each x [] = refl
-is_listed-first_of_each x (y ∷ names) =
-    elim (bytes_eq x y) as (λ b. bytes_eq x y ≡ b → (b || is_listed x (filter (λ other. not (bytes_eq y other)) (first_of_each names))) ≡ (b || is_listed x names)) [
+pub is_among-first_of_each : (x : List ℕ) (names : List (List ℕ)) → is_among x (first_of_each names) ≡ is_among x names
+is_among-first_of_each x [] = refl
+is_among-first_of_each x (y ∷ names) =
+    elim (bytes_eq x y) as (λ b. bytes_eq x y ≡ b → (b || is_among x (filter (λ other. not (bytes_eq y other)) (first_of_each names))) ≡ (b || is_among x names)) [
       | true ↦ λ t. refl
-      | false ↦ λ t. is_listed-filter x y (first_of_each names) t ∙ is_listed-first_of_each x names
+      | false ↦ λ t. is_among-filter x y (first_of_each names) t ∙ is_among-first_of_each x names
     ] refl
 
 -- a name that comes last is new or not
-pub first_of_each-push : (names : List (List ℕ)) (x : List ℕ) → first_of_each (names ++ x ∷ []) ≡ cond (is_listed x (first_of_each names)) (first_of_each names) (first_of_each names ++ x ∷ [])
+pub first_of_each-push : (names : List (List ℕ)) (x : List ℕ) → first_of_each (names ++ x ∷ []) ≡ cond (is_among x (first_of_each names)) (first_of_each names) (first_of_each names ++ x ∷ [])
 first_of_each-push [] x = refl
 first_of_each-push (y ∷ names) x =
     ap (λ (zs : List (List ℕ)). y ∷ filter (λ other. not (bytes_eq y other)) zs) (first_of_each-push names x)
-    ∙ elim (bytes_eq x y) as (λ b. bytes_eq x y ≡ b → y ∷ filter (λ other. not (bytes_eq y other)) (cond (is_listed x (first_of_each names)) (first_of_each names) (first_of_each names ++ x ∷ []))
-    ≡ cond (b || is_listed x (filter (λ other. not (bytes_eq y other)) (first_of_each names))) (y ∷ filter (λ other. not (bytes_eq y other)) (first_of_each names)) ((y ∷ filter (λ other. not (bytes_eq y other)) (first_of_each names)) ++ x ∷ [])) [
-      | true ↦ λ t. elim (is_listed x (first_of_each names)) as (λ b. y ∷ filter (λ other. not (bytes_eq y other)) (cond b (first_of_each names) (first_of_each names ++ x ∷ [])) ≡ y ∷ filter (λ other. not (bytes_eq y other)) (first_of_each names)) [
+    ∙ elim (bytes_eq x y) as (λ b. bytes_eq x y ≡ b → y ∷ filter (λ other. not (bytes_eq y other)) (cond (is_among x (first_of_each names)) (first_of_each names) (first_of_each names ++ x ∷ []))
+    ≡ cond (b || is_among x (filter (λ other. not (bytes_eq y other)) (first_of_each names))) (y ∷ filter (λ other. not (bytes_eq y other)) (first_of_each names)) ((y ∷ filter (λ other. not (bytes_eq y other)) (first_of_each names)) ++ x ∷ [])) [
+      | true ↦ λ t. elim (is_among x (first_of_each names)) as (λ b. y ∷ filter (λ other. not (bytes_eq y other)) (cond b (first_of_each names) (first_of_each names ++ x ∷ [])) ≡ y ∷ filter (λ other. not (bytes_eq y other)) (first_of_each names)) [
         | true ↦ refl
         | false ↦ ap (λ (zs : List (List ℕ)). y ∷ zs) (filter-append (λ other. not (bytes_eq y other)) (first_of_each names) (x ∷ [])
             ∙ ap (λ b. filter (λ other. not (bytes_eq y other)) (first_of_each names) ++ cond (not b) (x ∷ []) []) (nat_list_eq_equiv.symm y x ∙ t)
             ∙ append-nil _)
       ]
-      | false ↦ λ t. subst (λ b. y ∷ filter (λ other. not (bytes_eq y other)) (cond (is_listed x (first_of_each names)) (first_of_each names) (first_of_each names ++ x ∷ []))
+      | false ↦ λ t. subst (λ b. y ∷ filter (λ other. not (bytes_eq y other)) (cond (is_among x (first_of_each names)) (first_of_each names) (first_of_each names ++ x ∷ []))
           ≡ cond b (y ∷ filter (λ other. not (bytes_eq y other)) (first_of_each names)) ((y ∷ filter (λ other. not (bytes_eq y other)) (first_of_each names)) ++ x ∷ []))
-          (sym (is_listed-filter x y (first_of_each names) t))
-          (elim (is_listed x (first_of_each names)) as (λ b. y ∷ filter (λ other. not (bytes_eq y other)) (cond b (first_of_each names) (first_of_each names ++ x ∷ [])) ≡ cond b (y ∷ filter (λ other. not (bytes_eq y other)) (first_of_each names)) ((y ∷ filter (λ other. not (bytes_eq y other)) (first_of_each names)) ++ x ∷ [])) [
+          (sym (is_among-filter x y (first_of_each names) t))
+          (elim (is_among x (first_of_each names)) as (λ b. y ∷ filter (λ other. not (bytes_eq y other)) (cond b (first_of_each names) (first_of_each names ++ x ∷ [])) ≡ cond b (y ∷ filter (λ other. not (bytes_eq y other)) (first_of_each names)) ((y ∷ filter (λ other. not (bytes_eq y other)) (first_of_each names)) ++ x ∷ [])) [
             | true ↦ refl
             | false ↦ ap (λ (zs : List (List ℕ)). y ∷ zs) (filter-append (λ other. not (bytes_eq y other)) (first_of_each names) (x ∷ [])
                 ∙ ap (λ b. filter (λ other. not (bytes_eq y other)) (first_of_each names) ++ cond (not b) (x ∷ []) []) (nat_list_eq_equiv.symm y x ∙ t))
@@ -68,10 +75,10 @@ first_of_each-push (y ∷ names) x =
     ] refl
 
 -- functions that agree at each listed name give the same list
-pub map-listed : {X : Type 0} (f g : List ℕ → X) (names : List (List ℕ)) → ((name : List ℕ) → is_listed name names ≡ true → f name ≡ g name) → map f names ≡ map g names
+pub map-listed : {X : Type 0} (f g : List ℕ → X) (names : List (List ℕ)) → ((name : List ℕ) → is_among name names ≡ true → f name ≡ g name) → map f names ≡ map g names
 map-listed f g [] same = refl
 map-listed f g (name ∷ names) same =
-    ap₂ (λ x xs. x ∷ xs) (same name (ap (λ b. b || is_listed name names) (same_bytes name)))
+    ap₂ (λ x xs. x ∷ xs) (same name (ap (λ b. b || is_among name names) (same_bytes name)))
     (map-listed f g names (λ other listed. same other (ap (λ b. bytes_eq other name || b) listed ∙ or-true (bytes_eq other name))))
 
 -- ---- lists
@@ -80,40 +87,143 @@ pub map-map : {X Y Z : Type 0} (f : Y → Z) (g : X → Y) (xs : List X) → map
 map-map f g [] = refl
 map-map f g (x ∷ xs) = ap (λ zs. f (g x) ∷ zs) (map-map f g xs)
 
-pub is_listed-map : {X : Type 0} (f : List ℕ → X) (name : List ℕ) (names : List (List ℕ)) → list_any (λ (attached : List ℕ × X). bytes_eq name attached.0) (map (λ n. (n, f n)) names) ≡ is_listed name names
+pub is_listed-map : {X : Type 0} (f : List ℕ → X) (name : List ℕ) (names : List (List ℕ)) → list_any (λ (attached : List ℕ × X). bytes_eq name attached.0) (map (λ n. (n, f n)) names) ≡ is_among name names
 is_listed-map f name [] = refl
 is_listed-map f name (n ∷ names) = ap (λ b. bytes_eq name n || b) (is_listed-map f name names)
 
--- ---- moments
+-- ---- names that come one after the other
 
-all_at : (place k : ℕ) → nat_lt place k ≡ true → (names : List (List ℕ)) → list_all {X = Attaching} (λ moment. nat_lt moment.event k) (map (λ name. record { table = name; event = place; change = 0 }) names) ≡ true
-all_at place k lt [] = refl
-all_at place k lt (name ∷ names) = both (nat_lt place k) _ lt (all_at place k lt names)
+-- a name goes last unless it is there
+abbrev pub push_name : List (List ℕ) → List ℕ → List (List ℕ)
+push_name names name = cond (is_among name names) names (names ++ name ∷ [])
+
+pub first_of_each-append : (names more : List (List ℕ)) → first_of_each (names ++ more) ≡ fold push_name (first_of_each names) more
+first_of_each-append names [] = ap first_of_each (append-nil names)
+first_of_each-append names (name ∷ more) =
+    ap first_of_each (sym (append_assoc names (name ∷ []) more)) ∙ first_of_each-append (names ++ name ∷ []) more ∙ ap (λ ns. fold push_name ns more) (first_of_each-push names name)
+
+among-before : (names : List (List ℕ)) (name other : List ℕ) → is_among other (push_name names name) ≡ false → is_among other names ≡ false
+among-before names name other =
+    elim (is_among name names) as (λ b. is_among other (cond b names (names ++ name ∷ [])) ≡ false → is_among other names ≡ false) [
+      | true ↦ λ absent. absent
+      | false ↦ λ absent. either_false (is_among other names) (is_among other (name ∷ [])) (sym (list_any-append (bytes_eq other) names (name ∷ [])) ∙ absent)
+    ]
+
+abbrev pub table_names : List Attaching → List (List ℕ)
+table_names moments = map (λ moment. moment.table) moments
+
+pub table_names-append : (moments more : List Attaching) → table_names (moments ++ more) ≡ table_names moments ++ table_names more
+table_names-append moments more = map-append {A = Attaching} {B = List ℕ} (λ moment. moment.table) moments more
+
+-- what is found among the first is found among all
+any-left : {X : Type 0} (test : X → Bool) (xs ys : List X) → list_any test xs ≡ true → list_any test (xs ++ ys) ≡ true
+any-left test xs ys found = list_any-append test xs ys ∙ ap (λ b. b || list_any test ys) found
+
+any-right : {X : Type 0} (test : X → Bool) (xs ys : List X) → list_any test ys ≡ true → list_any test (xs ++ ys) ≡ true
+any-right test xs ys found = list_any-append test xs ys ∙ ap (λ b. list_any test xs || b) found ∙ or-true (list_any test xs)
+
+all_attached : (place k : ℕ) → nat_lt place k ≡ true → (names : List (List ℕ)) → list_all {X = Attaching} (λ moment. nat_lt moment.event k) (map (attaching_at place 0) names) ≡ true
+all_attached place k lt [] = refl
+all_attached place k lt (name ∷ names) = both (nat_lt place k) _ lt (all_attached place k lt names)
+
+regroup : (moments more : List Attaching) (found : Option Attaching) (later : List Attaching) → (moments ++ more) ++ cons_option found later ≡ (moments ++ (more ++ cons_option found [])) ++ later
+regroup moments more None later = ap (λ ms. (moments ++ ms) ++ later) (sym (append-nil more))
+regroup moments more (Some moment) later =
+    sym (append_assoc (moments ++ more) (moment ∷ []) later) ∙ ap (λ ms. ms ++ later) (append_assoc moments more (moment ∷ []))
+
+at_once : (event place : ℕ) → (nat_lt event event || (nat_eq event event && nat_le place place)) ≡ true
+at_once event place = grind (arith, nat_tests)
 
 module _ {A : Type 0} where
+  -- ---- attached tables, each with what is kept of it
+
+  abbrev pub tables_with : (List ℕ → Records A) → List (List ℕ) → AttachedTables A
+  tables_with records names = map (λ name. (name, records name)) names
+
+  pub attach-named : (records : List ℕ → Records A) (name : List ℕ) (names : List (List ℕ)) → (is_among name names ≡ false → records name ≡ []) → attach name (tables_with records names) ≡ tables_with records (push_name names name)
+  attach-named records name names none =
+      ap (λ b. cond b (tables_with records names) (tables_with records names ++ (name, []) ∷ [])) (is_listed-map records name names)
+      ∙ elim (is_among name names) as (λ b. is_among name names ≡ b → cond b (tables_with records names) (tables_with records names ++ (name, []) ∷ []) ≡ tables_with records (cond b names (names ++ name ∷ []))) [
+        | true ↦ λ _. refl
+        | false ↦ λ absent. ap (λ kept. tables_with records names ++ (name, kept) ∷ []) (sym (none absent)) ∙ sym (map-append (λ n. (n, records n)) names (name ∷ []))
+      ] refl
+
+  -- a name that the rule accepts goes last unless it is there
+  abbrev pub push_by : AutomaticRule A → List (List ℕ) → List ℕ → List (List ℕ)
+  push_by rule names name = cond (accepts_by rule name) (push_name names name) names
+
+  pub attach_by-named : (rule : AutomaticRule A) (records : List ℕ → Records A) (more names : List (List ℕ)) → ((name : List ℕ) → is_among name names ≡ false → records name ≡ [])
+      → fold (attach_by rule) (tables_with records names) more ≡ tables_with records (fold (push_by rule) names more)
+  attach_by-named rule records [] names none = refl
+  attach_by-named rule records (name ∷ more) names none =
+      elim (accepts_by rule name) as (λ b. fold (attach_by rule) (cond b (attach name (tables_with records names)) (tables_with records names)) more ≡ tables_with records (fold (push_by rule) (cond b (push_name names name) names) more)) [
+        | true ↦
+            ap (λ tables. fold (attach_by rule) tables more) (attach-named records name names (none name))
+            ∙ attach_by-named rule records more (push_name names name) (λ other absent. none other (among-before names name other absent))
+        | false ↦ attach_by-named rule records more names none
+      ]
+
+  -- ---- moments by changes
+
+  pub names-by-changes : (session : ℕ) (past : Past A) → is_enabled session past ≡ true → (place : ℕ) (changes : List (Change A)) (names : List (List ℕ))
+      → fold push_name names (table_names (filter_map (attaching_by session past) (enumerate_from place changes))) ≡ fold (push_by (rule_of session past)) names (map (λ change. change.table) changes)
+  names-by-changes session past on place [] names = refl
+  names-by-changes session past on place (change ∷ changes) names =
+      let later = filter_map (attaching_by session past) (enumerate_from (place + 1) changes) in
+      let moment : Attaching = attaching_at (length past) place change.table in
+      ap (λ b. fold push_name names (table_names (cons_option (cond (b && accepts_by (rule_of session past) change.table) (Some moment) None) later))) on
+      ∙ elim (accepts_by (rule_of session past) change.table) as (λ b. fold push_name names (table_names (cons_option (cond b (Some moment) None) later)) ≡ fold (push_by (rule_of session past)) (cond b (push_name names change.table) names) (map (λ c. c.table) changes)) [
+        | true ↦ names-by-changes session past on (place + 1) changes (push_name names change.table)
+        | false ↦ names-by-changes session past on (place + 1) changes names
+      ]
+
+  -- a session that is not enabled attaches nothing
+  pub none-by-changes : (session : ℕ) (past : Past A) → is_enabled session past ≡ false → (place : ℕ) (changes : List (Change A)) → filter_map (attaching_by session past) (enumerate_from place changes) ≡ []
+  none-by-changes session past off place [] = refl
+  none-by-changes session past off place (change ∷ changes) =
+      ap (λ b. cons_option (cond (b && accepts_by (rule_of session past) change.table) (Some (attaching_at (length past) place change.table)) None) (filter_map (attaching_by session past) (enumerate_from (place + 1) changes))) off
+      ∙ none-by-changes session past off (place + 1) changes
+
+  -- the rule accepts the names that it attached
+  pub accepted-by-changes : (session : ℕ) (past : Past A) → (name : List ℕ) (place : ℕ) (changes : List (Change A)) → is_among name (table_names (filter_map (attaching_by session past) (enumerate_from place changes))) ≡ true
+      → (is_enabled session past && accepts_by (rule_of session past) name) ≡ true
+  accepted-by-changes session past name place [] found = cc
+  accepted-by-changes session past name place (change ∷ changes) found =
+      let later = filter_map (attaching_by session past) (enumerate_from (place + 1) changes) in
+      let moment : Attaching = attaching_at (length past) place change.table in
+      let attaches : List ℕ → Bool = λ n. is_enabled session past && accepts_by (rule_of session past) n in
+      elim (attaches change.table) as (λ b. attaches change.table ≡ b → is_among name (table_names (cons_option (cond b (Some moment) None) later)) ≡ true → attaches name ≡ true) [
+        | true ↦ λ accepted.
+            elim (bytes_eq name change.table) as (λ b. bytes_eq name change.table ≡ b → (b || is_among name (table_names later)) ≡ true → attaches name ≡ true) [
+              | true ↦ λ same _. ap attaches ((bytes_decides name change.table).0 same) ∙ accepted
+              | false ↦ λ _ more. accepted-by-changes session past name (place + 1) changes more
+            ] refl
+        | false ↦ λ _ more. accepted-by-changes session past name (place + 1) changes more
+      ] refl found
+
   -- ---- touches in time
 
   -- a moment of a listed name is in time for a touch that comes after all of them
   pub recorded : (moments : List Attaching) (touch : Touch A) (name : List ℕ) → bytes_eq name touch.table ≡ true → list_all {X = Attaching} (λ moment. nat_lt moment.event touch.event) moments ≡ true
-      → is_listed name (map (λ moment. moment.table) moments) ≡ true → is_recorded moments touch ≡ true
+      → is_among name (map (λ moment. moment.table) moments) ≡ true → is_recorded moments touch ≡ true
   recorded [] touch name same earlier listed = listed
   recorded (moment ∷ moments) touch name same earlier listed =
       let rest = second (nat_lt moment.event touch.event) (list_all {X = Attaching} (λ m. nat_lt m.event touch.event) moments) earlier in
       let now = first (nat_lt moment.event touch.event) (list_all {X = Attaching} (λ m. nat_lt m.event touch.event) moments) earlier in
       let names : bytes_eq touch.table moment.table ≡ bytes_eq name moment.table = ap (λ n. bytes_eq n moment.table) (sym ((bytes_decides name touch.table).0 same)) in
-      elim (bytes_eq name moment.table) as (λ b. bytes_eq name moment.table ≡ b → (b || is_listed name (map (λ m. m.table) moments)) ≡ true → is_recorded (moment ∷ moments) touch ≡ true) [
+      elim (bytes_eq name moment.table) as (λ b. bytes_eq name moment.table ≡ b → (b || is_among name (map (λ m. m.table) moments)) ≡ true → is_recorded (moment ∷ moments) touch ≡ true) [
         | true ↦ λ t _. ap (λ b. b || is_recorded moments touch) (both (bytes_eq touch.table moment.table) (is_in_time touch moment) (names ∙ t) (ap (λ b. b || (nat_eq moment.event touch.event && nat_le moment.change touch.change)) now))
         | false ↦ λ t more. ap (λ b. (bytes_eq touch.table moment.table && is_in_time touch moment) || b) (recorded moments touch name same rest more) ∙ or-true _
       ] refl listed
 
   -- a name that is not listed has no touch
-  pub not_recorded : (moments : List Attaching) (touch : Touch A) (name : List ℕ) → bytes_eq name touch.table ≡ true → is_listed name (map (λ moment. moment.table) moments) ≡ false → is_recorded moments touch ≡ false
+  pub not_recorded : (moments : List Attaching) (touch : Touch A) (name : List ℕ) → bytes_eq name touch.table ≡ true → is_among name (map (λ moment. moment.table) moments) ≡ false → is_recorded moments touch ≡ false
   not_recorded [] touch name same absent = refl
   not_recorded (moment ∷ moments) touch name same absent =
       let here : bytes_eq touch.table moment.table ≡ false = ap (λ n. bytes_eq n moment.table) (sym ((bytes_decides name touch.table).0 same)) ∙ either_false (bytes_eq name moment.table) _ absent in
       ap₂ (λ a b. (a && is_in_time touch moment) || b) here (not_recorded moments touch name same (other_false (bytes_eq name moment.table) _ absent))
 
-  pub none_of : (moments : List Attaching) (name : List ℕ) → is_listed name (map (λ moment. moment.table) moments) ≡ false → (found : List (Touch A)) → touches_of name (filter (is_recorded moments) found) ≡ []
+  pub none_of : (moments : List Attaching) (name : List ℕ) → is_among name (map (λ moment. moment.table) moments) ≡ false → (found : List (Touch A)) → touches_of name (filter (is_recorded moments) found) ≡ []
   none_of moments name absent [] = refl
   none_of moments name absent (touch ∷ found) =
       elim (bytes_eq name touch.table) as (λ b. bytes_eq name touch.table ≡ b → touches_of name (cond (is_recorded moments touch) (touch ∷ filter (is_recorded moments) found) (filter (is_recorded moments) found)) ≡ []) [
@@ -129,108 +239,143 @@ module _ {A : Type 0} where
       ap (map (λ touch. (touch.key, touch))) (filter-append (λ touch. bytes_eq name touch.table) xs ys)
       ∙ map-append (λ touch. (touch.key, touch)) (filter (λ touch. bytes_eq name touch.table) xs) (filter (λ touch. bytes_eq name touch.table) ys)
 
-  -- ---- what an event leaves as it was
-
-  pub attachings-quiet : (session : ℕ) (event : Event A) (past : Past A) → event_attachings session event past ≡ [] → attachings session (event ∷ past) ≡ attachings session past
-  attachings-quiet session event past quiet = ap (λ more. attachings session past ++ more) quiet ∙ append-nil _
-
-  pub attach_list-quiet : (session : ℕ) (event : Event A) (past : Past A) → event_attachings session event past ≡ [] → attach_list session (event ∷ past) ≡ attach_list session past
-  attach_list-quiet session event past quiet = ap (λ moments. first_of_each (map (λ moment. moment.table) moments)) (attachings-quiet session event past quiet)
-
-  pub touches-quiet : (session : ℕ) (event : Event A) (past : Past A) → event_touches session event past ≡ [] → touches session (event ∷ past) ≡ touches session past
-  touches-quiet session event past quiet = ap (λ more. touches session past ++ more) quiet ∙ append-nil _
-
-  pub session_of-quiet : (session : ℕ) (event : Event A) (past : Past A) → event_attachings session event past ≡ [] → event_touches session event past ≡ [] → session_of (event ∷ past) session ≡ session_of past session
-  session_of-quiet session event past attaches touched =
-      λ i. map (λ name. (name, touched_rows (touches_of name (touches-quiet session event past touched i)))) (attach_list-quiet session event past attaches i)
-
-  -- an event that attaches and touches nothing
-  pub record IsQuiet (event : Event A) (past : Past A) : Type 0 where
-    pub attaches : (session : ℕ) → event_attachings session event past ≡ []
-    pub touched : (session : ℕ) → event_touches session event past ≡ []
-
-  pub sessions-quiet : (event : Event A) (past : Past A) → IsQuiet event past → (numbers : List ℕ) → map {B = ℕ × SessionState A} (λ number. (number, session_of (event ∷ past) number)) numbers ≡ map (λ number. (number, session_of past number)) numbers
-  sessions-quiet event past quiet numbers = λ i. map {B = ℕ × SessionState A} (λ number. (number, session_of-quiet number event past (quiet.attaches number) (quiet.touched number) i)) numbers
-
-  pub event_touches-none : (session : ℕ) (event : Event A) (past : Past A) → (event_effect (snapshot past) event).changes ≡ [] → event_touches session event past ≡ []
-  event_touches-none session event past none = ap (λ changes. filter (is_recorded (attachings session (event ∷ past))) (filter_map (touch_of past) (enumerate_from 0 changes))) none
-
   -- ---- moments are of events that were
+
+  all_by_changes : (session : ℕ) (past : Past A) (k : ℕ) → nat_lt (length past) k ≡ true → (place : ℕ) (changes : List (Change A))
+      → list_all {X = Attaching} (λ moment. nat_lt moment.event k) (filter_map (attaching_by session past) (enumerate_from place changes)) ≡ true
+  all_by_changes session past k lt place [] = refl
+  all_by_changes session past k lt place (change ∷ changes) =
+      let later = filter_map (attaching_by session past) (enumerate_from (place + 1) changes) in
+      elim (is_enabled session past && accepts_by (rule_of session past) change.table) as (λ b. list_all {X = Attaching} (λ moment. nat_lt moment.event k) (cons_option (cond b (Some (attaching_at (length past) place change.table)) None) later) ≡ true) [
+        | true ↦ both (nat_lt (length past) k) _ lt (all_by_changes session past k lt (place + 1) changes)
+        | false ↦ all_by_changes session past k lt (place + 1) changes
+      ]
 
   pub attachings-earlier : (session k : ℕ) (past : Past A) → length past ≤ k → list_all {X = Attaching} (λ moment. nat_lt moment.event k) (attachings session past) ≡ true
   attachings-earlier session k [] le = refl
   attachings-earlier session k (event ∷ past) le =
       let lt : nat_lt (length past) k ≡ true = grind (arith, nat_tests) in
-      list_all-append {X = Attaching} (λ moment. nat_lt moment.event k) (attachings session past) (event_attachings session event past)
-      ∙ both (list_all {X = Attaching} (λ moment. nat_lt moment.event k) (attachings session past)) _ (attachings-earlier session k past (omega arith))
-      (elim (is_accepted event.reply) as (λ b. list_all {X = Attaching} (λ moment. nat_lt moment.event k) (cond b (map (λ name. record { table = name; event = length past; change = 0 }) (names_attached session event.command)) []) ≡ true) [
-        | true ↦ all_at (length past) k lt (names_attached session event.command)
+      let test : Attaching → Bool = λ moment. nat_lt moment.event k in
+      let by_command = cond (is_accepted event.reply) (map (attaching_at (length past) 0) (names_attached session event.command)) [] in
+      let by_diff = map (attaching_at (length past) 0) (names_compared (event_diff session event past)) in
+      let by_changes = filter_map (attaching_by session past) (event_changes event past) in
+      let commanded : list_all test by_command ≡ true =
+      elim (is_accepted event.reply) as (λ b. list_all test (cond b (map (attaching_at (length past) 0) (names_attached session event.command)) []) ≡ true) [
+        | true ↦ all_attached (length past) k lt (names_attached session event.command)
         | false ↦ refl
-      ])
+      ] in
+      let compared : list_all test by_diff ≡ true = all_attached (length past) k lt (names_compared (event_diff session event past)) in
+      let changed : list_all test by_changes ≡ true = all_by_changes session past k lt 0 (event_effect (snapshot past) event).changes in
+      list_all-append test (attachings session past) (by_command ++ by_diff ++ by_changes)
+      ∙ both (list_all test (attachings session past)) _ (attachings-earlier session k past (omega arith))
+      (list_all-append test (by_command ++ by_diff) by_changes
+      ∙ both (list_all test (by_command ++ by_diff)) (list_all test by_changes)
+      (list_all-append test by_command by_diff ∙ both (list_all test by_command) (list_all test by_diff) commanded compared) changed)
 
-  -- ---- changes to rows
+  -- ---- a table that is not attached has no touch
 
-  -- a change to a row, as the history and as the state has it
-  abbrev touch_at : Past A → ℕ → Change A → Fields A → Touch A
-  touch_at past place change key =
-      record { event = length past; change = place; table = change.table; key = key; image = row_at (main past) change.table key; indirect = is_cascade change.cause }
+  apart_found : (session : ℕ) (past : Past A) (name other : List ℕ) → bytes_eq name other ≡ false → (differences : List (Difference A)) → touches_of name (map (touch_found session past other) differences) ≡ []
+  apart_found session past name other apart [] = refl
+  apart_found session past name other apart (difference ∷ differences) =
+      let rest = filter (λ touch. bytes_eq name touch.table) (map (touch_found session past other) differences) in
+      ap (λ b. map (λ touch. (touch.key, touch)) (cond b (touch_found session past other difference ∷ rest) rest)) apart ∙ apart_found session past name other apart differences
 
-  abbrev row_touch : Past A → Change A → Fields A → RowTouch A
-  row_touch past change key = record { table = change.table; key = key; image = row_at (main past) change.table key; indirect = is_cascade change.cause }
+  apart_diff : (session : ℕ) (past : Past A) (name : List ℕ) (found : Option (List ℕ × List (Difference A))) → is_among name (table_names (map (attaching_at (length past) 0) (names_compared found))) ≡ false
+      → touches_of name (diff_touches session past found) ≡ []
+  apart_diff session past name None absent = refl
+  apart_diff session past name (Some compared) absent = apart_found session past name compared.0 (either_false (bytes_eq name compared.0) false absent) compared.1
 
-  -- the touches of a listed table by an event are its changes to rows of that table
-  fold-touches : (past : Past A) (moments : List Attaching) (name : List ℕ) → ((touch : Touch A) → touch.event ≡ length past → bytes_eq name touch.table ≡ true → is_recorded moments touch ≡ true)
-      → (n : ℕ) (changes : List (Change A)) (rows : TouchedRows A)
-      → fold touch_more rows (touches_of name (filter (is_recorded moments) (filter_map (touch_of past) (enumerate_from n changes)))) ≡ fold (touch_table name) rows (touches_by (main past) changes)
-  fold-touches past moments name seen n [] rows = refl
-  fold-touches past moments name seen n (change ∷ changes) rows =
-      let later = filter_map (touch_of past) (enumerate_from (n + 1) changes) in
-      let rest = filter (is_recorded moments) later in
-      elim change.key as (λ k. fold touch_more rows (touches_of name (filter (is_recorded moments) (cons_option (option_map (touch_at past n change) k) later)))
-      ≡ fold (touch_table name) rows (cons_option (option_map (row_touch past change) k) (touches_by (main past) changes))) [
-        | None ↦ fold-touches past moments name seen (n + 1) changes rows
+  pub touches-none : (session : ℕ) (name : List ℕ) (past : Past A) → is_among name (attach_list session past) ≡ false → touches_of name (touches session past) ≡ []
+  touches-none session name [] absent = refl
+  touches-none session name (event ∷ past) absent =
+      let before = attachings session past in
+      let by_command = cond (is_accepted event.reply) (map (attaching_at (length past) 0) (names_attached session event.command)) [] in
+      let by_diff = map (attaching_at (length past) 0) (names_compared (event_diff session event past)) in
+      let by_changes = filter_map (attaching_by session past) (event_changes event past) in
+      let now : is_among name (table_names (before ++ (by_command ++ by_diff ++ by_changes))) ≡ false = sym (is_among-first_of_each name (table_names (before ++ (by_command ++ by_diff ++ by_changes)))) ∙ absent in
+      let parts : (xs ys : List Attaching) → is_among name (table_names (xs ++ ys)) ≡ (is_among name (table_names xs) || is_among name (table_names ys)) =
+      λ xs ys. ap (is_among name) (table_names-append xs ys) ∙ list_any-append (bytes_eq name) (table_names xs) (table_names ys) in
+      let first_none : is_among name (table_names before) ≡ false = either_false (is_among name (table_names before)) _ (sym (parts before (by_command ++ by_diff ++ by_changes)) ∙ now) in
+      let others_none = other_false (is_among name (table_names before)) _ (sym (parts before (by_command ++ by_diff ++ by_changes)) ∙ now) in
+      let said_none = either_false (is_among name (table_names (by_command ++ by_diff))) _ (sym (parts (by_command ++ by_diff) by_changes) ∙ others_none) in
+      let diff_none : is_among name (table_names by_diff) ≡ false = other_false (is_among name (table_names by_command)) _ (sym (parts by_command by_diff) ∙ said_none) in
+      let changed : touches_of name (changes_touch session event past) ≡ [] =
+      elim (is_enabled session past) as (λ b. touches_of name (cond b (filter (is_recorded (attachings session (event ∷ past))) (filter_map (touch_of session past) (event_changes event past))) []) ≡ []) [
+        | true ↦ none_of (attachings session (event ∷ past)) name now _
+        | false ↦ refl
+      ] in
+      elim (is_accepted event.reply && restarts session event.command) as (λ b. touches_of name (cond b [] (touches session past ++ event_touches session event past)) ≡ []) [
+        | true ↦ refl
+        | false ↦
+            touches_of-append name (touches session past) (event_touches session event past)
+            ∙ ap₂ (λ a b. a ++ b) (touches-none session name past (is_among-first_of_each name (table_names before) ∙ first_none))
+            (touches_of-append name (changes_touch session event past) (diff_touches session past (event_diff session event past))
+            ∙ ap₂ (λ a b. a ++ b) changed (apart_diff session past name (event_diff session event past) diff_none))
+      ]
+
+  -- ---- the touches by changes are those that a session is told of
+
+  abbrev touch_at : ℕ → Past A → ℕ → Change A → Fields A → Touch A
+  touch_at session past place change key =
+      record { event = length past; change = place; table = change.table; key = key; image = row_at (main past) change.table key; indirect = is_indirect session past || is_cascade change.cause }
+
+  pub touches-told : (session : ℕ) (past : Past A) (name : List ℕ) (moments : List Attaching)
+      → ((more : List Attaching) (place : ℕ) (change : Change A) (key : Fields A) (later : List Attaching) → bytes_eq name change.table ≡ true
+      → is_recorded ((moments ++ more) ++ cons_option (attaching_by session past (place, change)) later) (touch_at session past place change key) ≡ true)
+      → (place : ℕ) (changes : List (Change A)) (more : List Attaching)
+      → map told (touches_of name (filter (is_recorded ((moments ++ more) ++ filter_map (attaching_by session past) (enumerate_from place changes))) (filter_map (touch_of session past) (enumerate_from place changes))))
+      ≡ told_by (main past) (is_indirect session past) name changes
+  touches-told session past name moments seen place [] more = refl
+  touches-told session past name moments seen place (change ∷ changes) more =
+      let here = attaching_by session past (place, change) in
+      let later_moments = filter_map (attaching_by session past) (enumerate_from (place + 1) changes) in
+      let later = filter_map (touch_of session past) (enumerate_from (place + 1) changes) in
+      let all = (moments ++ more) ++ cons_option here later_moments in
+      let rest = filter (is_recorded all) later in
+      let others = told_by (main past) (is_indirect session past) name changes in
+      let tail : map told (touches_of name rest) ≡ others =
+      ap (λ ms. map told (touches_of name (filter (is_recorded ms) later))) (regroup moments more here later_moments)
+      ∙ touches-told session past name moments seen (place + 1) changes (more ++ cons_option here []) in
+      let drop : (b : Bool) → others ≡ cons_option (cond b None None) others = λ b. elim b as (λ b. others ≡ cons_option (cond b None None) others) [ true ↦ refl | false ↦ refl ] in
+      elim change.key as (λ k. map told (touches_of name (filter (is_recorded all) (cons_option (option_map (touch_at session past place change) k) later)))
+      ≡ cons_option (cond (bytes_eq name change.table) (option_map (λ key. record { key = key; image = row_at (main past) name key; indirect = is_indirect session past || is_cascade change.cause }) k) None) others) [
+        | None ↦ tail ∙ drop (bytes_eq name change.table)
         | Some key ↦
-            let touch = touch_at past n change key in
-            elim (bytes_eq name change.table) as (λ b. bytes_eq name change.table ≡ b → fold touch_more rows (touches_of name (cond (is_recorded moments touch) (touch ∷ rest) rest))
-            ≡ fold (touch_table name) (cond b (touch_key rows key touch.image touch.indirect) rows) (touches_by (main past) changes)) [
+            let touch = touch_at session past place change key in
+            let made : List ℕ → _ = λ n. told (key, record touch { image = row_at (main past) n key }) in
+            elim (bytes_eq name change.table) as (λ b. bytes_eq name change.table ≡ b → map told (touches_of name (cond (is_recorded all touch) (touch ∷ rest) rest)) ≡ cons_option (cond b (Some (made name)) None) others) [
               | true ↦ λ t.
-                  ap (λ b. fold touch_more rows (touches_of name (cond b (touch ∷ rest) rest))) (seen touch refl t)
-                  ∙ ap (λ b. fold touch_more rows (map (λ u. (u.key, u)) (cond b (touch ∷ filter (λ u. bytes_eq name u.table) rest) (filter (λ u. bytes_eq name u.table) rest)))) t
-                  ∙ fold-touches past moments name seen (n + 1) changes (touch_key rows key touch.image touch.indirect)
+                  ap (λ b. map told (touches_of name (cond b (touch ∷ rest) rest))) (seen more place change key later_moments t)
+                  ∙ ap (λ b. map told (map (λ u. (u.key, u)) (cond b (touch ∷ filter (λ u. bytes_eq name u.table) rest) (filter (λ u. bytes_eq name u.table) rest)))) t
+                  ∙ ap₂ (λ n xs. made n ∷ xs) (sym ((bytes_decides name change.table).0 t)) tail
               | false ↦ λ t.
-                  elim (is_recorded moments touch) as (λ b. fold touch_more rows (touches_of name (cond b (touch ∷ rest) rest)) ≡ fold touch_more rows (touches_of name rest)) [
-                    | true ↦ ap (λ b. fold touch_more rows (map (λ u. (u.key, u)) (cond b (touch ∷ filter (λ u. bytes_eq name u.table) rest) (filter (λ u. bytes_eq name u.table) rest)))) t
+                  elim (is_recorded all touch) as (λ b. map told (touches_of name (cond b (touch ∷ rest) rest)) ≡ map told (touches_of name rest)) [
+                    | true ↦ ap (λ b. map told (map (λ u. (u.key, u)) (cond b (touch ∷ filter (λ u. bytes_eq name u.table) rest) (filter (λ u. bytes_eq name u.table) rest)))) t
                     | false ↦ refl
                   ]
-                  ∙ fold-touches past moments name seen (n + 1) changes rows
+                  ∙ tail
             ] refl
       ]
 
-  pub listed-recorded : (session : ℕ) (event : Event A) (past : Past A) → event_attachings session event past ≡ [] → (name : List ℕ) → is_listed name (attach_list session past) ≡ true
-      → (touch : Touch A) → touch.event ≡ length past → bytes_eq name touch.table ≡ true → is_recorded (attachings session (event ∷ past)) touch ≡ true
-  listed-recorded session event past attaches name listed touch at same =
-      ap (λ moments. is_recorded moments touch) (attachings-quiet session event past attaches)
-      ∙ recorded (attachings session past) touch name same
-      (ap (λ k. list_all {X = Attaching} (λ moment. nat_lt moment.event k) (attachings session past)) at ∙ attachings-earlier session (length past) past (omega arith))
-      (sym (is_listed-first_of_each name (map (λ moment. moment.table) (attachings session past))) ∙ listed)
+  -- a table that was attached before is attached in time
+  pub seen_before : (session : ℕ) (past : Past A) (name : List ℕ) → is_among name (table_names (attachings session past)) ≡ true
+      → (more : List Attaching) (place : ℕ) (change : Change A) (key : Fields A) (later : List Attaching) → bytes_eq name change.table ≡ true
+      → is_recorded ((attachings session past ++ more) ++ later) (touch_at session past place change key) ≡ true
+  seen_before session past name listed more place change key later same =
+      let touch = touch_at session past place change key in
+      let test : Attaching → Bool = λ moment. bytes_eq touch.table moment.table && is_in_time touch moment in
+      any-left test (attachings session past ++ more) later
+      (any-left test (attachings session past) more (recorded (attachings session past) touch name same (attachings-earlier session (length past) past (omega arith)) listed))
 
-  -- the touches that an event makes, as the state has them
-  abbrev pub touched_by : Past A → Event A → List (RowTouch A)
-  touched_by past event = touches_by (main past) (event_effect (snapshot past) event).changes
-
-  pub touched-after : (session : ℕ) (event : Event A) (past : Past A) → event_attachings session event past ≡ [] → (name : List ℕ) → is_listed name (attach_list session past) ≡ true
-      → touched_rows (touches_of name (touches session (event ∷ past))) ≡ fold (touch_table name) (touched_rows (touches_of name (touches session past))) (touched_by past event)
-  touched-after session event past attaches name listed =
-      ap touched_rows (touches_of-append name (touches session past) (event_touches session event past))
-      ∙ touched_rows-append (touches_of name (touches session past)) (touches_of name (event_touches session event past))
-      ∙ fold-touches past (attachings session (event ∷ past)) name (listed-recorded session event past attaches name listed) 0 (event_effect (snapshot past) event).changes (touched_rows (touches_of name (touches session past)))
-
-  -- an event that attaches nothing
-  pub session_of-changes : (session : ℕ) (event : Event A) (past : Past A) → event_attachings session event past ≡ []
-      → session_of (event ∷ past) session ≡ touch_session (touched_by past event) (session_of past session)
-  session_of-changes session event past attaches =
-      ap (map (λ name. (name, touched_rows (touches_of name (touches session (event ∷ past)))))) (attach_list-quiet session event past attaches)
-      ∙ map-listed (λ name. (name, touched_rows (touches_of name (touches session (event ∷ past)))))
-      (λ name. (name, fold (touch_table name) (touched_rows (touches_of name (touches session past))) (touched_by past event))) (attach_list session past)
-      (λ name listed. ap (λ rows. (name, rows)) (touched-after session event past attaches name listed))
-      ∙ sym (map-map (λ attached. (attached.0, fold (touch_table attached.0) attached.1 (touched_by past event))) (λ name. (name, touched_rows (touches_of name (touches session past)))) (attach_list session past))
+  -- a table that a change attaches is attached in time for the touch by this change
+  pub seen_now : (session : ℕ) (past : Past A) (name : List ℕ) → (is_enabled session past && accepts_by (rule_of session past) name) ≡ true
+      → (moments more : List Attaching) (place : ℕ) (change : Change A) (key : Fields A) (later : List Attaching) → bytes_eq name change.table ≡ true
+      → is_recorded ((moments ++ more) ++ cons_option (attaching_by session past (place, change)) later) (touch_at session past place change key) ≡ true
+  seen_now session past name accepted moments more place change key later same =
+      let touch = touch_at session past place change key in
+      let test : Attaching → Bool = λ moment. bytes_eq touch.table moment.table && is_in_time touch moment in
+      let moment : Attaching = attaching_at (length past) place change.table in
+      let attaches : (is_enabled session past && accepts_by (rule_of session past) change.table) ≡ true = ap (λ n. is_enabled session past && accepts_by (rule_of session past) n) (sym ((bytes_decides name change.table).0 same)) ∙ accepted in
+      ap (λ b. list_any test ((moments ++ more) ++ cons_option (cond b (Some moment) None) later)) attaches
+      ∙ any-right test (moments ++ more) (moment ∷ later)
+      (ap (λ b. b || list_any test later) (both (bytes_eq change.table change.table) (is_in_time touch moment) (same_bytes change.table) (at_once (length past) place)))

@@ -1,6 +1,6 @@
 -- What a session captures after an insert of a row whose key had none when the session saw it first.
 use Rattle.std.proofs.Common.{◌≡◌, ℕ, Bool, true, false, cond, Option, Some, None, Result, Ok, Err, List, [], ◌∷◌, ◌++◌, ◌&&◌, ◌||◌, map, length, refl, sym, ap, ap₂, subst, ◌∙◌, arith, nat_eq, Less, Equal, Greater}
-use Rattle.std.specs.Prelude.{fold, is_some, option_and_then, ◌==◌}
+use Rattle.std.specs.Prelude.{is_some, option_and_then, ◌==◌}
 use Rattle.std.specs.Option.{option_map}
 use Rattle.std.specs.List.{filter_map, cons_option}
 use Rattle.std.specs.Ordering.{is_eq, eq_by_cmp, match_ordering}
@@ -22,21 +22,25 @@ use Rattle.cap_tree.specs.Tree.{get, put_entry}
 use Rattle.cap_table.specs.Operation.{placed, under_key, with_key}
 use Rattle.cap_table.specs.Table.{TableState}
 use Rattle.cap_txn.specs.Operation.{and_then, changes_in, changes_to, in_place, run, stepped}
-use Rattle.cap_txn.specs.Outcome.{OutcomeState}
 use Rattle.cap_txn.specs.Read.{row_at}
 use Rattle.cap_txn.specs.Tables.{Tables, table_of}
 use Rattle.cap_txn.specs.declared.cause.Cause.TheVariants.{Direct}
+use Rattle.cap_session.specs.declared.record.Record.{Record}
+use Rattle.cap_session.specs.Note.{touches_of as told_by}
+use Rattle.cap_session.specs.Records.{Records, record_after, touch as with_touch, with_touches}
 use Rattle.cap_core.specs.declared.event.Event.{Event}
-use Rattle.cap_core.specs.declared.touched_row.TouchedRow.{TouchedRow}
-use Rattle.cap_core.specs.Answer.{answer, write_reply, State, state_after}
-use Rattle.cap_core.specs.History.{Past, attach_list, effect_of, event_attachings, event_effect, is_accepted, main, names_attached, session_of, snapshot, touches}
+use Rattle.cap_core.specs.Answer.{State, answer, state_after, write_reply}
+use Rattle.cap_core.specs.Capture.{change_now, group_of, session_changes, table_changes}
+use Rattle.cap_core.specs.Flags.{is_indirect}
+use Rattle.cap_core.specs.History.{effect_of, event_effect, main, snapshot}
 use Rattle.cap_core.specs.Insert.{HasChange, IsInsertOfAbsent, changes_by_key, insert_of}
-use Rattle.cap_core.specs.Outcome.{Refused as Why, commit_unless, made, no_effect, outcome, stale}
-use Rattle.cap_core.specs.Session.{TouchedRows, change_now, group_of, is_indirect, is_listed, session_changes, table_changes, touched_rows}
-use Rattle.cap_core.specs.Touch.{Attaching, Touch, touches_of}
-use Rattle.cap_core.specs.Transition.{touch_again, touch_key, touch_table, touches_by}
-use Rattle.cap_core.proofs.HistoryLemmas.{attach_list-quiet, touched-after}
+use Rattle.cap_core.specs.Outcome.{Effect, Refused as Why, commit_unless, made, no_effect, outcome, stale}
+use Rattle.cap_core.specs.Past.{Past, is_accepted}
+use Rattle.cap_core.specs.Session.{mark, records_of, session_of}
+use Rattle.cap_core.specs.Touch.{Touch, attach_list, touches, touches_of}
+use Rattle.cap_core.proofs.HistoryLemmas.{is_among}
 use Rattle.cap_core.proofs.LawLemmas.{first_image}
+use Rattle.cap_core.proofs.SessionLemmas.{IsSilent, kept-on, silent-elsewhere, speaks_to}
 use Rattle.cap_core.proofs.TouchedLemmas.{fields_same, get-find, put_entry-put}
 
 -- ---- one item among those that a function makes
@@ -51,10 +55,10 @@ module _ {X Y : Type 0} (f : Y → Option X) (g : List ℕ → Y) (name : List �
     after : List X
     parts : list ≡ before ++ x ∷ after
 
-  among : (names : List (List ℕ)) → is_listed name names ≡ true → Parts (filter_map f (map g names))
+  among : (names : List (List ℕ)) → is_among name names ≡ true → Parts (filter_map f (map g names))
   among [] listed = cc
   among (n ∷ names) listed =
-      elim (bytes_eq name n) as (λ b. bytes_eq name n ≡ b → (b || is_listed name names) ≡ true → Parts (cons_option (f (g n)) (filter_map f (map g names)))) [
+      elim (bytes_eq name n) as (λ b. bytes_eq name n ≡ b → (b || is_among name names) ≡ true → Parts (cons_option (f (g n)) (filter_map f (map g names)))) [
         | true ↦ λ same _. record {
           before = [];
           after = filter_map f (map g names);
@@ -81,7 +85,7 @@ never false = refl
 module _ {A : Type 0} where
   -- ---- changes under their keys
 
-  abbrev keyed : TableState A → Fields A × TouchedRow A → Option (Fields A × Change A)
+  abbrev keyed : TableState A → Fields A × Record A → Option (Fields A × Change A)
   keyed table touched = option_map (λ change. (touched.0, change)) (change_now table touched)
 
   keyed-one : (key : Fields A) (change : Option (Change A)) (rest : List (Fields A × Change A)) (changes : List (Change A)) → map (λ k. k.1) rest ≡ changes
@@ -89,7 +93,7 @@ module _ {A : Type 0} where
   keyed-one key None rest changes is = is
   keyed-one key (Some change) rest changes is = ap (λ cs. change ∷ cs) is
 
-  keyed-map : (table : TableState A) (rows : TouchedRows A) → map (λ k. k.1) (changes_by_key table rows) ≡ filter_map (change_now table) rows
+  keyed-map : (table : TableState A) (rows : Records A) → map (λ k. k.1) (changes_by_key table rows) ≡ filter_map (change_now table) rows
   keyed-map table [] = refl
   keyed-map table (touched ∷ rows) = keyed-one touched.0 (change_now table touched) (changes_by_key table rows) (filter_map (change_now table) rows) (keyed-map table rows)
 
@@ -101,7 +105,7 @@ module _ {A : Type 0} where
   met key change found rest is =
       ap (λ o. get fields_cmp (cons_option (option_map (λ c. (key, c)) o) rest) key) is ∙ ap (λ b. cond (is_eq b) (Some change) (get fields_cmp rest key)) (tied_itself fields_cmp_total key)
 
-  keyed-put : (table : TableState A) (key : Fields A) (touched : TouchedRow A) (change : Change A) → change_now table (key, touched) ≡ Some change → (rows : TouchedRows A)
+  keyed-put : (table : TableState A) (key : Fields A) (touched : Record A) (change : Change A) → change_now table (key, touched) ≡ Some change → (rows : Records A)
       → get fields_cmp (changes_by_key table (put_entry fields_cmp rows key touched)) key ≡ Some change
   keyed-put table key touched change is [] = met key change (change_now table (key, touched)) [] is
   keyed-put table key touched change is (row ∷ rows) =
@@ -127,19 +131,20 @@ module _ {A : Type 0} where
       ∙ find-put bytes_cmp nat_list_cmp_total q name table tables
       ∙ ap (λ found. cond (is_eq (bytes_cmp q name)) (Some table) found) (sym (get-find bytes_cmp tables q))
 
-  abbrev insertion : Tables A → List ℕ → TableState A → Fields A → Fields A → OutcomeState A
+  abbrev insertion : Tables A → List ℕ → TableState A → Fields A → Fields A → Effect A
   insertion tables name table key row = record {
     database = put_entry bytes_cmp tables name (with_key table key row);
     changes = record { table = name; key = Some key; cause = Direct } ∷ [];
+    report = None;
   }
 
   -- the key was not there, and this is what the insert made
-  record WasInserted (tables : Tables A) (name : List ℕ) (table : TableState A) (key row : Fields A) (left : Result (OutcomeState A) Why) : Type 0 where
+  record WasInserted (tables : Tables A) (name : List ℕ) (table : TableState A) (key row : Fields A) (left : Result (Effect A) Why) : Type 0 where
     fresh : get fields_cmp table.keyed key ≡ None
     is : left ≡ Ok (insertion tables name table key row)
 
   -- one insert of a row that has this key, which left this of its table
-  abbrev ran : Tables A → List ℕ → Option (Fields A) → Result (TableState A) Refusal → Result (OutcomeState A) Why
+  abbrev ran : Tables A → List ℕ → Option (Fields A) → Result (TableState A) Refusal → Result (Effect A) Why
   ran tables name own after = made (and_then (changes_to name Direct (own ∷ [])) (in_place tables name after) (λ next. run next []))
 
   module _ (state : State A) (tables : Tables A) (name : List ℕ) (table : TableState A) (key row : Fields A) where
@@ -162,7 +167,7 @@ module _ {A : Type 0} where
         ] accepted
 
     -- what one insert leaves where the table is this
-    abbrev ran_in : Option (TableState A) → Result (OutcomeState A) Why
+    abbrev ran_in : Option (TableState A) → Result (Effect A) Why
     ran_in found = made (and_then (changes_in found (insert_of name row)) (stepped tables found (insert_of name row)) (λ next. run next []))
 
     found_inserted : (found : Option (TableState A)) → found ≡ Some table → key_of table.schema row ≡ Some key → is_accepted (write_reply state (ran_in found)) ≡ true → WasInserted tables name table key row (ran_in found)
@@ -184,12 +189,12 @@ module _ {A : Type 0} where
 
   -- a first touch without a row, and this one, leave no image
   no_image : (touched : List (Fields A × Touch A)) (key : Fields A) (image : Option (Fields A)) → image ≡ None → ((touch : Touch A) → get fields_cmp touched key ≡ Some touch → touch.image ≡ None)
-      → touch_again (get fields_cmp (touched_rows touched) key) image false ≡ record { image = None; indirect = false }
+      → record_after (get fields_cmp (records_of touched) key) image false ≡ record { image = None; indirect = false }
   no_image touched key image none absent =
-      ap (λ found. touch_again found image false) (first_image touched key)
-      ∙ elim (get fields_cmp touched key) as (λ o. get fields_cmp touched key ≡ o → touch_again (option_map (λ touch. record { image = touch.image; indirect = is_indirect touched key }) o) image false ≡ record { image = None; indirect = false }) [
+      ap (λ found. record_after found image false) (first_image touched key)
+      ∙ elim (get fields_cmp touched key) as (λ o. get fields_cmp touched key ≡ o → record_after (option_map (λ touch. record { image = touch.image; indirect = mark touched key }) o) image false ≡ record { image = None; indirect = false }) [
         | None ↦ λ _. ap (λ i. record { image = i; indirect = false }) none
-        | Some touch ↦ λ is. ap₂ (λ i b. record { image = i; indirect = b }) (absent touch is) (never (is_indirect touched key))
+        | Some touch ↦ λ is. ap₂ (λ i b. record { image = i; indirect = b }) (absent touch is) (never (mark touched key))
       ] refl
 
   -- ---- the event
@@ -205,14 +210,14 @@ module _ {A : Type 0} where
     effect-is : event_effect (snapshot past) event ≡ insertion (main past) name table key row
     effect-is = (λ i. cond (is.accepted i) (effect_of (main past) (outcome (snapshot past) (is.inserts i))) (no_effect (main past))) ∙ ap (effect_of (main past)) inserted.is
 
-    attaches : event_attachings session event past ≡ []
-    attaches = λ i. cond (is.accepted i) (map (λ n. let moment : Attaching = record { table = n; event = length past; change = 0 } in moment) (names_attached session (is.inserts i))) []
+    silent : IsSilent session event past
+    silent = silent-elsewhere session event past (ap (speaks_to session) is.inserts)
 
     abbrev touched : List (Fields A × Touch A)
     touched = touches_of name (touches session past)
 
-    abbrev rows : TouchedRows A
-    rows = touched_rows (touches_of name (touches session (event ∷ past)))
+    abbrev rows : Records A
+    rows = records_of (touches_of name (touches session (event ∷ past)))
 
     abbrev image : Option (Fields A)
     image = row_at (main past) name key
@@ -220,19 +225,20 @@ module _ {A : Type 0} where
     image-none : image ≡ None
     image-none = ap (option_and_then (λ t. get fields_cmp t.keyed key)) is.there ∙ inserted.fresh
 
-    rows-are : rows ≡ put_entry fields_cmp (touched_rows touched) key (record { image = None; indirect = false })
+    rows-are : rows ≡ put_entry fields_cmp (records_of touched) key (record { image = None; indirect = false })
     rows-are =
-        touched-after session event past attaches name is.attached
-        ∙ ap (λ (e : OutcomeState A). fold (touch_table name) (touched_rows touched) (touches_by (main past) e.changes)) effect-is
-        ∙ ap (λ b. cond b (touch_key (touched_rows touched) key image false) (touched_rows touched)) (nat_list_eq_equiv.refl name)
-        ∙ ap (put_entry fields_cmp (touched_rows touched) key) (no_image touched key image image-none is.absent)
+        kept-on session event past silent is.enabled name is.attached
+        ∙ ap (λ (e : Effect A). with_touches (records_of touched) (told_by (main past) (is_indirect session past) name e.changes)) effect-is
+        ∙ ap (λ b. with_touches (records_of touched) (cons_option (cond b (Some (record { key = key; image = image; indirect = is_indirect session past || false })) None) [])) (nat_list_eq_equiv.refl name)
+        ∙ ap (λ b. with_touch (records_of touched) (record { key = key; image = image; indirect = b || false })) is.direct
+        ∙ ap (put_entry fields_cmp (records_of touched) key) (no_image touched key image image-none is.absent)
 
     abbrev table-now : TableState A
     table-now = record table { keyed = put_entry fields_cmp table.keyed key row }
 
     table-after : table_of (main (event ∷ past)) name ≡ Some table-now
     table-after =
-        ap (λ (e : OutcomeState A). table_of e.database name) effect-is
+        ap (λ (e : Effect A). table_of e.database name) effect-is
         ∙ table_of-put (main past) name table-now name
         ∙ ap (λ o. cond (is_eq o) (Some table-now) (table_of (main past) name)) (tied_itself nat_list_cmp_total name)
 
@@ -242,7 +248,7 @@ module _ {A : Type 0} where
     here : get fields_cmp (changes_by_key table-now rows) key ≡ Some change
     here =
         ap (λ r. get fields_cmp (changes_by_key table-now r) key) rows-are
-        ∙ keyed-put table-now key (record { image = None; indirect = false }) change (ap (change_of table.schema false None) (get-put table.keyed key row)) (touched_rows touched)
+        ∙ keyed-put table-now key (record { image = None; indirect = false }) change (ap (change_of table.schema false None) (get-put table.keyed key row)) (records_of touched)
 
     group-here : table_changes (name, rows) (table_of (main (event ∷ past)) name) ≡ Some (record { table = name; schema = table.schema; changes = map (λ k. k.1) (changes_by_key table-now rows) })
     group-here =
@@ -252,6 +258,5 @@ module _ {A : Type 0} where
 
     pub insert_has_change : HasChange (session_changes (main (event ∷ past)) (session_of (event ∷ past) session)) name table.schema (changes_by_key table-now rows) key change
     insert_has_change =
-        let listed : is_listed name (attach_list session (event ∷ past)) ≡ true = ap (is_listed name) (attach_list-quiet session event past attaches) ∙ is.attached in
-        let found = among (λ attached. table_changes attached (table_of (main (event ∷ past)) attached.0)) (λ n. (n, touched_rows (touches_of n (touches session (event ∷ past))))) name _ group-here (attach_list session (event ∷ past)) listed in
+        let found = among (λ attached. table_changes attached (table_of (main (event ∷ past)) attached.0)) (λ n. (n, records_of (touches_of n (touches session (event ∷ past))))) name _ group-here (attach_list session (event ∷ past)) is.attached in
         record { before = found.before; after = found.after; group = found.parts; here = here }

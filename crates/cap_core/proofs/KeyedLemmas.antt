@@ -20,13 +20,19 @@ use Rattle.cap_txn.specs.Outcome.{OutcomeState}
 use Rattle.cap_txn.specs.Tables.{AreRising, Tables, create}
 use Rattle.cap_txn.specs.declared.op.Op.{Op}
 use Rattle.cap_txn.specs.declared.refused_at.RefusedAt.{RefusedAt}
+use Rattle.cap_apply.specs.Applied.{AppliedState}
+use Rattle.cap_apply.specs.Apply.{apply}
+use Rattle.cap_apply.specs.declared.policy.Policy.{Policy}
+use Rattle.cap_codec.specs.Writable.{IsWritable}
+use Rattle.cap_codec.specs.declared.read.Contents.{Contents}
 use Rattle.cap_core.specs.declared.command.Command.{Command}
 use Rattle.cap_core.specs.declared.command.Command.TheVariants as command
 use Rattle.cap_core.specs.declared.event.Event.{Event}
 use Rattle.cap_core.specs.Answer.{state}
-use Rattle.cap_core.specs.History.{Past, effect_of, is_accepted, main, snapshot}
-use Rattle.cap_core.specs.Outcome.{Refused as Why, commit_unless, created, made, no_effect, outcome, stale}
-use Rattle.cap_core.specs.Table.{IsKeyed, IsLoose}
+use Rattle.cap_core.specs.History.{effect_of, main, snapshot}
+use Rattle.cap_core.specs.Outcome.{Effect, Refused as Why, applied, commit_unless, created, made, no_effect, outcome, stale}
+use Rattle.cap_core.specs.Past.{Past, is_accepted}
+use Rattle.cap_core.specs.Table.{AppliesWritable, AreWritable, IsKeyed, IsLoose}
 use Rattle.cap_core.proofs.SmallLemmas.{first, second}
 use Rattle.cap_core.proofs.SoundLemmas.{stands-key_of, stands-wide}
 
@@ -51,7 +57,7 @@ module _ {K X : Type 0} (R : K → K → Ordering) where
   each_above x [] below = tt
   each_above x (e ∷ es) below = (is_Less (R x e.0) (first (is_lt (R x e.0)) (below_all R x es) below), each_above x es (second (is_lt (R x e.0)) (below_all R x es) below))
 
-  ordered : (es : List (K × X)) → is_sorted R es ≡ true → IsOrdered R es
+  pub ordered : (es : List (K × X)) → is_sorted R es ≡ true → IsOrdered R es
   unfolding IsStrictlySortedBy
   ordered [] s = tt
   ordered (e ∷ es) s = (each_above e.0 es (first (below_all R e.0 es) (is_sorted R es) s), ordered es (second (below_all R e.0 es) (is_sorted R es) s))
@@ -92,53 +98,60 @@ module _ {A : Type 0} where
   abbrev LeavesRising : {E : Type 0} → Result (OutcomeState A) E → Type 0
   LeavesRising r = IfOk r (λ left. AreRising left.database)
 
-  made-rises : (r : Result (OutcomeState A) RefusedAt) → LeavesRising r → LeavesRising (made r)
+  abbrev HasRising : Result (Effect A) Why → Type 0
+  HasRising r = IfOk r (λ effect. AreRising effect.database)
+
+  made-rises : (r : Result (OutcomeState A) RefusedAt) → LeavesRising r → HasRising (made r)
   made-rises (Ok left) rise = rise
   made-rises (Err refused) rise = tt
 
-  created-rises : (r : Result (Tables A) Refusal) → IfOk r AreRising → LeavesRising (created r)
+  created-rises : (r : Result (Tables A) Refusal) → IfOk r AreRising → HasRising (created r)
   created-rises (Ok tables) rise = rise
   created-rises (Err why) rise = tt
 
-  effect_of-rises : (tables : Tables A) (r : Result (OutcomeState A) Why) → AreRising tables → LeavesRising r → AreRising (effect_of tables r).database
-  effect_of-rises tables (Ok left) all rise = rise
+  applied-rises : (r : Result (AppliedState A) Refusal) → IfOk r (λ left. AreRising left.database) → HasRising (applied r)
+  applied-rises (Ok left) rise = rise
+  applied-rises (Err why) rise = tt
+
+  effect_of-rises : (tables : Tables A) (r : Result (Effect A) Why) → AreRising tables → HasRising r → AreRising (effect_of tables r).database
+  effect_of-rises tables (Ok effect) all rise = rise
   effect_of-rises tables (Err why) all rise = all
 
   module _ (empty : AreRising {A = A} [])
       (runs : (tables : Tables A) (ops : List (Op A)) → AreRising tables → LeavesRising (run tables ops))
-      (creates : (tables : Tables A) (name : List ℕ) (schema : List Bool) → AreRising tables → IfOk (create tables name schema) AreRising) where
-    commit-rises : (why : Option Refusal) (tables : Tables A) (ops : List (Op A)) → AreRising tables → LeavesRising (commit_unless why tables ops)
+      (creates : (tables : Tables A) (name : List ℕ) (schema : List Bool) → AreRising tables → IfOk (create tables name schema) AreRising)
+      (applies : (tables : Tables A) (blob : Contents A) (policy : Policy) → AreRising tables → IsWritable blob → IfOk (apply tables blob policy) (λ left. AreRising left.database)) where
+    commit-rises : (why : Option Refusal) (tables : Tables A) (ops : List (Op A)) → AreRising tables → HasRising (commit_unless why tables ops)
     commit-rises (Some why) tables ops all = tt
     commit-rises None tables ops all = made-rises (run tables ops) (runs tables ops all)
 
-    outcome-rises : (now : SnapshotState A) (c : Command A) → AreRising now.database → LeavesRising (outcome now c)
-    outcome-rises now (command.CreateTable name schema) all = created-rises (create now.database name schema) (creates now.database name schema all)
-    outcome-rises now (command.Commit batch) all = commit-rises (stale batch.base now.version) now.database batch.ops all
-    outcome-rises now command.Read all = all
-    outcome-rises now command.NewSession all = all
-    outcome-rises now (command.Attach number name) all = all
-    outcome-rises now (command.Capture number) all = all
+    outcome-rises : (now : SnapshotState A) (c : Command A) → AppliesWritable c → AreRising now.database → HasRising (outcome now c)
+    outcome-rises now (command.CreateTable name schema) writable all = created-rises (create now.database name schema) (creates now.database name schema all)
+    outcome-rises now (command.Commit batch) writable all = commit-rises (stale batch.base now.version) now.database batch.ops all
+    outcome-rises now (command.Apply blob policy) writable all = applied-rises (apply now.database blob policy) (applies now.database blob policy all writable)
+    outcome-rises now _ writable all = all
 
-    main-rises : (past : Past A) → AreRising (main past)
-    main-rises [] = empty
-    main-rises (event ∷ past) =
+    pub main-rises : (past : Past A) → AreWritable past → AreRising (main past)
+    main-rises [] writable = empty
+    main-rises (event ∷ past) writable =
+        let before = main-rises past writable.1 in
         elim (is_accepted event.reply) as (λ b. AreRising (cond b (effect_of (main past) (outcome (snapshot past) event.command)) (no_effect (main past))).database) [
-          | true ↦ effect_of-rises (main past) (outcome (snapshot past) event.command) (main-rises past) (outcome-rises (snapshot past) event.command (main-rises past))
-          | false ↦ main-rises past
+          | true ↦ effect_of-rises (main past) (outcome (snapshot past) event.command) before (outcome-rises (snapshot past) event.command writable.0 before)
+          | false ↦ before
         ]
 
-    pub tables_rise : (h : List (Event A)) → IsOrdered bytes_cmp (state h).main
+    pub tables_rise : (h : List (Event A)) → AreWritable (reverse h) → IsOrdered bytes_cmp (state h).main
     unfolding state
-    tables_rise h = ordered bytes_cmp (main (reverse h)) (main-rises (reverse h)).names
+    tables_rise h writable = ordered bytes_cmp (main (reverse h)) (main-rises (reverse h) writable).names
 
-    pub tables_keyed : (h : List (Event A)) → All (λ named. IsKeyed named.1) (state h).main
+    pub tables_keyed : (h : List (Event A)) → AreWritable (reverse h) → All (λ named. IsKeyed named.1) (state h).main
     unfolding state
-    tables_keyed h =
+    tables_keyed h writable =
         All-from_recursion (λ named. IsKeyed named.1) (main (reverse h))
-        (each_says (λ named. IsRising named.1) (λ named. IsKeyed named.1) (λ named rising. keyed_is named.1 rising) (main (reverse h)) (main-rises (reverse h)).each)
+        (each_says (λ named. IsRising named.1) (λ named. IsKeyed named.1) (λ named rising. keyed_is named.1 rising) (main (reverse h)) (main-rises (reverse h) writable).each)
 
-    pub tables_loose : (h : List (Event A)) → All (λ named. IsLoose named.1) (state h).main
+    pub tables_loose : (h : List (Event A)) → AreWritable (reverse h) → All (λ named. IsLoose named.1) (state h).main
     unfolding state
-    tables_loose h =
+    tables_loose h writable =
         All-from_recursion (λ named. IsLoose named.1) (main (reverse h))
-        (each_says (λ named. IsRising named.1) (λ named. IsLoose named.1) (λ named rising. loose_is named.1 rising) (main (reverse h)) (main-rises (reverse h)).each)
+        (each_says (λ named. IsRising named.1) (λ named. IsLoose named.1) (λ named rising. loose_is named.1 rising) (main (reverse h)) (main-rises (reverse h) writable).each)

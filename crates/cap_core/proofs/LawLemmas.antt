@@ -3,52 +3,56 @@ use Rattle.std.proofs.Common.{◌≡◌, ◌+◌, ℕ, Bool, true, false, cond, 
 use Rattle.std.specs.Option.{option_map}
 use Rattle.std.specs.List.{cons_option}
 use Rattle.std.specs.Ordering.{is_eq}
+use Rattle.cap_value.specs.Bytes.{bytes_cmp}
 use Rattle.cap_row.specs.Fields.{Fields}
 use Rattle.cap_row.specs.Key.{fields_cmp, fields_cmp-Equal}
-use Rattle.cap_changes.specs.Change.{change_of, old_field, new_field}
+use Rattle.cap_changes.specs.Change.{change_of, new_field, old_field}
 use Rattle.cap_changes.specs.Column.{by_column}
 use Rattle.cap_changes.specs.declared.change.Change.{Change}
 use Rattle.cap_changes.specs.declared.change.Change.TheVariants.{Update}
-use Rattle.cap_tree.specs.Tree.{get}
+use Rattle.cap_tree.specs.Tree.{get, put_entry}
 use Rattle.cap_table.specs.Table.{TableState}
-use Rattle.cap_txn.specs.Outcome.{OutcomeState}
 use Rattle.cap_txn.specs.Tables.{Tables, table_of}
+use Rattle.cap_session.specs.declared.record.Record.{Record}
+use Rattle.cap_session.specs.Records.{Records}
+use Rattle.cap_session.specs.Session.{SessionState, new_session}
 use Rattle.cap_core.specs.declared.limits.TheConstants.{SESSIONS_MAX}
 use Rattle.cap_core.specs.declared.command.Command.{Command}
 use Rattle.cap_core.specs.declared.command.Command.TheVariants as command
 use Rattle.cap_core.specs.declared.event.Event.{Event}
 use Rattle.cap_core.specs.declared.reply.Reply.{Reply}
-use Rattle.cap_core.specs.declared.touched_row.TouchedRow.{TouchedRow}
-use Rattle.cap_core.specs.Answer.{State, snapshot_of, IsLegal, IsLegalPast, answer, event_by, reply_of, session_numbered, state, state_after, write_reply}
-use Rattle.cap_core.specs.History.{Past, is_accepted, main, session_of, touches, attach_list}
-use Rattle.cap_core.specs.Outcome.{Refused as Why, outcome}
+use Rattle.cap_core.specs.Answer.{IsLegal, IsLegalPast, State, answer, event_by, has_room_for, reply_of, snapshot_of, state, state_after, write_reply}
+use Rattle.cap_core.specs.Capture.{change_now, changes_of, session_changes, table_changes}
+use Rattle.cap_core.specs.History.{main}
+use Rattle.cap_core.specs.Outcome.{Effect, Refused as Why, outcome}
+use Rattle.cap_core.specs.Past.{Past, is_accepted}
 use Rattle.cap_core.specs.Replies.{replies_after}
-use Rattle.cap_core.specs.Session.{SessionState, TouchedRows, session_changes, table_changes, change_now, is_indirect, touched_rows}
-use Rattle.cap_core.specs.Touch.{Touch, touches_of}
-use Rattle.cap_core.specs.Transition.{next, one_more, after_write, after_attach}
+use Rattle.cap_core.specs.Session.{mark, records_of, session_of}
+use Rattle.cap_core.specs.Touch.{Touch, attach_list, touches, touches_of}
+use Rattle.cap_core.specs.Transition.{after_write, changed_session, next, one_more}
 use Rattle.cap_core.proofs.NextLemmas.{IsLegal-push, after_refusal, next-is, state-push}
-use Rattle.cap_core.proofs.TouchedLemmas.{get-find, find-touched_rows, touched_at, touched_rows-none}
+use Rattle.cap_core.proofs.TouchedLemmas.{find-records_of, get-find, records_of-none, touched_at}
 
 module _ {A : Type 0} where
   pub no_changes : (name : List ℕ) (table : Option (TableState A)) → table_changes (name, []) table ≡ None
   no_changes name None = refl
   no_changes name (Some table) = refl
 
-  untouched_tables : (database : Tables A) (rows : List ℕ → TouchedRows A) → ((name : List ℕ) → rows name ≡ []) → (names : List (List ℕ)) → session_changes database (map (λ name. (name, rows name)) names) ≡ []
-  untouched_tables database rows none [] = refl
-  untouched_tables database rows none (name ∷ names) =
-      ap (λ first. cons_option first (session_changes database (map (λ name. (name, rows name)) names))) (ap (λ r. table_changes (name, r) (table_of database name)) (none name) ∙ no_changes name (table_of database name))
-      ∙ untouched_tables database rows none names
+  untouched_tables : (database : Tables A) (records : List ℕ → Records A) → ((name : List ℕ) → records name ≡ []) → (names : List (List ℕ)) → changes_of database (map (λ name. (name, records name)) names) ≡ []
+  untouched_tables database records none [] = refl
+  untouched_tables database records none (name ∷ names) =
+      ap (λ first. cons_option first (changes_of database (map (λ name. (name, records name)) names))) (ap (λ r. table_changes (name, r) (table_of database name)) (none name) ∙ no_changes name (table_of database name))
+      ∙ untouched_tables database records none names
 
   pub untouched : (past : Past A) (session : ℕ) → touches session past ≡ [] → session_changes (main past) (session_of past session) ≡ []
   untouched past session none =
-      untouched_tables (main past) (λ name. touched_rows (touches_of name (touches session past))) (λ name. ap (λ found. touched_rows (touches_of name found)) none ∙ touched_rows-none) (attach_list session past)
+      untouched_tables (main past) (λ name. records_of (touches_of name (touches session past))) (λ name. ap (λ found. records_of (touches_of name found)) none ∙ records_of-none) (attach_list session past)
 
-  pub first_image : (touched : List (Fields A × Touch A)) (key : Fields A) → get fields_cmp (touched_rows touched) key ≡ option_map (λ touch. record { image = touch.image; indirect = is_indirect touched key }) (get fields_cmp touched key)
+  pub first_image : (touched : List (Fields A × Touch A)) (key : Fields A) → get fields_cmp (records_of touched) key ≡ option_map (λ touch. record { image = touch.image; indirect = mark touched key }) (get fields_cmp touched key)
   unfolding touched_at
   first_image touched key =
-      get-find fields_cmp (touched_rows touched) key ∙ find-touched_rows touched key
-      ∙ ap (option_map (λ touch. record { image = touch.image; indirect = is_indirect touched key })) (sym (get-find fields_cmp touched key))
+      get-find fields_cmp (records_of touched) key ∙ find-records_of touched key
+      ∙ ap (option_map (λ touch. record { image = touch.image; indirect = mark touched key })) (sym (get-find fields_cmp touched key))
 
   restored_by : (schema : List Bool) (indirect : Bool) (image : Option (Fields A)) → change_of schema indirect image image ≡ None
   restored_by schema indirect None = refl
@@ -56,7 +60,7 @@ module _ {A : Type 0} where
       let changed : Option (Change A) = Some (Update indirect (by_column old_field schema row row) (by_column new_field schema row row)) in
       ap (λ b. cond b None changed) (ap is_eq ((fields_cmp-Equal row row).1 refl))
 
-  pub restored : (table : TableState A) (key : Fields A) (touched : TouchedRow A) → touched.image ≡ get fields_cmp table.keyed key → change_now table (key, touched) ≡ None
+  pub restored : (table : TableState A) (key : Fields A) (touched : Record A) → touched.image ≡ get fields_cmp table.keyed key → change_now table (key, touched) ≡ None
   restored table key touched same = ap (change_of table.schema touched.indirect touched.image) (sym same) ∙ restored_by table.schema touched.indirect touched.image
 
   -- ---- a history that goes on
@@ -67,6 +71,10 @@ module _ {A : Type 0} where
   pub grown-state : (h : List (Event A)) (by : ℕ) (c : Command A) → IsLegal h → state (h ++ event_by by c (reply_of h c) ∷ []) ≡ next (state h) c
   unfolding reply_of
   grown-state h by c legal = sym (state-push h by c (state h) (answer (state h) c) legal refl refl).1
+
+  pub answered : (h : List (Event A)) (c : Command A) → reply_of h c ≡ answer (state h) c
+  unfolding reply_of
+  answered h c = refl
 
   -- ---- a refused command, and the commands after it
 
@@ -80,35 +88,47 @@ module _ {A : Type 0} where
       ap (λ replies. answer (state_after past) c ∷ replies)
       (from-state (event_by 0 c (answer (state_after past) c) ∷ past) (refl, legal) commands ∙ ap (λ s. replies_from s commands) (sym (next-is past 0 c legal)))
 
-  write_reply-one_more : (s : State A) (r : Result (OutcomeState A) Why) → write_reply (one_more s) r ≡ write_reply s r
+  write_reply-one_more : (s : State A) (r : Result (Effect A) Why) → write_reply (one_more s) r ≡ write_reply s r
   write_reply-one_more s (Ok effect) = refl
   write_reply-one_more s (Err why) = refl
 
   answer-one_more : (s : State A) (c : Command A) → answer (one_more s) c ≡ answer s c
   answer-one_more s (command.CreateTable name schema) = write_reply-one_more s (outcome (snapshot_of s) (command.CreateTable name schema))
   answer-one_more s (command.Commit batch) = write_reply-one_more s (outcome (snapshot_of s) (command.Commit batch))
-  answer-one_more s command.Read = refl
-  answer-one_more s command.NewSession = refl
-  answer-one_more s (command.Attach number name) = refl
-  answer-one_more s (command.Capture number) = refl
+  answer-one_more s (command.Apply blob policy) = write_reply-one_more s (outcome (snapshot_of s) (command.Apply blob policy))
+  answer-one_more s _ = refl
 
-  after_write-one_more : (s : State A) (r : Result (OutcomeState A) Why) → after_write (one_more s) r ≡ one_more (after_write s r)
+  after_write-one_more : (s : State A) (r : Result (Effect A) Why) → after_write (one_more s) r ≡ one_more (after_write s r)
   after_write-one_more s (Ok effect) = refl
   after_write-one_more s (Err why) = refl
 
-  after_attach-one_more : (s : State A) (number : ℕ) (name : List ℕ) (session : Option (SessionState A)) → after_attach (one_more s) number name session ≡ one_more (after_attach s number name session)
-  after_attach-one_more s number name None = refl
-  after_attach-one_more s number name (Some session) = refl
+  one_more-either : (b : Bool) (s t : State A) → cond b (one_more s) (one_more t) ≡ one_more (cond b s t)
+  one_more-either true s t = refl
+  one_more-either false s t = refl
+
+  changed_session-one_more : (s : State A) (number : ℕ) (new : Option (SessionState A)) → changed_session (one_more s) number new ≡ one_more (changed_session s number new)
+  changed_session-one_more s number None = refl
+  changed_session-one_more s number (Some new) = refl
 
   next-one_more : (s : State A) (c : Command A) → next (one_more s) c ≡ one_more (next s c)
   next-one_more s (command.CreateTable name schema) = after_write-one_more s (outcome (snapshot_of s) (command.CreateTable name schema))
   next-one_more s (command.Commit batch) = after_write-one_more s (outcome (snapshot_of s) (command.Commit batch))
+  next-one_more s (command.Apply blob policy) = after_write-one_more s (outcome (snapshot_of s) (command.Apply blob policy))
   next-one_more s command.Read = refl
+  next-one_more s (command.SaveAs name) = one_more-either (has_room_for s.saved name) (record (one_more s) { saved = put_entry bytes_cmp s.saved name s.main }) (one_more s)
   next-one_more s command.NewSession =
-      let more : State A = record (one_more s) { sessions_made = s.sessions_made + 1; sessions = s.sessions ++ (s.sessions_made + 1, []) ∷ [] } in
-      elim (nat_le SESSIONS_MAX (length s.sessions)) as (λ b. cond b (one_more (one_more s)) (one_more more) ≡ one_more (cond b (one_more s) more)) [ true ↦ refl | false ↦ refl ]
-  next-one_more s (command.Attach number name) = after_attach-one_more s number name (session_numbered s.sessions number)
+      one_more-either (nat_le SESSIONS_MAX (length s.sessions)) (one_more s)
+      (record (one_more s) { sessions_made = s.sessions_made + 1; sessions = s.sessions ++ (s.sessions_made + 1, new_session) ∷ [] })
+  next-one_more s (command.DropSession number) = refl
+  next-one_more s (command.Attach number name) = changed_session-one_more s number _
+  next-one_more s (command.AttachAll number) = changed_session-one_more s number _
+  next-one_more s (command.SetFilter number filter) = changed_session-one_more s number _
+  next-one_more s (command.Enable number asked) = changed_session-one_more s number _
+  next-one_more s (command.Indirect number asked) = changed_session-one_more s number _
+  next-one_more s (command.IsEmpty number) = refl
+  next-one_more s (command.Diff number from name) = changed_session-one_more s number _
   next-one_more s (command.Capture number) = refl
+  next-one_more s (command.Restart number) = changed_session-one_more s number _
 
   one_more-same : (s : State A) (commands : List (Command A)) → replies_from (one_more s) commands ≡ replies_from s commands
   one_more-same s [] = refl

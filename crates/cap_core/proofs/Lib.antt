@@ -1,4 +1,6 @@
-pub mod AttachedLemmas
+pub mod AgreeLemmas
+pub mod DiffLemmas
+pub mod ElsewhereLemmas
 pub mod GroupLemmas
 pub mod HistoryLemmas
 pub mod InsertLemmas
@@ -6,7 +8,11 @@ pub mod KeyedLemmas
 pub mod LawLemmas
 pub mod MakeLemmas
 pub mod NextLemmas
+pub mod NumberLemmas
 pub mod PrepareLemmas
+pub mod SessionLemmas
+pub mod SessionStandLemmas
 pub mod SmallLemmas
 pub mod SoundLemmas
+pub mod ToldLemmas
 pub mod TouchedLemmas

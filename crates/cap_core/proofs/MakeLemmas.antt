@@ -1,5 +1,5 @@
 -- One operation as a batch of its own.
-use Rattle.std.proofs.Common.{◌≡◌, ◌+◌, ℕ, Result, Ok, Err, IfOk, List, [], ◌∷◌, refl, ap, ◌∙◌}
+use Rattle.std.proofs.Common.{◌≡◌, ◌+◌, ℕ, None, Result, Ok, Err, IfOk, List, [], ◌∷◌, refl, ap, ◌∙◌}
 use Rattle.std.specs.Prelude.{IsOk}
 use Rattle.std.proofs.lemmas.List.{append-nil}
 use Rattle.cap_value.specs.declared.refusal.Refusal.{Refusal}
@@ -21,7 +21,7 @@ module _ {A : Type 0} (tables : Tables A) (op : Op A) where
       ap (λ (r : Result (Tables A) Refusal). and_then (changes tables op) r (λ next. run next [])) is
       ∙ ap (λ (cs : List (Change A)). let left : Result (OutcomeState A) RefusedAt = Ok (record { database = after; changes = cs }) in left) (append-nil (changes tables op))
 
-  pub one_made : (after : Tables A) → step tables op ≡ Ok after → made (run tables (op ∷ [])) ≡ Ok (record { database = after; changes = changes tables op })
+  pub one_made : (after : Tables A) → step tables op ≡ Ok after → made (run tables (op ∷ [])) ≡ Ok (record { database = after; changes = changes tables op; report = None })
   one_made after is = ap made (one_run after is)
 
   -- one operation that is accepted

@@ -1,249 +1,309 @@
 -- The state after one more event is what its command makes of the state before.
-use Rattle.std.proofs.lemmas.List.{map-append, reverse-append, length-reverse}
-use Rattle.std.proofs.Common.{◌≡◌, ℕ, suc, zero, ◌+◌, ◌<◌, ◌≤◌, Bool, true, false, cond, Some, None, Ok, Err, List, [], ◌∷◌, ◌++◌, ◌&&◌, map, length, refl, sym, ap, ap₂, subst, ◌∙◌, arith, nat_eq, nat_le, add-one, add-zero}
-use Rattle.std.specs.Prelude.{reverse}
+use Rattle.std.proofs.lemmas.List.{length-reverse, map-append, reverse-append}
+use Rattle.std.proofs.Common.{◌≡◌, ℕ, ◌+◌, ◌<◌, Bool, true, false, cond, Option, Some, None, Ok, Err, List, [], ◌∷◌, ◌++◌, ◌&&◌, ◌||◌, not, map, length, refl, sym, ap, ap₂, subst, ◌∙◌, arith, nat_eq, nat_le, add-one}
+use Rattle.std.specs.Prelude.{filter, reverse}
 use Rattle.std.specs.List.{range_with_len}
-use Rattle.std.specs.Map.{lookup}
-use Rattle.std.proofs.lemmas.Bool.Decides.{nat_tests}
+use Rattle.std.specs.Option.{option_map, unwrap_or}
+use Rattle.cap_value.specs.Bytes.{bytes_cmp}
 use Rattle.cap_value.specs.declared.refusal.Refusal.TheVariants.{TooMany, NoSession}
-use Rattle.cap_value.specs.Bytes.{bytes_eq}
-use Rattle.cap_txn.specs.Batch.{SnapshotState}
+use Rattle.cap_filter.specs.Rule.{Rule}
+use Rattle.cap_tree.specs.Tree.{put_entry}
+use Rattle.cap_apply.specs.Report.{ReportState}
+use Rattle.cap_session.specs.Note.{note}
+use Rattle.cap_session.specs.Session.{SessionState, attach_all, new_session, restart, set_filter}
+use Rattle.cap_session.specs.Sessions.{session_numbered, with_session}
 use Rattle.cap_core.specs.declared.limits.TheConstants.{SESSIONS_MAX}
 use Rattle.cap_core.specs.declared.event.Event.{Event}
 use Rattle.cap_core.specs.declared.command.Command.{Command}
 use Rattle.cap_core.specs.declared.command.Command.TheVariants as command
 use Rattle.cap_core.specs.declared.reply.Reply.{Reply}
-use Rattle.cap_core.specs.declared.reply.Reply.TheVariants.{Done, Written, Session as SessionMade, Snapshot, Capture, Refused}
-use Rattle.cap_core.specs.Answer.{event_by, state, reply_of, IsLegal, State, state_after, IsLegalPast, answer, session_numbered, write_reply, session_reply, attach_reply, capture_reply, refusal}
-use Rattle.cap_core.specs.History.{Past, effect_of, event_effect, is_write, is_accepted, makes_session, main, snapshot, version, sessions_made, sessions, live_sessions, session_of, names_attached, attachings, event_attachings, attach_list, event_touches, touches}
-use Rattle.cap_core.specs.Outcome.{no_effect, outcome}
-use Rattle.cap_core.specs.Session.{SessionState, TouchedRows, session_changes, first_of_each, is_listed, touched_rows}
-use Rattle.cap_core.specs.Touch.{Attaching, touches_of}
-use Rattle.cap_core.specs.Transition.{attach, next, after_write, after_new_session, after_attach, one_more, with_session, touch_session, touches_by}
-use Rattle.cap_core.proofs.HistoryLemmas.{IsQuiet, sessions-quiet, session_of-quiet, session_of-changes, event_touches-none, touches-quiet, first_of_each-push, is_listed-first_of_each, map-map, is_listed-map, none_of, touches_of-append}
-use Rattle.cap_core.proofs.SmallLemmas.{either_false}
-use Rattle.cap_core.proofs.TouchedLemmas.{touched_rows-none}
-use Rattle.std.proofs.lemmas.List.Folds.{list_any-append}
+use Rattle.cap_core.specs.declared.reply.Reply.TheVariants.{Capture, Done, Flag, Refused, Snapshot, Session as SessionMade}
+use Rattle.cap_core.specs.Answer.{IsLegal, IsLegalPast, State, answer, capture_reply, diff_reply, diffed, done_reply, empty_reply, enabled_reply, event_by, has_room_for, indirect_reply, refusal, reply_of, save_reply, session_reply, state, state_after, version_reply, write_reply}
+use Rattle.cap_core.specs.Capture.{session_changes}
+use Rattle.cap_core.specs.Diff.{diff}
+use Rattle.cap_core.specs.Flags.{drops, is_dropped, live_sessions, makes_session, sessions_made}
+use Rattle.cap_core.specs.History.{effect_of, event_effect, is_write, main, name_saved, save_under, saved, snapshot, version}
+use Rattle.cap_core.specs.Outcome.{Effect, no_effect, outcome}
+use Rattle.cap_core.specs.Past.{Past, is_accepted}
+use Rattle.cap_core.specs.Session.{session_of, sessions}
+use Rattle.cap_core.specs.Transition.{after_drop, after_new_session, after_save, after_write, attached, changed_session, compared, enabled_as, indirect_as, next, one_more, written}
+use Rattle.cap_core.proofs.HistoryLemmas.{map-map}
+use Rattle.cap_core.proofs.SessionLemmas.{and_false, effect-refused, flags-elsewhere, note-new, session-elsewhere, session-quiet, session-refused, silent-elsewhere, speaks_to}
+use Rattle.cap_core.proofs.NumberLemmas.{apart_numbers, equal_numbers, lookup-beyond, lookup-passing, made_before, numbered, passing, passing-push, same_number, with-passing, without-none, without-passing}
+use Rattle.cap_core.proofs.ToldLemmas.{attach-here, attach_all-here, compared-here, enabled-here, filter-here, indirect-here, restart-here}
 
--- ---- lists under numbers
-
-range-push : (a n : ℕ) → range_with_len a (suc n) ≡ range_with_len a n ++ (a + n) ∷ []
-range-push a zero = ap (λ k. k ∷ []) (sym (add-zero a))
-range-push a (suc n) = let same : (a + 1) + n ≡ a + suc n = omega arith in ap (λ ks. a ∷ ks) (range-push (a + 1) n ∙ ap (λ k. range_with_len (a + 1) n ++ k ∷ []) same)
-
-pub same_number : (n : ℕ) → nat_eq n n ≡ true
-same_number n = grind (arith, nat_tests)
-
-pub apart_numbers : (m n : ℕ) → (n ≡ m → ⊥) → nat_eq m n ≡ false
-apart_numbers m n apart = grind (arith, nat_tests)
-
-pub equal_numbers : (m n : ℕ) → nat_eq m n ≡ true → m ≡ n
-equal_numbers m n is = grind (arith, nat_tests)
-
-pub unequal_numbers : (m n : ℕ) → nat_eq m n ≡ false → m ≡ n → ⊥
-unequal_numbers m n is e = let clash : true ≡ false = sym (same_number n) ∙ ap (λ k. nat_eq k n) (sym e) ∙ is in cc
-
-module _ {X : Type 0} where
-  abbrev numbered : (ℕ → X) → ℕ → ℕ → List (ℕ × X)
-  numbered f a n = map (λ k. (k, f k)) (range_with_len a n)
-
-  lookup-range : (f : ℕ → X) (a n number : ℕ) (x : X) → lookup (nat_eq number) (numbered f a n) ≡ Some x → (number < a + n) × (x ≡ f number)
-  lookup-range f a zero number x is = cc
-  lookup-range f a (suc n) number x is =
-      elim (nat_eq number a) as (λ b. nat_eq number a ≡ b → cond b (Some (f a)) (lookup (nat_eq number) (numbered f (a + 1) n)) ≡ Some x → (number < a + suc n) × (x ≡ f number)) [
-        | true ↦ λ t found. let same = equal_numbers number a t in let here : f a ≡ x = cc in (omega arith, sym here ∙ ap f (sym same))
-        | false ↦ λ _ found. let rest = lookup-range f (a + 1) n number x found in (let lt = rest.0 in omega arith, rest.1)
-      ] refl is
-
-  lookup-beyond : (f : ℕ → X) (a n number : ℕ) → a + n ≤ number → lookup (nat_eq number) (numbered f a n) ≡ None
-  lookup-beyond f a zero number le = refl
-  lookup-beyond f a (suc n) number le =
-      let apart : nat_eq number a ≡ false = grind (arith, nat_tests) in
-      ap (λ b. cond b (Some (f a)) (lookup (nat_eq number) (numbered f (a + 1) n))) apart ∙ lookup-beyond f (a + 1) n number (omega arith)
-
-  map-range-same : (f g : ℕ → X) (a n : ℕ) → ((j : ℕ) → a ≤ j → f j ≡ g j) → numbered f a n ≡ numbered g a n
-  map-range-same f g a zero same = refl
-  map-range-same f g a (suc n) same = ap₂ (λ x xs. (a, x) ∷ xs) (same a (omega arith)) (map-range-same f g (a + 1) n (λ j le. same j (omega arith)))
+accepted_version : (A : Type 0) (number : ℕ) (report : Option ReportState) → is_accepted {A = A} (version_reply number report) ≡ true
+accepted_version A number None = refl
+accepted_version A number (Some report) = refl
 
 module _ {A : Type 0} where
-  with-range : (f g : ℕ → SessionState A) (a n number : ℕ) (new : SessionState A) → new ≡ g number → ((j : ℕ) → (j ≡ number → ⊥) → f j ≡ g j) → with_session (numbered f a n) number new ≡ numbered g a n
-  with-range f g a zero number new is others = refl
-  with-range f g a (suc n) number new is others =
-      elim (nat_eq number a) as (λ b. nat_eq number a ≡ b → cond b ((a, new) ∷ numbered f (a + 1) n) ((a, f a) ∷ with_session (numbered f (a + 1) n) number new) ≡ (a, g a) ∷ numbered g (a + 1) n) [
-        | true ↦ λ t.
-            let same = equal_numbers number a t in
-            ap₂ (λ x xs. (a, x) ∷ xs) (is ∙ ap g same) (map-range-same f g (a + 1) n (λ j le. others j (λ e. omega arith)))
-        | false ↦ λ t.
-            ap₂ (λ x xs. (a, x) ∷ xs) (others a (λ e. unequal_numbers number a t (sym e))) (with-range f g (a + 1) n number new is others)
-      ] refl
+  same_state : (s t : State A) → s.events ≡ t.events → s.main ≡ t.main → s.version ≡ t.version → s.saved ≡ t.saved → s.sessions_made ≡ t.sessions_made → s.sessions ≡ t.sessions → s ≡ t
+  same_state s t e m v d n k = λ i. record { events = e i; main = m i; version = v i; saved = d i; sessions_made = n i; sessions = k i }
 
-abbrev table_names : List Attaching → List (List ℕ)
-table_names moments = map (λ moment. moment.table) moments
-
-none_attached : (b : Bool) → cond b [] [] ≡ (let none : List Attaching = [] in none)
-none_attached true = refl
-none_attached false = refl
-
-made_before : (b : Bool) (n number : ℕ) → cond b (n + 1) n < number → n < number
-made_before true n number lt = omega arith
-made_before false n number lt = lt
-
-module _ {A : Type 0} where
-  same_state : (s t : State A) → s.events ≡ t.events → s.main ≡ t.main → s.version ≡ t.version → s.sessions_made ≡ t.sessions_made → s.sessions ≡ t.sessions → s ≡ t
-  same_state s t e m v n k = λ i. record { events = e i; main = m i; version = v i; sessions_made = n i; sessions = k i }
+  abbrev is_live : Past A → ℕ → Bool
+  is_live past number = not (is_dropped past number)
 
   -- ---- a session that is not made yet
 
   numbered-none : (past : Past A) (number : ℕ) → sessions_made past < number → session_numbered (sessions past) number ≡ None
-  numbered-none past number lt = lookup-beyond (session_of past) 1 (sessions_made past) number (omega arith)
+  numbered-none past number lt = lookup-beyond (is_live past) (session_of past) 1 (sessions_made past) number (omega arith)
 
-  abbrev attached_at : Past A → List (List ℕ) → List Attaching
-  attached_at past names = map (λ name. record { table = name; event = length past; change = 0 }) names
+  unknown-refused : (s : State A) (number : ℕ) → session_numbered s.sessions number ≡ None → (c : Command A) → speaks_to number c ≡ true → is_accepted (answer s c) ≡ false
+  unknown-refused s number none (command.Attach other name) is = ap (λ found. is_accepted (done_reply found)) (ap (session_numbered s.sessions) (equal_numbers other number is) ∙ none)
+  unknown-refused s number none (command.AttachAll other) is = ap (λ found. is_accepted (done_reply found)) (ap (session_numbered s.sessions) (equal_numbers other number is) ∙ none)
+  unknown-refused s number none (command.SetFilter other filter) is = ap (λ found. is_accepted (done_reply found)) (ap (session_numbered s.sessions) (equal_numbers other number is) ∙ none)
+  unknown-refused s number none (command.Enable other asked) is = ap (λ found. is_accepted (enabled_reply asked found)) (ap (session_numbered s.sessions) (equal_numbers other number is) ∙ none)
+  unknown-refused s number none (command.Indirect other asked) is = ap (λ found. is_accepted (indirect_reply asked found)) (ap (session_numbered s.sessions) (equal_numbers other number is) ∙ none)
+  unknown-refused s number none (command.Diff other from name) is =
+      ap (λ found. is_accepted (diff_reply (diff s.main s.saved from name) found)) (ap (session_numbered s.sessions) (equal_numbers other number is) ∙ none)
+  unknown-refused s number none (command.Restart other) is = ap (λ found. is_accepted (capture_reply s.main found)) (ap (session_numbered s.sessions) (equal_numbers other number is) ∙ none)
+  unknown-refused s number none _ is = cc
 
-  event_attachings-none : (past : Past A) (event : Event A) (number : ℕ) → event.reply ≡ answer (state_after past) event.command → sessions_made past < number → event_attachings number event past ≡ []
-  event_attachings-none past event number legal lt =
-      elim event.command as (λ c. event.reply ≡ answer (state_after past) c → cond (is_accepted event.reply) (attached_at past (names_attached number c)) [] ≡ []) [
-        | command.CreateTable name schema ↦ λ _. none_attached (is_accepted event.reply)
-        | command.Commit batch ↦ λ _. none_attached (is_accepted event.reply)
-        | command.Read ↦ λ _. none_attached (is_accepted event.reply)
-        | command.NewSession ↦ λ _. none_attached (is_accepted event.reply)
-        | command.Attach other name ↦ λ is. elim (nat_eq other number) as (λ b. nat_eq other number ≡ b → cond (is_accepted event.reply) (attached_at past (cond b (name ∷ []) [])) [] ≡ []) [
-          | true ↦ λ t.
-              let same : other ≡ number = equal_numbers other number t in
-              let unknown : is_accepted event.reply ≡ false = ap is_accepted (is ∙ ap attach_reply (ap (session_numbered (sessions past)) same ∙ numbered-none past number lt)) in
-              ap (λ b. cond b (attached_at past (name ∷ [])) []) unknown
-          | false ↦ λ _. none_attached (is_accepted event.reply)
-        ] refl
-        | command.Capture other ↦ λ _. none_attached (is_accepted event.reply)
-      ] legal
+  unknown-stays : (s : State A) (number : ℕ) → session_numbered s.sessions number ≡ None → (c : Command A) → (is_accepted (answer s c) && drops number c) ≡ false
+  unknown-stays s number none (command.DropSession other) =
+      elim (nat_eq other number) as (λ b. nat_eq other number ≡ b → (is_accepted (done_reply (session_numbered s.sessions other)) && b) ≡ false) [
+        | true ↦ λ is. ap (λ found. is_accepted (done_reply found) && true) (ap (session_numbered s.sessions) (equal_numbers other number is) ∙ none)
+        | false ↦ λ _. and_false _
+      ] refl
+  unknown-stays s number none c = and_false (is_accepted (answer s c))
 
-  attachings-none : (past : Past A) (number : ℕ) → IsLegalPast past → sessions_made past < number → attachings number past ≡ []
-  attachings-none [] number legal lt = refl
-  attachings-none (event ∷ past) number legal lt =
+  not_made : (past : Past A) (number : ℕ) → IsLegalPast past → sessions_made past < number → (session_of past number ≡ new_session) × (is_dropped past number ≡ false)
+  not_made [] number legal lt = (refl, refl)
+  not_made (event ∷ past) number legal lt =
       let before = made_before (is_accepted event.reply && makes_session event.command) (sessions_made past) number lt in
-      ap₂ (λ a b. a ++ b) (attachings-none past number legal.1 before) (event_attachings-none past event number legal.0 before)
+      let known = not_made past number legal.1 before in
+      let none = numbered-none past number before in
+      let changes = (event_effect (snapshot past) event).changes in (
+        elim (speaks_to number event.command) as (λ b. speaks_to number event.command ≡ b → session_of (event ∷ past) number ≡ new_session) [
+          | true ↦ λ speaks. session-refused number event past (ap is_accepted legal.0 ∙ unknown-refused (state_after past) number none event.command speaks) ∙ known.0
+          | false ↦ λ apart. session-elsewhere number event past apart ∙ ap (note (main past) changes) known.0 ∙ note-new (main past) changes
+        ] refl,
+        ap (λ reply. (is_accepted reply && drops number event.command) || is_dropped past number) legal.0
+            ∙ ap₂ (λ a b. a || b) (unknown-stays (state_after past) number none event.command) known.1,
+      )
 
-  -- ---- a table that is not attached yet
-
-  touches-none : (number : ℕ) (name : List ℕ) (past : Past A) → is_listed name (attach_list number past) ≡ false → touches_of name (touches number past) ≡ []
-  touches-none number name [] absent = refl
-  touches-none number name (event ∷ past) absent =
-      let now : is_listed name (table_names (attachings number (event ∷ past))) ≡ false = sym (is_listed-first_of_each name (table_names (attachings number (event ∷ past)))) ∙ absent in
-      let before : is_listed name (table_names (attachings number past)) ≡ false =
-      either_false (is_listed name (table_names (attachings number past))) (is_listed name (table_names (event_attachings number event past)))
-      (sym (list_any-append (bytes_eq name) (table_names (attachings number past)) (table_names (event_attachings number event past)))
-      ∙ ap (is_listed name) (sym (map-append {A = Attaching} {B = List ℕ} (λ moment. moment.table) (attachings number past) (event_attachings number event past)))
-      ∙ now) in
-      touches_of-append name (touches number past) (event_touches number event past)
-      ∙ ap₂ (λ a b. a ++ b) (touches-none number name past (is_listed-first_of_each name (table_names (attachings number past)) ∙ before))
-      (none_of (attachings number (event ∷ past)) name now _)
-
-  -- ---- one more event, command by command
-
-  effect-refused : (event : Event A) (now : SnapshotState A) → is_accepted event.reply ≡ false → event_effect now event ≡ no_effect now.database
-  effect-refused event now unaccepted = ap (λ b. cond b (effect_of now.database (outcome now event.command)) (no_effect now.database)) unaccepted
-
-  refused_quiet : (event : Event A) (past : Past A) → is_accepted event.reply ≡ false → IsQuiet event past
-  refused_quiet event past unaccepted = record {
-    attaches = λ number. ap (λ b. cond b (attached_at past (names_attached number event.command)) []) unaccepted;
-    touched = λ number. event_touches-none number event past (ap (λ e. e.changes) (effect-refused event (snapshot past) unaccepted));
-  }
-
-  abbrev sessions_numbered : Past A → ℕ → List (ℕ × SessionState A)
-  sessions_numbered past made = map (λ number. (number, session_of past number)) (range_with_len 1 made)
+  -- ---- commands that change no session
 
   pub after_refusal : (event : Event A) (past : Past A) → is_accepted event.reply ≡ false → one_more (state_after past) ≡ state_after (event ∷ past)
-  after_refusal event past unaccepted =
-      let made : sessions_made (event ∷ past) ≡ sessions_made past = ap (λ b. cond (b && makes_session event.command) (sessions_made past + 1) (sessions_made past)) unaccepted in
+  after_refusal event past refused =
       same_state _ _ (add-one (length past))
-      (sym (ap (λ e. e.database) (effect-refused event (snapshot past) unaccepted)))
-      (sym (ap (λ b. cond (b && is_write event.command) (version past + 1) (version past)) unaccepted))
-      (sym made)
-      (sym (ap (sessions_numbered (event ∷ past)) made ∙ sessions-quiet event past (refused_quiet event past unaccepted) (range_with_len 1 (sessions_made past))))
+      (sym (ap (λ e. e.database) (effect-refused event (snapshot past) refused)))
+      (sym (ap (λ b. cond (b && is_write event.command) (version past + 1) (version past)) refused))
+      (sym (ap (λ b. cond b (save_under (name_saved event.command) (main past) (saved past)) (saved past)) refused))
+      (sym (ap (λ b. cond (b && makes_session event.command) (sessions_made past + 1) (sessions_made past)) refused))
+      (sym (λ i.
+      map (λ number. (number, session-refused number event past refused i))
+      (filter (λ number. not ((refused i && drops number event.command) || is_dropped past number)) (range_with_len 1 (cond (refused i && makes_session event.command) (sessions_made past + 1) (sessions_made past))))))
 
-  next-write : (past : Past A) (by : ℕ) (c : Command A) → is_write c ≡ true → makes_session c ≡ false → ((number : ℕ) → names_attached number c ≡ [])
+  sessions-still : (event : Event A) (past : Past A) → ((number : ℕ) → speaks_to number event.command ≡ false) → (event_effect (snapshot past) event).changes ≡ []
+      → sessions past ≡ numbered (session_of (event ∷ past)) (live_sessions past)
+  sessions-still event past apart none =
+      sym (λ i. map (λ number. (number, session-quiet number event past (silent-elsewhere number event past (apart number)) (flags-elsewhere number event past (apart number)) none i)) (live_sessions past))
+
+  -- ---- commands that write
+
+  -- a command that writes and says nothing to a session
+  record IsWrite (c : Command A) : Type 0 where
+    writes : is_write c ≡ true
+    makes : makes_session c ≡ false
+    saves : name_saved c ≡ None
+    drops : (number : ℕ) → drops number c ≡ false
+    speaks : (number : ℕ) → speaks_to number c ≡ false
+
+  next-written : (past : Past A) (event : Event A) (effect : Effect A) → IsWrite event.command → is_accepted event.reply ≡ true → outcome (snapshot past) event.command ≡ Ok effect
+      → written (state_after past) effect.database effect.changes ≡ state_after (event ∷ past)
+  next-written past event effect write accepted is =
+      let effected : event_effect (snapshot past) event ≡ effect = λ i. cond (accepted i) (effect_of (main past) (is i)) (no_effect (main past)) in
+      let noted : (number : ℕ) → note (main past) effect.changes (session_of past number) ≡ session_of (event ∷ past) number =
+      λ number. sym (session-elsewhere number event past (write.speaks number) ∙ ap (λ e. note (main past) e.changes (session_of past number)) effected) in
+      let made : sessions_made (event ∷ past) ≡ sessions_made past = λ i. cond (accepted i && write.makes i) (sessions_made past + 1) (sessions_made past) in
+      let live : live_sessions (event ∷ past) ≡ live_sessions past = λ i. filter (λ number. not ((accepted i && write.drops number i) || is_dropped past number)) (range_with_len 1 (made i)) in
+      same_state _ _ (add-one (length past))
+      (sym (ap (λ e. e.database) effected))
+      (sym (λ i. cond (accepted i && write.writes i) (version past + 1) (version past)))
+      (sym (λ i. cond (accepted i) (save_under (write.saves i) (main past) (saved past)) (saved past)))
+      (sym made)
+      (map-map (λ session. (session.0, note (main past) effect.changes session.1)) (λ number. (number, session_of past number)) (live_sessions past)
+      ∙ (λ i. map (λ number. (number, noted number i)) (live_sessions past))
+      ∙ ap (numbered (session_of (event ∷ past))) (sym live))
+
+  next-write : (past : Past A) (by : ℕ) (c : Command A) → IsWrite c
       → after_write (state_after past) (outcome (snapshot past) c) ≡ state_after (event_by by c (write_reply (state_after past) (outcome (snapshot past) c)) ∷ past)
-  next-write past by c writes none attaches =
+  next-write past by c write =
       elim (outcome (snapshot past) c) as (λ r. outcome (snapshot past) c ≡ r → after_write (state_after past) r ≡ state_after (event_by by c (write_reply (state_after past) r) ∷ past)) [
         | Err why ↦ λ is. after_refusal (event_by by c (Refused why.0 why.1)) past refl
-        | Ok effect ↦ λ is.
-            let event : Event A = event_by by c (Written (version past + 1)) in
-            let made : sessions_made (event ∷ past) ≡ sessions_made past = ap (λ b. cond b (sessions_made past + 1) (sessions_made past)) none in
-            let session : (number : ℕ) → touch_session (touches_by (main past) effect.changes) (session_of past number) ≡ session_of (event ∷ past) number =
-            λ number. ap (λ r. touch_session (touches_by (main past) (effect_of (main past) r).changes) (session_of past number)) (sym is) ∙ sym (session_of-changes number event past (ap (attached_at past) (attaches number))) in
-            same_state _ _ (add-one (length past))
-            (sym (ap (λ r. (effect_of (main past) r).database) is))
-            (sym (ap (λ b. cond b (version past + 1) (version past)) writes))
-            (sym made)
-            (map-map (λ session. (session.0, touch_session (touches_by (main past) effect.changes) session.1)) (λ number. (number, session_of past number)) (live_sessions past)
-            ∙ (λ i. map (λ number. (number, session number i)) (live_sessions past))
-            ∙ ap (sessions_numbered (event ∷ past)) (sym made))
+        | Ok effect ↦ λ is. next-written past (event_by by c (version_reply (version past + 1) effect.report)) effect write (accepted_version A (version past + 1) effect.report) is
       ] refl
 
-  session_of-new : (past : Past A) (number : ℕ) → attachings number past ≡ [] → session_of past number ≡ []
-  session_of-new past number none = ap (λ moments. map {B = List ℕ × TouchedRows A} (λ name. (name, touched_rows (touches_of name (touches number past)))) (first_of_each (table_names moments))) none
+  next-save : (past : Past A) (by : ℕ) (name : List ℕ) → after_save (state_after past) name ≡ state_after (event_by by (command.SaveAs name) (save_reply (saved past) name) ∷ past)
+  next-save past by name =
+      elim (has_room_for (saved past) name) as (λ b. cond b (record (one_more (state_after past)) { saved = put_entry bytes_cmp (saved past) name (main past) }) (one_more (state_after past))
+      ≡ state_after (event_by by (command.SaveAs name) (cond b Done (refusal TooMany)) ∷ past)) [
+        | true ↦ let event : Event A = event_by by (command.SaveAs name) Done in same_state _ _ (add-one (length past)) refl refl refl refl (sessions-still event past (λ _. refl) refl)
+        | false ↦ after_refusal (event_by by (command.SaveAs name) (refusal TooMany)) past refl
+      ]
+
+  -- ---- the sessions
 
   next-new_session : (past : Past A) (by : ℕ) → IsLegalPast past
       → after_new_session (state_after past) ≡ state_after (event_by by command.NewSession (session_reply (state_after past)) ∷ past)
   next-new_session past by legal =
-      elim (nat_le SESSIONS_MAX (length (sessions past))) as (λ b. cond b (one_more (state_after past)) (record (one_more (state_after past)) { sessions_made = sessions_made past + 1; sessions = sessions past ++ (sessions_made past + 1, []) ∷ [] })
+      elim (nat_le SESSIONS_MAX (length (sessions past))) as (λ b. cond b (one_more (state_after past)) (record (one_more (state_after past)) { sessions_made = sessions_made past + 1; sessions = sessions past ++ (sessions_made past + 1, new_session) ∷ [] })
       ≡ state_after (event_by by command.NewSession (cond b (refusal TooMany) (SessionMade (sessions_made past + 1))) ∷ past)) [
         | true ↦ after_refusal (event_by by command.NewSession (refusal TooMany)) past refl
         | false ↦
             let event : Event A = event_by by command.NewSession (SessionMade (sessions_made past + 1)) in
-            let quiet : IsQuiet event past = record { attaches = λ _. refl; touched = λ number. event_touches-none number event past refl } in
             let n = sessions_made past in
             let lt : n < 1 + n = omega arith in
             let same : 1 + n ≡ n + 1 = omega arith in
-            same_state _ _ (add-one (length past)) refl refl refl
-            (sym (ap (sessions_numbered (event ∷ past)) (add-one n)
-            ∙ ap (map (λ number. (number, session_of (event ∷ past) number))) (range-push 1 n)
-            ∙ map-append (λ number. (number, session_of (event ∷ past) number)) (range_with_len 1 n) ((1 + n) ∷ [])
-            ∙ ap₂ (λ xs x. xs ++ x ∷ []) (sessions-quiet event past quiet (range_with_len 1 n))
-            (ap₂ (λ k x. (k, x)) same
-            (session_of-quiet (1 + n) event past refl (quiet.touched (1 + n)) ∙ session_of-new past (1 + n) (attachings-none past (1 + n) legal lt)))))
+            let new = not_made past (1 + n) legal lt in
+            let here : session_of (event ∷ past) (1 + n) ≡ new_session =
+            session-quiet (1 + n) event past (silent-elsewhere (1 + n) event past refl) (flags-elsewhere (1 + n) event past refl) refl ∙ new.0 in
+            same_state _ _ (add-one (length past)) refl refl refl refl
+            (sym (ap (λ k. numbered (session_of (event ∷ past)) (passing (is_live past) 1 k)) (add-one n)
+            ∙ ap (numbered (session_of (event ∷ past))) (passing-push (is_live past) n ∙ ap (λ b. live_sessions past ++ cond (not b) ((1 + n) ∷ []) []) new.1)
+            ∙ map-append (λ number. (number, session_of (event ∷ past) number)) (live_sessions past) ((1 + n) ∷ [])
+            ∙ ap₂ (λ xs x. xs ++ x ∷ []) (sym (sessions-still event past (λ _. refl) refl)) (ap₂ (λ k x. (k, x)) same here)))
       ]
 
-  attached-here : (past : Past A) (by number : ℕ) (name : List ℕ)
-      → attach name (session_of past number) ≡ session_of (event_by by (command.Attach number name) Done ∷ past) number
-  attached-here past by number name =
-      let event : Event A = event_by by (command.Attach number name) Done in
-      let moment : Attaching = record { table = name; event = length past; change = 0 } in
-      let here : event_attachings number event past ≡ moment ∷ [] = ap (λ b. attached_at past (cond b (name ∷ []) [])) (same_number number) in
-      let kept : touches number (event ∷ past) ≡ touches number past = touches-quiet number event past (event_touches-none number event past refl) in
-      let listed = is_listed name (attach_list number past) in
-      let list : attach_list number (event ∷ past) ≡ cond listed (attach_list number past) (attach_list number past ++ name ∷ []) =
-      ap (λ more. first_of_each (table_names (attachings number past ++ more))) here
-      ∙ ap first_of_each (map-append {A = Attaching} {B = List ℕ} (λ m. m.table) (attachings number past) (moment ∷ []))
-      ∙ first_of_each-push (table_names (attachings number past)) name in
-      ap (λ b. cond b (session_of past number) (session_of past number ++ (name, []) ∷ [])) (is_listed-map (λ n. touched_rows (touches_of n (touches number past))) name (attach_list number past))
-      ∙ elim listed as (λ b. listed ≡ b → cond b (session_of past number) (session_of past number ++ (name, []) ∷ []) ≡ map (λ n. (n, touched_rows (touches_of n (touches number past)))) (cond b (attach_list number past) (attach_list number past ++ name ∷ []))) [
-        | true ↦ λ _. refl
-        | false ↦ λ absent.
-            ap (λ rows. session_of past number ++ (name, rows) ∷ []) (sym touched_rows-none ∙ ap touched_rows (sym (touches-none number name past absent)))
-            ∙ sym (map-append (λ n. (n, touched_rows (touches_of n (touches number past)))) (attach_list number past) (name ∷ []))
+  next-drop : (past : Past A) (by number : ℕ)
+      → after_drop (state_after past) number ≡ state_after (event_by by (command.DropSession number) (done_reply (session_numbered (sessions past) number)) ∷ past)
+  next-drop past by number =
+      elim (session_numbered (sessions past) number) as (λ o. session_numbered (sessions past) number ≡ o → after_drop (state_after past) number ≡ state_after (event_by by (command.DropSession number) (done_reply o) ∷ past)) [
+        | None ↦ λ is.
+            ap (λ live. record (one_more (state_after past)) { sessions = live }) (without-none (sessions past) number is)
+            ∙ after_refusal (event_by by (command.DropSession number) (refusal NoSession)) past refl
+        | Some session ↦ λ is.
+            let event : Event A = event_by by (command.DropSession number) Done in
+            same_state _ _ (add-one (length past)) refl refl refl refl
+            (without-passing (is_live past) (is_live (event ∷ past)) (session_of past) (session_of (event ∷ past)) 1 (sessions_made past) number
+            (ap (λ b. not (b || is_dropped past number)) (same_number number))
+            (λ j apart. sym (ap (λ b. not (b || is_dropped past j)) (apart_numbers number j apart)))
+            (λ j. sym (session-quiet j event past (silent-elsewhere j event past refl) (flags-elsewhere j event past refl) refl)))
       ] refl
-      ∙ sym (λ i. map (λ n. (n, touched_rows (touches_of n (kept i)))) (list i))
 
-  attached-elsewhere : (past : Past A) (by number : ℕ) (name : List ℕ) (other : ℕ) → (other ≡ number → ⊥)
-      → session_of past other ≡ session_of (event_by by (command.Attach number name) Done ∷ past) other
-  attached-elsewhere past by number name other apart =
-      let event : Event A = event_by by (command.Attach number name) Done in
-      sym (session_of-quiet other event past (ap (λ b. attached_at past (cond b (name ∷ []) [])) (apart_numbers number other apart)) (event_touches-none other event past refl))
+  -- ---- one session
+
+  -- a command to one session changes it alone
+  changed-sessions : (past : Past A) (event : Event A) (number : ℕ) (session : SessionState A) (change : SessionState A → SessionState A)
+      → ((j : ℕ) → (j ≡ number → ⊥) → speaks_to j event.command ≡ false) → (event_effect (snapshot past) event).changes ≡ []
+      → session_numbered (sessions past) number ≡ Some session → change (session_of past number) ≡ session_of (event ∷ past) number
+      → with_session (sessions past) number (change session) ≡ numbered (session_of (event ∷ past)) (live_sessions past)
+  changed-sessions past event number session change apart none is changed =
+      let found = lookup-passing (is_live past) (session_of past) 1 (sessions_made past) number session is in
+      with-passing (is_live past) (session_of past) (session_of (event ∷ past)) 1 (sessions_made past) number (change session) (ap change found.1 ∙ changed)
+      (λ j other. sym (session-quiet j event past (silent-elsewhere j event past (apart j other)) (flags-elsewhere j event past (apart j other)) none))
 
   next-attach : (past : Past A) (by number : ℕ) (name : List ℕ)
-      → after_attach (state_after past) number name (session_numbered (sessions past) number) ≡ state_after (event_by by (command.Attach number name) (attach_reply (session_numbered (sessions past) number)) ∷ past)
+      → changed_session (state_after past) number (option_map (attached name) (session_numbered (sessions past) number)) ≡ state_after (event_by by (command.Attach number name) (done_reply (session_numbered (sessions past) number)) ∷ past)
   next-attach past by number name =
-      elim (session_numbered (sessions past) number) as (λ o. session_numbered (sessions past) number ≡ o → after_attach (state_after past) number name o ≡ state_after (event_by by (command.Attach number name) (attach_reply o) ∷ past)) [
+      elim (session_numbered (sessions past) number) as (λ o. session_numbered (sessions past) number ≡ o → changed_session (state_after past) number (option_map (attached name) o) ≡ state_after (event_by by (command.Attach number name) (done_reply o) ∷ past)) [
         | None ↦ λ is. after_refusal (event_by by (command.Attach number name) (refusal NoSession)) past refl
         | Some session ↦ λ is.
             let event : Event A = event_by by (command.Attach number name) Done in
-            let found = lookup-range (session_of past) 1 (sessions_made past) number session is in
-            same_state _ _ (add-one (length past)) refl refl refl
-            (with-range (session_of past) (session_of (event ∷ past)) 1 (sessions_made past) number (attach name session)
-            (ap (attach name) found.1 ∙ attached-here past by number name)
-            (attached-elsewhere past by number name))
+            same_state _ _ (add-one (length past)) refl refl refl refl
+            (changed-sessions past event number session (attached name) (λ j apart. apart_numbers number j apart) refl is (attach-here past by number name))
       ] refl
+
+  next-attach_all : (past : Past A) (by number : ℕ)
+      → changed_session (state_after past) number (option_map attach_all (session_numbered (sessions past) number)) ≡ state_after (event_by by (command.AttachAll number) (done_reply (session_numbered (sessions past) number)) ∷ past)
+  next-attach_all past by number =
+      elim (session_numbered (sessions past) number) as (λ o. session_numbered (sessions past) number ≡ o → changed_session (state_after past) number (option_map attach_all o) ≡ state_after (event_by by (command.AttachAll number) (done_reply o) ∷ past)) [
+        | None ↦ λ is. after_refusal (event_by by (command.AttachAll number) (refusal NoSession)) past refl
+        | Some session ↦ λ is.
+            let event : Event A = event_by by (command.AttachAll number) Done in
+            same_state _ _ (add-one (length past)) refl refl refl refl
+            (changed-sessions past event number session attach_all (λ j apart. apart_numbers number j apart) refl is (attach_all-here past by number))
+      ] refl
+
+  next-set_filter : (past : Past A) (by number : ℕ) (filter : Rule)
+      → changed_session (state_after past) number (option_map (set_filter filter) (session_numbered (sessions past) number)) ≡ state_after (event_by by (command.SetFilter number filter) (done_reply (session_numbered (sessions past) number)) ∷ past)
+  next-set_filter past by number filter =
+      elim (session_numbered (sessions past) number) as (λ o. session_numbered (sessions past) number ≡ o → changed_session (state_after past) number (option_map (set_filter filter) o) ≡ state_after (event_by by (command.SetFilter number filter) (done_reply o) ∷ past)) [
+        | None ↦ λ is. after_refusal (event_by by (command.SetFilter number filter) (refusal NoSession)) past refl
+        | Some session ↦ λ is.
+            let event : Event A = event_by by (command.SetFilter number filter) Done in
+            same_state _ _ (add-one (length past)) refl refl refl refl
+            (changed-sessions past event number session (set_filter filter) (λ j apart. apart_numbers number j apart) refl is (filter-here past by number filter))
+      ] refl
+
+  next-enable : (past : Past A) (by number : ℕ) (asked : Option Bool)
+      → changed_session (state_after past) number (option_map (enabled_as asked) (session_numbered (sessions past) number))
+      ≡ state_after (event_by by (command.Enable number asked) (enabled_reply asked (session_numbered (sessions past) number)) ∷ past)
+  next-enable past by number asked =
+      elim (session_numbered (sessions past) number) as (λ o. session_numbered (sessions past) number ≡ o → changed_session (state_after past) number (option_map (enabled_as asked) o) ≡ state_after (event_by by (command.Enable number asked) (enabled_reply asked o) ∷ past)) [
+        | None ↦ λ is. after_refusal (event_by by (command.Enable number asked) (refusal NoSession)) past refl
+        | Some session ↦ λ is.
+            let event : Event A = event_by by (command.Enable number asked) (Flag (unwrap_or asked session.enabled)) in
+            same_state _ _ (add-one (length past)) refl refl refl refl
+            (changed-sessions past event number session (enabled_as asked) (λ j apart. apart_numbers number j apart) refl is (enabled-here past by number asked))
+      ] refl
+
+  next-indirect : (past : Past A) (by number : ℕ) (asked : Option Bool)
+      → changed_session (state_after past) number (option_map (indirect_as asked) (session_numbered (sessions past) number))
+      ≡ state_after (event_by by (command.Indirect number asked) (indirect_reply asked (session_numbered (sessions past) number)) ∷ past)
+  next-indirect past by number asked =
+      elim (session_numbered (sessions past) number) as (λ o. session_numbered (sessions past) number ≡ o → changed_session (state_after past) number (option_map (indirect_as asked) o) ≡ state_after (event_by by (command.Indirect number asked) (indirect_reply asked o) ∷ past)) [
+        | None ↦ λ is. after_refusal (event_by by (command.Indirect number asked) (refusal NoSession)) past refl
+        | Some session ↦ λ is.
+            let event : Event A = event_by by (command.Indirect number asked) (Flag (unwrap_or asked session.indirect)) in
+            same_state _ _ (add-one (length past)) refl refl refl refl
+            (changed-sessions past event number session (indirect_as asked) (λ j apart. apart_numbers number j apart) refl is (indirect-here past by number asked))
+      ] refl
+
+  next-restart : (past : Past A) (by number : ℕ)
+      → changed_session (state_after past) number (option_map restart (session_numbered (sessions past) number)) ≡ state_after (event_by by (command.Restart number) (capture_reply (main past) (session_numbered (sessions past) number)) ∷ past)
+  next-restart past by number =
+      elim (session_numbered (sessions past) number) as (λ o. session_numbered (sessions past) number ≡ o → changed_session (state_after past) number (option_map restart o) ≡ state_after (event_by by (command.Restart number) (capture_reply (main past) o) ∷ past)) [
+        | None ↦ λ is. after_refusal (event_by by (command.Restart number) (refusal NoSession)) past refl
+        | Some session ↦ λ is.
+            let event : Event A = event_by by (command.Restart number) (Capture (session_changes (main past) session)) in
+            same_state _ _ (add-one (length past)) refl refl refl refl
+            (changed-sessions past event number session restart (λ j apart. apart_numbers number j apart) refl is (restart-here past by number))
+      ] refl
+
+  -- ---- a diff
+
+  same-session_there : (past : Past A) (number : ℕ) (session : SessionState A) → session_numbered (sessions past) number ≡ Some session → with_session (sessions past) number session ≡ sessions past
+  same-session_there past number session is =
+      with-passing (is_live past) (session_of past) (session_of past) 1 (sessions_made past) number session (lookup-passing (is_live past) (session_of past) 1 (sessions_made past) number session is).1 (λ j _. refl)
+
+  next-diff : (past : Past A) (by number : ℕ) (from name : List ℕ)
+      → changed_session (state_after past) number (option_map (compared name (diff (main past) (saved past) from name)) (session_numbered (sessions past) number))
+      ≡ state_after (event_by by (command.Diff number from name) (diff_reply (diff (main past) (saved past) from name) (session_numbered (sessions past) number)) ∷ past)
+  next-diff past by number from name =
+      let result = diff (main past) (saved past) from name in
+      let c : Command A = command.Diff number from name in
+      elim (session_numbered (sessions past) number) as (λ o. session_numbered (sessions past) number ≡ o → changed_session (state_after past) number (option_map (compared name result) o) ≡ state_after (event_by by c (diff_reply result o) ∷ past)) [
+        | None ↦ λ is. after_refusal (event_by by c (refusal NoSession)) past refl
+        | Some session ↦ λ is.
+            elim result as (λ r. result ≡ r → changed_session (state_after past) number (Some (compared name r session)) ≡ state_after (event_by by c (diffed r) ∷ past)) [
+              | Err why ↦ λ _.
+                  ap (λ live. record (one_more (state_after past)) { sessions = live }) (same-session_there past number session is)
+                  ∙ after_refusal (event_by by c (refusal why)) past refl
+              | Ok found ↦ λ made.
+                  same_state _ _ (add-one (length past)) refl refl refl refl
+                  (changed-sessions past (event_by by c Done) number session (compared name (Ok found)) (λ j apart. apart_numbers number j apart) refl is
+                  (ap (λ r. compared name r (session_of past number)) (sym made) ∙ compared-here past by number from name))
+            ] refl
+      ] refl
+
+  -- ---- commands that only ask
+
+  next-read : (past : Past A) (by : ℕ) → one_more (state_after past) ≡ state_after (event_by by command.Read (Snapshot (snapshot past)) ∷ past)
+  next-read past by =
+      let event : Event A = event_by by command.Read (Snapshot (snapshot past)) in
+      same_state _ _ (add-one (length past)) refl refl refl refl (sessions-still event past (λ _. refl) refl)
+
+  next-is_empty : (past : Past A) (by number : ℕ)
+      → one_more (state_after past) ≡ state_after (event_by by (command.IsEmpty number) (empty_reply (session_numbered (sessions past) number)) ∷ past)
+  next-is_empty past by number =
+      elim (session_numbered (sessions past) number) as (λ o. one_more (state_after past) ≡ state_after (event_by by (command.IsEmpty number) (empty_reply o) ∷ past)) [
+        | None ↦ after_refusal (event_by by (command.IsEmpty number) (refusal NoSession)) past refl
+        | Some session ↦
+            let event : Event A = event_by by (command.IsEmpty number) (empty_reply (Some session)) in
+            same_state _ _ (add-one (length past)) refl refl refl refl (sessions-still event past (λ _. refl) refl)
+      ]
 
   next-capture : (past : Past A) (by number : ℕ)
       → one_more (state_after past) ≡ state_after (event_by by (command.Capture number) (capture_reply (main past) (session_numbered (sessions past) number)) ∷ past)
@@ -252,23 +312,26 @@ module _ {A : Type 0} where
         | None ↦ after_refusal (event_by by (command.Capture number) (refusal NoSession)) past refl
         | Some session ↦
             let event : Event A = event_by by (command.Capture number) (Capture (session_changes (main past) session)) in
-            let quiet : IsQuiet event past = record { attaches = λ _. refl; touched = λ other. event_touches-none other event past refl } in
-            same_state _ _ (add-one (length past)) refl refl refl (sym (sessions-quiet event past quiet (live_sessions past)))
+            same_state _ _ (add-one (length past)) refl refl refl refl (sessions-still event past (λ _. refl) refl)
       ]
 
-  next-read : (past : Past A) (by : ℕ) → one_more (state_after past) ≡ state_after (event_by by command.Read (Snapshot (snapshot past)) ∷ past)
-  next-read past by =
-      let event : Event A = event_by by command.Read (Snapshot (snapshot past)) in
-      let quiet : IsQuiet event past = record { attaches = λ _. refl; touched = λ other. event_touches-none other event past refl } in
-      same_state _ _ (add-one (length past)) refl refl refl (sym (sessions-quiet event past quiet (live_sessions past)))
-
   pub next-is : (past : Past A) (by : ℕ) (c : Command A) → IsLegalPast past → next (state_after past) c ≡ state_after (event_by by c (answer (state_after past) c) ∷ past)
-  next-is past by (command.CreateTable name schema) legal = next-write past by (command.CreateTable name schema) refl refl (λ _. refl)
-  next-is past by (command.Commit batch) legal = next-write past by (command.Commit batch) refl refl (λ _. refl)
+  next-is past by (command.CreateTable name schema) legal = next-write past by (command.CreateTable name schema) (record { writes = refl; makes = refl; saves = refl; drops = λ _. refl; speaks = λ _. refl })
+  next-is past by (command.Commit batch) legal = next-write past by (command.Commit batch) (record { writes = refl; makes = refl; saves = refl; drops = λ _. refl; speaks = λ _. refl })
+  next-is past by (command.Apply blob policy) legal = next-write past by (command.Apply blob policy) (record { writes = refl; makes = refl; saves = refl; drops = λ _. refl; speaks = λ _. refl })
   next-is past by command.Read legal = next-read past by
+  next-is past by (command.SaveAs name) legal = next-save past by name
   next-is past by command.NewSession legal = next-new_session past by legal
+  next-is past by (command.DropSession number) legal = next-drop past by number
   next-is past by (command.Attach number name) legal = next-attach past by number name
+  next-is past by (command.AttachAll number) legal = next-attach_all past by number
+  next-is past by (command.SetFilter number filter) legal = next-set_filter past by number filter
+  next-is past by (command.Enable number asked) legal = next-enable past by number asked
+  next-is past by (command.Indirect number asked) legal = next-indirect past by number asked
+  next-is past by (command.IsEmpty number) legal = next-is_empty past by number
+  next-is past by (command.Diff number from name) legal = next-diff past by number from name
   next-is past by (command.Capture number) legal = next-capture past by number
+  next-is past by (command.Restart number) legal = next-restart past by number
 
   -- ---- histories, the first event first
 
@@ -300,6 +363,6 @@ pub IsLegal-none : (A : Type 0) → IsLegal {A = A} []
 unfolding IsLegal
 IsLegal-none A = tt
 
-pub state-none : (A : Type 0) → state {A = A} [] ≡ record { events = 0; main = []; version = 0; sessions_made = 0; sessions = [] }
+pub state-none : (A : Type 0) → state {A = A} [] ≡ record { events = 0; main = []; version = 0; saved = []; sessions_made = 0; sessions = [] }
 unfolding state
 state-none A = refl

@@ -1,10 +1,11 @@
--- Images that stand under their own keys, after touches and where one is found.
-use Rattle.std.proofs.Common.{◌≡◌, ℕ, ◌+◌, ◌<◌, Bool, true, false, cond, Option, Some, None, List, [], ◌∷◌, ◌&&◌, ◌++◌, map, length, refl, sym, ap, ap₂, subst, ◌∙◌, arith, not, Ordering, Less, Equal, Greater, IsTrue, Bor, Result, Ok, Err, get_or, take, drop, drop-cons, add-one, nat_eq}
-use Rattle.std.specs.Prelude.{fold, IfSome, IfOk, nat_le, is_some}
-use Rattle.std.specs.Option.{option_copied}
+-- Images that stand under their own keys: after what changes sessions, and where one is found.
+use Rattle.std.proofs.Common.{◌≡◌, ℕ, ◌+◌, ◌<◌, Bool, true, false, cond, Option, Some, None, List, [], ◌∷◌, ◌&&◌, ◌||◌, ◌++◌, map, length, refl, sym, ap, ap₂, subst, ◌∙◌, arith, not, Ordering, Less, Equal, Greater, IsTrue, Bor, Result, Ok, Err, get_or, take, drop, drop-cons, add-one, nat_eq}
+use Rattle.std.specs.Prelude.{fold, IfSome, IfOk, nat_le, is_some, filter_map, option_and_then}
+use Rattle.std.specs.Option.{option_copied, option_map}
 use Rattle.std.specs.List.{cons_option, list_all, list_any}
 use Rattle.std.specs.Ordering.{eq_by_cmp, is_eq, match_ordering}
 use Rattle.std.specs.FinMap.{IsAntisymmetric}
+use Rattle.std.specs.Cmp.{Equal-is}
 use Rattle.std.specs.Cmp.Lexicographic.{bytes_decides}
 use Rattle.std.proofs.Math.Seq.{take-suc}
 use Rattle.std.proofs.lemmas.Bool.Decides.{nat_tests}
@@ -15,22 +16,32 @@ use Rattle.cap_row.specs.Fields.{Fields}
 use Rattle.cap_row.specs.Key.{fields_cmp, fields_cmp-Equal, key_of, key_from, key_fields}
 use Rattle.cap_row.specs.Schema.{has_key}
 use Rattle.cap_changes.specs.Change.{IsKeyedRow, change_of}
-use Rattle.cap_changes.specs.declared.change.Change.{Change}
-use Rattle.cap_table.specs.Sound.{IsTable, is_key_of, keyed_stands}
+use Rattle.cap_changes.specs.declared.change.Change.{Change as RowChange}
+use Rattle.cap_compare.specs.declared.difference.Difference.{Difference}
+use Rattle.cap_table.specs.Sound.{IsRising, IsTable, is_key_of, keyed_stands}
 use Rattle.cap_table.specs.Table.{TableState}
 use Rattle.cap_tree.specs.Tree.{get, put_entry}
 use Rattle.cap_txn.specs.Operation.{run}
 use Rattle.cap_txn.specs.Outcome.{OutcomeState}
-use Rattle.cap_txn.specs.Tables.{Tables, create, schema_of}
+use Rattle.cap_txn.specs.Read.{row_at}
+use Rattle.cap_txn.specs.Tables.{EachRises, Tables, create, schema_of, table_of}
+use Rattle.cap_txn.specs.declared.change.Change.{Change}
 use Rattle.cap_txn.specs.declared.op.Op.{Op}
-use Rattle.cap_core.specs.declared.row_touch.RowTouch.{RowTouch}
-use Rattle.cap_core.specs.declared.touched_row.TouchedRow.{TouchedRow}
-use Rattle.cap_core.specs.Answer.{session_numbered}
-use Rattle.cap_core.specs.Code.Sound.{IsSoundWrite, KeepsColumns, image_stands, touch_stands, touches_stand, touched_stand, session_stands, sessions_stand}
-use Rattle.cap_core.specs.Session.{TouchedRows, SessionState}
-use Rattle.cap_core.specs.Transition.{touch_again, touch_key, touch_table, touch_session, touch_sessions, attach, with_session}
+use Rattle.cap_txn.proofs.KeptLemmas.{each-found}
+use Rattle.cap_session.specs.declared.record.Record.{Record}
+use Rattle.cap_session.specs.declared.rule.AutomaticRule.{AutomaticRule}
+use Rattle.cap_session.specs.Note.{attach_by, attach_by_rule, is_cascade, note, note_diff, touch_of, touch_table, touch_tables, touches_found, touches_of}
+use Rattle.cap_session.specs.Records.{Records, Touch, record_after, touch, with_touches}
+use Rattle.cap_session.specs.Session.{AttachedTables, SessionState, accepts_by, attach, forget, is_listed, new_session}
+use Rattle.cap_session.specs.Sessions.{NumberedSessions, note_each, session_numbered, with_session, without_session}
+use Rattle.cap_core.specs.Code.Sound.{KeepsColumns, differences_stand, image_stands, records_stand, session_stands, sessions_stand, tables_stand}
 use Rattle.cap_core.proofs.SmallLemmas.{both, first, second}
-use Rattle.cap_core.proofs.TouchedLemmas.{tied, fields_same}
+
+tied : {K : Type 0} (R : K → K → Ordering) (x y : K) → IsAntisymmetric R → eq_by_cmp R x y ≡ true → x ≡ y
+tied R x y same t = same x y ((Equal-is (R x y)).0 t)
+
+pub fields_same : {A : Type 0} → IsAntisymmetric (fields_cmp {A = A})
+fields_same a b = (fields_cmp-Equal a b).0
 
 module _ {K X : Type 0} (R : K → K → Ordering) (test : K × X → Bool) where
   -- what passes the test of a list passes it after a put of what passes it
@@ -54,9 +65,17 @@ module _ {K X : Type 0} (R : K → K → Ordering) (test : K × X → Bool) wher
       ] refl found
 
 module _ {X Y : Type 0} where
-  list_all-map : (test : X → Bool) (check : Y → Bool) (f : X → Y) → ((x : X) → test x ≡ true → check (f x) ≡ true) → (xs : List X) → list_all test xs ≡ true → list_all check (map f xs) ≡ true
+  pub list_all-map : (test : X → Bool) (check : Y → Bool) (f : X → Y) → ((x : X) → test x ≡ true → check (f x) ≡ true) → (xs : List X) → list_all test xs ≡ true → list_all check (map f xs) ≡ true
   list_all-map test check f keeps [] all = refl
   list_all-map test check f keeps (x ∷ xs) all = both (check (f x)) _ (keeps x (first (test x) (list_all test xs) all)) (list_all-map test check f keeps xs (second (test x) (list_all test xs) all))
+
+  list_all-filter_map : (check : Y → Bool) (f : X → Option Y) → ((x : X) → IfSome (f x) (λ y. check y ≡ true)) → (xs : List X) → list_all check (filter_map f xs) ≡ true
+  list_all-filter_map check f each [] = refl
+  list_all-filter_map check f each (x ∷ xs) = inner (f x) (each x) (list_all-filter_map check f each xs)
+    where
+      inner : (made : Option Y) → IfSome made (λ y. check y ≡ true) → list_all check (filter_map f xs) ≡ true → list_all check (cons_option made (filter_map f xs)) ≡ true
+      inner None is rest = rest
+      inner (Some y) is rest = both (check y) _ is rest
 
 module _ {X : Type 0} (test : X → Bool) where
   list_all-weaker : (check : X → Bool) → ((x : X) → test x ≡ true → check x ≡ true) → (xs : List X) → list_all test xs ≡ true → list_all check xs ≡ true
@@ -92,67 +111,129 @@ module _ {A : Type 0} where
 
   -- what stands goes on to stand where each table keeps its columns
   session_stands-kept : (before after : Tables A) → KeepsColumns before after → (session : SessionState A) → session_stands before session ≡ true → session_stands after session ≡ true
-  session_stands-kept before after kept =
-      list_all-weaker (λ attached. touched_stand (schema_of before attached.0) attached.1) (λ attached. touched_stand (schema_of after attached.0) attached.1)
-      (λ attached. list_all-weaker (λ touched. image_stands (schema_of before attached.0) touched.0 touched.1.image) (λ touched. image_stands (schema_of after attached.0) touched.0 touched.1.image)
-      (λ touched. image_stands-kept (schema_of before attached.0) (schema_of after attached.0) (kept.each attached.0) touched.0 touched.1.image) attached.1)
+  session_stands-kept before after kept session =
+      list_all-weaker (λ attached. records_stand (schema_of before attached.0) attached.1) (λ attached. records_stand (schema_of after attached.0) attached.1)
+      (λ attached. list_all-weaker (λ entry. image_stands (schema_of before attached.0) entry.0 entry.1.image) (λ entry. image_stands (schema_of after attached.0) entry.0 entry.1.image)
+      (λ entry. image_stands-kept (schema_of before attached.0) (schema_of after attached.0) (kept.each attached.0) entry.0 entry.1.image) attached.1)
+      session.tables
 
   -- ---- touches
 
-  image_stands-again : (schema : Option (List Bool)) (key : Fields A) (found : Option (TouchedRow A)) (image : Option (Fields A)) (indirect : Bool) → ((touched : TouchedRow A) → found ≡ Some touched → image_stands schema key touched.image ≡ true)
-      → image_stands schema key image ≡ true → image_stands schema key (touch_again found image indirect).image ≡ true
-  image_stands-again schema key None image indirect old new = new
-  image_stands-again schema key (Some touched) image indirect old new = old touched refl
+  abbrev touch_stands : Option (List Bool) → Touch A → Bool
+  touch_stands schema touch = image_stands schema touch.key touch.image
 
-  touch_table-stands : (tables : Tables A) (touch : RowTouch A) → touch_stands tables touch ≡ true → (name : List ℕ) (rows : TouchedRows A) → touched_stand (schema_of tables name) rows ≡ true
-      → touched_stand (schema_of tables name) (touch_table name rows touch) ≡ true
-  touch_table-stands tables touch new name rows all =
-      let schema = schema_of tables name in
-      let test : Fields A × TouchedRow A → Bool = λ touched. image_stands schema touched.0 touched.1.image in
-      elim (bytes_eq name touch.table) as (λ b. bytes_eq name touch.table ≡ b → touched_stand schema (cond b (touch_key rows touch.key touch.image touch.indirect) rows) ≡ true) [
-        | true ↦ λ e.
-            let same : name ≡ touch.table = (bytes_decides name touch.table).0 e in
-            list_all-put_entry fields_cmp test rows touch.key (touch_again (get fields_cmp rows touch.key) touch.image touch.indirect) all
-            (image_stands-again schema touch.key (get fields_cmp rows touch.key) touch.image touch.indirect
-            (λ touched found. found-passes fields_cmp test fields_same rows touch.key touched all found)
-            (subst (λ n. image_stands (schema_of tables n) touch.key touch.image ≡ true) (sym same) new))
-        | false ↦ λ e. all
-      ] refl
+  record_after-stands : (schema : Option (List Bool)) (key : Fields A) (found : Option (Record A)) (image : Option (Fields A)) (indirect : Bool) → ((old : Record A) → found ≡ Some old → image_stands schema key old.image ≡ true)
+      → image_stands schema key image ≡ true → image_stands schema key (record_after found image indirect).image ≡ true
+  record_after-stands schema key None image indirect old new = new
+  record_after-stands schema key (Some there) image indirect old new = old there refl
 
-  touch_tables-stand : (tables : Tables A) (touches : List (RowTouch A)) → touches_stand tables touches ≡ true → (name : List ℕ) (rows : TouchedRows A) → touched_stand (schema_of tables name) rows ≡ true
-      → touched_stand (schema_of tables name) (fold (touch_table name) rows touches) ≡ true
-  touch_tables-stand tables [] new name rows all = all
-  touch_tables-stand tables (touch ∷ touches) new name rows all =
-      touch_tables-stand tables touches (second (touch_stands tables touch) (touches_stand tables touches) new) name (touch_table name rows touch)
-      (touch_table-stands tables touch (first (touch_stands tables touch) (touches_stand tables touches) new) name rows all)
+  touch-stands : (schema : Option (List Bool)) (t : Touch A) (records : Records A) → touch_stands schema t ≡ true → records_stand schema records ≡ true → records_stand schema (touch records t) ≡ true
+  touch-stands schema t records new all =
+      let test : Fields A × Record A → Bool = λ kept. image_stands schema kept.0 kept.1.image in
+      list_all-put_entry fields_cmp test records t.key (record_after (get fields_cmp records t.key) t.image t.indirect) all
+      (record_after-stands schema t.key (get fields_cmp records t.key) t.image t.indirect (λ old found. found-passes fields_cmp test fields_same records t.key old all found) new)
 
-  touch_session-stands : (tables : Tables A) (touches : List (RowTouch A)) → touches_stand tables touches ≡ true → (session : SessionState A) → session_stands tables session ≡ true → session_stands tables (touch_session touches session) ≡ true
-  touch_session-stands tables touches new =
-      list_all-map (λ attached. touched_stand (schema_of tables attached.0) attached.1) (λ attached. touched_stand (schema_of tables attached.0) attached.1) (λ attached. (attached.0, fold (touch_table attached.0) attached.1 touches))
-      (λ attached all. touch_tables-stand tables touches new attached.0 attached.1 all)
+  with_touches-stand : (schema : Option (List Bool)) (touches : List (Touch A)) (records : Records A) → list_all (touch_stands schema) touches ≡ true → records_stand schema records ≡ true → records_stand schema (with_touches records touches) ≡ true
+  with_touches-stand schema [] records new all = all
+  with_touches-stand schema (t ∷ touches) records new all =
+      with_touches-stand schema touches (touch records t) (second (touch_stands schema t) (list_all (touch_stands schema) touches) new)
+      (touch-stands schema t records (first (touch_stands schema t) (list_all (touch_stands schema) touches) new) all)
 
-  -- one more touch that stands
-  pub touches_stand-more : (tables : Tables A) (touches more : List (RowTouch A)) (touch : Option (RowTouch A)) → more ≡ touches ++ cons_option touch [] → touches_stand tables touches ≡ true
-      → IfSome touch (λ t. IsTrue (touch_stands tables t)) → touches_stand tables more ≡ true
-  touches_stand-more tables touches more None is all new = ap (touches_stand tables) is ∙ list_all-append (touch_stands tables) touches [] ∙ both (touches_stand tables touches) true all refl
-  touches_stand-more tables touches more (Some touch) is all new = ap (touches_stand tables) is ∙ list_all-push (touch_stands tables) touches touch all new
+  -- the row before an event is a row of its table
+  image_before : (before : Tables A) → EachRises before → (name : List ℕ) (key : Fields A) → image_stands (schema_of before name) key (row_at before name key) ≡ true
+  image_before before rises name key = inner (table_of before name) refl
+    where
+      found : (table : TableState A) → IsTable table → (row : Option (Fields A)) → get fields_cmp table.keyed key ≡ row → image_stands (Some table.schema) key row ≡ true
+      found table sound None is = refl
+      found table sound (Some row) is = stands-found table key row sound is
 
-  -- the sessions after tables that keep their columns, and touches
-  pub sessions_stand-written : (before after : Tables A) (touches : List (RowTouch A)) → IsSoundWrite before after touches → (sessions : List (ℕ × SessionState A)) → sessions_stand before sessions ≡ true
-      → sessions_stand after (touch_sessions touches sessions) ≡ true
-  sessions_stand-written before after touches sound =
-      list_all-map (λ session. session_stands before session.1) (λ session. session_stands after session.1) (λ session. (session.0, touch_session touches session.1))
-      (λ session all. session_stands-kept before after sound.columns (touch_session touches session.1) (touch_session-stands before touches sound.images session.1 all))
+      inner : (there : Option (TableState A)) → table_of before name ≡ there → image_stands (option_map (λ table. table.schema) there) key (option_and_then (λ table. get fields_cmp table.keyed key) there) ≡ true
+      inner None is = refl
+      inner (Some table) is = let rising = each-found IsRising before name table rises is in found table rising.stand (get fields_cmp table.keyed key) refl
 
-  pub attach-stands : (database : Tables A) (name : List ℕ) (session : SessionState A) → session_stands database session ≡ true → session_stands database (attach name session) ≡ true
-  attach-stands database name session all =
-      elim (list_any (λ attached. bytes_eq name attached.0) session) as (λ b. session_stands database (cond b session (session ++ (name, []) ∷ [])) ≡ true) [
+  touch_of-stands : (before : Tables A) → EachRises before → (indirect : Bool) (name : List ℕ) (change : Change A) → IfSome (touch_of before indirect name change) (λ t. touch_stands (schema_of before name) t ≡ true)
+  touch_of-stands before rises indirect name change =
+      elim (bytes_eq name change.table) as (λ b. IfSome (cond b (option_map (λ key. let t : Touch A = record { key = key; image = row_at before name key; indirect = indirect || is_cascade change.cause } in t) change.key) None) (λ t. touch_stands (schema_of before name) t ≡ true)) [
+        | true ↦ keyed change.key
+        | false ↦ tt
+      ]
+    where
+      keyed : (found : Option (Fields A)) → IfSome (option_map (λ key. let t : Touch A = record { key = key; image = row_at before name key; indirect = indirect || is_cascade change.cause } in t) found) (λ t. touch_stands (schema_of before name) t ≡ true)
+      keyed None = tt
+      keyed (Some key) = image_before before rises name key
+
+  touches_of-stand : (before : Tables A) → EachRises before → (indirect : Bool) (name : List ℕ) (changes : List (Change A)) → list_all (touch_stands (schema_of before name)) (touches_of before indirect name changes) ≡ true
+  touches_of-stand before rises indirect name changes = list_all-filter_map (touch_stands (schema_of before name)) (touch_of before indirect name) (touch_of-stands before rises indirect name) changes
+
+  -- ---- what changes a session
+
+  touch_tables-stand : (before : Tables A) → EachRises before → (indirect : Bool) (changes : List (Change A)) (tables : AttachedTables A) → tables_stand before tables ≡ true → tables_stand before (touch_tables before indirect changes tables) ≡ true
+  touch_tables-stand before rises indirect changes =
+      list_all-map (λ attached. records_stand (schema_of before attached.0) attached.1) (λ attached. records_stand (schema_of before attached.0) attached.1)
+      (λ attached. (attached.0, with_touches attached.1 (touches_of before indirect attached.0 changes)))
+      (λ attached all. with_touches-stand (schema_of before attached.0) (touches_of before indirect attached.0 changes) attached.1 (touches_of-stand before rises indirect attached.0 changes) all)
+
+  pub attach-stands : (database : Tables A) (name : List ℕ) (tables : AttachedTables A) → tables_stand database tables ≡ true → tables_stand database (attach name tables) ≡ true
+  attach-stands database name tables all =
+      elim (is_listed name tables) as (λ b. tables_stand database (cond b tables (tables ++ (name, []) ∷ [])) ≡ true) [
         | true ↦ all
-        | false ↦ list_all-push (λ attached. touched_stand (schema_of database attached.0) attached.1) session (name, []) all refl
+        | false ↦ list_all-push (λ attached. records_stand (schema_of database attached.0) attached.1) tables (name, []) all refl
       ]
 
-  -- a session that is found stands, and so do all where one that stands comes in its place, or last
-  pub numbered-stands : (database : Tables A) (sessions : List (ℕ × SessionState A)) (number : ℕ) (session : SessionState A) → sessions_stand database sessions ≡ true → session_numbered sessions number ≡ Some session → session_stands database session ≡ true
+  attach_by-stands : (database : Tables A) (rule : AutomaticRule A) (name : List ℕ) (tables : AttachedTables A) → tables_stand database tables ≡ true → tables_stand database (attach_by rule tables name) ≡ true
+  attach_by-stands database rule name tables all =
+      elim (accepts_by rule name) as (λ b. tables_stand database (cond b (attach name tables) tables) ≡ true) [
+        | true ↦ attach-stands database name tables all
+        | false ↦ all
+      ]
+
+  attach_by_rule-stands : (database : Tables A) (rule : AutomaticRule A) (changes : List (Change A)) (tables : AttachedTables A) → tables_stand database tables ≡ true → tables_stand database (attach_by_rule rule changes tables) ≡ true
+  attach_by_rule-stands database rule [] tables all = all
+  attach_by_rule-stands database rule (change ∷ changes) tables all =
+      attach_by_rule-stands database rule changes (attach_by rule tables change.table) (attach_by-stands database rule change.table tables all)
+
+  note-stands : (before : Tables A) → EachRises before → (changes : List (Change A)) (session : SessionState A) → session_stands before session ≡ true → session_stands before (note before changes session) ≡ true
+  note-stands before rises changes session all =
+      elim session.enabled as (λ b. session_stands before (cond b (record session { tables = touch_tables before session.indirect changes (attach_by_rule session.rule changes session.tables) }) session) ≡ true) [
+        | true ↦ touch_tables-stand before rises session.indirect changes (attach_by_rule session.rule changes session.tables) (attach_by_rule-stands before session.rule changes session.tables all)
+        | false ↦ all
+      ]
+
+  -- the sessions after a commit that keeps the columns of the tables
+  pub note_each-stand : (before after : Tables A) → EachRises before → KeepsColumns before after → (changes : List (Change A)) (sessions : NumberedSessions A) → sessions_stand before sessions ≡ true → sessions_stand after (note_each before changes sessions) ≡ true
+  note_each-stand before after rises kept changes =
+      list_all-map (λ session. session_stands before session.1) (λ session. session_stands after session.1) (λ session. (session.0, note before changes session.1))
+      (λ session all. session_stands-kept before after kept (note before changes session.1) (note-stands before rises changes session.1 all))
+
+  -- a session after a diff of a table, which found rows of the table's width under their own keys
+  pub note_diff-stands : (database : Tables A) (name : List ℕ) (differences : List (Difference A)) (session : SessionState A) → differences_stand (schema_of database name) differences ≡ true → session_stands database session ≡ true
+      → session_stands database (note_diff name differences session) ≡ true
+  note_diff-stands database name differences session new all =
+      list_all-map (λ attached. records_stand (schema_of database attached.0) attached.1) (λ attached. records_stand (schema_of database attached.0) attached.1)
+      (λ attached. cond (bytes_eq name attached.0) (attached.0, with_touches attached.1 touches) attached) each (attach name session.tables) (attach-stands database name session.tables all)
+    where
+      touches : List (Touch A)
+      touches = touches_found session.indirect differences
+
+      found-stand : (schema : Option (List Bool)) (found : List (Difference A)) → differences_stand schema found ≡ true → list_all (touch_stands schema) (touches_found session.indirect found) ≡ true
+      found-stand schema = list_all-map (λ difference. image_stands schema difference.key difference.image) (touch_stands schema) (λ difference. record { key = difference.key; image = difference.image; indirect = session.indirect }) (λ difference is. is)
+
+      each : (attached : List ℕ × Records A) → records_stand (schema_of database attached.0) attached.1 ≡ true → (let t = cond (bytes_eq name attached.0) (attached.0, with_touches attached.1 touches) attached in records_stand (schema_of database t.0) t.1) ≡ true
+      each attached is =
+          elim (bytes_eq name attached.0) as (λ b. bytes_eq name attached.0 ≡ b → (let t = cond b (attached.0, with_touches attached.1 touches) attached in records_stand (schema_of database t.0) t.1) ≡ true) [
+            | true ↦ λ same. with_touches-stand (schema_of database attached.0) touches attached.1
+                (found-stand (schema_of database attached.0) differences (subst (λ n. differences_stand (schema_of database n) differences ≡ true) ((bytes_decides name attached.0).0 same) new)) is
+            | false ↦ λ other. is
+          ] refl
+
+  pub restart-stands : (database : Tables A) (tables : AttachedTables A) → tables_stand database (forget tables) ≡ true
+  restart-stands database [] = refl
+  restart-stands database (attached ∷ tables) = restart-stands database tables
+
+  -- ---- a session among others
+
+  -- a session that is found stands, and so do all where one that stands comes in its place, or last, or where one goes
+  pub numbered-stands : (database : Tables A) (sessions : NumberedSessions A) (number : ℕ) (session : SessionState A) → sessions_stand database sessions ≡ true → session_numbered sessions number ≡ Some session → session_stands database session ≡ true
   numbered-stands database [] number session all found = cc
   numbered-stands database (s ∷ sessions) number session all found =
       elim (nat_eq number s.0) as (λ b. cond b (Some s.1) (session_numbered sessions number) ≡ Some session → session_stands database session ≡ true) [
@@ -160,7 +241,7 @@ module _ {A : Type 0} where
         | false ↦ λ is. numbered-stands database sessions number session (second (session_stands database s.1) (sessions_stand database sessions) all) is
       ] found
 
-  pub with_session-stands : (database : Tables A) (sessions : List (ℕ × SessionState A)) (number : ℕ) (new : SessionState A) → sessions_stand database sessions ≡ true → session_stands database new ≡ true → sessions_stand database (with_session sessions number new) ≡ true
+  pub with_session-stands : (database : Tables A) (sessions : NumberedSessions A) (number : ℕ) (new : SessionState A) → sessions_stand database sessions ≡ true → session_stands database new ≡ true → sessions_stand database (with_session sessions number new) ≡ true
   with_session-stands database [] number new all one = refl
   with_session-stands database (s ∷ sessions) number new all one =
       elim (nat_eq number s.0) as (λ b. sessions_stand database (cond b ((s.0, new) ∷ sessions) (s ∷ with_session sessions number new)) ≡ true) [
@@ -168,8 +249,16 @@ module _ {A : Type 0} where
         | false ↦ both (session_stands database s.1) _ (first (session_stands database s.1) (sessions_stand database sessions) all) (with_session-stands database sessions number new (second (session_stands database s.1) (sessions_stand database sessions) all) one)
       ]
 
-  pub new_session-stands : (database : Tables A) (sessions : List (ℕ × SessionState A)) (number : ℕ) → sessions_stand database sessions ≡ true → sessions_stand database (sessions ++ (number, []) ∷ []) ≡ true
-  new_session-stands database sessions number all = list_all-push (λ session. session_stands database session.1) sessions (number, []) all refl
+  pub without_session-stands : (database : Tables A) (sessions : NumberedSessions A) (number : ℕ) → sessions_stand database sessions ≡ true → sessions_stand database (without_session sessions number) ≡ true
+  without_session-stands database [] number all = refl
+  without_session-stands database (s ∷ sessions) number all =
+      elim (nat_eq number s.0) as (λ b. sessions_stand database (cond b sessions (s ∷ without_session sessions number)) ≡ true) [
+        | true ↦ second (session_stands database s.1) (sessions_stand database sessions) all
+        | false ↦ both (session_stands database s.1) _ (first (session_stands database s.1) (sessions_stand database sessions) all) (without_session-stands database sessions number (second (session_stands database s.1) (sessions_stand database sessions) all))
+      ]
+
+  pub added-stands : (database : Tables A) (sessions : NumberedSessions A) (number : ℕ) → sessions_stand database sessions ≡ true → sessions_stand database (sessions ++ (number, new_session) ∷ []) ≡ true
+  added-stands database sessions number all = list_all-push (λ session. session_stands database session.1) sessions (number, new_session) all refl
 
   -- ---- rows with keys
 
@@ -227,9 +316,6 @@ module _ {A : Type 0} where
       let same = kept_by (λ (o : OutcomeState A). (name : List ℕ) → schema_of o.database name ≡ schema_of tables name) (run tables ops) left is (law tables ops) in
       record { each = λ name columns there. same name ∙ there }
 
-  pub touches_stand-none : (tables : Tables A) (touches : List (RowTouch A)) → touches ≡ [] → touches_stand tables touches ≡ true
-  touches_stand-none tables touches none = ap (touches_stand tables) none
-
 -- the item at a place, and what comes after it
 pub drop-item : {X : Type 0} (xs : List X) (i : ℕ) (x : X) → i < length xs → x ≡ get_or xs i x → drop i xs ≡ x ∷ drop (i + 1) xs
 drop-item xs i x lt is = drop-cons xs i x lt ∙ ap₂ (λ y k. y ∷ drop k xs) (sym is) (sym (add-one i))
@@ -253,14 +339,14 @@ module _ {A : Type 0} where
   pub images-keyed : (schema : List Bool) (key : Fields A) (image : Option (Fields A)) → image_stands (Some schema) key image ≡ true → (x : Fields A) → image ≡ Some x → IsKeyedRow schema x
   images-keyed schema key image a x is = stands-IsKeyedRow schema key x (image-IsKeyedRow schema key image x a is)
 
-  keyed-change : (schema : List Bool) (key : Fields A) (indirect : Bool) (image now : Option (Fields A)) (change : Option (Change A)) → image_stands (Some schema) key image ≡ true → image_stands (Some schema) key now ≡ true
+  keyed-change : (schema : List Bool) (key : Fields A) (indirect : Bool) (image now : Option (Fields A)) (change : Option (RowChange A)) → image_stands (Some schema) key image ≡ true → image_stands (Some schema) key now ≡ true
       → change ≡ change_of schema indirect image now → IfSome change (λ _. IsTrue (has_key schema))
   keyed-change schema key indirect image now None a b is = tt
   keyed-change schema key indirect (Some x) now (Some change) a b is = stands-has_key schema key x a
   keyed-change schema key indirect None (Some y) (Some change) a b is = stands-has_key schema key y b
   keyed-change schema key indirect None None (Some change) a b is = cc
 
-  pub keyed-changes : {E : Type 0} (schema : List Bool) (key : Fields A) (indirect : Bool) (image now : Option (Fields A)) (r : Result (Option (Change A)) E) → image_stands (Some schema) key image ≡ true → image_stands (Some schema) key now ≡ true
+  pub keyed-changes : {E : Type 0} (schema : List Bool) (key : Fields A) (indirect : Bool) (image now : Option (Fields A)) (r : Result (Option (RowChange A)) E) → image_stands (Some schema) key image ≡ true → image_stands (Some schema) key now ≡ true
       → IfOk r (λ change. change ≡ change_of schema indirect image now) → IfOk r (λ change. IfSome change (λ _. IsTrue (has_key schema)))
   keyed-changes schema key indirect image now (Ok change) a b is = keyed-change schema key indirect image now change a b is
   keyed-changes schema key indirect image now (Err e) a b is = tt

@@ -1,7 +1,7 @@
--- The touched rows of a list of touches, and what one more touch makes of them.
+-- The records of a list of touches, and what one more touch makes of them.
 use Rattle.std.proofs.lemmas.List.{append-nil}
-use Rattle.std.proofs.Common.{◌≡◌, Bool, true, false, cond, Option, Some, None, List, [], ◌∷◌, ◌++◌, ◌&&◌, ◌||◌, not, map, refl, sym, ap, ap₂, subst, append_assoc, ◌∙◌, Ordering, Less, Equal, Greater, T}
-use Rattle.std.specs.Prelude.{filter, fold, is_some}
+use Rattle.std.proofs.Common.{◌≡◌, Bool, true, false, cond, Option, Some, None, List, [], ◌∷◌, ◌++◌, ◌&&◌, map, refl, sym, ap, ap₂, subst, append_assoc, ◌∙◌, Ordering, Less, Equal, Greater, T}
+use Rattle.std.specs.Prelude.{filter, is_some}
 use Rattle.std.proofs.Math.Bool.{and-true}
 use Rattle.std.proofs.lemmas.List.Folds.{list_all-append}
 use Rattle.std.proofs.lemmas.List.Elements.{filter-append}
@@ -17,10 +17,10 @@ use Rattle.std.specs.FinMap.Entries.{find, put, by_order, below_all, is_sorted, 
 use Rattle.cap_row.specs.Fields.{Fields}
 use Rattle.cap_row.specs.Key.{fields_cmp, fields_cmp_total, fields_cmp-Equal}
 use Rattle.cap_tree.specs.Tree.{IsOrdered, get, put_entry}
-use Rattle.cap_core.specs.declared.touched_row.TouchedRow.{TouchedRow}
-use Rattle.cap_core.specs.Session.{TouchedRows, is_indirect, touched_rows}
+use Rattle.cap_session.specs.declared.record.Record.{Record}
+use Rattle.cap_session.specs.Records.{Touch as RowTouch, record_after, touch as with_touch, with_touches}
+use Rattle.cap_core.specs.Session.{mark, records_of}
 use Rattle.cap_core.specs.Touch.{Touch}
-use Rattle.cap_core.specs.Transition.{touch_again, touch_key}
 
 module _ {K X : Type 0} (R : K → K → Ordering) where
   pub get-find : (es : List (K × X)) (q : K) → get R es q ≡ find R q es
@@ -82,17 +82,13 @@ module _ {K X Y : Type 0} (R : K → K → Ordering) (g : K → X → Y) where
   is_sorted-map [] = refl
   is_sorted-map (e ∷ es) = λ i. below_all-map e.0 es i && is_sorted-map es i
 
-noted_mark : (a b : Bool) → (not a || b) ≡ true → (a && b) ≡ a
-noted_mark true b is = is
-noted_mark false b is = refl
-
 module _ {A : Type 0} where
   pub fields_same : IsAntisymmetric (fields_cmp {A = A})
   fields_same a b = (fields_cmp-Equal a b).0
 
   -- what is kept of a key after these touches
-  unfoldable pub touched_at : List (Fields A × Touch A) → Fields A → Option (TouchedRow A)
-  touched_at touches key = option_map (λ touch. record { image = touch.image; indirect = is_indirect touches key }) (find fields_cmp key touches)
+  unfoldable pub touched_at : List (Fields A × Touch A) → Fields A → Option (Record A)
+  touched_at touches key = option_map (λ touch. record { image = touch.image; indirect = mark touches key }) (find fields_cmp key touches)
 
   first_images : List (Fields A × Touch A) → List (Fields A × Touch A)
   first_images touches = map_of.entries (map_of.from_entries {R = fields_cmp} touches)
@@ -101,42 +97,42 @@ module _ {A : Type 0} where
   unfolding first_images
   find-first_images touches key = sym (map_of.get-entries (map_of.from_entries {R = fields_cmp} touches) key) ∙ map_of.get-from_entries fields_cmp_total touches key
 
-  pub find-touched_rows : (touches : List (Fields A × Touch A)) (key : Fields A) → find fields_cmp key (touched_rows touches) ≡ touched_at touches key
-  unfolding touched_rows touched_at first_images
-  find-touched_rows touches key =
-      find-map fields_cmp (λ k touch. record { image = touch.image; indirect = is_indirect touches k }) fields_same key (first_images touches)
-      ∙ ap (option_map (λ touch. record { image = touch.image; indirect = is_indirect touches key })) (find-first_images touches key)
+  pub find-records_of : (touches : List (Fields A × Touch A)) (key : Fields A) → find fields_cmp key (records_of touches) ≡ touched_at touches key
+  unfolding records_of touched_at first_images
+  find-records_of touches key =
+      find-map fields_cmp (λ k touch. record { image = touch.image; indirect = mark touches k }) fields_same key (first_images touches)
+      ∙ ap (option_map (λ touch. record { image = touch.image; indirect = mark touches key })) (find-first_images touches key)
 
-  pub is_sorted-touched_rows : (touches : List (Fields A × Touch A)) → T (is_sorted fields_cmp (touched_rows touches))
-  unfolding touched_rows
-  is_sorted-touched_rows touches =
-      subst T (sym (is_sorted-map fields_cmp (λ k touch. record { image = touch.image; indirect = is_indirect touches k }) (map_of.entries (map_of.from_entries {R = fields_cmp} touches)))) (map_of.entries_sorted (map_of.from_entries {R = fields_cmp} touches))
+  pub is_sorted-records_of : (touches : List (Fields A × Touch A)) → T (is_sorted fields_cmp (records_of touches))
+  unfolding records_of
+  is_sorted-records_of touches =
+      subst T (sym (is_sorted-map fields_cmp (λ k touch. record { image = touch.image; indirect = mark touches k }) (map_of.entries (map_of.from_entries {R = fields_cmp} touches)))) (map_of.entries_sorted (map_of.from_entries {R = fields_cmp} touches))
 
   -- one more touch counts for its own key
-  is_indirect-push : (touches : List (Fields A × Touch A)) (key : Fields A) (touch : Touch A) (q : Fields A)
-      → is_indirect (touches ++ (key, touch) ∷ []) q ≡ (is_indirect touches q && cond (eq_by_cmp fields_cmp q key) touch.indirect true)
-  is_indirect-push touches key touch q =
+  mark-push : (touches : List (Fields A × Touch A)) (key : Fields A) (touch : Touch A) (q : Fields A)
+      → mark (touches ++ (key, touch) ∷ []) q ≡ (mark touches q && cond (eq_by_cmp fields_cmp q key) touch.indirect true)
+  mark-push touches key touch q =
       let last : List (Fields A × Touch A) = (key, touch) ∷ [] in
       let ties : Fields A × Touch A → Bool = λ t. eq_by_cmp fields_cmp q t.0 in
       let marked : Fields A × Touch A → Bool = λ t. t.1.indirect in
       let alone : list_all marked (filter ties last) ≡ cond (eq_by_cmp fields_cmp q key) touch.indirect true =
       elim (eq_by_cmp fields_cmp q key) as (λ b. list_all marked (cond b last []) ≡ cond b touch.indirect true) [ true ↦ and-true touch.indirect | false ↦ refl ] in
-      ap (list_all marked) (filter-append ties touches last) ∙ list_all-append marked (filter ties touches) (filter ties last) ∙ ap (λ b. is_indirect touches q && b) alone
+      ap (list_all marked) (filter-append ties touches last) ∙ list_all-append marked (filter ties touches) (filter ties last) ∙ ap (λ b. mark touches q && b) alone
 
   -- a key without a touch counts as indirect
-  is_indirect-none : (touches : List (Fields A × Touch A)) (q : Fields A) → find fields_cmp q touches ≡ None → is_indirect touches q ≡ true
-  is_indirect-none [] q none = refl
-  is_indirect-none (t ∷ touches) q none =
+  mark-none : (touches : List (Fields A × Touch A)) (q : Fields A) → find fields_cmp q touches ≡ None → mark touches q ≡ true
+  mark-none [] q none = refl
+  mark-none (t ∷ touches) q none =
       elim (eq_by_cmp fields_cmp q t.0) as (λ b. cond b (Some t.1) (find fields_cmp q touches) ≡ None → list_all (λ t. t.1.indirect) (cond b (t ∷ filter (λ t. eq_by_cmp fields_cmp q t.0) touches) (filter (λ t. eq_by_cmp fields_cmp q t.0) touches)) ≡ true) [
         | true ↦ λ is. cc
-        | false ↦ λ is. is_indirect-none touches q is
+        | false ↦ λ is. mark-none touches q is
       ] none
 
-  touched_by : Option (Touch A) → Bool → Option (TouchedRow A)
+  touched_by : Option (Touch A) → Bool → Option (Record A)
   touched_by found indirect = option_map (λ touch. record { image = touch.image; indirect = indirect }) found
 
   touched_at-key : (found : Option (Touch A)) (indirect : Bool) (touch : Touch A) → (found ≡ None → indirect ≡ true)
-      → touched_by (cond (is_some found) found (Some touch)) (indirect && touch.indirect) ≡ Some (touch_again (touched_by found indirect) touch.image touch.indirect)
+      → touched_by (cond (is_some found) found (Some touch)) (indirect && touch.indirect) ≡ Some (record_after (touched_by found indirect) touch.image touch.indirect)
   unfolding touched_by
   touched_at-key None indirect touch none = ap (λ b. Some (record { image = touch.image; indirect = b && touch.indirect })) (none refl)
   touched_at-key (Some first) indirect touch none = refl
@@ -147,52 +143,44 @@ module _ {A : Type 0} where
   touched_at-other (Some first) indirect = ap (λ b. Some (record { image = first.image; indirect = b })) (and-true indirect)
 
   touched_at-push : (touches : List (Fields A × Touch A)) (key : Fields A) (touch : Touch A) (q : Fields A)
-      → touched_at (touches ++ (key, touch) ∷ []) q ≡ cond (eq_by_cmp fields_cmp q key) (Some (touch_again (touched_at touches key) touch.image touch.indirect)) (touched_at touches q)
+      → touched_at (touches ++ (key, touch) ∷ []) q ≡ cond (eq_by_cmp fields_cmp q key) (Some (record_after (touched_at touches key) touch.image touch.indirect)) (touched_at touches q)
   unfolding touched_at touched_by
   touched_at-push touches key touch q =
-      ap₂ touched_by (find-push fields_cmp q key touch touches) (is_indirect-push touches key touch q)
-      ∙ elim (eq_by_cmp fields_cmp q key) as (λ b. eq_by_cmp fields_cmp q key ≡ b → touched_by (cond (is_some (find fields_cmp q touches)) (find fields_cmp q touches) (cond b (Some touch) None)) (is_indirect touches q && cond b touch.indirect true)
-      ≡ cond b (Some (touch_again (touched_by (find fields_cmp key touches) (is_indirect touches key)) touch.image touch.indirect)) (touched_by (find fields_cmp q touches) (is_indirect touches q))) [
+      ap₂ touched_by (find-push fields_cmp q key touch touches) (mark-push touches key touch q)
+      ∙ elim (eq_by_cmp fields_cmp q key) as (λ b. eq_by_cmp fields_cmp q key ≡ b → touched_by (cond (is_some (find fields_cmp q touches)) (find fields_cmp q touches) (cond b (Some touch) None)) (mark touches q && cond b touch.indirect true)
+      ≡ cond b (Some (record_after (touched_by (find fields_cmp key touches) (mark touches key)) touch.image touch.indirect)) (touched_by (find fields_cmp q touches) (mark touches q))) [
         | true ↦ λ t.
-            subst (λ k. touched_by (cond (is_some (find fields_cmp q touches)) (find fields_cmp q touches) (Some touch)) (is_indirect touches q && touch.indirect) ≡ Some (touch_again (touched_by (find fields_cmp k touches) (is_indirect touches k)) touch.image touch.indirect))
+            subst (λ k. touched_by (cond (is_some (find fields_cmp q touches)) (find fields_cmp q touches) (Some touch)) (mark touches q && touch.indirect) ≡ Some (record_after (touched_by (find fields_cmp k touches) (mark touches k)) touch.image touch.indirect))
             (tied fields_cmp q key fields_same t)
-            (touched_at-key (find fields_cmp q touches) (is_indirect touches q) touch (is_indirect-none touches q))
-        | false ↦ λ t. touched_at-other (find fields_cmp q touches) (is_indirect touches q)
+            (touched_at-key (find fields_cmp q touches) (mark touches q) touch (mark-none touches q))
+        | false ↦ λ t. touched_at-other (find fields_cmp q touches) (mark touches q)
       ] refl
 
-  -- a key that was touched directly, or indirectly as now, stays as it is
-  pub touch_key-noted : (rows : TouchedRows A) (key : Fields A) (touched : TouchedRow A) (image : Option (Fields A)) (indirect : Bool) → IsOrdered fields_cmp rows → get fields_cmp rows key ≡ Some touched
-      → (not touched.indirect || indirect) ≡ true → touch_key rows key image indirect ≡ rows
-  touch_key-noted rows key touched image indirect ordered is noted =
-      let kept : touch_again (get fields_cmp rows key) image indirect ≡ touched =
-      ap (λ found. touch_again found image indirect) is ∙ ap (λ b. record { image = touched.image; indirect = b }) (noted_mark touched.indirect indirect noted) in
-      ap (put_entry fields_cmp rows key) kept ∙ put_entry-there fields_cmp fields_cmp_total fields_same rows key touched ordered is
+  -- a touch under its key, as a session is told of it
+  abbrev pub told : Fields A × Touch A → RowTouch A
+  told found = record { key = found.0; image = found.1.image; indirect = found.1.indirect }
 
-  -- one more touch, under its key
-  abbrev pub touch_more : TouchedRows A → Fields A × Touch A → TouchedRows A
-  touch_more rows touch = touch_key rows touch.0 touch.1.image touch.1.indirect
-
-  pub touched_rows-push : (touches : List (Fields A × Touch A)) (touch : Fields A × Touch A) → touched_rows (touches ++ touch ∷ []) ≡ touch_more (touched_rows touches) touch
-  touched_rows-push touches touch =
-      let made : TouchedRow A = touch_again (touched_at touches touch.0) touch.1.image touch.1.indirect in
-      same_entries fields_cmp fields_cmp_total fields_same (touched_rows (touches ++ touch ∷ [])) (put fields_cmp touch.0 made (touched_rows touches))
-      (is_sorted-touched_rows (touches ++ touch ∷ []))
-      (is_sorted-put fields_cmp fields_cmp_total touch.0 made (touched_rows touches) (is_sorted-touched_rows touches))
-      (λ q. find-touched_rows (touches ++ touch ∷ []) q
+  pub records_of-push : (touches : List (Fields A × Touch A)) (touch : Fields A × Touch A) → records_of (touches ++ touch ∷ []) ≡ with_touch (records_of touches) (told touch)
+  records_of-push touches touch =
+      let made : Record A = record_after (touched_at touches touch.0) touch.1.image touch.1.indirect in
+      same_entries fields_cmp fields_cmp_total fields_same (records_of (touches ++ touch ∷ [])) (put fields_cmp touch.0 made (records_of touches))
+      (is_sorted-records_of (touches ++ touch ∷ []))
+      (is_sorted-put fields_cmp fields_cmp_total touch.0 made (records_of touches) (is_sorted-records_of touches))
+      (λ q. find-records_of (touches ++ touch ∷ []) q
       ∙ touched_at-push touches touch.0 touch.1 q
-      ∙ sym (find-put fields_cmp fields_cmp_total q touch.0 made (touched_rows touches)
-      ∙ ap (λ found. cond (eq_by_cmp fields_cmp q touch.0) (Some made) found) (find-touched_rows touches q)))
-      ∙ sym (put_entry-put fields_cmp fields_same (touched_rows touches) touch.0 made)
-      ∙ ap (λ found. put_entry fields_cmp (touched_rows touches) touch.0 (touch_again found touch.1.image touch.1.indirect)) (sym (get-find fields_cmp (touched_rows touches) touch.0 ∙ find-touched_rows touches touch.0))
+      ∙ sym (find-put fields_cmp fields_cmp_total q touch.0 made (records_of touches)
+      ∙ ap (λ found. cond (eq_by_cmp fields_cmp q touch.0) (Some made) found) (find-records_of touches q)))
+      ∙ sym (put_entry-put fields_cmp fields_same (records_of touches) touch.0 made)
+      ∙ ap (λ found. put_entry fields_cmp (records_of touches) touch.0 (record_after found touch.1.image touch.1.indirect)) (sym (get-find fields_cmp (records_of touches) touch.0 ∙ find-records_of touches touch.0))
 
   -- touches one after the other
-  pub touched_rows-append : (touches more : List (Fields A × Touch A)) → touched_rows (touches ++ more) ≡ fold touch_more (touched_rows touches) more
-  touched_rows-append touches [] = ap touched_rows (append-nil touches)
-  touched_rows-append touches (touch ∷ more) = ap touched_rows (sym (append_assoc touches (touch ∷ []) more)) ∙ touched_rows-append (touches ++ touch ∷ []) more ∙ ap (λ rows. fold touch_more rows more) (touched_rows-push touches touch)
+  pub records_of-append : (touches more : List (Fields A × Touch A)) → records_of (touches ++ more) ≡ with_touches (records_of touches) (map told more)
+  records_of-append touches [] = ap records_of (append-nil touches)
+  records_of-append touches (touch ∷ more) = ap records_of (sym (append_assoc touches (touch ∷ []) more)) ∙ records_of-append (touches ++ touch ∷ []) more ∙ ap (λ records. with_touches records (map told more)) (records_of-push touches touch)
 
   nothing : (q : Fields A) → touched_at [] q ≡ None
   unfolding touched_at
   nothing q = refl
 
-  pub touched_rows-none : touched_rows {A = A} [] ≡ []
-  touched_rows-none = same_entries fields_cmp fields_cmp_total fields_same (touched_rows []) [] (is_sorted-touched_rows []) tt (λ q. find-touched_rows [] q ∙ nothing q)
+  pub records_of-none : records_of {A = A} [] ≡ []
+  records_of-none = same_entries fields_cmp fields_cmp_total fields_same (records_of []) [] (is_sorted-records_of []) tt (λ q. find-records_of [] q ∙ nothing q)

@@ -1,33 +1,41 @@
 -- The state that a history leaves, the reply to a command after it, and which histories are legal.
-use Rattle.std.specs.Prelude.{◌≡◌, ℕ, Option, Some, None, Result, Ok, Err, List, [], ◌∷◌, ◌+◌, length, reverse, nat_eq, nat_le, if◌then◌else◌}
-use Rattle.std.specs.Map.{lookup}
+use Rattle.std.specs.Prelude.{◌≡◌, ℕ, Option, Some, None, Result, Ok, Err, Bool, List, [], ◌∷◌, ◌+◌, ◌||◌, length, reverse, is_some, nat_eq, nat_le, nat_lt, if◌then◌else◌}
+use Rattle.std.specs.Option.{unwrap_or}
+use Rattle.cap_value.specs.Bytes.{bytes_cmp}
 use Rattle.cap_value.specs.declared.refusal.Refusal.{Refusal}
 use Rattle.cap_value.specs.declared.refusal.Refusal.TheVariants.{TooMany, NoSession}
+use Rattle.cap_tree.specs.Tree.{get}
 use Rattle.cap_txn.specs.Batch.{SnapshotState}
-use Rattle.cap_txn.specs.Outcome.{OutcomeState}
 use Rattle.cap_txn.specs.Tables.{Tables}
-use Rattle.cap_core.specs.declared.limits.TheConstants.{SESSIONS_MAX}
+use Rattle.cap_apply.specs.Report.{ReportState}
+use Rattle.cap_compare.specs.declared.difference.Difference.{Difference}
+use Rattle.cap_session.specs.Session.{SessionState, stored}
+use Rattle.cap_session.specs.Sessions.{NumberedSessions, session_numbered}
+use Rattle.cap_core.specs.declared.limits.TheConstants.{SESSIONS_MAX, SAVED_MAX}
 use Rattle.cap_core.specs.declared.command.Command.{Command}
 use Rattle.cap_core.specs.declared.command.Command.TheVariants as command
 use Rattle.cap_core.specs.declared.event.Event.{Event}
 use Rattle.cap_core.specs.declared.reply.Reply.{Reply}
-use Rattle.cap_core.specs.declared.reply.Reply.TheVariants.{Done, Written, Session, Snapshot, Capture, Refused}
-use Rattle.cap_core.specs.History.{Past, main, version, sessions_made, sessions}
-use Rattle.cap_core.specs.Outcome.{Refused as Why, outcome}
-use Rattle.cap_core.specs.Session.{SessionState, session_changes}
+use Rattle.cap_core.specs.declared.reply.Reply.TheVariants.{Done, Written, Applied, Session, Snapshot, Flag, Capture, Refused}
+use Rattle.cap_core.specs.Capture.{session_changes}
+use Rattle.cap_core.specs.Diff.{diff}
+use Rattle.cap_core.specs.Flags.{sessions_made}
+use Rattle.cap_core.specs.History.{Databases, main, saved, version}
+use Rattle.cap_core.specs.Outcome.{Effect, Refused as Why, outcome}
+use Rattle.cap_core.specs.Past.{Past}
+use Rattle.cap_core.specs.Session.{sessions}
 
--- the number of events, the tables, the version, the number of sessions made, and the live sessions under their numbers, which rise
+-- The number of events, the tables, the version, the saved databases under their names, which rise, the number of sessions
+-- made, and the live sessions under their numbers, which rise.
 pub record State (A : Type 0) : Type 0 where
   pub events : ℕ
   pub main : Tables A
   pub version : ℕ
+  pub saved : Databases A
   pub sessions_made : ℕ
-  pub sessions : List (ℕ × SessionState A)
+  pub sessions : NumberedSessions A
 
 module _ {A : Type 0} where
-  abbrev pub session_numbered : List (ℕ × SessionState A) → ℕ → Option (SessionState A)
-  session_numbered sessions number = lookup (nat_eq number) sessions
-
   -- the tables with their version
   abbrev pub snapshot_of : State A → SnapshotState A
   snapshot_of state = record { version = state.version; database = state.main }
@@ -35,17 +43,52 @@ module _ {A : Type 0} where
   abbrev pub refusal : Refusal → Reply A
   refusal why = Refused None why
 
+  -- ---- the reply to each command
+
+  -- where a blob was applied, what became of its changes goes with the version
+  abbrev pub version_reply : ℕ → Option ReportState → Reply A
+  version_reply version None = Written version
+  version_reply version (Some report) = Applied version report
+
   -- the reply to a command that writes
-  abbrev pub write_reply : State A → Result (OutcomeState A) Why → Reply A
-  write_reply state (Ok effect) = Written (state.version + 1)
+  abbrev pub write_reply : State A → Result (Effect A) Why → Reply A
+  write_reply state (Ok effect) = version_reply (state.version + 1) effect.report
   write_reply state (Err why) = Refused why.0 why.1
+
+  -- a name that is there is saved anew
+  abbrev pub has_room_for : Databases A → List ℕ → Bool
+  has_room_for saved name = is_some (get bytes_cmp saved name) || nat_lt (length saved) SAVED_MAX
+
+  abbrev pub save_reply : Databases A → List ℕ → Reply A
+  save_reply saved name = if has_room_for saved name then Done else refusal TooMany
 
   abbrev pub session_reply : State A → Reply A
   session_reply state = if nat_le SESSIONS_MAX (length state.sessions) then refusal TooMany else Session (state.sessions_made + 1)
 
-  abbrev pub attach_reply : Option (SessionState A) → Reply A
-  attach_reply None = refusal NoSession
-  attach_reply (Some session) = Done
+  abbrev pub done_reply : Option (SessionState A) → Reply A
+  done_reply None = refusal NoSession
+  done_reply (Some session) = Done
+
+  abbrev pub enabled_reply : Option Bool → Option (SessionState A) → Reply A
+  enabled_reply asked None = refusal NoSession
+  enabled_reply asked (Some session) = Flag (unwrap_or asked session.enabled)
+
+  abbrev pub indirect_reply : Option Bool → Option (SessionState A) → Reply A
+  indirect_reply asked None = refusal NoSession
+  indirect_reply asked (Some session) = Flag (unwrap_or asked session.indirect)
+
+  -- a session is empty where no row was touched, also where each touched row is again as it was
+  abbrev pub empty_reply : Option (SessionState A) → Reply A
+  empty_reply None = refusal NoSession
+  empty_reply (Some session) = Flag (nat_eq (stored session.tables) 0)
+
+  abbrev pub diffed : Result (Option (List (Difference A))) Refusal → Reply A
+  diffed (Ok found) = Done
+  diffed (Err why) = refusal why
+
+  abbrev pub diff_reply : Result (Option (List (Difference A))) Refusal → Option (SessionState A) → Reply A
+  diff_reply found None = refusal NoSession
+  diff_reply found (Some session) = diffed found
 
   abbrev pub capture_reply : Tables A → Option (SessionState A) → Reply A
   capture_reply tables None = refusal NoSession
@@ -55,16 +98,29 @@ module _ {A : Type 0} where
   abbrev pub answer : State A → Command A → Reply A
   answer state (command.CreateTable name schema) = write_reply state (outcome (snapshot_of state) (command.CreateTable name schema))
   answer state (command.Commit batch) = write_reply state (outcome (snapshot_of state) (command.Commit batch))
+  answer state (command.Apply blob policy) = write_reply state (outcome (snapshot_of state) (command.Apply blob policy))
   answer state command.Read = Snapshot (snapshot_of state)
+  answer state (command.SaveAs name) = save_reply state.saved name
   answer state command.NewSession = session_reply state
-  answer state (command.Attach session name) = attach_reply (session_numbered state.sessions session)
+  answer state (command.DropSession session) = done_reply (session_numbered state.sessions session)
+  answer state (command.Attach session name) = done_reply (session_numbered state.sessions session)
+  answer state (command.AttachAll session) = done_reply (session_numbered state.sessions session)
+  answer state (command.SetFilter session filter) = done_reply (session_numbered state.sessions session)
+  answer state (command.Enable session asked) = enabled_reply asked (session_numbered state.sessions session)
+  answer state (command.Indirect session asked) = indirect_reply asked (session_numbered state.sessions session)
+  answer state (command.IsEmpty session) = empty_reply (session_numbered state.sessions session)
+  answer state (command.Diff session from name) = diff_reply (diff state.main state.saved from name) (session_numbered state.sessions session)
   answer state (command.Capture session) = capture_reply state.main (session_numbered state.sessions session)
+  answer state (command.Restart session) = capture_reply state.main (session_numbered state.sessions session)
+
+  -- ---- histories
 
   abbrev pub state_after : Past A → State A
   state_after past = record {
     events = length past;
     main = main past;
     version = version past;
+    saved = saved past;
     sessions_made = sessions_made past;
     sessions = sessions past;
   }

@@ -1,4 +1,3 @@
 -- What the code keeps and makes on the way, for its own contracts. No rule is defined here.
-pub mod Attached
 pub mod Grouped
 pub mod Sound

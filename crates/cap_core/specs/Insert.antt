@@ -1,7 +1,8 @@
 -- An insert of a row into an attached table, and how a capture shows it.
-use Rattle.std.specs.Prelude.{◌≡◌, ℕ, Bool, true, Option, Some, None, List, [], ◌∷◌, ◌++◌, map}
-use Rattle.std.specs.List.{filter_map}
+use Rattle.std.specs.Prelude.{◌≡◌, ℕ, Bool, true, false, Option, Some, None, List, [], ◌∷◌, ◌++◌, map}
+use Rattle.std.specs.List.{filter_map, list_any}
 use Rattle.std.specs.Option.{option_map}
+use Rattle.cap_value.specs.Bytes.{bytes_eq}
 use Rattle.cap_row.specs.Fields.{Fields}
 use Rattle.cap_row.specs.Key.{fields_cmp, key_of}
 use Rattle.cap_changes.specs.Group.{TableChanges}
@@ -12,19 +13,22 @@ use Rattle.cap_txn.specs.Tables.{table_of}
 use Rattle.cap_txn.specs.declared.cause.Cause.TheVariants.{Direct}
 use Rattle.cap_txn.specs.declared.op.Action.TheVariants.{Insert}
 use Rattle.cap_txn.specs.declared.op.Op.{Op}
+use Rattle.cap_session.specs.Records.{Records}
 use Rattle.cap_core.specs.declared.command.Command.TheVariants.{Commit}
 use Rattle.cap_core.specs.declared.event.Event.{Event}
 use Rattle.cap_core.specs.Answer.{IsLegalPast}
-use Rattle.cap_core.specs.History.{Past, attach_list, is_accepted, main, touches}
-use Rattle.cap_core.specs.Session.{TouchedRows, change_now, is_listed}
-use Rattle.cap_core.specs.Touch.{Touch, touches_of}
+use Rattle.cap_core.specs.Capture.{change_now}
+use Rattle.cap_core.specs.Flags.{is_enabled, is_indirect}
+use Rattle.cap_core.specs.History.{main}
+use Rattle.cap_core.specs.Past.{Past, is_accepted}
+use Rattle.cap_core.specs.Touch.{Touch, attach_list, touches, touches_of}
 
 module _ {A : Type 0} where
   abbrev pub insert_of : List ℕ → Fields A → Op A
   insert_of name row = record { table = name; cause = Direct; action = Insert row }
 
-  -- After the past comes an accepted insert of a row with this key into a table that is attached to the session, and
-  -- the key had no row where the session's first touch of it came, if there was one.
+  -- After the past comes an accepted insert of a row with this key into a table that is attached to the session by then.
+  -- The session is enabled and not indirect, and the key had no row where the session's first touch of it came, if there was one.
   pub record IsInsertOfAbsent (past : Past A) (event : Event A) (session : ℕ) (name : List ℕ) (table : TableState A) (key row : Fields A) : Type 0 where
     pub legal : IsLegalPast (event ∷ past)
     pub base : Option ℕ
@@ -32,12 +36,14 @@ module _ {A : Type 0} where
     pub accepted : is_accepted event.reply ≡ true
     pub there : table_of (main past) name ≡ Some table
     pub own : key_of table.schema row ≡ Some key
-    pub attached : is_listed name (attach_list session past) ≡ true
+    pub enabled : is_enabled session past ≡ true
+    pub direct : is_indirect session past ≡ false
+    pub attached : list_any (bytes_eq name) (attach_list session (event ∷ past)) ≡ true
     pub absent : (touch : Touch A) → get fields_cmp (touches_of name (touches session past)) key ≡ Some touch → touch.image ≡ None
 
   -- the changes of a table, each under its key
-  abbrev pub changes_by_key : TableState A → TouchedRows A → List (Fields A × Change A)
-  changes_by_key table rows = filter_map (λ touched. option_map (λ change. (touched.0, change)) (change_now table touched)) rows
+  abbrev pub changes_by_key : TableState A → Records A → List (Fields A × Change A)
+  changes_by_key table records = filter_map (λ touched. option_map (λ change. (touched.0, change)) (change_now table touched)) records
 
   -- a change list has a group of the table with these changes, among which the key has this one
   pub record HasChange (list : List (TableChanges A)) (name : List ℕ) (schema : List Bool) (changes : List (Fields A × Change A)) (key : Fields A) (change : Change A) : Type 0 where

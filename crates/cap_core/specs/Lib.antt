@@ -1,8 +1,13 @@
 pub mod Answer
+pub mod Capture
 pub mod Code
+pub mod Diff
+pub mod Elsewhere
+pub mod Flags
 pub mod History
 pub mod Insert
 pub mod Outcome
+pub mod Past
 pub mod Replies
 pub mod Session
 pub mod Table

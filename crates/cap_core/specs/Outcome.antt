@@ -1,44 +1,66 @@
 -- What a command makes of the tables and which rows it changes, or why it is refused.
 use Rattle.std.specs.Prelude.{ℕ, Option, Some, None, Result, Ok, Err, List, [], nat_eq, if◌then◌else◌}
 use Rattle.cap_value.specs.declared.refusal.Refusal.{Refusal}
-use Rattle.cap_value.specs.declared.refusal.Refusal.TheVariants.{Stale}
+use Rattle.cap_value.specs.declared.refusal.Refusal.TheVariants.{Stale, Aborted, Misuse}
 use Rattle.cap_txn.specs.Batch.{SnapshotState}
 use Rattle.cap_txn.specs.Operation.{run}
 use Rattle.cap_txn.specs.Outcome.{OutcomeState}
 use Rattle.cap_txn.specs.Tables.{Tables, create}
+use Rattle.cap_txn.specs.declared.change.Change.{Change}
 use Rattle.cap_txn.specs.declared.op.Op.{Op}
 use Rattle.cap_txn.specs.declared.refused_at.RefusedAt.{RefusedAt}
+use Rattle.cap_apply.specs.Applied.{AppliedState}
+use Rattle.cap_apply.specs.Apply.{apply}
+use Rattle.cap_apply.specs.Report.{ReportState}
 use Rattle.cap_core.specs.declared.command.Command.{Command}
-use Rattle.cap_core.specs.declared.command.Command.TheVariants.{CreateTable, Commit}
+use Rattle.cap_core.specs.declared.command.Command.TheVariants.{CreateTable, Commit, Apply}
 
--- why a command is refused, and the place of the operation that is refused, where it is one of a batch's
+-- why a command is refused, and the place of the operation or change that is refused, where it is one of several
 abbrev pub Refused : Type 0
 Refused = Option ℕ × Refusal
+
+-- The tables after a command that writes, the changes to their rows, in order, and, where a blob was applied, what became
+-- of its changes.
+pub record Effect (A : Type 0) : Type 0 where
+  pub database : Tables A
+  pub changes : List (Change A)
+  pub report : Option ReportState
 
 -- a batch that was made for another version is out of date
 abbrev pub stale : Option ℕ → ℕ → Option Refusal
 stale None now = None
 stale (Some base) now = if nat_eq base now then None else Some (Stale base now)
 
+-- the change of a blob that ended its application
+abbrev pub change_refused : Refusal → Option ℕ
+change_refused (Aborted at) = Some at
+change_refused (Misuse at) = Some at
+change_refused _ = None
+
 module _ {A : Type 0} where
-  abbrev pub no_effect : Tables A → OutcomeState A
-  no_effect tables = record { database = tables; changes = [] }
+  abbrev pub no_effect : Tables A → Effect A
+  no_effect tables = record { database = tables; changes = []; report = None }
 
   -- a new table changes no row
-  abbrev pub created : Result (Tables A) Refusal → Result (OutcomeState A) Refused
+  abbrev pub created : Result (Tables A) Refusal → Result (Effect A) Refused
   created (Ok tables) = Ok (no_effect tables)
   created (Err why) = Err (None, why)
 
-  abbrev pub made : Result (OutcomeState A) RefusedAt → Result (OutcomeState A) Refused
-  made (Ok outcome) = Ok outcome
+  abbrev pub made : Result (OutcomeState A) RefusedAt → Result (Effect A) Refused
+  made (Ok outcome) = Ok (record { database = outcome.database; changes = outcome.changes; report = None })
   made (Err refused) = Err (Some refused.at, refused.why)
 
-  abbrev pub commit_unless : Option Refusal → Tables A → List (Op A) → Result (OutcomeState A) Refused
+  abbrev pub commit_unless : Option Refusal → Tables A → List (Op A) → Result (Effect A) Refused
   commit_unless (Some why) tables ops = Err (None, why)
   commit_unless None tables ops = made (run tables ops)
 
+  abbrev pub applied : Result (AppliedState A) Refusal → Result (Effect A) Refused
+  applied (Ok state) = Ok (record { database = state.database; changes = state.changes; report = Some state.report })
+  applied (Err why) = Err (change_refused why, why)
+
   -- A command that writes nothing leaves the tables as they are.
-  abbrev pub outcome : SnapshotState A → Command A → Result (OutcomeState A) Refused
+  abbrev pub outcome : SnapshotState A → Command A → Result (Effect A) Refused
   outcome now (CreateTable name schema) = created (create now.database name schema)
   outcome now (Commit batch) = commit_unless (stale batch.base now.version) now.database batch.ops
+  outcome now (Apply blob policy) = applied (apply now.database blob policy)
   outcome now _ = Ok (no_effect now.database)

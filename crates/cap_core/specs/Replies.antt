@@ -3,7 +3,7 @@ use Rattle.std.specs.Prelude.{List, [], ◌∷◌}
 use Rattle.cap_core.specs.declared.command.Command.{Command}
 use Rattle.cap_core.specs.declared.reply.Reply.{Reply}
 use Rattle.cap_core.specs.Answer.{answer, event_by, state_after}
-use Rattle.cap_core.specs.History.{Past}
+use Rattle.cap_core.specs.Past.{Past}
 
 module _ {A : Type 0} where
   -- each command is answered after the past and the commands before it

@@ -1,10 +1,14 @@
--- What holds of every table after any history.
-use Rattle.std.specs.Prelude.{◌≡◌, ◌<◌, Some, None, length}
+-- What holds of every table after any history, whatever blobs that can be written were applied.
+use Rattle.std.specs.Prelude.{◌≡◌, ◌<◌, Some, None, [], ◌∷◌, length}
 use Rattle.std.specs.List.{All}
 use Rattle.std.specs.Ordering.{nat_cmp}
 use Rattle.cap_row.specs.Key.{fields_cmp, key_of}
 use Rattle.cap_table.specs.Table.{TableState}
+use Rattle.cap_codec.specs.Writable.{IsWritable}
 use Rattle.cap_tree.specs.Tree.{IsOrdered}
+use Rattle.cap_core.specs.declared.command.Command.{Command}
+use Rattle.cap_core.specs.declared.command.Command.TheVariants.{Apply}
+use Rattle.cap_core.specs.Past.{Past}
 
 module _ {A : Type 0} where
   -- the keys rise, and each keyed row is as wide as the table and stands under its own primary key
@@ -19,3 +23,13 @@ module _ {A : Type 0} where
     pub wide : All (λ row. length row.1 ≡ length table.schema) table.loose
     pub keyless : All (λ row. key_of table.schema row.1 ≡ None) table.loose
     pub given : All (λ row. row.0 < table.next_id) table.loose
+
+  -- a blob that the command applies can be written
+  abbrev pub AppliesWritable : Command A → Type 0
+  AppliesWritable (Apply blob policy) = IsWritable blob
+  AppliesWritable _ = Unit {0}
+
+  -- each blob that was applied can be written
+  abbrev pub AreWritable : Past A → Type 0
+  AreWritable [] = Unit {0}
+  AreWritable (event ∷ past) = AppliesWritable event.command × AreWritable past

@@ -6,17 +6,17 @@ ghost use Rattle.cap_row.specs.Schema.{has_key};
 ghost use Rattle.cap_table.specs.Sound.{keyed_stands};
 ghost use Rattle.cap_tree.specs.Tree.{get};
 ghost use Rattle.cap_changes.specs.Fits.{change_fits};
+ghost use Rattle.cap_changes.specs.Patch.{patch_list_of};
 ghost use Rattle.cap_codec.specs.Changeset.{list_bytes};
-ghost use Rattle.cap_core.specs.Code.Attached.{attached_changes, table_stands, tables_of};
+ghost use Rattle.cap_codec.specs.Patchset.{patch_list_bytes};
+ghost use Rattle.cap_core.specs.Capture.{change_now, changes_of, table_changes};
 ghost use Rattle.cap_core.specs.Code.Grouped.{IsGroupOf, changes_in};
-ghost use Rattle.cap_core.specs.Code.Sound.{session_stands, touched_stand, image_stands};
-ghost use Rattle.cap_core.specs.Session.{session_changes, table_changes, change_now};
+ghost use Rattle.cap_core.specs.Code.Sound.{image_stands, records_stand, tables_stand};
 
-use crate::TouchedRow;
-use crate::attached_table::{AttachedTable, TouchedRows};
-use cap_changes::{Change, ChangeList, Group, change_between};
-use cap_codec::write_changes;
+use cap_changes::{Change, ChangeList, Group, change_between, to_patches};
+use cap_codec::{write_changes, write_patches};
 use cap_row::{Key, Row, Schema};
+use cap_session::{Attached, Record, Records};
 use cap_table::Table;
 use cap_txn::Database;
 use cap_value::{AllocHandle, Name, OutOfMemory};
@@ -51,6 +51,14 @@ impl<A: AllocHandle> Capture<A> {
         write_changes(alloc, &self.changes)
     }
 
+    /// The bytes of the patchset (The Session Extension, "sqlite3session_patchset").
+    pub fn patchset(&self, alloc: A) -> Result<Vec<u8, A>, OutOfMemory>
+        ensures { IfOk result (λ bytes. bytes.items ≡ patch_list_bytes (patch_list_of self.now)) }
+    {
+        let patches = to_patches(alloc, &self.changes)?;
+        write_patches(alloc, &patches)
+    }
+
     /// The changes, table by table in the order in which the tables were attached, and in a table in the
     /// order of the keys.
     pub fn changes(&self) -> &ChangeList<A>
@@ -60,29 +68,18 @@ impl<A: AllocHandle> Capture<A> {
     }
 }
 
-/// The changes of a session with these tables, from the first images that it keeps to the rows now.
+/// The changes of the attached tables of a session, from the first images that it keeps to the rows now.
 pub(crate) fn changes_of<A: AllocHandle>(
     alloc: A,
-    tables: &[AttachedTable<A>],
+    attached: Attached<'_, A>,
     main: &Database<A>,
 ) -> Result<ChangeList<A>, OutOfMemory>
-    requires { IsTrue (session_stands main.now (tables_of tables.now)) }
-    ensures { IfOk result (λ list. list ≡ session_changes main.now (tables_of tables.now)) }
-{
-    changes_of_tables(alloc, tables, main)
-}
-
-fn changes_of_tables<A: AllocHandle>(
-    alloc: A,
-    tables: &[AttachedTable<A>],
-    main: &Database<A>,
-) -> Result<ChangeList<A>, OutOfMemory>
-    requires { IsTrue (list_all (table_stands main.now) tables.now) }
-    ensures { IfOk result (λ list. list ≡ filter_map (attached_changes main.now) tables.now) }
+    requires { IsTrue (tables_stand main.now attached) }
+    ensures { IfOk result (λ list. list ≡ changes_of main.now attached.entry) }
 {
     let mut list = ChangeList::new(alloc);
-    for table in tables {
-        let group = changes_of_table(alloc, table, main.table(&table.name))?;
+    for (name, records) in attached {
+        let group = changes_of_table(alloc, name, records, main.table(name))?;
         list = with_group(list, group)?;
     }
     Ok(list)
@@ -107,16 +104,16 @@ fn with_group<A: AllocHandle>(
 // The changes of an attached table, none where there is no change.
 fn changes_of_table<A: AllocHandle>(
     alloc: A,
-    attached: &AttachedTable<A>,
+    name: &Name<A>,
+    records: &Records<A>,
     table: Option<&Table<A>>,
 ) -> Result<Option<Group<A>>, OutOfMemory>
-    requires { IsTrue (touched_stand (option_map
-        (λ t. t.schema) (option_copied table)) attached.now.touched) }
+    requires { IsTrue (records_stand (option_map (λ t. t.schema) (option_copied table)) records.now) }
     ensures { IfOk result (λ group. group
-        ≡ table_changes (attached.now.name, attached.now.touched) (option_copied table.entry)) }
+        ≡ table_changes (name.now, records.now) (option_copied table.entry)) }
 {
     match table {
-        Some(table) => group_of(alloc, &attached.name, &attached.touched, table),
+        Some(table) => group_of(alloc, name, records, table),
         None => Ok(None),
     }
 }
@@ -124,15 +121,15 @@ fn changes_of_table<A: AllocHandle>(
 fn group_of<A: AllocHandle>(
     alloc: A,
     name: &Name<A>,
-    touched: &TouchedRows<A>,
+    records: &Records<A>,
     table: &Table<A>,
 ) -> Result<Option<Group<A>>, OutOfMemory>
-    requires { IsTrue (touched_stand (Some table.now.schema) touched.now) }
-    ensures { IfOk result (λ group. group ≡ table_changes (name.now, touched.now) (Some table.now)) }
+    requires { IsTrue (records_stand (Some table.now.schema) records.now) }
+    ensures { IfOk result (λ group. group ≡ table_changes (name.now, records.now) (Some table.now)) }
 {
     let mut group = None;
-    for (key, row) in touched {
-        if let Some(change) = change_now(alloc, table, key, row)? {
+    for (key, kept) in records {
+        if let Some(change) = change_now(alloc, table, key, kept)? {
             group = Some(with_change(alloc, name, table.schema(), group, change)?);
         }
     }
@@ -144,10 +141,10 @@ fn change_now<A: AllocHandle>(
     alloc: A,
     table: &Table<A>,
     key: &Key<A>,
-    touched: &TouchedRow<A>,
+    kept: &Record<A>,
 ) -> Result<Option<Change<A>>, OutOfMemory>
-    requires { IsTrue (image_stands (Some table.now.schema) key.now touched.now.image) }
-    ensures change { IfOk result (λ change. change ≡ change_now table.now (key.now, touched.now)) }
+    requires { IsTrue (image_stands (Some table.now.schema) key.now kept.now.image) }
+    ensures change { IfOk result (λ change. change ≡ change_now table.now (key.now, kept.now)) }
     ensures fits { IfOk result (λ change. IfSome change
         (λ made. IsTrue (change_fits table.now.schema made))) }
     ensures keyed { IfOk result (λ change. IfSome change (λ _. IsTrue (has_key table.now.schema))) }
@@ -155,14 +152,14 @@ fn change_now<A: AllocHandle>(
     change_between(
         alloc,
         table.schema(),
-        touched.indirect,
-        touched.image.as_ref(),
+        kept.indirect,
+        kept.image.as_ref(),
         row_now(table, key),
     )
 }
 
-/// The row with this primary key, or its absence.
-pub(crate) fn row_now<'a, A: AllocHandle>(table: &'a Table<A>, key: &Key<A>) -> Option<&'a Row<A>>
+// The row with this primary key, or its absence.
+fn row_now<'a, A: AllocHandle>(table: &'a Table<A>, key: &Key<A>) -> Option<&'a Row<A>>
     ensures row { option_copied result ≡ get fields_cmp table.now.keyed key.now }
     ensures stands { IfSome result (λ row. IsTrue (keyed_stands table.now.schema key.now row.now)) }
 {

@@ -1,32 +1,46 @@
 //! Laws of histories, sessions and captures, over the definitions alone. The functions do nothing.
-ghost use Rattle.std.specs.Prelude.{◌≡◌, ℕ, ◌+◌, false, None, [], ◌∷◌, ◌++◌, List, IsTrue, length, map};
+ghost use Rattle.std.specs.Prelude.{◌≡◌, ℕ, ◌+◌, false, Some, None, [], ◌∷◌, ◌++◌, List, IsTrue, length, map, reverse};
 ghost use Rattle.std.specs.Option.{option_map};
 ghost use Rattle.std.specs.FinMap.Entries.{is_sorted};
 ghost use Rattle.std.specs.List.{All};
 ghost use Rattle.cap_value.specs.Bytes.{bytes_cmp};
 ghost use Rattle.cap_row.specs.Fields.{Fields};
 ghost use Rattle.cap_row.specs.Key.{fields_cmp};
+ghost use Rattle.cap_apply.specs.declared.policy.Policy.{Policy};
 ghost use Rattle.cap_changes.specs.Change.{full_record};
+ghost use Rattle.cap_changes.specs.Group.{TableChanges};
+ghost use Rattle.cap_changes.specs.Patch.{patch_list_of};
 ghost use Rattle.cap_changes.specs.declared.change.Change.{Change};
+ghost use Rattle.cap_codec.specs.declared.read.Contents.{Contents};
+ghost use Rattle.cap_session.specs.declared.record.Record.{Record};
+ghost use Rattle.cap_table.specs.Table.{TableState};
 ghost use Rattle.cap_tree.specs.Tree.{IsOrdered, get, put_entry};
+ghost use Rattle.cap_txn.specs.Tables.{AreRising, Tables};
 ghost use Rattle.cap_core.specs.declared.command.Command.{Command};
 ghost use Rattle.cap_core.specs.declared.event.Event.{Event};
-ghost use Rattle.cap_core.specs.declared.touched_row.TouchedRow.{TouchedRow};
-ghost use Rattle.cap_core.specs.Answer.{IsLegal, IsLegalPast, answer, event_by, reply_of, state};
-ghost use Rattle.cap_core.specs.History.{Past, is_accepted, main, session_of, touches};
+ghost use Rattle.cap_core.specs.declared.reply.Reply.{Reply};
+ghost use Rattle.cap_core.specs.Answer.{IsLegal, IsLegalPast, answer, event_by, reply_of, state, state_after};
+ghost use Rattle.cap_core.specs.Capture.{change_now, session_changes};
+ghost use Rattle.cap_core.specs.Elsewhere.{AppliesWhole, HoldsImages, changes_in};
+ghost use Rattle.cap_core.specs.Flags.{session_named};
+ghost use Rattle.cap_core.specs.History.{main};
 ghost use Rattle.cap_core.specs.Insert.{HasChange, IsInsertOfAbsent, changes_by_key};
+ghost use Rattle.cap_core.specs.Past.{Past, is_accepted};
 ghost use Rattle.cap_core.specs.Replies.{replies_after};
-ghost use Rattle.cap_core.specs.Session.{change_now, is_indirect, session_changes, touched_rows};
-ghost use Rattle.cap_core.specs.Table.{IsKeyed, IsLoose};
-ghost use Rattle.cap_table.specs.Table.{TableState};
-ghost use Rattle.cap_core.specs.Touch.{Touch, touches_of};
+ghost use Rattle.cap_core.specs.Session.{mark, records_of, session_of};
+ghost use Rattle.cap_core.specs.Table.{AreWritable, IsKeyed, IsLoose};
+ghost use Rattle.cap_core.specs.Touch.{Touch, touches, touches_of};
 ghost use Rattle.cap_core.specs.Transition.{next};
 
+use cap_apply::{
+    a_changeset_gives_the_rows_now, a_patchset_gives_the_rows_now, applied_blobs_keep_order,
+};
 use cap_txn::tables_keep_order;
 use cap_value::AllocHandle;
 
 /// The empty history is legal, and a legal history stays legal with an event whose reply is that of its
-/// command. What it leaves is then the next state, which counts the events.
+/// command. What it leaves is then the next state, which counts the events. The reply to a command after a history is
+/// the one in the state that the history leaves.
 pub fn legal_histories_grow<A: AllocHandle>()
     ensures none { IsLegal {A = A} [] }
     ensures more { (h : List (Event A)) (by : ℕ) (command : Command A) → IsLegal h
@@ -34,11 +48,7 @@ pub fn legal_histories_grow<A: AllocHandle>()
     ensures next { (h : List (Event A)) (by : ℕ) (command : Command A) → IsLegal h
         → state (h ++ event_by by command (reply_of h command) ∷ []) ≡ next (state h) command }
     ensures count { (h : List (Event A)) → (state h).events ≡ length h }
-{}
-
-/// The reply to a command after a history is the answer of the state that the history leaves.
-pub fn replies_follow_from_states<A: AllocHandle>()
-    ensures { (h : List (Event A)) (command : Command A) → reply_of h command ≡ answer (state h) command }
+    ensures reply { (h : List (Event A)) (command : Command A) → reply_of h command ≡ answer (state h) command }
 {}
 
 /// A session without touches captures nothing.
@@ -47,8 +57,9 @@ pub fn untouched_captures_nothing<A: AllocHandle>()
         → session_changes (main past) (session_of past session) ≡ [] }
 {}
 
-/// After an accepted insert into an attached table, of a key that had no row when the session saw it first, a
-/// capture has that INSERT as the key's one change, whatever the session holds of other keys and tables.
+/// After an accepted insert into a table that is attached to an enabled session, or that its rule attaches then, of a
+/// key that had no row when the session saw it first, a capture has that INSERT as the key's one change, whatever the
+/// session holds of other keys and tables.
 pub fn insert_is_captured<A: AllocHandle>()
     ensures { (past : Past A) (event : Event A) (session : ℕ) (name : List ℕ) (table : TableState A)
         (key : Fields A) (row : Fields A)
@@ -56,23 +67,23 @@ pub fn insert_is_captured<A: AllocHandle>()
         → HasChange (session_changes (main (event ∷ past)) (session_of (event ∷ past) session))
         name table.schema
         (changes_by_key (record table { keyed = put_entry fields_cmp table.keyed key row })
-        (touched_rows (touches_of name (touches session (event ∷ past)))))
+        (records_of (touches_of name (touches session (event ∷ past)))))
         key (Change.Insert false (full_record row)) }
 {}
 
-/// However often a key is touched, the session keeps one row of it, with the image of the key's first touch.
-pub fn one_touched_row_a_key<A: AllocHandle>()
+/// However often a key is touched, the session keeps one record of it, with the image of the key's first touch.
+pub fn one_record_a_key<A: AllocHandle>()
     ensures once { (touched : List (Fields A × Touch A))
-        → IsTrue (is_sorted fields_cmp (touched_rows touched)) }
+        → IsTrue (is_sorted fields_cmp (records_of touched)) }
     ensures first { (touched : List (Fields A × Touch A)) (key : Fields A) →
-        get fields_cmp (touched_rows touched) key
-        ≡ option_map (λ touch. record { image = touch.image; indirect = is_indirect touched key })
+        get fields_cmp (records_of touched) key
+        ≡ option_map (λ touch. record { image = touch.image; indirect = mark touched key })
         (get fields_cmp touched key) }
 {}
 
 /// A key whose row is again as it was when it was touched first has no change, though it was touched.
 pub fn restored_row_is_no_change<A: AllocHandle>()
-    ensures { (table : TableState A) (key : Fields A) (touched : TouchedRow A) → touched.image
+    ensures { (table : TableState A) (key : Fields A) (touched : Record A) → touched.image
         ≡ get fields_cmp table.keyed key → change_now table (key, touched) ≡ None }
 {}
 
@@ -83,12 +94,53 @@ pub fn refusal_changes_no_reply<A: AllocHandle>()
         ≡ replies_after past commands }
 {}
 
+/// What a session captures, applied to a database that has the tables of its touched rows with the same columns, and at
+/// each touched key the row that was there first, leaves there the rows that are there now, and all else as it was. No
+/// change meets a conflict, under any policy; the patchset does the same as the changeset. A capture is what `Capture`
+/// answers, as does `Restart`.
+pub fn a_capture_gives_the_rows_now<A: AllocHandle>()
+    ensures changeset { (past : Past A) (session : ℕ) (list : List (TableChanges A)) (database : Tables A)
+        (policy : Policy) → answer (state_after past) (Command.Capture session) ≡ Reply.Capture list
+        → AreRising database → AreRising (main past) → HoldsImages database (main past) (session_of past session).tables
+        → AppliesWhole policy (Contents.Changes list) (changes_in list) database (main past)
+        (session_of past session).tables }
+    ensures patchset { (past : Past A) (session : ℕ) (list : List (TableChanges A)) (database : Tables A)
+        (policy : Policy) → answer (state_after past) (Command.Capture session) ≡ Reply.Capture list
+        → AreRising database → AreRising (main past) → HoldsImages database (main past) (session_of past session).tables
+        → AppliesWhole policy (Contents.Patches (patch_list_of list)) (changes_in list) database (main past)
+        (session_of past session).tables }
+    ensures restart { (past : Past A) (session : ℕ) → answer (state_after past) (Command.Restart session)
+        ≡ answer (state_after past) (Command.Capture session) }
+{
+    a_changeset_gives_the_rows_now::<A>();
+    a_patchset_gives_the_rows_now::<A>();
+}
+
+/// A command to one session, as one that ends it, changes no capture of another session, whatever comes between.
+pub fn a_session_changes_no_others_capture<A: AllocHandle>()
+    ensures { (past : Past A) (event : Event A) (one : ℕ) (other : ℕ) → session_named event.command ≡ Some one
+        → (other ≡ one → ⊥) → (later : List (Event A))
+        → answer (state_after (later ++ event ∷ past)) (Command.Capture other)
+        ≡ answer (state_after (later ++ past)) (Command.Capture other) }
+{}
+
+/// The order of two sessions' commands, one after the other, does not matter to any capture, whatever comes between.
+pub fn order_of_two_sessions_does_not_matter<A: AllocHandle>()
+    ensures { (past : Past A) (first : Event A) (second : Event A) (one : ℕ) (other : ℕ)
+        → session_named first.command ≡ Some one → session_named second.command ≡ Some other → (one ≡ other → ⊥)
+        → (later : List (Event A)) (session : ℕ)
+        → answer (state_after (later ++ second ∷ first ∷ past)) (Command.Capture session)
+        ≡ answer (state_after (later ++ first ∷ second ∷ past)) (Command.Capture session) }
+{}
+
 /// After any history the names of the tables rise, and in each table keys and ids rise, each row has as many fields
 /// as the table has columns, and stands under its own primary key, or where it has none under an id that was given.
+/// The blobs that were applied are such as can be written, as all that a program can make are.
 pub fn rows_stand_under_own_keys<A: AllocHandle>()
-    ensures names { (h : List (Event A)) → IsOrdered bytes_cmp (state h).main }
-    ensures keyed { (h : List (Event A)) → All (λ named. IsKeyed named.1) (state h).main }
-    ensures loose { (h : List (Event A)) → All (λ named. IsLoose named.1) (state h).main }
+    ensures names { (h : List (Event A)) → AreWritable (reverse h) → IsOrdered bytes_cmp (state h).main }
+    ensures keyed { (h : List (Event A)) → AreWritable (reverse h) → All (λ named. IsKeyed named.1) (state h).main }
+    ensures loose { (h : List (Event A)) → AreWritable (reverse h) → All (λ named. IsLoose named.1) (state h).main }
 {
     tables_keep_order::<A>();
+    applied_blobs_keep_order::<A>();
 }

@@ -1,22 +1,18 @@
 //! The sequential server: the reply to each command, and the state that it leaves.
 #![tactic(auto)]
 
-mod attached_table;
 mod capture;
 mod command;
 mod confirm;
+mod diff;
 mod event;
 mod fault;
 mod laws;
 mod limits;
 mod reply;
-mod row_touch;
 mod server;
-mod session;
-#[cfg(test)]
-mod tests;
-mod touched_row;
-mod touches;
+mod session_commands;
+mod writes;
 
 pub use capture::Capture;
 pub use command::Command;
@@ -24,11 +20,11 @@ pub use confirm::{Agree, Confirm, Never};
 pub use event::Event;
 pub use fault::CallFault;
 pub use laws::{
-    insert_is_captured, legal_histories_grow, one_touched_row_a_key, refusal_changes_no_reply,
-    replies_follow_from_states, restored_row_is_no_change, rows_stand_under_own_keys, untouched_captures_nothing,
+    a_capture_gives_the_rows_now, a_session_changes_no_others_capture, insert_is_captured,
+    legal_histories_grow, one_record_a_key, order_of_two_sessions_does_not_matter,
+    refusal_changes_no_reply, restored_row_is_no_change, rows_stand_under_own_keys,
+    untouched_captures_nothing,
 };
-pub use limits::SESSIONS_MAX;
+pub use limits::{SAVED_MAX, SESSIONS_MAX};
 pub use reply::Reply;
-pub use row_touch::RowTouch;
 pub use server::Core;
-pub use touched_row::TouchedRow;

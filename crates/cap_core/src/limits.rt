@@ -1,2 +1,5 @@
 /// The most sessions that may be live at once.
-pub const SESSIONS_MAX: usize = 1;
+pub const SESSIONS_MAX: usize = 64;
+
+/// The most databases that may be saved at once.
+pub const SAVED_MAX: usize = 16;

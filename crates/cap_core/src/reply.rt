@@ -1,4 +1,5 @@
 use crate::Capture;
+use cap_apply::Report;
 use cap_txn::Snapshot;
 use cap_value::{AllocHandle, Refusal};
 
@@ -12,15 +13,24 @@ pub enum Reply<A: AllocHandle> {
         /// The version that it made.
         version: u64,
     },
+    /// A changeset or patchset was applied.
+    Applied {
+        /// The version that it made.
+        version: u64,
+        /// What became of its changes.
+        report: Report<A>,
+    },
     /// The session with this number was made.
     Session(u64),
     /// The tables, with their version.
     Snapshot(Snapshot<A>),
+    /// A flag as it is now, or whether a session is empty.
+    Flag(bool),
     /// The session's changes.
     Capture(Capture<A>),
     /// The rules refuse the command, which has changed nothing.
     Refused {
-        /// The place of the operation that is refused, counted from 0, where it is one of a batch's.
+        /// The place of the operation or change that is refused, counted from 0, where it is one of several.
         at: Option<u64>,
         /// Why.
         why: Refusal,

@@ -5,7 +5,7 @@ ghost use Rattle.cap_history.specs.History.{own};
 ghost use Rattle.cap_history.specs.Seat.{HasCalled, SeesMore, calls};
 ghost use Rattle.cap_value.specs.Memory.{MatchFault};
 
-use cap_core::{Command, Confirm, Core, Reply, legal_histories_grow, replies_follow_from_states};
+use cap_core::{Command, Confirm, Core, Reply, legal_histories_grow};
 use cap_history::{Front, List, Naming, Overtaken, Seat};
 use cap_value::{AllocHandle, Fault};
 
@@ -70,7 +70,6 @@ pub(crate) fn step_after<J: Naming, A: AllocHandle>(
         × ((length list.now < overtaken.front) ⊎ (length (own seat.old.number list.now) ≢ length (calls seat.old))))) }
 {
     legal_histories_grow::<A>();
-    replies_follow_from_states::<A>();
     let _length = list.len();
     let mut exchange = Exchange {
         front,

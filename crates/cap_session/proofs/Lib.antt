@@ -1,3 +1,4 @@
 mod ListLemmas
 mod NoteLemmas
+mod PlaceLemmas
 mod RecordLemmas

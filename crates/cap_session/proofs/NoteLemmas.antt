@@ -11,7 +11,7 @@ use Rattle.cap_txn.specs.Tables.{Tables}
 use Rattle.cap_txn.specs.declared.change.Change.{Change}
 use Rattle.cap_session.specs.declared.rule.AutomaticRule.{AutomaticRule}
 use Rattle.cap_session.specs.declared.rule.AutomaticRule.TheVariants.{Nothing, All, Filter}
-use Rattle.cap_session.specs.Note.{attach_by, attach_by_rule, concerns, is_cascade, is_concerned, note, touch_of, touch_tables, touches_of}
+use Rattle.cap_session.specs.Note.{attach_by, attach_by_rule, is_cascade, note, touch_of, touch_tables, touches_of}
 use Rattle.cap_session.specs.Records.{Records, Touch, with_touches}
 use Rattle.cap_session.specs.Session.{AttachedTables, SessionState, accepts_by, all_unless_filter, attach, is_listed, records_of}
 
@@ -29,27 +29,6 @@ or_both true true false = refl
 or_both true false true = refl
 or_both true false false = refl
 or_both false b c = refl
-
-or_false : (a b : Bool) → (a || b) ≡ false → (a ≡ false) × (b ≡ false)
-or_false true b is = absurd cc
-or_false false b is = (refl, is)
-
-module _ {X : Type 0} (p q : X → Bool) where
-  -- none passes one test or the other
-  any_or : (xs : List X) → list_any (λ x. p x || q x) xs ≡ false → (list_any p xs ≡ false) × (list_any q xs ≡ false)
-  any_or [] is = (refl, refl)
-  any_or (x ∷ xs) is =
-      let here = or_false (p x || q x) _ is in
-      let both = or_false (p x) (q x) here.0 in
-      let rest = any_or xs here.1 in
-      (ap (λ b. b || list_any p xs) both.0 ∙ rest.0, ap (λ b. b || list_any q xs) both.1 ∙ rest.1)
-
-other_way : (a b : List ℕ) → bytes_eq a b ≡ false → bytes_eq b a ≡ false
-other_way a b is =
-    elim (bytes_eq b a) as (λ t. bytes_eq b a ≡ t → t ≡ false) [
-      | true ↦ λ same. sym ((bytes_decides a b).1 (sym ((bytes_decides b a).0 same))) ∙ is
-      | false ↦ λ other. refl
-    ] refl
 
 module _ {A : Type 0} where
   -- the records that stand, or none at all where a table is attached
@@ -171,42 +150,3 @@ module _ {A : Type 0} where
 
   pub note-disabled : (before : Tables A) (changes : List (Change A)) (session : SessionState A) → session.enabled ≡ false → note before changes session ≡ session
   note-disabled before changes session disabled = ap (noted before changes session) disabled
-
-  touches_of-none : (before : Tables A) (indirect : Bool) (name : List ℕ) (changes : List (Change A)) → list_any (λ change. bytes_eq change.table name) changes ≡ false → touches_of before indirect name changes ≡ []
-  touches_of-none before indirect name [] none = refl
-  touches_of-none before indirect name (change ∷ changes) none =
-      let parts = or_false (bytes_eq change.table name) _ none in
-      ap (λ b. cons_option (cond b (option_map (λ key. record { key = key; image = row_at before name key; indirect = indirect || is_cascade change.cause }) change.key) None) (touches_of before indirect name changes)) (other_way change.table name parts.0)
-      ∙ touches_of-none before indirect name changes parts.1
-
-  touch_tables-none : (before : Tables A) (indirect : Bool) (changes : List (Change A)) (tables : AttachedTables A) → list_any (λ change. is_listed change.table tables) changes ≡ false → touch_tables before indirect changes tables ≡ tables
-  touch_tables-none before indirect changes [] none = refl
-  touch_tables-none before indirect changes (t ∷ tables) none =
-      let parts = any_or (λ (change : Change A). bytes_eq change.table t.0) (λ change. is_listed change.table tables) changes none in
-      let own : with_touches t.1 (touches_of before indirect t.0 changes) ≡ t.1 = ap (with_touches t.1) (touches_of-none before indirect t.0 changes parts.0) in
-      let first : ◌≡◌ {A = List ℕ × Records A} (t.0, with_touches t.1 (touches_of before indirect t.0 changes)) t = ap (λ records. (t.0, records)) own in
-      ap (λ x. x ∷ touch_tables before indirect changes tables) first ∙ ap (λ rest. t ∷ rest) (touch_tables-none before indirect changes tables parts.1)
-
-  attach_by_rule-none : (rule : AutomaticRule A) (changes : List (Change A)) (tables : AttachedTables A) → list_any (λ change. accepts_by rule change.table) changes ≡ false → attach_by_rule rule changes tables ≡ tables
-  attach_by_rule-none rule [] tables none = refl
-  attach_by_rule-none rule (change ∷ changes) tables none =
-      let parts = or_false (accepts_by rule change.table) _ none in
-      ap (λ b. attach_by_rule rule changes (cond b (attach change.table tables) tables)) parts.0 ∙ attach_by_rule-none rule changes tables parts.1
-
-  note-unconcerned : (before : Tables A) (changes : List (Change A)) (session : SessionState A) → list_any (concerns session.rule session.tables) changes ≡ false → note before changes session ≡ session
-  note-unconcerned before changes session none =
-      let parts = any_or (λ (change : Change A). is_listed change.table session.tables) (λ change. accepts_by session.rule change.table) changes none in
-      let same : touch_tables before session.indirect changes (attach_by_rule session.rule changes session.tables) ≡ session.tables =
-      ap (touch_tables before session.indirect changes) (attach_by_rule-none session.rule changes session.tables parts.1) ∙ touch_tables-none before session.indirect changes session.tables parts.0 in
-      elim session.enabled as (λ b. noted before changes session b ≡ session) [
-        | true ↦ ap (λ tables. record session { tables = tables }) same
-        | false ↦ refl
-      ]
-
-  -- a session that is not concerned stays as it is
-  pub note_stays : (before : Tables A) (changes : List (Change A)) (session : SessionState A) → is_concerned session changes ≡ false → note before changes session ≡ session
-  note_stays before changes session is =
-      elim session.enabled as (λ b. session.enabled ≡ b → (b && list_any (concerns session.rule session.tables) changes) ≡ false → note before changes session ≡ session) [
-        | true ↦ λ _ none. note-unconcerned before changes session none
-        | false ↦ λ disabled _. note-disabled before changes session disabled
-      ] refl is

@@ -1,4 +1,5 @@
-pub mod Attached
+pub mod Code
 pub mod Note
 pub mod Records
 pub mod Session
+pub mod Sessions

@@ -1,6 +1,6 @@
 -- What the changes of one commit, or a diff, add to a session.
-use Rattle.std.specs.Prelude.{ℕ, Bool, true, false, Option, None, List, map, fold, ◌&&◌, ◌||◌, if◌then◌else◌}
-use Rattle.std.specs.List.{filter_map, list_any}
+use Rattle.std.specs.Prelude.{ℕ, Bool, true, false, Option, None, List, map, fold, ◌||◌, if◌then◌else◌}
+use Rattle.std.specs.List.{filter_map}
 use Rattle.std.specs.Option.{option_map}
 use Rattle.cap_value.specs.Bytes.{bytes_eq}
 use Rattle.cap_txn.specs.Read.{row_at}
@@ -11,7 +11,7 @@ use Rattle.cap_txn.specs.declared.change.Change.{Change}
 use Rattle.cap_compare.specs.declared.difference.Difference.{Difference}
 use Rattle.cap_session.specs.declared.rule.AutomaticRule.{AutomaticRule}
 use Rattle.cap_session.specs.Records.{Touch, with_touches}
-use Rattle.cap_session.specs.Session.{AttachedTables, SessionState, accepts_by, attach, is_listed}
+use Rattle.cap_session.specs.Session.{AttachedTables, SessionState, accepts_by, attach}
 
 -- what a trigger or a foreign key action does touches indirectly
 abbrev pub is_cascade : Cause → Bool
@@ -40,14 +40,6 @@ module _ {A : Type 0} where
   -- the tables of these changes that the rule accepts are attached, in the order of the changes
   abbrev pub attach_by_rule : AutomaticRule A → List (Change A) → AttachedTables A → AttachedTables A
   attach_by_rule rule changes tables = fold (attach_by rule) tables (map (λ change. change.table) changes)
-
-  -- the change is of a table that is attached, or that the rule attaches
-  abbrev pub concerns : AutomaticRule A → AttachedTables A → Change A → Bool
-  concerns rule tables change = is_listed change.table tables || accepts_by rule change.table
-
-  -- the session is enabled, and one of the changes concerns it
-  abbrev pub is_concerned : SessionState A → List (Change A) → Bool
-  is_concerned session changes = session.enabled && list_any (concerns session.rule session.tables) changes
 
   -- the session after a commit with these changes, on tables that were so before it
   abbrev pub note : Tables A → List (Change A) → SessionState A → SessionState A

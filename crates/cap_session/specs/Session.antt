@@ -2,6 +2,7 @@
 use Rattle.std.specs.Prelude.{ℕ, Bool, true, false, Option, option_and_then, List, [], ◌∷◌, ◌++◌, map, length, sum, if◌then◌else◌}
 use Rattle.std.specs.List.{list_any}
 use Rattle.std.specs.Map.{lookup}
+use Rattle.std.specs.Option.{unwrap_or}
 use Rattle.cap_value.specs.Bytes.{bytes_eq}
 use Rattle.cap_row.specs.Fields.{Fields}
 use Rattle.cap_row.specs.Key.{fields_cmp}
@@ -47,11 +48,22 @@ module _ {A : Type 0} where
   all_unless_filter All = All
   all_unless_filter (Filter rule) = Filter rule
 
+  -- the session with the name in its attach list
+  abbrev pub attached : List ℕ → SessionState A → SessionState A
+  attached name session = record session { tables = attach name session.tables }
+
   abbrev pub attach_all : SessionState A → SessionState A
   attach_all session = record session { rule = all_unless_filter session.rule }
 
   abbrev pub set_filter : Rule → SessionState A → SessionState A
   set_filter rule session = record session { rule = Filter rule }
+
+  -- the session with the flag set, where it is asked for
+  abbrev pub enabled_as : Option Bool → SessionState A → SessionState A
+  enabled_as asked session = record session { enabled = unwrap_or asked session.enabled }
+
+  abbrev pub indirect_as : Option Bool → SessionState A → SessionState A
+  indirect_as asked session = record session { indirect = unwrap_or asked session.indirect }
 
   -- the records of the table of this name, where it is attached
   abbrev pub records_of : AttachedTables A → List ℕ → Option (Records A)

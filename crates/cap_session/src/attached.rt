@@ -1,7 +1,7 @@
 ghost use Rattle.std.specs.Prelude.{◌≡◌, length};
 ghost use Rattle.std.specs.Iterator.{at_most};
 ghost use Rattle.std.specs.Map.Iter.{TakesFirst, deref_pair};
-ghost use Rattle.cap_session.specs.Attached.{tables_of};
+ghost use Rattle.cap_session.specs.Code.Attached.{tables_of};
 
 use crate::Records;
 use crate::attached_table::AttachedTable;
@@ -17,7 +17,7 @@ pub struct Attached<'a, A: AllocHandle> {
 
 impl<'a, A: AllocHandle> Model for Attached<'a, A> {
     ghost use Rattle.cap_session.specs.Session.{AttachedTables};
-    ghost use Rattle.cap_session.specs.Attached.{tables_of};
+    ghost use Rattle.cap_session.specs.Code.Attached.{tables_of};
 
     ghost Value = { AttachedTables A };
 

@@ -1,8 +1,8 @@
-ghost use Rattle.std.specs.Prelude.{◌≡◌, ◌||◌, ◌++◌, [], IfOk, OnOk, OnErr, nat_eq, if◌then◌else◌};
-ghost use Rattle.cap_session.specs.Attached.{tables_of, waiting_tables};
-ghost use Rattle.cap_session.specs.Note.{attach_by, attach_by_rule, concerns, touch_table, touch_tables, touches_found};
+ghost use Rattle.std.specs.Prelude.{◌≡◌, ◌++◌, [], None, IfOk, OnOk, length, nat_eq, take, if◌then◌else◌};
+ghost use Rattle.cap_session.specs.Code.Attached.{tables_of, waiting_tables};
+ghost use Rattle.cap_session.specs.Note.{attach_by, attach_by_rule, touch_table, touch_tables, touches_found};
 ghost use Rattle.cap_session.specs.Records.{with_touches};
-ghost use Rattle.cap_session.specs.Session.{accepts_by, attach, forget, is_listed, records_of, stored};
+ghost use Rattle.cap_session.specs.Session.{attach, forget, is_listed, records_of, stored};
 ghost use Rattle.std.specs.Option.{option_copied, unwrap_or};
 ghost use Rattle.std.specs.List.{list_any};
 ghost use Rattle.cap_value.specs.Bytes.{bytes_eq};
@@ -30,6 +30,7 @@ impl<A: AllocHandle> AttachedTable<A> {
     pub(crate) fn new(alloc: A, name: Name<A>) -> Self
         ensures name { result.name ≡ name }
         ensures records { result.records ≡ [] }
+        ensures waiting { result.waiting ≡ None }
     {
         AttachedTable {
             name,
@@ -78,33 +79,18 @@ pub(crate) fn copies_of<A: AllocHandle>(
     Ok(copies)
 }
 
-/// Whether one of these changes is of a table that is attached, or that the rule attaches.
-pub(crate) fn is_concerned<A: AllocHandle>(
-    tables: &[AttachedTable<A>],
-    rule: &AutomaticRule<A>,
-    changes: &[Change<A>],
-) -> bool
-    ensures { result ≡ list_any (concerns rule.now (tables_of tables.now)) changes.now }
+/// Forgets what waits.
+pub(crate) fn forget_waiting<A: AllocHandle>(tables: &mut [AttachedTable<A>])
+    ensures same { tables_of tables.new ≡ tables_of tables.old }
+    ensures none { waiting_tables tables.new ≡ tables_of tables.old }
 {
-    for change in changes {
-        if concerns(tables, rule, &change.table) {
-            return true;
-        }
+    for table in tables.iter_mut() {
+        table.waiting = None;
     }
-    false
 }
 
-fn concerns<A: AllocHandle>(
-    tables: &[AttachedTable<A>],
-    rule: &AutomaticRule<A>,
-    name: &Name<A>,
-) -> bool
-    ensures { result ≡ (is_listed name.now (tables_of tables.now) || accepts_by rule.now name.now) }
-{
-    is_listed(tables, name) || rule.accepts(name)
-}
-
-/// Notes changes: attaches the tables that the rule accepts, and makes the touches of all that are attached then.
+/// Finds what changes make of the tables: the records of those that are attached, and those that the rule attaches,
+/// which go behind the others. On an error they are as before.
 pub(crate) fn note_tables<A: AllocHandle>(
     alloc: A,
     tables: &mut Vec<AttachedTable<A>, A>,
@@ -113,15 +99,14 @@ pub(crate) fn note_tables<A: AllocHandle>(
     indirect: bool,
     changes: &[Change<A>],
 ) -> Result<(), OutOfMemory>
-    ensures noted { OnOk result (tables_of tables.new.items ≡ touch_tables before.now indirect changes.now
+    ensures same { tables_of (take (length tables.old.items) tables.new.items) ≡ tables_of tables.old.items }
+    ensures waiting { OnOk result (waiting_tables tables.new.items ≡ touch_tables before.now indirect changes.now
         (attach_by_rule rule.now changes.now (tables_of tables.old.items))) }
-    ensures err { OnErr result (tables_of tables.new.items ≡ tables_of tables.old.items) }
 {
     let mut added = tables_attached(alloc, tables, rule, changes)?;
     touch_tables(tables.as_mut_slice(), before, indirect, changes)?;
     touch_tables(added.as_mut_slice(), before, indirect, changes)?;
     tables.append(&mut added)?;
-    take_over(tables.as_mut_slice());
     Ok(())
 }
 
@@ -192,8 +177,8 @@ fn touch_tables<A: AllocHandle>(
     Ok(())
 }
 
-// Takes over the records that wait.
-fn take_over<A: AllocHandle>(tables: &mut [AttachedTable<A>])
+/// Takes over the records that wait.
+pub(crate) fn take_over<A: AllocHandle>(tables: &mut [AttachedTable<A>])
     ensures { tables_of tables.new ≡ waiting_tables tables.old }
 {
     for table in tables.iter_mut() {
@@ -203,7 +188,8 @@ fn take_over<A: AllocHandle>(tables: &mut [AttachedTable<A>])
     }
 }
 
-/// Notes a diff of the table of this name, which is attached unless it is.
+/// Finds what a diff of the table of this name makes of the tables. It goes behind the others unless it is among them.
+/// On an error they are as before.
 pub(crate) fn note_differences<A: AllocHandle>(
     alloc: A,
     tables: &mut Vec<AttachedTable<A>, A>,
@@ -211,16 +197,15 @@ pub(crate) fn note_differences<A: AllocHandle>(
     indirect: bool,
     differences: &[Difference<A>],
 ) -> Result<(), OutOfMemory>
-    ensures noted { OnOk result (tables_of tables.new.items ≡ touch_table name.now
+    ensures same { tables_of (take (length tables.old.items) tables.new.items) ≡ tables_of tables.old.items }
+    ensures waiting { OnOk result (waiting_tables tables.new.items ≡ touch_table name.now
         (touches_found indirect differences.now) (attach name.now (tables_of tables.old.items))) }
-    ensures err { OnErr result (tables_of tables.new.items ≡ tables_of tables.old.items) }
 {
     let mut added = Vec::new(alloc);
     attach_new(alloc, tables, &mut added, name)?;
     touch_table(tables.as_mut_slice(), name, indirect, differences)?;
     touch_table(added.as_mut_slice(), name, indirect, differences)?;
     tables.append(&mut added)?;
-    take_over(tables.as_mut_slice());
     Ok(())
 }
 

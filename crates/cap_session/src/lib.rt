@@ -4,9 +4,13 @@
 mod attached;
 mod attached_table;
 mod laws;
+mod numbered;
+mod parts;
 mod record;
 mod rule;
 mod session;
+mod session_ref;
+mod sessions;
 #[cfg(test)]
 mod tests;
 mod touch;
@@ -20,4 +24,6 @@ pub use laws::{
 pub use record::Record;
 pub use rule::AutomaticRule;
 pub use session::Session;
+pub use session_ref::SessionRef;
+pub use sessions::Sessions;
 pub use touch::Records;

@@ -1,6 +1,6 @@
 -- What operations and new tables keep of a database: the columns of its tables, and that names, keys and ids rise.
 use Rattle.std.proofs.Common.{◌≡◌, ℕ, Bool, true, false, cond, Option, Some, None, Result, Ok, Err, List, [], ◌∷◌, refl, sym, ap, subst, ◌∙◌, Less, Equal, Greater, T}
-use Rattle.std.specs.Prelude.{IfOk, is_some, length, nat_lt}
+use Rattle.std.specs.Prelude.{IfOk, OnErr, is_some, length, nat_lt}
 use Rattle.std.specs.Option.{option_map}
 use Rattle.std.specs.List.{AllByRecursion}
 use Rattle.std.specs.Ordering.{eq_by_cmp, match_ordering}
@@ -9,18 +9,22 @@ use Rattle.std.specs.FinMap.{IsAntisymmetric, nat_cmp-IsAntisymmetric, slice_cmp
 use Rattle.std.specs.FinMap.Entries.{by_order, find, find-put, is_sorted, is_sorted-put, put}
 use Rattle.std.proofs.lemmas.Cmp.{nat_list_cmp_total}
 use Rattle.cap_value.specs.Bytes.{bytes_cmp}
+use Rattle.cap_value.specs.Memory.{LeavesUnlessMemory}
+use Rattle.cap_value.specs.declared.memory.Fault.{Fault}
 use Rattle.cap_value.specs.declared.refusal.Refusal.{Refusal}
 use Rattle.cap_value.specs.declared.refusal.Refusal.TheVariants.{TableExists, TooMany}
 use Rattle.cap_row.specs.Fields.{Fields}
 use Rattle.cap_tree.specs.Tree.{get, put_entry}
+use Rattle.cap_table.specs.After.{LeavesOnceAgreed}
 use Rattle.cap_table.specs.Operation.{delete_row, empty_table, insert_row, update_row}
 use Rattle.cap_table.specs.Sound.{IsRising}
 use Rattle.cap_table.specs.Table.{TableState}
+use Rattle.cap_table.specs.declared.not_made.NotMade.{NotMade}
 use Rattle.cap_table.specs.declared.row_ref.RowRef.{RowRef}
 use Rattle.cap_txn.specs.Assigned.{Assigned}
 use Rattle.cap_txn.specs.Operation.{act, and_then, changes, in_place, one_later, run, step, stepped, with_changes}
 use Rattle.cap_txn.specs.Outcome.{OutcomeState}
-use Rattle.cap_txn.specs.Tables.{AreRising, Tables, create, created, refused_create, schema_of, table_of}
+use Rattle.cap_txn.specs.Tables.{AreRising, EachRises, Tables, create, created, refused_create, schema_of, table_of}
 use Rattle.cap_txn.specs.declared.change.Change.{Change}
 use Rattle.cap_txn.specs.declared.op.Action.{Action}
 use Rattle.cap_txn.specs.declared.op.Action.TheVariants.{Insert, Update, Delete}
@@ -65,7 +69,7 @@ module _ {X : Type 0} where
   sorted-put es name x s = ap (is_sorted bytes_cmp) (put_entry-put es name x) ∙ truth _ (is_sorted-put bytes_cmp nat_list_cmp_total name x es (subst T (sym s) tt))
 
   module _ (P : X → Type 0) where
-    each-put : (es : List (List ℕ × X)) (name : List ℕ) (x : X) → AllByRecursion (λ e. P e.1) es → P x → AllByRecursion (λ e. P e.1) (put_entry bytes_cmp es name x)
+    pub each-put : (es : List (List ℕ × X)) (name : List ℕ) (x : X) → AllByRecursion (λ e. P e.1) es → P x → AllByRecursion (λ e. P e.1) (put_entry bytes_cmp es name x)
     each-put [] name x all new = (new, tt)
     each-put (e ∷ es) name x all new =
         elim (bytes_cmp name e.0) as (λ r. AllByRecursion (λ e. P e.1) (match_ordering r ((name, x) ∷ e ∷ es) ((name, x) ∷ es) (e ∷ put_entry bytes_cmp es name x))) [
@@ -91,7 +95,7 @@ absent (Some x) e = cc
 
 module _ {A : Type 0} where
   -- a table of the same columns in the place of another
-  schema_of-put : (tables : Tables A) (name : List ℕ) (old new : TableState A) → table_of tables name ≡ Some old → new.schema ≡ old.schema → (q : List ℕ) → schema_of (put_entry bytes_cmp tables name new) q ≡ schema_of tables q
+  pub schema_of-put : (tables : Tables A) (name : List ℕ) (old new : TableState A) → table_of tables name ≡ Some old → new.schema ≡ old.schema → (q : List ℕ) → schema_of (put_entry bytes_cmp tables name new) q ≡ schema_of tables q
   schema_of-put tables name old new there same q =
       ap (option_map (λ t. t.schema)) (get-put tables name new q)
       ∙ elim (eq_by_cmp bytes_cmp q name) as (λ b. eq_by_cmp bytes_cmp q name ≡ b → option_map (λ t. t.schema) (cond b (Some new) (table_of tables q)) ≡ schema_of tables q) [
@@ -163,6 +167,28 @@ module _ {A : Type 0} where
   -- ---- order
 
   module _ (acts : (table : TableState A) (action : Action A) → IsRising table → IfOk (act table action) IsRising) where
+    stepped-each : (tables : Tables A) (op : Op A) (found : Option (TableState A)) → EachRises tables → table_of tables op.table ≡ found → IfOk (stepped tables found op) EachRises
+    stepped-each tables op None each is = tt
+    stepped-each tables op (Some table) each is = inner (act table op.action) (acts table op.action (each-found IsRising tables op.table table each is))
+      where
+        inner : (r : Result (TableState A) Refusal) → IfOk r IsRising → IfOk (in_place tables op.table r) EachRises
+        inner (Ok after) rises = each-put IsRising tables op.table after each rises
+        inner (Err why) rises = tt
+
+    step-each : (tables left : Tables A) (op : Op A) → EachRises tables → step tables op ≡ Ok left → EachRises left
+    step-each tables left op each is = subst (λ r. IfOk r EachRises) is (stepped-each tables op (table_of tables op.table) each refl)
+
+    -- after an operation in place, whatever became of it
+    pub left-each : {X : Type 0} (r : Result X (Fault Refusal)) (tables left : Tables A) (op : Op A) → EachRises tables → LeavesUnlessMemory r (step tables op) left → OnErr r (left ≡ tables) → EachRises left
+    left-each (Ok x) tables left op each is same = step-each tables left op each is
+    left-each (Err e) tables left op each is same = subst EachRises (sym same) each
+
+    -- the same where it waits for a step outside
+    pub agreed-each : {E : Type 0} (r : Result (Unit {0}) (NotMade E)) (tables left : Tables A) (op : Op A) (unasked : Type 0) (gives : Result (Unit {0}) E → Type 0) → EachRises tables
+        → LeavesOnceAgreed r (step tables op) left unasked gives → OnErr r (left ≡ tables) → EachRises left
+    agreed-each (Ok done) tables left op unasked gives each is same = step-each tables left op each is.0
+    agreed-each (Err e) tables left op unasked gives each is same = subst EachRises (sym same) each
+
     stepped-rises : (tables : Tables A) (op : Op A) (found : Option (TableState A)) → AreRising tables → table_of tables op.table ≡ found → IfOk (stepped tables found op) AreRising
     stepped-rises tables op None rise is = tt
     stepped-rises tables op (Some table) rise is = inner (act table op.action) (acts table op.action (each-found IsRising tables op.table table rise.each is))

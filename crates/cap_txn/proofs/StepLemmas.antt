@@ -13,13 +13,15 @@ use Rattle.cap_row.specs.Fields.{Fields}
 use Rattle.cap_tree.specs.Tree.{IsOrdered, put_entry}
 use Rattle.cap_value.specs.Memory.{LeavesUnlessMemory, RefusesFirst}
 use Rattle.cap_table.specs.Operation.{empty_table}
+use Rattle.cap_table.specs.Sound.{IsRising}
 use Rattle.std.proofs.lemmas.List.{take_more}
 use Rattle.cap_txn.specs.Tables.{create, created}
 use Rattle.cap_table.specs.Table.{TableState}
 use Rattle.cap_txn.specs.declared.change.Change.{Change}
 use Rattle.cap_txn.specs.declared.op.Op.{Op}
 use Rattle.cap_txn.specs.Operation.{act, changed_keys, changes_in, changes_to, changes, in_place, old_row, row_before, step, stepped}
-use Rattle.cap_txn.specs.Tables.{AreTables, Tables, table_of}
+use Rattle.cap_txn.specs.Tables.{AreTables, EachRises, Tables, table_of}
+use Rattle.cap_txn.proofs.KeptLemmas.{each-put}
 use Rattle.cap_txn.proofs.PlaceLemmas.{ordered_put, put_entry-longer}
 
 set_same : {X : Type 0} (xs : List X) (i : ℕ) (d : X) → i < length xs → set xs i (get_or xs i d) ≡ xs
@@ -53,12 +55,16 @@ kept_all (Ok x) ts i d new l same = tt
 kept_all (Err e) ts i d new l same = ap (λ t. set ts i ((get_or ts i d).0, t)) same ∙ set_same ts i d l
 
 module _ {A : Type 0} where
-  pub after_create : (ts new : Tables A) (name : List ℕ) (t : TableState A) → AreTables ts → new ≡ put_entry bytes_cmp ts name t → length ts < 64 → AreTables new
-  after_create ts new name t h is few =
-      rw is (record { ordered = ordered_put bytes_cmp nat_list_cmp_total name t ts h.ordered; few = omega (arith, put_entry-longer bytes_cmp name t ts) })
+  pub after_create : (ts new : Tables A) (name : List ℕ) (t : TableState A) → AreTables ts → IsRising t → new ≡ put_entry bytes_cmp ts name t → length ts < 64 → AreTables new
+  after_create ts new name t h rises is few =
+      rw is (record {
+        ordered = ordered_put bytes_cmp nat_list_cmp_total name t ts h.ordered;
+        few = omega (arith, put_entry-longer bytes_cmp name t ts);
+        each = each-put IsRising ts name t h.each rises;
+      })
 
-  pub after_step : (ts new : Tables A) → AreTables ts → IsOrdered bytes_cmp new → length new ≡ length ts → AreTables new
-  after_step ts new h ordered same = record { ordered = ordered; few = rw same h.few }
+  pub after_step : (ts new : Tables A) → AreTables ts → IsOrdered bytes_cmp new → length new ≡ length ts → EachRises new → AreTables new
+  after_step ts new h ordered same each = record { ordered = ordered; few = rw same h.few; each = each }
 
   pub absent_table : (ts : Tables A) (op : Op A) → table_of ts op.table ≡ None → step ts op ≡ stepped ts None op
   absent_table ts op none = ap (λ found. stepped ts found op) none

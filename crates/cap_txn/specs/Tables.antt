@@ -15,10 +15,15 @@ abbrev pub Tables : Type 0 → Type 0
 Tables A = List (List ℕ × TableState A)
 
 module _ {A : Type 0} where
-  -- the names rise, and there are at most 64
+  -- in each table keys and ids rise, and each row stands where it belongs
+  abbrev pub EachRises : Tables A → Type 0
+  EachRises tables = AllByRecursion (λ named. IsRising named.1) tables
+
+  -- the names rise, there are at most 64, and so is each table
   pub record AreTables (tables : Tables A) : Type 0 where
     pub ordered : IsOrdered bytes_cmp tables
     pub few : length tables ≤ 64
+    pub each : EachRises tables
 
   abbrev pub table_of : Tables A → List ℕ → Option (TableState A)
   table_of tables name = get bytes_cmp tables name
@@ -30,7 +35,7 @@ module _ {A : Type 0} where
   -- names, keys and ids rise, and each row stands where it belongs
   pub record AreRising (tables : Tables A) : Type 0 where
     pub names : IsTrue (is_sorted bytes_cmp tables)
-    pub each : AllByRecursion (λ named. IsRising named.1) tables
+    pub each : EachRises tables
 
   -- what a new table is refused
   abbrev pub refused_create : Tables A → List ℕ → Option Refusal

@@ -4,7 +4,7 @@ ghost use Rattle.cap_value.specs.Bytes.{bytes_cmp};
 ghost use Rattle.cap_tree.specs.Tree.{IsOrdered};
 ghost use Rattle.cap_table.specs.After.{LeavesOnceAgreed};
 ghost use Rattle.cap_value.specs.Memory.{LeavesUnlessMemory, RefusesFirst};
-ghost use Rattle.cap_txn.specs.Tables.{Tables, create, refused_create, table_of};
+ghost use Rattle.cap_txn.specs.Tables.{EachRises, Tables, create, refused_create, table_of};
 ghost use Rattle.cap_txn.specs.Operation.{step, changes_told, changes, row_before};
 ghost use Rattle.cap_txn.specs.Read.{read, rows_of, Lends};
 
@@ -12,7 +12,7 @@ use crate::place::{copies, place_of, put_at, step_at, step_at_after};
 use crate::told::changes_in;
 use crate::{Change, Op, Step};
 use cap_row::{Row, Schema};
-use cap_table::{NotMade, RowRef, Scan, Table};
+use cap_table::{NotMade, RowRef, Scan, Table, operations_keep_tables};
 use cap_tree::Confirm;
 use cap_value::{AllocHandle, Exact, Fault, Name, OutOfMemory, Refusal};
 use std::marker::Model;
@@ -65,6 +65,14 @@ impl<A: AllocHandle> Database<A> {
         self.tables.len()
     }
 
+    /// A law of every database, for who keeps rows of it: in each table keys and ids rise, each row has the table's
+    /// width, and stands under its own key, or where it has none under an id that was given. The call does nothing.
+    pub fn rows_stand(&self)
+        ensures { EachRises self.now }
+    {
+        let _tables = &self.tables;
+    }
+
     /// The table of this name.
     pub fn table(&self, name: &Name<A>) -> Option<&Table<A>>
         ensures { option_copied result ≡ table_of self.now name.now }
@@ -82,6 +90,7 @@ impl<A: AllocHandle> Database<A> {
         ensures kept { OnErr result (self.new ≡ self.old) }
         ensures first { RefusesFirst (refused_create self.old name) result }
     {
+        operations_keep_tables::<A>();
         let place = match place_of(&self.tables, &name) {
             Ok(_) => return Err(Fault::Refused(Refusal::TableExists)),
             Err(place) => place,
@@ -102,6 +111,7 @@ impl<A: AllocHandle> Database<A> {
         ensures changes { IfOk result (λ step. changes_told step ≡ changes self.old op.now) }
         ensures row { IfOk result (λ step. step.row ≡ row_before self.old op.now) }
     {
+        operations_keep_tables::<A>();
         match place_of(&self.tables, &op.table) {
             Ok(place) => step_at(&mut self.tables, place, op),
             Err(_) => Err(Fault::Refused(Refusal::NoTable)),
@@ -120,6 +130,7 @@ impl<A: AllocHandle> Database<A> {
             (confirm.new ≡ confirm.old) (λ answer. C.gives confirm.old answer confirm.new) }
         ensures kept { OnErr result (self.new ≡ self.old) }
     {
+        operations_keep_tables::<A>();
         match place_of(&self.tables, &op.table) {
             Ok(place) => step_at_after(&mut self.tables, place, op, confirm),
             Err(_) => Err(NotMade::Refused(Refusal::NoTable)),

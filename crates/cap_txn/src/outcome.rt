@@ -50,4 +50,12 @@ impl<A: AllocHandle> Outcome<A> {
         } = self;
         database
     }
+    /// The database and the changes.
+    pub fn into_parts(self) -> (Database<A>, Vec<Change<A>, A>)
+        ensures database { result.0 ≡ self.database }
+        ensures changes { result.1.items ≡ self.changes }
+    {
+        let Outcome { database, changes } = self;
+        (database, changes)
+    }
 }

@@ -3,9 +3,11 @@ use Rattle.std.specs.Prelude.{◌≡◌, ℕ, Bool, true, false, Option, Some, N
 use Rattle.std.specs.List.{list_all}
 use Rattle.cap_row.specs.Fields.{Fields}
 use Rattle.cap_table.specs.Sound.{keyed_stands}
+use Rattle.cap_compare.specs.declared.difference.Difference.{Difference}
 use Rattle.cap_txn.specs.Tables.{Tables, schema_of}
-use Rattle.cap_core.specs.declared.row_touch.RowTouch.{RowTouch}
-use Rattle.cap_core.specs.Session.{SessionState, TouchedRows}
+use Rattle.cap_session.specs.Records.{Records}
+use Rattle.cap_session.specs.Session.{AttachedTables, SessionState}
+use Rattle.cap_session.specs.Sessions.{NumberedSessions}
 
 module _ {A : Type 0} where
   -- an image is a row of its table
@@ -14,27 +16,22 @@ module _ {A : Type 0} where
   image_stands None key (Some row) = false
   image_stands (Some schema) key (Some row) = keyed_stands schema key row
 
-  abbrev pub touched_stand : Option (List Bool) → TouchedRows A → Bool
-  touched_stand schema rows = list_all (λ touched. image_stands schema touched.0 touched.1.image) rows
+  abbrev pub records_stand : Option (List Bool) → Records A → Bool
+  records_stand schema records = list_all (λ kept. image_stands schema kept.0 kept.1.image) records
+
+  abbrev pub tables_stand : Tables A → AttachedTables A → Bool
+  tables_stand tables attached = list_all (λ table. records_stand (schema_of tables table.0) table.1) attached
 
   abbrev pub session_stands : Tables A → SessionState A → Bool
-  session_stands tables session = list_all (λ attached. touched_stand (schema_of tables attached.0) attached.1) session
+  session_stands tables session = tables_stand tables session.tables
 
-  abbrev pub sessions_stand : Tables A → List (ℕ × SessionState A) → Bool
+  abbrev pub sessions_stand : Tables A → NumberedSessions A → Bool
   sessions_stand tables sessions = list_all (λ session. session_stands tables session.1) sessions
 
-  -- the row before a touch is a row of its table
-  abbrev pub touch_stands : Tables A → RowTouch A → Bool
-  touch_stands tables touch = image_stands (schema_of tables touch.table) touch.key touch.image
-
-  abbrev pub touches_stand : Tables A → List (RowTouch A) → Bool
-  touches_stand tables touches = list_all (touch_stands tables) touches
+  -- what a diff found are rows of the table with these columns
+  abbrev pub differences_stand : Option (List Bool) → List (Difference A) → Bool
+  differences_stand schema differences = list_all (λ difference. image_stands schema difference.key difference.image) differences
 
   -- each table that was there is there, with the same columns
   pub record KeepsColumns (before after : Tables A) : Type 0 where
     pub each : (name : List ℕ) (columns : List Bool) → schema_of before name ≡ Some columns → schema_of after name ≡ Some columns
-
-  -- what a command that writes puts in place: the tables that were there, and touches of rows that they had
-  pub record IsSoundWrite (before after : Tables A) (touches : List (RowTouch A)) : Type 0 where
-    pub columns : KeepsColumns before after
-    pub images : touches_stand before touches ≡ true

@@ -13,7 +13,7 @@ change_between-requires-clause-same_key g c =
 
 pub returns-clause-keyed : goal.returns-clause-keyed
 returns-clause-keyed g c =
-    keyed-changes c.args.table.now.schema c.args.key.now c.args.touched.now.indirect (option_copied c.as_ref.result) (option_copied c.row_now.result) c.change_between.result
+    keyed-changes c.args.table.now.schema c.args.key.now c.args.kept.now.indirect (option_copied c.as_ref.result) (option_copied c.row_now.result) c.change_between.result
     (subst (λ image. image_stands (Some c.args.table.now.schema) c.args.key.now image ≡ true) (sym c.as_ref.ensures.value) c.requires)
     (found-image _ _ c.row_now.result c.row_now.ensures.stands)
     (rw c.schema.ensures at c.change_between.ensures.change)

@@ -1,5 +1,5 @@
 use Rattle.std.proofs.Common.{◌≡◌, take}
-use Rattle.cap_session.specs.Attached.{tables_of}
+use Rattle.cap_session.specs.Code.Attached.{tables_of}
 use Rattle.cap_session.proofs.attached_table.copies_of.Given as goal
 
 abbrev pub invariant-loop-table : goal.invariant-loop-table

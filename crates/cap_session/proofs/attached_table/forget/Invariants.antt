@@ -1,5 +1,5 @@
 use Rattle.std.proofs.Common.{◌≡◌, ◌++◌, take, drop}
-use Rattle.cap_session.specs.Attached.{tables_of}
+use Rattle.cap_session.specs.Code.Attached.{tables_of}
 use Rattle.cap_session.specs.Session.{forget}
 use Rattle.cap_session.proofs.attached_table.forget.Given as goal
 

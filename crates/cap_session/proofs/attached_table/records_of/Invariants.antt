@@ -1,5 +1,5 @@
 use Rattle.std.proofs.Common.{◌≡◌, drop}
-use Rattle.cap_session.specs.Attached.{tables_of}
+use Rattle.cap_session.specs.Code.Attached.{tables_of}
 use Rattle.cap_session.specs.Session.{records_of}
 use Rattle.cap_session.proofs.attached_table.records_of.Given as goal
 

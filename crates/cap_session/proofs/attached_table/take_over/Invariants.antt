@@ -1,5 +1,5 @@
 use Rattle.std.proofs.Common.{◌≡◌, ◌++◌, take, drop}
-use Rattle.cap_session.specs.Attached.{tables_of, waiting_tables}
+use Rattle.cap_session.specs.Code.Attached.{tables_of, waiting_tables}
 use Rattle.cap_session.proofs.attached_table.take_over.Given as goal
 
 abbrev pub invariant-loop-table : goal.invariant-loop-table

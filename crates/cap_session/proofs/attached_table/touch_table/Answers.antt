@@ -1,7 +1,7 @@
 use Rattle.std.proofs.Common.{get_or, arith, refl, ap, cond, true, false, ◌≡◌, ◌∙◌, Bool, ℕ, List}
 use Rattle.std.specs.Option.{unwrap_or}
 use Rattle.cap_value.specs.Bytes.{bytes_eq}
-use Rattle.cap_session.specs.Attached.{tables_of}
+use Rattle.cap_session.specs.Code.Attached.{tables_of}
 use Rattle.cap_session.specs.Note.{touches_found}
 use Rattle.cap_session.specs.Records.{Records, with_touches}
 use Rattle.cap_session.proofs.ListLemmas.{loop-more}

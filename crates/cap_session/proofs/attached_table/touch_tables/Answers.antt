@@ -1,6 +1,6 @@
 use Rattle.std.proofs.Common.{get_or, arith, refl, ap}
 use Rattle.std.specs.Option.{unwrap_or}
-use Rattle.cap_session.specs.Attached.{tables_of}
+use Rattle.cap_session.specs.Code.Attached.{tables_of}
 use Rattle.cap_session.specs.Note.{touches_of}
 use Rattle.cap_session.specs.Records.{with_touches}
 use Rattle.cap_session.proofs.ListLemmas.{loop-more}

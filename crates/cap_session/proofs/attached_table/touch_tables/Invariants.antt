@@ -1,5 +1,5 @@
 use Rattle.std.proofs.Common.{◌≡◌, take}
-use Rattle.cap_session.specs.Attached.{tables_of, waiting_tables}
+use Rattle.cap_session.specs.Code.Attached.{tables_of, waiting_tables}
 use Rattle.cap_session.specs.Note.{touch_tables}
 use Rattle.cap_session.proofs.attached_table.touch_tables.Given as goal
 

@@ -1,7 +1,7 @@
 use Rattle.std.proofs.Common.{◌≡◌, ◌∙◌, Ok, sym, ap, subst}
 use Rattle.cap_txn.specs.Operation.{changes, step}
 use Rattle.cap_core.specs.Answer.{State}
-use Rattle.cap_core.specs.Transition.{touches_by, written}
+use Rattle.cap_core.specs.Transition.{written}
 use Rattle.cap_core.proofs.MakeLemmas.{one_made, one_written}
 use Rattle.cap_core.proofs.server.Core.commit_one.Goals as goal
 
@@ -12,10 +12,9 @@ returns-in-Ok-clause-ok g c =
     let op = c.args.op.now in
     let state = c.in-Ok.ensures.state in
     let stepped : step inside.main op ≡ Ok state.0 = subst (λ (s : State g.row.A.Denot). step s.main op ≡ Ok state.0) (sym c.self.view_is) state.1 in
-    let touched : c.as_slice-2.result.now ≡ touches_by now.main (changes now.main op) =
-    c.as_slice-2.ensures.value ∙ c.in_ok-touches.ensures.touches ∙ ap (touches_by inside.main) (c.as_slice.ensures.value ∙ c.in_ok-changes.ensures state.0 stepped)
-    ∙ ap (λ (s : State g.row.A.Denot). touches_by s.main (changes s.main op)) c.self.view_is in
-    rw (one_made now.main op state.0 state.1) (c.in-Ok.ensures.ok.0, state.2 ∙ ap (written now state.0) touched, c.in-Ok.ensures.ok.1)
+    let told : c.as_slice.result.now ≡ changes now.main op =
+    c.as_slice.ensures.value ∙ c.in_ok-changes.ensures state.0 stepped ∙ ap (λ (s : State g.row.A.Denot). changes s.main op) c.self.view_is in
+    rw (one_made now.main op state.0 state.1) (c.in-Ok.ensures.ok.0, state.2 ∙ ap (written now state.0) told, c.in-Ok.ensures.ok.1)
 
 pub returns-clause-err : goal.returns-clause-err
 returns-clause-err g c =

@@ -1,11 +1,12 @@
-use Rattle.std.proofs.Common.{length, arith, sym, ap, ◌∙◌}
+use Rattle.std.proofs.Common.{length, arith, sym, ap, subst, ◌∙◌}
+use Rattle.cap_table.specs.Sound.{IsRising}
 use Rattle.cap_txn.proofs.StepLemmas.{after_create, created_is, created_first}
 use Rattle.cap_txn.proofs.database.Database.create.Goals as goal
 
 pub invariant_of-self-2 : goal.invariant_of-self-2
 invariant_of-self-2 g c =
     after_create c.self.inside.tables.items c.put_at.new.tables.items c.args.name c.empty-table.result c.self.invariant
-    (c.in_ok-put_at.ensures.ok ∙ sym (rw c.deref.ensures.value at (c.in-Err.ensures.put c.empty-table.result))) (omega (arith, ap length c.deref.ensures.value, c.deref.ensures.len))
+    (subst IsRising (sym c.empty-table.ensures) (c.operations_keep_tables.ensures.empty c.args.schema)) (c.in_ok-put_at.ensures.ok ∙ sym (rw c.deref.ensures.value at (c.in-Err.ensures.put c.empty-table.result))) (omega (arith, ap length c.deref.ensures.value, c.deref.ensures.len))
 
 pub returns-clause-tables : goal.returns-clause-tables
 returns-clause-tables g c =

@@ -1,0 +1,96 @@
+-- What a diff finds are rows of the saved table, under their keys.
+use Rattle.std.proofs.Common.{◌≡◌, ℕ, Bool, true, false, cond, Option, Some, None, List, [], ◌∷◌, ◌&&◌, Result, Ok, Err, map, refl, sym, ap₂, subst, IsTrue}
+use Rattle.std.specs.Prelude.{fold, IfSome, filter_map}
+use Rattle.std.specs.List.{cons_option, list_all}
+use Rattle.std.specs.Bool.{beq}
+use Rattle.std.specs.Option.{option_map}
+use Rattle.cap_value.specs.declared.refusal.Refusal.{Refusal}
+use Rattle.cap_value.specs.declared.refusal.Refusal.TheVariants.{Incompatible}
+use Rattle.cap_row.specs.Fields.{Fields}
+use Rattle.cap_row.specs.Key.{fields_cmp, fields_eq}
+use Rattle.cap_row.specs.Schema.{flags_eq}
+use Rattle.cap_tree.specs.Tree.{get}
+use Rattle.cap_tree.specs.Beside.{alone, beside, first_of, put_beside}
+use Rattle.cap_table.specs.Sound.{IsRising, keyed_stands}
+use Rattle.cap_table.specs.Table.{TableState}
+use Rattle.cap_txn.specs.Tables.{EachRises, Tables, schema_of, table_of}
+use Rattle.cap_txn.proofs.KeptLemmas.{each-found}
+use Rattle.cap_compare.specs.Compare.{compare, difference_at, differences, image_at}
+use Rattle.cap_compare.specs.declared.difference.Difference.{Difference}
+use Rattle.cap_core.specs.Code.Sound.{differences_stand, image_stands}
+use Rattle.cap_core.proofs.SmallLemmas.{both, first, second}
+use Rattle.cap_core.proofs.SoundLemmas.{fields_same, found-passes, list_all-map, list_all-put_entry}
+
+beq-same : (a b : Bool) → beq a b ≡ true → a ≡ b
+beq-same true true t = refl
+beq-same true false t = cc
+beq-same false true t = cc
+beq-same false false t = refl
+
+flags-same : (a b : List Bool) → flags_eq a b ≡ true → a ≡ b
+flags-same [] [] t = refl
+flags-same [] (y ∷ ys) t = cc
+flags-same (x ∷ xs) [] t = cc
+flags-same (x ∷ xs) (y ∷ ys) t = ap₂ (λ a b. a ∷ b) (beq-same x y (first (beq x y) (flags_eq xs ys) t)) (flags-same xs ys (second (beq x y) (flags_eq xs ys) t))
+
+module _ {X Y : Type 0} (test : X → Bool) (check : Y → Bool) (f : X → Option Y) where
+  list_all-made : ((x : X) → test x ≡ true → IfSome (f x) (λ y. check y ≡ true)) → (xs : List X) → list_all test xs ≡ true → list_all check (filter_map f xs) ≡ true
+  list_all-made each [] all = refl
+  list_all-made each (x ∷ xs) all = inner (f x) (each x (first (test x) (list_all test xs) all)) (list_all-made each xs (second (test x) (list_all test xs) all))
+    where
+      inner : (made : Option Y) → IfSome made (λ y. check y ≡ true) → list_all check (filter_map f xs) ≡ true → list_all check (cons_option made (filter_map f xs)) ≡ true
+      inner None is rest = rest
+      inner (Some y) is rest = both (check y) _ is rest
+
+module _ {A : Type 0} (schema : List Bool) where
+  -- the row of the first table stands
+  stands : Fields A × (Option (Fields A) × Option (Fields A)) → Bool
+  stands row = image_stands (Some schema) row.0 row.1.0
+
+  found-stands : (rows : List (Fields A × (Option (Fields A) × Option (Fields A)))) (key : Fields A) (found : Option (Option (Fields A) × Option (Fields A))) → list_all stands rows ≡ true → get fields_cmp rows key ≡ found → image_stands (Some schema) key (first_of found) ≡ true
+  unfolding stands
+  found-stands rows key None all is = refl
+  found-stands rows key (Some row) all is = found-passes fields_cmp stands fields_same rows key row all is
+
+  merged-stand : (seconds : List (Fields A × Fields A)) (rows : List (Fields A × (Option (Fields A) × Option (Fields A)))) → list_all stands rows ≡ true → list_all stands (fold (put_beside fields_cmp) rows seconds) ≡ true
+  unfolding stands
+  merged-stand [] rows all = all
+  merged-stand (row ∷ seconds) rows all =
+      merged-stand seconds (put_beside fields_cmp rows row)
+      (list_all-put_entry fields_cmp stands rows row.0 (first_of (get fields_cmp rows row.0), Some row.1) all (found-stands rows row.0 (get fields_cmp rows row.0) all refl))
+
+  alone-stand : (rows : List (Fields A × Fields A)) → list_all (λ row. keyed_stands schema row.0 row.1) rows ≡ true → list_all stands (alone {W = Fields A} rows) ≡ true
+  unfolding stands
+  alone-stand rows all = list_all-map (λ (row : Fields A × Fields A). keyed_stands schema row.0 row.1) stands (λ row. (row.0, (Some row.1, None))) (λ row is. is) rows all
+
+  difference-stands : (key : Fields A) (old new : Option (Fields A)) → image_stands (Some schema) key old ≡ true → IfSome (difference_at key (image_at old new)) (λ difference. image_stands (Some schema) difference.key difference.image ≡ true)
+  difference-stands key None None is = tt
+  difference-stands key None (Some new) is = refl
+  difference-stands key (Some old) None is = is
+  difference-stands key (Some old) (Some new) is =
+      elim (fields_eq old new) as (λ b. IfSome (difference_at key (cond b None (Some (Some old)))) (λ difference. image_stands (Some schema) difference.key difference.image ≡ true)) [
+        | true ↦ tt
+        | false ↦ is
+      ]
+
+  differences-stand : (from to : List (Fields A × Fields A)) → list_all (λ row. keyed_stands schema row.0 row.1) from ≡ true → differences_stand (Some schema) (differences from to) ≡ true
+  unfolding stands beside
+  differences-stand from to all =
+      list_all-made stands (λ (difference : Difference A). image_stands (Some schema) difference.key difference.image) (λ row. difference_at row.0 (image_at row.1.0 row.1.1))
+      (λ row is. difference-stands row.0 row.1.0 row.1.1 is) (beside fields_cmp from to) (merged-stand to (alone from) (alone-stand from all))
+
+module _ {A : Type 0} where
+  -- where a table was compared with that of a database whose rows stand
+  pub compared-stand : (database : Tables A) (name : List ℕ) (table : TableState A) (found : List (Difference A)) → EachRises database → compare (table_of database name) table ≡ Ok found → differences_stand (Some table.schema) found ≡ true
+  compared-stand database name table found rises is = there (table_of database name) refl is
+    where
+      same : (from : TableState A) → IsRising from → (b : Bool) → flags_eq from.schema table.schema ≡ b → (let answer : Result (List (Difference A)) Refusal = cond b (Ok (differences from.keyed table.keyed)) (Err Incompatible) in answer) ≡ Ok found → differences_stand (Some table.schema) found ≡ true
+      same from rising true t e =
+          let listed : differences from.keyed table.keyed ≡ found = cc in
+          subst (λ l. differences_stand (Some table.schema) l ≡ true) listed
+          (subst (λ schema. differences_stand (Some schema) (differences from.keyed table.keyed) ≡ true) (flags-same from.schema table.schema t) (differences-stand from.schema from.keyed table.keyed rising.stand.keyed))
+      same from rising false t e = cc
+
+      there : (from : Option (TableState A)) → table_of database name ≡ from → compare from table ≡ Ok found → differences_stand (Some table.schema) found ≡ true
+      there None at e = cc
+      there (Some from) at e = same from (each-found IsRising database name from rises at) (flags_eq from.schema table.schema) refl e

@@ -1,0 +1,285 @@
+-- What one more event makes of a session.
+use Rattle.std.proofs.lemmas.List.{append-nil}
+use Rattle.std.proofs.lemmas.List.Folds.{list_any-append}
+use Rattle.std.proofs.Common.{◌≡◌, ℕ, Bool, true, false, cond, Some, None, List, [], ◌∷◌, ◌++◌, ◌&&◌, ◌||◌, map, length, refl, sym, ap, ◌∙◌, nat_eq}
+use Rattle.std.specs.Prelude.{filter, fold}
+use Rattle.std.specs.List.{enumerate_from, filter_map}
+use Rattle.std.specs.Option.{unwrap_or}
+use Rattle.cap_value.specs.Bytes.{bytes_eq}
+use Rattle.cap_txn.specs.Batch.{SnapshotState}
+use Rattle.cap_txn.specs.Tables.{Tables}
+use Rattle.cap_txn.specs.declared.change.Change.{Change}
+use Rattle.cap_session.specs.declared.rule.AutomaticRule.TheVariants.{Nothing}
+use Rattle.cap_session.specs.Note.{attach_by, attach_by_rule, note, touch_tables, touches_of as told_by}
+use Rattle.cap_session.specs.Records.{Records, Touch as RowTouch, with_touches}
+use Rattle.cap_session.specs.Session.{AttachedTables, SessionState, new_session}
+use Rattle.cap_core.specs.declared.command.Command.{Command}
+use Rattle.cap_core.specs.declared.command.Command.TheVariants as command
+use Rattle.cap_core.specs.declared.event.Event.{Event}
+use Rattle.cap_core.specs.Diff.{diff}
+use Rattle.cap_core.specs.Flags.{asks_enabled, asks_for_all, asks_indirect, filter_set, is_enabled, is_indirect, last_filter, later, rule as rule_of, rule_by, wants_all}
+use Rattle.cap_core.specs.History.{effect_of, event_effect, main, saved, snapshot}
+use Rattle.cap_core.specs.Outcome.{no_effect, outcome}
+use Rattle.cap_core.specs.Past.{Past, is_accepted}
+use Rattle.cap_core.specs.Session.{records_of, session_of}
+use Rattle.cap_core.specs.Touch.{Attaching, attach_list, attaching_at, attaching_by, attachings, changes_touch, diff_by, diff_touches, event_changes, event_diff, first_of_each, found_in, is_recorded, names_attached, names_compared, restarts, touch_of, touches, touches_of}
+use Rattle.cap_core.proofs.HistoryLemmas.{accepted-by-changes, attach_by-named, first_of_each-append, is_among, is_among-first_of_each, map-listed, map-map, names-by-changes, none-by-changes, push_by, seen_before, seen_now, table_names, table_names-append, touches-none, touches-told, touches_of-append}
+use Rattle.cap_core.proofs.TouchedLemmas.{records_of-append, records_of-none, told}
+
+pub cond-same : {X : Type 0} (b : Bool) (x : X) → cond b x x ≡ x
+cond-same true x = refl
+cond-same false x = refl
+
+pub and_false : (b : Bool) → (b && false) ≡ false
+and_false true = refl
+and_false false = refl
+
+either_true : (a b : Bool) → (a || b) ≡ true → a ≡ false → b ≡ true
+either_true a b is none = cc
+
+map-same : {X : Type 0} (xs : List X) → map (λ x. x) xs ≡ xs
+map-same [] = refl
+map-same (x ∷ xs) = ap (λ ys. x ∷ ys) (map-same xs)
+
+module _ {A : Type 0} where
+  -- what is kept of a table
+  abbrev pub kept : Past A → ℕ → List ℕ → Records A
+  kept past session name = records_of (touches_of name (touches session past))
+
+  pub kept-none : (past : Past A) (session : ℕ) (name : List ℕ) → is_among name (attach_list session past) ≡ false → kept past session name ≡ []
+  kept-none past session name absent = ap records_of (touches-none session name past absent) ∙ records_of-none
+
+  pub same_session : (s t : SessionState A) → s.enabled ≡ t.enabled → s.indirect ≡ t.indirect → s.rule ≡ t.rule → s.tables ≡ t.tables → s ≡ t
+  same_session s t e n r k = λ i. record { enabled = e i; indirect = n i; rule = r i; tables = k i }
+
+  -- ---- a command that neither attaches a table to a session nor restarts it
+
+  pub record IsSilent (session : ℕ) (event : Event A) (past : Past A) : Type 0 where
+    pub attached : cond (is_accepted event.reply) (map (attaching_at (length past) 0) (names_attached session event.command)) [] ≡ []
+    pub compared : event_diff session event past ≡ None
+    pub restarts : (is_accepted event.reply && restarts session event.command) ≡ false
+
+  module _ (session : ℕ) (event : Event A) (past : Past A) (silent : IsSilent session event past) where
+    abbrev changes_made : List (Change A)
+    changes_made = (event_effect (snapshot past) event).changes
+
+    abbrev by_changes : List Attaching
+    by_changes = filter_map (attaching_by session past) (enumerate_from 0 changes_made)
+
+    abbrev moments_before : List Attaching
+    moments_before = attachings session past
+
+    abbrev names_before : List (List ℕ)
+    names_before = attach_list session past
+
+    abbrev told_of_table : List ℕ → List (RowTouch A)
+    told_of_table name = told_by (main past) (is_indirect session past) name changes_made
+
+    attachings-silent : attachings session (event ∷ past) ≡ moments_before ++ by_changes
+    attachings-silent = λ i. moments_before ++ (silent.attached i ++ map (attaching_at (length past) 0) (names_compared (silent.compared i)) ++ by_changes)
+
+    touches-silent : touches session (event ∷ past) ≡ touches session past ++ changes_touch session event past
+    touches-silent =
+        (λ i. cond (silent.restarts i) [] (touches session past ++ (changes_touch session event past ++ diff_touches session past (silent.compared i))))
+        ∙ ap (λ more. touches session past ++ more) (append-nil (changes_touch session event past))
+
+    module _ (on : is_enabled session past ≡ true) where
+      list-on : attach_list session (event ∷ past) ≡ fold (push_by (rule_of session past)) names_before (map (λ change. change.table) changes_made)
+      list-on =
+          ap (λ moments. first_of_each (table_names moments)) attachings-silent
+          ∙ ap first_of_each (table_names-append moments_before by_changes)
+          ∙ first_of_each-append (table_names moments_before) (table_names by_changes)
+          ∙ names-by-changes session past on 0 changes_made (first_of_each (table_names moments_before))
+
+      told-on : (name : List ℕ) → is_among name (attach_list session (event ∷ past)) ≡ true → map told (touches_of name (changes_touch session event past)) ≡ told_of_table name
+      told-on name listed =
+          let found = filter_map (touch_of session past) (enumerate_from 0 changes_made) in
+          let moments = attachings session (event ∷ past) in
+          let among : (is_among name (table_names moments_before) || is_among name (table_names by_changes)) ≡ true =
+          sym (list_any-append (bytes_eq name) (table_names moments_before) (table_names by_changes))
+          ∙ ap (is_among name) (sym (table_names-append moments_before by_changes))
+          ∙ ap (λ ms. is_among name (table_names ms)) (sym attachings-silent)
+          ∙ sym (is_among-first_of_each name (table_names moments))
+          ∙ listed in
+          ap (λ b. map told (touches_of name (cond b (filter (is_recorded moments) found) []))) on
+          ∙ ap (λ ms. map told (touches_of name (filter (is_recorded ms) found))) (attachings-silent ∙ ap (λ ms. ms ++ by_changes) (sym (append-nil moments_before)))
+          ∙ elim (is_among name (table_names moments_before)) as (λ b. is_among name (table_names moments_before) ≡ b → map told (touches_of name (filter (is_recorded ((moments_before ++ []) ++ by_changes)) found)) ≡ told_of_table name) [
+            | true ↦ λ attached.
+                touches-told session past name moments_before (λ more place change key later same. seen_before session past name attached more place change key _ same) 0 changes_made []
+            | false ↦ λ absent.
+                let accepted = accepted-by-changes session past name 0 changes_made (either_true _ _ among absent) in
+                touches-told session past name moments_before (λ more place change key later same. seen_now session past name accepted moments_before more place change key later same) 0 changes_made []
+          ] refl
+
+      pub kept-on : (name : List ℕ) → is_among name (attach_list session (event ∷ past)) ≡ true → kept (event ∷ past) session name ≡ with_touches (kept past session name) (told_of_table name)
+      kept-on name listed =
+          let touched = changes_touch session event past in
+          ap (λ ts. records_of (touches_of name ts)) touches-silent
+          ∙ ap records_of (touches_of-append name (touches session past) touched)
+          ∙ records_of-append (touches_of name (touches session past)) (touches_of name touched)
+          ∙ ap (with_touches (kept past session name)) (told-on name listed)
+
+      tables-on : (session_of (event ∷ past) session).tables ≡ touch_tables (main past) (is_indirect session past) changes_made (attach_by_rule (rule_of session past) changes_made (session_of past session).tables)
+      tables-on =
+          let more : List ℕ → List ℕ × Records A = λ name. (name, with_touches (kept past session name) (told_of_table name)) in
+          let pushed = fold (push_by (rule_of session past)) names_before (map (λ change. change.table) changes_made) in
+          map-listed (λ name. (name, kept (event ∷ past) session name)) more (attach_list session (event ∷ past)) (λ name listed. ap (λ records. (name, records)) (kept-on name listed))
+          ∙ ap (map more) list-on
+          ∙ sym (map-map (λ attached. (attached.0, with_touches attached.1 (told_of_table attached.0))) (λ name. (name, kept past session name)) pushed)
+          ∙ sym (ap (touch_tables (main past) (is_indirect session past) changes_made) (attach_by-named (rule_of session past) (kept past session) (map (λ change. change.table) changes_made) names_before (kept-none past session)))
+
+    tables-off : is_enabled session past ≡ false → (session_of (event ∷ past) session).tables ≡ (session_of past session).tables
+    tables-off off =
+        let list : attach_list session (event ∷ past) ≡ names_before =
+        ap (λ moments. first_of_each (table_names moments)) (attachings-silent ∙ ap (λ ms. moments_before ++ ms) (none-by-changes session past off 0 changes_made) ∙ append-nil moments_before) in
+        let same : touches session (event ∷ past) ≡ touches session past =
+        touches-silent
+        ∙ ap (λ b. touches session past ++ cond b (filter (is_recorded (attachings session (event ∷ past))) (filter_map (touch_of session past) (event_changes event past))) []) off
+        ∙ append-nil (touches session past) in
+        λ i. map (λ name. (name, records_of (touches_of name (same i)))) (list i)
+
+    -- the tables of a session after an event that is silent to it
+    pub tables-silent : (session_of (event ∷ past) session).tables
+        ≡ cond (is_enabled session past) (touch_tables (main past) (is_indirect session past) changes_made (attach_by_rule (rule_of session past) changes_made (session_of past session).tables)) (session_of past session).tables
+    tables-silent =
+        let noted = touch_tables (main past) (is_indirect session past) changes_made (attach_by_rule (rule_of session past) changes_made (session_of past session).tables) in
+        elim (is_enabled session past) as (λ b. is_enabled session past ≡ b → (session_of (event ∷ past) session).tables ≡ cond b noted (session_of past session).tables) [
+          | true ↦ λ on. tables-on on
+          | false ↦ λ off. tables-off off
+        ] refl
+
+  -- ---- noting changes
+
+  note-is : (before : Tables A) (changes : List (Change A)) (s : SessionState A)
+      → note before changes s ≡ record s { tables = cond s.enabled (touch_tables before s.indirect changes (attach_by_rule s.rule changes s.tables)) s.tables }
+  note-is before changes s =
+      let tables = touch_tables before s.indirect changes (attach_by_rule s.rule changes s.tables) in
+      elim s.enabled as (λ b. cond b (record s { tables = tables }) s ≡ record s { tables = cond b tables s.tables }) [ true ↦ refl | false ↦ refl ]
+
+  pub note-nothing : (before : Tables A) (s : SessionState A) → note before [] s ≡ s
+  note-nothing before s =
+      ap (λ tables. cond s.enabled (record s { tables = tables }) s) (map-same s.tables) ∙ cond-same s.enabled s
+
+  attach_by-nothing : (names : List (List ℕ)) (tables : AttachedTables A) → fold (attach_by Nothing) tables names ≡ tables
+  attach_by-nothing [] tables = refl
+  attach_by-nothing (name ∷ names) tables = attach_by-nothing names tables
+
+  -- a new session attaches nothing, so that no change touches it
+  pub note-new : (before : Tables A) (changes : List (Change A)) → note before changes new_session ≡ new_session
+  note-new before changes =
+      ap (λ tables. record new_session { tables = touch_tables before false changes tables }) (attach_by-nothing (map (λ change. change.table) changes) [])
+
+  pub tables-quiet : (session : ℕ) (event : Event A) (past : Past A) → IsSilent session event past → (event_effect (snapshot past) event).changes ≡ []
+      → (session_of (event ∷ past) session).tables ≡ (session_of past session).tables
+  tables-quiet session event past silent none =
+      let tables = (session_of past session).tables in
+      tables-silent session event past silent
+      ∙ ap (λ changes. cond (is_enabled session past) (touch_tables (main past) (is_indirect session past) changes (attach_by_rule (rule_of session past) changes tables)) tables) none
+      ∙ ap (λ same. cond (is_enabled session past) same tables) (map-same tables)
+      ∙ cond-same (is_enabled session past) tables
+
+  -- ---- an event of another session's, or that was refused
+
+  pub record KeepsFlags (session : ℕ) (event : Event A) (past : Past A) : Type 0 where
+    pub enabled : is_enabled session (event ∷ past) ≡ is_enabled session past
+    pub indirect : is_indirect session (event ∷ past) ≡ is_indirect session past
+    pub rule : rule_of session (event ∷ past) ≡ rule_of session past
+
+  pub session-noted : (session : ℕ) (event : Event A) (past : Past A) → IsSilent session event past → KeepsFlags session event past
+      → session_of (event ∷ past) session ≡ note (main past) (event_effect (snapshot past) event).changes (session_of past session)
+  session-noted session event past silent flags =
+      same_session _ _ flags.enabled flags.indirect flags.rule (tables-silent session event past silent)
+      ∙ sym (note-is (main past) (event_effect (snapshot past) event).changes (session_of past session))
+
+  -- the command is to the session
+  abbrev pub speaks_to : ℕ → Command A → Bool
+  speaks_to session (command.Attach number name) = nat_eq number session
+  speaks_to session (command.AttachAll number) = nat_eq number session
+  speaks_to session (command.SetFilter number filter) = nat_eq number session
+  speaks_to session (command.Enable number asked) = nat_eq number session
+  speaks_to session (command.Indirect number asked) = nat_eq number session
+  speaks_to session (command.Diff number from name) = nat_eq number session
+  speaks_to session (command.Restart number) = nat_eq number session
+  speaks_to session _ = false
+
+  record IsElsewhere (session : ℕ) (past : Past A) (c : Command A) : Type 0 where
+    enabled : asks_enabled session c ≡ None
+    indirect : asks_indirect session c ≡ None
+    filter : filter_set session c ≡ None
+    all : asks_for_all session c ≡ false
+    attached : names_attached session c ≡ []
+    compared : diff_by session c past ≡ None
+    restarts : restarts session c ≡ false
+
+  elsewhere : (session : ℕ) (past : Past A) (c : Command A) → speaks_to session c ≡ false → IsElsewhere session past c
+  elsewhere session past (command.Attach number name) is =
+      record { enabled = refl; indirect = refl; filter = refl; all = refl; attached = ap (λ b. cond b (name ∷ []) []) is; compared = refl; restarts = refl }
+  elsewhere session past (command.AttachAll number) is =
+      record { enabled = refl; indirect = refl; filter = refl; all = is; attached = refl; compared = refl; restarts = refl }
+  elsewhere session past (command.SetFilter number chosen) is =
+      record { enabled = refl; indirect = refl; filter = ap (λ b. cond b (Some chosen) None) is; all = refl; attached = refl; compared = refl; restarts = refl }
+  elsewhere session past (command.Enable number asked) is =
+      record { enabled = ap (λ b. cond b asked None) is; indirect = refl; filter = refl; all = refl; attached = refl; compared = refl; restarts = refl }
+  elsewhere session past (command.Indirect number asked) is =
+      record { enabled = refl; indirect = ap (λ b. cond b asked None) is; filter = refl; all = refl; attached = refl; compared = refl; restarts = refl }
+  elsewhere session past (command.Diff number from name) is =
+      record { enabled = refl; indirect = refl; filter = refl; all = refl; attached = refl; compared = ap (λ b. cond b (found_in name (diff (main past) (saved past) from name)) None) is; restarts = refl }
+  elsewhere session past (command.Restart number) is =
+      record { enabled = refl; indirect = refl; filter = refl; all = refl; attached = refl; compared = refl; restarts = is }
+  elsewhere session past _ is =
+      record { enabled = refl; indirect = refl; filter = refl; all = refl; attached = refl; compared = refl; restarts = refl }
+
+  pub silent-elsewhere : (session : ℕ) (event : Event A) (past : Past A) → speaks_to session event.command ≡ false → IsSilent session event past
+  silent-elsewhere session event past is =
+      let apart = elsewhere session past event.command is in
+      let accepted = is_accepted event.reply in
+      record {
+        attached = ap (λ names. cond accepted (map (attaching_at (length past) 0) names) []) apart.attached ∙ cond-same accepted [];
+        compared = ap (λ found. cond accepted found None) apart.compared ∙ cond-same accepted None;
+        restarts = ap (λ b. accepted && b) apart.restarts ∙ and_false accepted;
+      }
+
+  pub flags-elsewhere : (session : ℕ) (event : Event A) (past : Past A) → speaks_to session event.command ≡ false → KeepsFlags session event past
+  flags-elsewhere session event past is =
+      let apart = elsewhere session past event.command is in
+      let accepted = is_accepted event.reply in
+      let filtered : last_filter session (event ∷ past) ≡ last_filter session past = ap (λ set. cond accepted (later set (last_filter session past)) (last_filter session past)) apart.filter ∙ cond-same accepted (last_filter session past) in
+      let wanted : wants_all session (event ∷ past) ≡ wants_all session past = ap (λ b. (accepted && b) || wants_all session past) apart.all ∙ ap (λ b. b || wants_all session past) (and_false accepted) in
+      record {
+        enabled = ap (λ asked. cond accepted (unwrap_or asked (is_enabled session past)) (is_enabled session past)) apart.enabled ∙ cond-same accepted (is_enabled session past);
+        indirect = ap (λ asked. cond accepted (unwrap_or asked (is_indirect session past)) (is_indirect session past)) apart.indirect ∙ cond-same accepted (is_indirect session past);
+        rule = λ i. rule_by (filtered i) (wanted i);
+      }
+
+  pub silent-refused : (session : ℕ) (event : Event A) (past : Past A) → is_accepted event.reply ≡ false → IsSilent session event past
+  silent-refused session event past refused = record {
+    attached = ap (λ b. cond b (map (attaching_at (length past) 0) (names_attached session event.command)) []) refused;
+    compared = ap (λ b. cond b (diff_by session event.command past) None) refused;
+    restarts = ap (λ b. b && restarts session event.command) refused;
+  }
+
+  pub flags-refused : (session : ℕ) (event : Event A) (past : Past A) → is_accepted event.reply ≡ false → KeepsFlags session event past
+  flags-refused session event past refused = record {
+    enabled = ap (λ b. cond b (unwrap_or (asks_enabled session event.command) (is_enabled session past)) (is_enabled session past)) refused;
+    indirect = ap (λ b. cond b (unwrap_or (asks_indirect session event.command) (is_indirect session past)) (is_indirect session past)) refused;
+    rule = λ i.
+        rule_by (cond (refused i) (later (filter_set session event.command) (last_filter session past)) (last_filter session past))
+        ((refused i && asks_for_all session event.command) || wants_all session past);
+  }
+
+  pub effect-refused : (event : Event A) (now : SnapshotState A) → is_accepted event.reply ≡ false → event_effect now event ≡ no_effect now.database
+  effect-refused event now refused = ap (λ b. cond b (effect_of now.database (outcome now event.command)) (no_effect now.database)) refused
+
+  -- a session whose event changed no row
+  pub session-quiet : (session : ℕ) (event : Event A) (past : Past A) → IsSilent session event past → KeepsFlags session event past → (event_effect (snapshot past) event).changes ≡ []
+      → session_of (event ∷ past) session ≡ session_of past session
+  session-quiet session event past silent flags none =
+      session-noted session event past silent flags ∙ ap (λ changes. note (main past) changes (session_of past session)) none ∙ note-nothing (main past) (session_of past session)
+
+  pub session-refused : (session : ℕ) (event : Event A) (past : Past A) → is_accepted event.reply ≡ false → session_of (event ∷ past) session ≡ session_of past session
+  session-refused session event past refused =
+      session-quiet session event past (silent-refused session event past refused) (flags-refused session event past refused) (ap (λ effect. effect.changes) (effect-refused event (snapshot past) refused))
+
+  pub session-elsewhere : (session : ℕ) (event : Event A) (past : Past A) → speaks_to session event.command ≡ false
+      → session_of (event ∷ past) session ≡ note (main past) (event_effect (snapshot past) event).changes (session_of past session)
+  session-elsewhere session event past is = session-noted session event past (silent-elsewhere session event past is) (flags-elsewhere session event past is)

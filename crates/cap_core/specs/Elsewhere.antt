@@ -1,0 +1,42 @@
+-- A capture that is applied to another database.
+use Rattle.std.specs.Prelude.{◌≡◌, ℕ, Bool, Some, None, Ok, List, [], length, sum_by}
+use Rattle.std.specs.Option.{option_map}
+use Rattle.cap_row.specs.Fields.{Fields}
+use Rattle.cap_table.specs.Table.{TableState}
+use Rattle.cap_txn.specs.Read.{row_at}
+use Rattle.cap_txn.specs.Tables.{Tables, schema_of, table_of}
+use Rattle.cap_changes.specs.Group.{TableChanges}
+use Rattle.cap_codec.specs.declared.read.Contents.{Contents}
+use Rattle.cap_apply.specs.Applied.{AppliedState}
+use Rattle.cap_apply.specs.Apply.{apply}
+use Rattle.cap_apply.specs.declared.policy.Policy.{Policy}
+use Rattle.cap_session.specs.declared.record.Record.{Record}
+use Rattle.cap_session.specs.Session.{AttachedTables, record_of}
+
+module _ {A : Type 0} where
+  -- For each touched key the database has its table, with the columns that it has in main, and at the key the first image.
+  pub record HoldsImages (database main : Tables A) (tables : AttachedTables A) : Type 0 where
+    pub columns : (name : List ℕ) (key : Fields A) (kept : Record A) → record_of tables name key ≡ Some kept
+        → (columns : List Bool) × (schema_of database name ≡ Some columns) × (schema_of main name ≡ Some columns)
+    pub images : (name : List ℕ) (key : Fields A) (kept : Record A) → record_of tables name key ≡ Some kept → row_at database name key ≡ kept.image
+
+  -- a table but for its keyed rows
+  abbrev pub but_keyed : TableState A → TableState A
+  but_keyed table = record table { keyed = [] }
+
+  -- What is left has at each touched key main's row, or none; all else is as it was in the database.
+  pub record GivesRows (database main left : Tables A) (tables : AttachedTables A) : Type 0 where
+    pub touched : (name : List ℕ) (key : Fields A) (kept : Record A) → record_of tables name key ≡ Some kept → row_at left name key ≡ row_at main name key
+    pub untouched : (name : List ℕ) (key : Fields A) → record_of tables name key ≡ None → row_at left name key ≡ row_at database name key
+    pub others : (name : List ℕ) → option_map but_keyed (table_of left name) ≡ option_map but_keyed (table_of database name)
+
+  -- the number of changes
+  abbrev pub changes_in : List (TableChanges A) → ℕ
+  changes_in list = sum_by (λ group. length group.changes) list
+
+  -- The blob is applied whole and gives these rows: each of so many changes counts as applied, none met a conflict, and
+  -- nothing was omitted or skipped.
+  abbrev pub AppliesWhole : Policy → Contents A → ℕ → Tables A → Tables A → AttachedTables A → Type 0
+  AppliesWhole policy blob count database main tables =
+      (left : AppliedState A) × (apply database blob policy ≡ Ok left) × GivesRows database main left.database tables
+      × (left.report ≡ record { applied = count; conflicts = []; omitted = []; skipped = [] })

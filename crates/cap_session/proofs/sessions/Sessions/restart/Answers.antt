@@ -1,0 +1,15 @@
+use Rattle.std.proofs.Common.{refl, sym, ◌∙◌}
+use Rattle.cap_session.specs.Session.{restart}
+use Rattle.cap_session.proofs.PlaceLemmas.{live-changed, none-changed}
+use Rattle.cap_session.proofs.sessions.Sessions.restart.Goals as goal
+
+pub returns-in-Some : goal.returns-in-Some
+returns-in-Some g c =
+    let old = c.index_mut.result.now in
+    let found = rw c.deref.ensures.value at (sym c.place_of.ensures ∙ c.in-Some.is) in
+    rw (← c.self.view_is)
+    (live-changed c.args.number restart c.self.inside.sessions.items c.in-Some.place (record { number = old.number; parts = c.restart.new.self }) old found c.index_mut.ensures.value refl c.restart.ensures)
+
+pub returns-in_default : goal.returns-in_default
+returns-in_default g c =
+    rw (← c.self.view_is) (none-changed c.args.number restart c.self.inside.sessions.items (rw c.deref.ensures.value at (sym c.place_of.ensures ∙ c.in_default.is)))

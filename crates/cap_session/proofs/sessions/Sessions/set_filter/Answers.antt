@@ -1,0 +1,20 @@
+use Rattle.std.proofs.Common.{arith, refl, sym, ◌∙◌}
+use Rattle.cap_session.specs.Session.{set_filter}
+use Rattle.cap_session.proofs.PlaceLemmas.{live-changed, none-changed, place-lt}
+use Rattle.cap_session.proofs.sessions.Sessions.set_filter.Goals as goal
+
+pub index_mut-requires : goal.index_mut-requires
+index_mut-requires g c =
+    let lt = place-lt c.args.number c.deref.result.now c.in-Some.place (sym c.place_of.ensures ∙ c.in-Some.is) in
+    omega (arith, lt, c.deref.ensures.len)
+
+pub returns-in-Some : goal.returns-in-Some
+returns-in-Some g c =
+    let old = c.index_mut.result.now in
+    let found = rw c.deref.ensures.value at (sym c.place_of.ensures ∙ c.in-Some.is) in
+    rw (← c.self.view_is)
+    (live-changed c.args.number (set_filter c.args.filter) c.self.inside.sessions.items c.in-Some.place (record { number = old.number; parts = c.set_filter.new.self }) old found c.index_mut.ensures.value refl c.set_filter.ensures)
+
+pub returns-in_default : goal.returns-in_default
+returns-in_default g c =
+    rw (← c.self.view_is) (none-changed c.args.number (set_filter c.args.filter) c.self.inside.sessions.items (rw c.deref.ensures.value at (sym c.place_of.ensures ∙ c.in_default.is)))

@@ -1,0 +1,4 @@
+-- What the code keeps, for its own contracts. No rule is defined here.
+pub mod Attached
+pub mod Numbered
+pub mod Parts
