@@ -1,5 +1,6 @@
 -- Groups of changes while they are made.
-use Rattle.std.proofs.Common.{◌≡◌, ℕ, Bool, Option, Some, List, [], ◌∷◌, ◌++◌, sym, ◌∙◌}
+use Rattle.std.proofs.Common.{◌≡◌, ℕ, Bool, Option, Some, None, List, [], ◌∷◌, ◌++◌, append_assoc, refl, sym, ap, ◌∙◌}
+use Rattle.std.specs.List.{cons_option, filter_map}
 use Rattle.cap_changes.specs.declared.change.Change.{Change}
 use Rattle.cap_changes.specs.Group.{TableChanges}
 use Rattle.cap_core.specs.Code.Grouped.{IsGroupOf, changes_in}
@@ -10,3 +11,13 @@ module _ {A : Type 0} {name : List ℕ} {schema : List Bool} where
       → made ≡ record { table = name; schema = schema; changes = changes_in group ++ change ∷ [] }
   same_group group g change is of made =
       made ∙ (λ i. record { table = of.table i; schema = of.schema_is i; changes = changes_in (sym is i) ++ change ∷ [] })
+
+module _ {X : Type 0} where
+  cons_option-one : (x : Option X) (xs : List X) → cons_option x [] ++ xs ≡ cons_option x xs
+  cons_option-one None xs = refl
+  cons_option-one (Some x) xs = refl
+
+  -- one item more of a loop over the items that a function makes something of
+  pub filter_map-more : {Y : Type 0} (f : Y → Option X) (list made : List X) (rest : List Y) (y : Y) (found : Option X) → made ≡ list ++ cons_option found [] → found ≡ f y → made ++ filter_map f rest ≡ list ++ filter_map f (y ∷ rest)
+  filter_map-more f list made rest y found is same =
+      ap (λ l. l ++ filter_map f rest) is ∙ append_assoc list (cons_option found []) (filter_map f rest) ∙ ap (λ l. list ++ l) (cons_option-one found (filter_map f rest) ∙ ap (λ x. cons_option x (filter_map f rest)) same)
