@@ -1,5 +1,6 @@
 pub mod AgreeLemmas
 pub mod DiffLemmas
+pub mod DiffedLemmas
 pub mod ElsewhereLemmas
 pub mod GroupLemmas
 pub mod HistoryLemmas

@@ -1,7 +1,10 @@
 -- A capture that is applied to another database.
-use Rattle.std.specs.Prelude.{◌≡◌, ℕ, Bool, Some, None, Ok, List, [], length, sum_by}
+use Rattle.std.specs.Prelude.{◌≡◌, ℕ, Bool, true, false, Some, None, Ok, List, [], ◌∷◌, ◌&&◌, ◌||◌, length, nat_eq, sum_by}
 use Rattle.std.specs.Option.{option_map}
+use Rattle.cap_value.specs.Bytes.{bytes_cmp}
 use Rattle.cap_row.specs.Fields.{Fields}
+use Rattle.cap_row.specs.Schema.{has_key}
+use Rattle.cap_tree.specs.Tree.{get}
 use Rattle.cap_table.specs.Table.{TableState}
 use Rattle.cap_txn.specs.Read.{row_at}
 use Rattle.cap_txn.specs.Tables.{Tables, schema_of, table_of}
@@ -12,6 +15,13 @@ use Rattle.cap_apply.specs.Apply.{apply}
 use Rattle.cap_apply.specs.declared.policy.Policy.{Policy}
 use Rattle.cap_session.specs.declared.record.Record.{Record}
 use Rattle.cap_session.specs.Session.{AttachedTables, record_of}
+use Rattle.cap_core.specs.declared.command.Command.{Command}
+use Rattle.cap_core.specs.declared.command.Command.TheVariants.{Diff, Restart}
+use Rattle.cap_core.specs.declared.event.Event.{Event}
+use Rattle.cap_core.specs.Answer.{answer, state_after}
+use Rattle.cap_core.specs.History.{is_write, main, saved}
+use Rattle.cap_core.specs.Past.{Past, is_accepted}
+use Rattle.cap_core.specs.Session.{session_of}
 
 module _ {A : Type 0} where
   -- For each touched key the database has its table, with the columns that it has in main, and at the key the first image.
@@ -39,4 +49,35 @@ module _ {A : Type 0} where
   abbrev pub AppliesWhole : Policy → Contents A → ℕ → Tables A → Tables A → AttachedTables A → Type 0
   AppliesWhole policy blob count database main tables =
       (left : AppliedState A) × (apply database blob policy ≡ Ok left) × GivesRows database main left.database tables
+      × (left.report ≡ record { applied = count; conflicts = []; omitted = []; skipped = [] })
+
+  -- ---- after a diff
+
+  -- a diff or a restart of the session
+  abbrev pub renews : ℕ → Command A → Bool
+  renews session (Diff number from name) = nat_eq number session
+  renews session (Restart number) = nat_eq number session
+  renews session _ = false
+
+  -- none of the events writes, or is a diff or a restart of the session, unless it was refused
+  abbrev pub AreQuiet : ℕ → List (Event A) → Type 0
+  AreQuiet session [] = Unit {0}
+  AreQuiet session (event ∷ events) = ((is_accepted event.reply && (is_write event.command || renews session event.command)) ≡ false) × AreQuiet session events
+
+  -- After the past comes an accepted diff of this table against this saved database, by a session without records. The table
+  -- has a key column.
+  pub record IsDiffed (past : Past A) (event : Event A) (session : ℕ) (name : List ℕ) (database : Tables A) (table : TableState A) : Type 0 where
+    pub from : List ℕ
+    pub replied : event.reply ≡ answer (state_after past) event.command
+    pub diffs : event.command ≡ Diff session from name
+    pub accepted : is_accepted event.reply ≡ true
+    pub database_is : get bytes_cmp (saved past) from ≡ Some database
+    pub there : table_of (main past) name ≡ Some table
+    pub keyed : has_key table.schema ≡ true
+    pub empty : (other : List ℕ) (key : Fields A) → record_of (session_of past session).tables other key ≡ None
+
+  -- The blob is applied whole, and the table then has main's keyed rows.
+  abbrev pub AppliesRows : Policy → Contents A → ℕ → Tables A → Tables A → List ℕ → Type 0
+  AppliesRows policy blob count database main name =
+      (left : AppliedState A) × (apply database blob policy ≡ Ok left) × ((key : Fields A) → row_at left.database name key ≡ row_at main name key)
       × (left.report ≡ record { applied = count; conflicts = []; omitted = []; skipped = [] })

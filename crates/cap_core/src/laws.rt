@@ -21,7 +21,7 @@ ghost use Rattle.cap_core.specs.declared.event.Event.{Event};
 ghost use Rattle.cap_core.specs.declared.reply.Reply.{Reply};
 ghost use Rattle.cap_core.specs.Answer.{IsLegal, IsLegalPast, answer, event_by, reply_of, state, state_after};
 ghost use Rattle.cap_core.specs.Capture.{change_now, session_changes};
-ghost use Rattle.cap_core.specs.Elsewhere.{AppliesWhole, HoldsImages, changes_in};
+ghost use Rattle.cap_core.specs.Elsewhere.{AppliesRows, AppliesWhole, AreQuiet, HoldsImages, IsDiffed, changes_in};
 ghost use Rattle.cap_core.specs.Flags.{session_named};
 ghost use Rattle.cap_core.specs.History.{main};
 ghost use Rattle.cap_core.specs.Insert.{HasChange, IsInsertOfAbsent, changes_by_key};
@@ -35,6 +35,7 @@ ghost use Rattle.cap_core.specs.Transition.{next};
 use cap_apply::{
     a_changeset_gives_the_rows_now, a_patchset_gives_the_rows_now, applied_blobs_keep_order,
 };
+use cap_compare::differences_are_just_those;
 use cap_txn::tables_keep_order;
 use cap_value::AllocHandle;
 
@@ -114,6 +115,30 @@ pub fn a_capture_gives_the_rows_now<A: AllocHandle>()
 {
     a_changeset_gives_the_rows_now::<A>();
     a_patchset_gives_the_rows_now::<A>();
+}
+
+/// A session without records was diffed, and since then nothing was written, and the session was neither diffed again
+/// nor restarted. What it captures, applied to the saved database that it was compared with, leaves the table with the
+/// rows that it has now, key by key. No change meets a conflict, under any policy; the patchset does the same.
+pub fn a_capture_after_a_diff_gives_the_rows_now<A: AllocHandle>()
+    ensures changeset { (past : Past A) (event : Event A) (later : List (Event A)) (session : ℕ) (name : List ℕ)
+        (database : Tables A) (table : TableState A) (list : List (TableChanges A)) (policy : Policy)
+        → IsDiffed past event session name database table → AreQuiet session later → AreRising database
+        → AreRising (main past)
+        → answer (state_after (later ++ event ∷ past)) (Command.Capture session) ≡ Reply.Capture list
+        → AppliesRows policy (Contents.Changes list) (changes_in list) database
+        (main (later ++ event ∷ past)) name }
+    ensures patchset { (past : Past A) (event : Event A) (later : List (Event A)) (session : ℕ) (name : List ℕ)
+        (database : Tables A) (table : TableState A) (list : List (TableChanges A)) (policy : Policy)
+        → IsDiffed past event session name database table → AreQuiet session later → AreRising database
+        → AreRising (main past)
+        → answer (state_after (later ++ event ∷ past)) (Command.Capture session) ≡ Reply.Capture list
+        → AppliesRows policy (Contents.Patches (patch_list_of list)) (changes_in list) database
+        (main (later ++ event ∷ past)) name }
+{
+    a_changeset_gives_the_rows_now::<A>();
+    a_patchset_gives_the_rows_now::<A>();
+    differences_are_just_those::<A>();
 }
 
 /// A command to one session, as one that ends it, changes no capture of another session, whatever comes between.

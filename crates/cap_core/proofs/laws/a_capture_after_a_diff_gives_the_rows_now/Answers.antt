@@ -1,0 +1,20 @@
+use Rattle.std.proofs.Common.{◌∷◌, ◌++◌}
+use Rattle.cap_core.proofs.DiffedLemmas.{all-rows, holds, rising-now}
+use Rattle.cap_core.proofs.ElsewhereLemmas.{changeset_applies, patchset_applies}
+use Rattle.cap_core.proofs.laws.a_capture_after_a_diff_gives_the_rows_now.Goals as goal
+
+pub returns : goal.returns
+returns g c = record {
+  changeset = λ past event later session name database table list policy d quiet rise main_rise is.
+      let all = later ++ event ∷ past in
+      let now = rising-now past event session name database table d c.differences_are_just_those.ensures rise main_rise later quiet in
+      let held = holds past event session name database table d c.differences_are_just_those.ensures rise main_rise later quiet in
+      let whole = changeset_applies all session database rise now held c.a_changeset_gives_the_rows_now.ensures policy list is in
+      (whole.0, whole.1, all-rows past event session name database table d c.differences_are_just_those.ensures rise main_rise later quiet whole.0.database whole.2, whole.3);
+  patchset = λ past event later session name database table list policy d quiet rise main_rise is.
+      let all = later ++ event ∷ past in
+      let now = rising-now past event session name database table d c.differences_are_just_those.ensures rise main_rise later quiet in
+      let held = holds past event session name database table d c.differences_are_just_those.ensures rise main_rise later quiet in
+      let whole = patchset_applies all session database rise now held c.a_patchset_gives_the_rows_now.ensures policy list is in
+      (whole.0, whole.1, all-rows past event session name database table d c.differences_are_just_those.ensures rise main_rise later quiet whole.0.database whole.2, whole.3);
+}
