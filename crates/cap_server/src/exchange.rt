@@ -28,7 +28,8 @@ impl<'f, 's, 'l, 'c, J: Naming, A: AllocHandle> Confirm<A> for Exchange<'f, 's, 
     ghost use Rattle.cap_history.specs.History.{own};
     ghost use Rattle.cap_history.specs.Seat.{HasCalled, SeesMore, calls};
 
-    ghost can_confirm = { λ x reply. (length x.list.now + 1 < 2 ^ 63) × (reply ≡ reply_of x.list.now x.command.now)
+    ghost can_confirm = { λ x reply. (length x.list.now + 1 < 2 ^ 63)
+        × (reply ≡ reply_of x.list.now x.command.now)
         × (x.count ≡ length (own x.seat.now.number x.list.now)) };
 
     ghost gives = { λ old reply answer new. (new.seat.ghost_name ≡ old.seat.ghost_name)
@@ -67,7 +68,8 @@ pub(crate) fn step_after<J: Naming, A: AllocHandle>(
     ensures unchanged { OnErr result (core.new ≡ core.old) }
     ensures refused { IfErr result (λ fault. MatchFault fault (seat.new ≡ seat.old)
         (λ overtaken. SeesMore seat.old seat.new × (length seat.new.seen ≡ overtaken.front)
-        × ((length list.now < overtaken.front) ⊎ (length (own seat.old.number list.now) ≢ length (calls seat.old))))) }
+        × ((length list.now < overtaken.front)
+        ⊎ (length (own seat.old.number list.now) ≢ length (calls seat.old))))) }
 {
     legal_histories_grow::<A>();
     let _length = list.len();

@@ -1,12 +1,15 @@
 //! The server that threads share: each call is one event of one history.
 #![tactic(auto)]
 
+mod calls;
 mod closed;
 mod exchange;
 mod fault;
 mod handed_back;
 mod locked;
 mod server;
+#[cfg(test)]
+mod tests;
 
 pub use closed::Closed;
 pub use fault::{CallFault, CloseFault};

@@ -71,9 +71,11 @@ impl<J: Naming, A: AllocHandle> Locked<J, A> {
         ensures unchanged { OnErr result (self.new ≡ self.old) }
         ensures refused { IfErr result (λ fault. LeavesSeat fault seat.old seat.new) }
         ensures overtaken { IfErr result (λ fault. MatchCallFault fault ⊤
-            (λ front. (length self.old < front) ⊎ (length (own seat.old.number self.old) ≢ length (calls seat.old))) ⊤) }
+            (λ front. (length self.old < front)
+            ⊎ (length (own seat.old.number self.old) ≢ length (calls seat.old))) ⊤) }
         // S2 comes exactly where the history is full.
-        ensures full { IfErr result (λ fault. MatchCallFault fault ⊤ (λ _. ⊤) (length self.old + 1 ≡ 2 ^ 63)) }
+        ensures full { IfErr result (λ fault. MatchCallFault fault ⊤ (λ _. ⊤)
+            (length self.old + 1 ≡ 2 ^ 63)) }
         ensures full_first { length self.old + 1 ≡ 2 ^ 63 → result ≡ Err HistoryFull }
     {
         if self.list.len() >= EVENTS_MAX {
@@ -108,7 +110,8 @@ impl<J: Naming, A: AllocHandle> Locked<J, A> {
             (λ number. (r.1.items ≡ seats.items) × (number < J.seats) × IsMissing seats.items number
             × HasAll seats.items number)
             (λ front. HasAll seats.items J.seats × FirstHasSeen seats.items r.1.items self front)) }
-        ensures overtaken { IfErr result (λ r. MatchCloseFault r.2 (λ number. ⊤) (λ front. (length self < front)
+        ensures overtaken { IfErr result (λ r. MatchCloseFault r.2 (λ number. ⊤)
+            (λ front. (length self < front)
             ⊎ Any (λ seat. length (own seat.number self) ≢ length (calls seat)) seats.items)) }
     {
         let count = self.counts.len() as u64;
