@@ -480,9 +480,9 @@ fn saved_and_changed(alloc: Global) -> Outcome<Vec<Command<Global>, Global>> {
     list(alloc, commands)
 }
 
-const SAVED_TO_NOW: [u8; 53] = [
+const SAVED_TO_NOW: [u8; 52] = [
     0x54, 2, 1, 0, 0x74, 0, 9, 0, 1, 0, 0, 0, 0, 0, 0, 0, 1, 3, 1, 0x61, 0x17, 0, 1, 0, 0, 0, 0, 0,
-    0, 0, 3, 3, 1, 0x63, 0, 3, 1, 0x64, 0x12, 0, 1, 0, 0, 0, 0, 0, 0, 0, 4, 3, 1, 0x65, 0,
+    0, 0, 3, 3, 1, 0x63, 0, 3, 1, 0x64, 0x12, 0, 1, 0, 0, 0, 0, 0, 0, 0, 4, 3, 1, 0x65,
 ];
 
 // A diff is captured as what was made of the saved table, and leaves the images that there are.
@@ -496,8 +496,7 @@ fn a_diff_is_captured(rt: HostRuntime) -> Result<(), Fail> {
         capture(),
     ];
     let replies = run(alloc, saved_and_changed(alloc)?, commands)?;
-    let known = &SAVED_TO_NOW[..52];
-    captures(&rt, alloc, &replies, [known, known])?;
+    captures(&rt, alloc, &replies, [&SAVED_TO_NOW, &SAVED_TO_NOW])?;
     let commands = [
         enable(false),
         indirect(true),
@@ -509,7 +508,7 @@ fn a_diff_is_captured(rt: HostRuntime) -> Result<(), Fail> {
     marked[7] = 1;
     marked[21] = 1;
     marked[39] = 1;
-    captures(&rt, alloc, &replies, [&marked[..52]])
+    captures(&rt, alloc, &replies, [&marked])
 }
 
 // A diff without its table is done, and else is refused without a database to compare with, or without its table.
