@@ -75,7 +75,7 @@ absent_found : {X : Type 0} (found : Option X) → is_some found ≡ false → f
 absent_found None e = refl
 absent_found (Some x) e = cc
 
-names_same : IsAntisymmetric bytes_cmp
+pub names_same : IsAntisymmetric bytes_cmp
 names_same = slice_cmp-IsAntisymmetric nat_cmp-IsAntisymmetric
 
 never : (b : Bool) → (b && false) ≡ false
@@ -124,7 +124,7 @@ module _ {A : Type 0} where
 
   -- ---- an accepted insert
 
-  table_of-put : (tables : Tables A) (name : List ℕ) (table : TableState A) (q : List ℕ) → table_of (put_entry bytes_cmp tables name table) q ≡ cond (is_eq (bytes_cmp q name)) (Some table) (table_of tables q)
+  pub table_of-put : (tables : Tables A) (name : List ℕ) (table : TableState A) (q : List ℕ) → table_of (put_entry bytes_cmp tables name table) q ≡ cond (is_eq (bytes_cmp q name)) (Some table) (table_of tables q)
   table_of-put tables name table q =
       ap (λ es. get bytes_cmp es q) (put_entry-put bytes_cmp names_same tables name table)
       ∙ get-find bytes_cmp _ q

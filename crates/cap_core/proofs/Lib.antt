@@ -15,5 +15,6 @@ pub mod SessionLemmas
 pub mod SessionStandLemmas
 pub mod SmallLemmas
 pub mod SoundLemmas
+pub mod StayLemmas
 pub mod ToldLemmas
 pub mod TouchedLemmas

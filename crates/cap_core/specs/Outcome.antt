@@ -1,7 +1,10 @@
 -- What a command makes of the tables and which rows it changes, or why it is refused.
-use Rattle.std.specs.Prelude.{ℕ, Option, Some, None, Result, Ok, Err, List, [], nat_eq, if◌then◌else◌}
+use Rattle.std.specs.Prelude.{ℕ, Bool, ◌&&◌, Option, Some, None, Result, Ok, Err, List, [], nat_eq, if◌then◌else◌}
+use Rattle.cap_value.specs.Bytes.{bytes_eq}
 use Rattle.cap_value.specs.declared.refusal.Refusal.{Refusal}
 use Rattle.cap_value.specs.declared.refusal.Refusal.TheVariants.{Stale, Aborted, Misuse}
+use Rattle.cap_row.specs.Fields.{Fields}
+use Rattle.cap_table.specs.Sound.{is_key_of}
 use Rattle.cap_txn.specs.Batch.{SnapshotState}
 use Rattle.cap_txn.specs.Operation.{run}
 use Rattle.cap_txn.specs.Outcome.{OutcomeState}
@@ -64,3 +67,7 @@ module _ {A : Type 0} where
   outcome now (Commit batch) = commit_unless (stale batch.base now.version) now.database batch.ops
   outcome now (Apply blob policy) = applied (apply now.database blob policy)
   outcome now _ = Ok (no_effect now.database)
+
+  -- the change is of the row under this key of the table
+  abbrev pub is_of_row : List ℕ → Fields A → Change A → Bool
+  is_of_row name key change = bytes_eq name change.table && is_key_of change.key key

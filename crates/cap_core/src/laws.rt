@@ -2,7 +2,7 @@
 ghost use Rattle.std.specs.Prelude.{◌≡◌, ℕ, ◌+◌, false, Some, None, [], ◌∷◌, ◌++◌, List, IsTrue, length, map, reverse};
 ghost use Rattle.std.specs.Option.{option_map};
 ghost use Rattle.std.specs.FinMap.Entries.{is_sorted};
-ghost use Rattle.std.specs.List.{All};
+ghost use Rattle.std.specs.List.{All, list_any};
 ghost use Rattle.cap_value.specs.Bytes.{bytes_cmp};
 ghost use Rattle.cap_row.specs.Fields.{Fields};
 ghost use Rattle.cap_row.specs.Key.{fields_cmp};
@@ -15,6 +15,8 @@ ghost use Rattle.cap_codec.specs.declared.read.Contents.{Contents};
 ghost use Rattle.cap_session.specs.declared.record.Record.{Record};
 ghost use Rattle.cap_table.specs.Table.{TableState};
 ghost use Rattle.cap_tree.specs.Tree.{IsOrdered, get, put_entry};
+ghost use Rattle.cap_txn.specs.Batch.{SnapshotState};
+ghost use Rattle.cap_txn.specs.Read.{row_at};
 ghost use Rattle.cap_txn.specs.Tables.{AreRising, Tables};
 ghost use Rattle.cap_core.specs.declared.command.Command.{Command};
 ghost use Rattle.cap_core.specs.declared.event.Event.{Event};
@@ -23,8 +25,9 @@ ghost use Rattle.cap_core.specs.Answer.{IsLegal, IsLegalPast, answer, event_by, 
 ghost use Rattle.cap_core.specs.Capture.{change_now, session_changes};
 ghost use Rattle.cap_core.specs.Elsewhere.{AppliesRows, AppliesWhole, AreQuiet, HoldsImages, IsDiffed, changes_in};
 ghost use Rattle.cap_core.specs.Flags.{session_named};
-ghost use Rattle.cap_core.specs.History.{main};
+ghost use Rattle.cap_core.specs.History.{event_effect, main};
 ghost use Rattle.cap_core.specs.Insert.{HasChange, IsInsertOfAbsent, changes_by_key};
+ghost use Rattle.cap_core.specs.Outcome.{is_of_row};
 ghost use Rattle.cap_core.specs.Past.{Past, is_accepted};
 ghost use Rattle.cap_core.specs.Replies.{replies_after};
 ghost use Rattle.cap_core.specs.Session.{mark, records_of, session_of};
@@ -140,6 +143,13 @@ pub fn a_capture_after_a_diff_gives_the_rows_now<A: AllocHandle>()
     a_patchset_gives_the_rows_now::<A>();
     differences_are_just_those::<A>();
 }
+
+/// Whatever the command, a row under a key that none of its changes names stays as it was: so no session misses a row.
+pub fn a_row_that_no_change_names_stays<A: AllocHandle>()
+    ensures { (now : SnapshotState A) (event : Event A) (name : List ℕ) (key : Fields A)
+        → list_any (is_of_row name key) (event_effect now event).changes ≡ false
+        → row_at (event_effect now event).database name key ≡ row_at now.database name key }
+{}
 
 /// A command to one session, as one that ends it, changes no capture of another session, whatever comes between.
 pub fn a_session_changes_no_others_capture<A: AllocHandle>()
