@@ -3,7 +3,7 @@ ghost use Rattle.cap_core.specs.Answer.{reply_of};
 ghost use Rattle.cap_core.specs.declared.command.Command.TheVariants.{Read};
 
 use crate::{Naming, Opened, Overtaken};
-use cap_core::{Agree, Command, Core, Reply, legal_histories_grow, replies_follow_from_states};
+use cap_core::{Agree, Command, Core, Reply, legal_histories_grow};
 use std::alloc::Global;
 use std::marker::Brand;
 use std::process::Abort;
@@ -14,7 +14,6 @@ fn first_reply(alloc: Global) -> Option<Reply<Global>>
     ensures { IfSome result (λ reply. reply ≡ reply_of [] Read) }
 {
     legal_histories_grow::<Global>();
-    replies_follow_from_states::<Global>();
     let mut core = Core::new(alloc);
     match core.step(&Command::Read, &mut Agree) {
         Ok(reply) => Some(reply),
