@@ -1,0 +1,3 @@
+mod RowLemmas
+mod SpellLemmas
+mod TokenLemmas

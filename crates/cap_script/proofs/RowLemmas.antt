@@ -1,0 +1,29 @@
+-- The text of rows, one value and one row at a time.
+use Rattle.std.proofs.Common.{◌≡◌, ℕ, ◌+◌, ◌<◌, List, ◌∷◌, ◌++◌, Option, Result, Ok, Err, Bor, length, get_or, drop, drop-cons, add-one, sym, ap, ap₂, ◌∙◌, append_assoc, codes}
+use Rattle.std.specs.Option.{option_copied}
+use Rattle.std.specs.Result.{result_map_both}
+use Rattle.cap_value.specs.declared.refusal.Refusal.{Refusal}
+use Rattle.cap_value.specs.declared.value.Value.{Value}
+use Rattle.cap_row.specs.Fields.{Fields}
+use Rattle.cap_table.specs.declared.row_ref.RowRef.{RowRef}
+use Rattle.cap_txn.specs.Read.{Lends}
+use Rattle.cap_script.specs.RowText.{more_values, named_row_text, rows_text, value_text}
+
+-- the item at a place, and what comes after it
+pub drop-item : {X : Type 0} (xs : List X) (i : ℕ) (x : X) → i < length xs → x ≡ get_or xs i x → drop i xs ≡ x ∷ drop (i + 1) xs
+drop-item xs i x lt is = drop-cons xs i x lt ∙ ap₂ (λ y k. y ∷ drop k xs) (sym is) (sym (add-one i))
+
+module _ {A : Type 0} where
+  pub one_more_value : (out comma more : List ℕ) (value : Value A) (rest : Fields A) → comma ≡ out ++ codes "," → more ≡ comma ++ value_text value → more ++ more_values rest ≡ out ++ more_values (value ∷ rest)
+  one_more_value out comma more value rest first second =
+      ap (λ (l : List ℕ). l ++ more_values rest) (second ∙ ap (λ (l : List ℕ). l ++ value_text value) first)
+      ∙ append_assoc (out ++ codes ",") (value_text value) (more_values rest)
+      ∙ append_assoc out (codes ",") (value_text value ++ more_values rest)
+
+  pub one_more_row : (out more : List ℕ) (row : RowRef A × Fields A) (rest : List (RowRef A × Fields A)) → more ≡ out ++ 10 ∷ named_row_text row → more ++ rows_text rest ≡ out ++ rows_text (row ∷ rest)
+  one_more_row out more row rest is = ap (λ (l : List ℕ). l ++ rows_text rest) is ∙ append_assoc out (10 ∷ named_row_text row) (rows_text rest)
+
+  -- a row that is lent
+  pub lent_row : (found : Result (Option (Bor (Fields A))) Refusal) (answer : Result (Option (Fields A)) Refusal) → Lends found answer → result_map_both option_copied (λ why. why) found ≡ answer
+  lent_row (Ok row) answer is = sym is
+  lent_row (Err why) answer is = sym is

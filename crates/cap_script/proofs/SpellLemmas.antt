@@ -1,0 +1,99 @@
+-- How forms are put together.
+use Rattle.std.proofs.Common.{◌≡◌, ◌≤◌, ◌-◌, ◌⊎◌, ℕ, List, [], ◌∷◌, ◌++◌, length, false, true, Option, None, Some, Result, Ok, Err, IfErr, IfOk, refl, sym, ap, subst, ◌∙◌, arith, append_assoc, append-nil, inl, inr}
+use Rattle.cap_value.specs.declared.memory.Fault.{Fault}
+use Rattle.cap_value.specs.declared.memory.Fault.TheVariants.{Refused, OutOfMemory}
+use Rattle.cap_value.specs.declared.refusal.Refusal.{Refusal}
+use Rattle.cap_value.specs.declared.refusal.Refusal.TheVariants.{BadFilter}
+use Rattle.cap_value.specs.Memory.{AnswersUnlessMemory}
+use Rattle.cap_filter.specs.Faults.{IsUnfitAt}
+use Rattle.cap_filter.specs.Reading.{filter_of}
+use Rattle.cap_filter.specs.Rule.{Rule}
+use Rattle.cap_txn.specs.Batch.{BatchState, push, pushed, refused_push}
+use Rattle.cap_txn.specs.declared.cause.Cause.{Cause}
+use Rattle.cap_txn.specs.declared.op.Op.{Op}
+use Rattle.cap_script.specs.Operations.{SpelledAction, SpelledCause, SpelledOperation}
+use Rattle.cap_script.specs.Script.{AreLines, IsRead, SpellsLine, SpellsLines, SpellsScript, has_line_feed, is_ignored}
+use Rattle.cap_script.specs.Tokens.{Begins, Next, Token, behind_blanks, sign}
+use Rattle.cap_script.specs.declared.line.Line.{Line}
+use Rattle.cap_script.proofs.TokenLemmas.{blanks_twice}
+
+-- spaces in front of a token do not matter
+pub next_behind : (token : Token) (line between rest : List ℕ) → between ≡ behind_blanks line → Next token between rest → Next token line rest
+next_behind token line between rest e next = subst (λ (l : List ℕ). Begins token l rest) (ap behind_blanks e ∙ blanks_twice line) next
+
+-- one more at the end of what was read
+pub one_more : {X : Type 0} (P : List X → Type 0) (items new tail : List X) (x : X) → new ≡ items ++ x ∷ [] → P (items ++ x ∷ tail) → P (new ++ tail)
+one_more {X} P items new tail x e h = subst P (sym (ap (λ (xs : List X). xs ++ tail) e ∙ append_assoc items (x ∷ []) tail)) h
+
+-- nothing more
+pub no_more : {X : Type 0} (P : List X → Type 0) (items : List X) → P (items ++ []) → P items
+no_more P items h = subst P (append-nil items) h
+
+-- ---- filters
+
+place_by : (text : List ℕ) (at : ℕ) → IsUnfitAt text at → at ≤ length text
+unfolding IsUnfitAt
+place_by text at unfit = let e : at ≡ length text - unfit.0 = unfit.1 in omega (arith, e)
+
+-- a token that does not fit begins in the text, or at its end
+pub place_within : {X : Type 0} (text : List ℕ) (view : Result Rule Refusal) (r : Result X (Fault Refusal)) → IfErr r (λ fault. (why : Refusal) → fault ≡ Refused why → view ≡ Err why)
+    → ((at : ℕ) → view ≡ Err (BadFilter at) → IsUnfitAt text at) → IfErr r (λ fault. (at : ℕ) → fault ≡ Refused (BadFilter at) → at ≤ length text)
+place_within text view (Ok x) h law = tt
+place_within text view (Err fault) h law = λ at e. place_by text at (law at (h (BadFilter at) e))
+
+refused_is : (view : Result Rule Refusal) (fault : Fault Refusal) → AnswersUnlessMemory {X = Rule} (Err fault) view → (why : Refusal) → fault ≡ Refused why → view ≡ Err why
+refused_is view (Refused e) answer why same = let P : Fault Refusal → Type 0 = λ f. AnswersUnlessMemory {X = Rule} (Err f) view in subst P same answer
+refused_is view OutOfMemory answer why same = absurd cc
+
+pub refusals_are : (view : Result Rule Refusal) (r : Result Rule (Fault Refusal)) → AnswersUnlessMemory r view → IfErr r (λ fault. (why : Refusal) → fault ≡ Refused why → view ≡ Err why)
+refusals_are view (Ok x) answer = tt
+refusals_are view (Err fault) answer = refused_is view fault answer
+
+-- ---- lines
+
+are_more : (texts : List (List ℕ)) (text line behind : List ℕ) → text ≡ line ++ 10 ∷ behind → has_line_feed line ≡ false → AreLines texts behind → AreLines (line ∷ texts) text
+are_more [] text line behind e none are = absurd are
+are_more (t ∷ texts) text line behind e none are = (behind, e, none, are)
+
+module _ {A : Type 0} where
+  -- ---- batches
+
+  abbrev ok_or : BatchState A → Result (BatchState A) Refusal → BatchState A
+  ok_or batch (Ok new) = new
+  ok_or batch (Err why) = batch
+
+  pushed_is : (refused : Option Refusal) (batch new : BatchState A) (op : Op A) → pushed refused batch op ≡ Ok new → (new.base ≡ batch.base) × (new.ops ≡ batch.ops ++ op ∷ [])
+  pushed_is None batch new op e = let same = ap (ok_or batch) e in (sym (ap (λ (b : BatchState A). b.base) same), sym (ap (λ (b : BatchState A). b.ops) same))
+  pushed_is (Some why) batch new op e = absurd cc
+
+  pub push_is : (batch new : BatchState A) (op : Op A) → push batch op ≡ Ok new → (new.base ≡ batch.base) × (new.ops ≡ batch.ops ++ op ∷ [])
+  push_is batch new op e = pushed_is (refused_push batch.ops) batch new op e
+
+  -- ---- operations
+
+  -- an operation with its cause
+  pub caused : {E : Type 0} (cause : Cause) (r : Result (Op A) E) (line between rest : List ℕ) → SpelledCause cause line between → IfOk r (λ made. made.cause ≡ cause) → IfOk r (λ made. SpelledAction made.table made.action between rest)
+      → IfOk r (λ made. SpelledOperation made line rest)
+  caused cause (Ok made) line between rest spelled same action = (between, subst (λ (k : Cause). SpelledCause k line between) (sym same) spelled, action)
+  caused cause (Err e) line between rest spelled same action = tt
+
+  -- ---- lines
+
+  ignored_more : (lines : List (Line A)) (text : List ℕ) (texts : List (List ℕ)) → is_ignored text ≡ true → SpellsLines lines texts → SpellsLines lines (text ∷ texts)
+  ignored_more [] text texts ignored rest = (ignored, rest)
+  ignored_more (line ∷ lines) text texts ignored rest = inl (ignored, rest)
+
+  -- a line in front of a text
+  pub line_in_front : (old new more : List (Line A)) (text line behind : List ℕ) → IsRead line old new → text ≡ line ++ 10 ∷ behind → has_line_feed line ≡ false → SpellsScript more behind
+      → (taken : List (Line A)) × (new ≡ old ++ taken) × SpellsScript (taken ++ more) text
+  unfolding SpellsScript
+  line_in_front old new more text line behind (inl (ignored, same)) e none (texts, are, spelled) =
+      ([], same ∙ sym (append-nil old), (line ∷ texts, are_more texts text line behind e none are, ignored_more more line texts ignored spelled))
+  line_in_front old new more text line behind (inr (made, spells, same)) e none (texts, are, spelled) =
+      (made ∷ [], same, (line ∷ texts, are_more texts text line behind e none are, inr (spells, spelled)))
+
+  -- the last line
+  pub last_line : (old new : List (Line A)) (text : List ℕ) → IsRead text old new → has_line_feed text ≡ false → (taken : List (Line A)) × (new ≡ old ++ taken) × SpellsScript taken text
+  unfolding SpellsScript
+  last_line old new text (inl (ignored, same)) none = ([], same ∙ sym (append-nil old), (text ∷ [], (refl, none), (ignored, tt)))
+  last_line old new text (inr (made, spells, same)) none = (made ∷ [], same, (text ∷ [], (refl, none), inr (spells, tt)))

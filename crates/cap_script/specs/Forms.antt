@@ -1,0 +1,32 @@
+-- What stands in a line: forms, one behind the other.
+use Rattle.std.specs.Prelude.{◌≡◌, ℕ, List, false}
+use Rattle.cap_script.specs.Tokens.{Next, behind_blanks, integer, sign, word}
+
+-- what may stand at the front of a line, and what stands behind it then
+abbrev pub Form : Type 1
+Form = List ℕ → List ℕ → Type 0
+
+infixr 4 ◌▸◌
+-- the one, and behind it the other
+abbrev pub ◌▸◌ : Form → Form → Form
+(first ▸ second) line rest = (between : List ℕ) × first line between × second between rest
+
+abbrev pub Never : Form
+Never line rest = ⊥
+
+abbrev pub Nothing : Form
+Nothing line rest = rest ≡ line
+
+abbrev pub Spaces : Form
+Spaces line rest = rest ≡ behind_blanks line
+
+-- this word, any word where a name is asked for
+abbrev pub Word : List ℕ → Form
+Word w = Next (word w)
+
+abbrev pub Sign : ℕ → Form
+Sign s = Next (sign s)
+
+-- an integer without `-`
+abbrev pub Natural : ℕ → Form
+Natural n = Next (integer false n)

@@ -1,0 +1,9 @@
+pub mod Commands
+pub mod Forms
+pub mod Operations
+pub mod RefusalText
+pub mod ReplyText
+pub mod RowText
+pub mod Script
+pub mod Tokens
+pub mod Words

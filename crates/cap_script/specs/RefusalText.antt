@@ -1,0 +1,33 @@
+-- The text of a refusal, as it is printed.
+use Rattle.std.specs.Prelude.{ℕ, List, ◌++◌, codes, decimal}
+use Rattle.cap_value.specs.declared.refusal.Refusal.{Refusal}
+use Rattle.cap_value.specs.declared.refusal.Refusal.TheVariants.{TooLong, BadSchema, WrongWidth, BadColumn, Duplicate, NoRow, IdsSpent, NoTable, TableExists, TooMany, Stale, BadFilter, TooDeep, Incompatible, Aborted, Misuse, BadName, NoSession, NoDatabase, NoMark}
+
+-- the number and the name of a refusal
+unfoldable pub refusal_name : Refusal → List ℕ
+refusal_name TooLong = codes "E1 TooLong"
+refusal_name BadSchema = codes "E2 BadSchema"
+refusal_name WrongWidth = codes "E3 WrongWidth"
+refusal_name BadColumn = codes "E4 BadColumn"
+refusal_name Duplicate = codes "E5 Duplicate"
+refusal_name NoRow = codes "E6 NoRow"
+refusal_name IdsSpent = codes "E7 IdsSpent"
+refusal_name NoTable = codes "E8 NoTable"
+refusal_name TableExists = codes "E9 TableExists"
+refusal_name TooMany = codes "E10 TooMany"
+refusal_name (Stale base now) = codes "E11 Stale"
+refusal_name (BadFilter at) = codes "E12 BadFilter"
+refusal_name TooDeep = codes "E13 TooDeep"
+refusal_name Incompatible = codes "E14 Incompatible"
+refusal_name (Aborted at) = codes "E15 Aborted"
+refusal_name (Misuse at) = codes "E16 Misuse"
+refusal_name BadName = codes "E17 BadName"
+refusal_name NoSession = codes "E18 NoSession"
+refusal_name NoDatabase = codes "E19 NoDatabase"
+refusal_name NoMark = codes "E20 NoMark"
+
+-- a refusal for the version that a batch was made on tells that version and the present one
+unfoldable pub refusal_text : Refusal → List ℕ
+refusal_text (Stale base now) =
+    refusal_name (Stale base now) ++ codes " base " ++ decimal base ++ codes " now " ++ decimal now
+refusal_text why = refusal_name why

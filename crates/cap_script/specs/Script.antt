@@ -1,0 +1,50 @@
+-- How lines and workloads are spelled.
+use Rattle.std.specs.Prelude.{◌≡◌, ◌⊎◌, ◌≤◌, ℕ, Bool, true, false, ◌==◌, ◌||◌, length, List, [], ◌∷◌, ◌++◌, Option, Some, None}
+use Rattle.std.specs.List.{list_any}
+use Rattle.cap_script.specs.Forms.{Form, ◌▸◌, Spaces}
+use Rattle.cap_script.specs.Commands.{SpelledCommand}
+use Rattle.cap_script.specs.Tokens.{Begins, begins, behind_blanks, integer, is_blank, Next, sign}
+use Rattle.cap_script.specs.declared.line.Line.{Line}
+
+-- a line that says nothing: `#` and a remark, or spaces alone
+abbrev pub is_ignored : List ℕ → Bool
+is_ignored line = begins (λ byte. byte == 35) line || length (behind_blanks line) == 0
+
+-- Who gives the command: `@` and right behind it a number of at most 63, with a space right behind that, or nothing.
+abbrev pub SpelledWorker : Option ℕ → Form
+SpelledWorker None = Spaces
+SpelledWorker (Some worker) = λ line rest.
+    (digits : List ℕ) × Next (sign 64) line digits × Begins (integer false worker) digits rest × (worker ≤ 63)
+    × (begins is_blank rest ≡ true)
+
+abbrev pub has_line_feed : List ℕ → Bool
+has_line_feed = list_any (λ byte. byte == 10)
+
+-- the text is these lines, with a line feed between each and the next
+abbrev pub AreLines : List (List ℕ) → List ℕ → Type 0
+AreLines [] text = ⊥
+AreLines (line ∷ []) text = (text ≡ line) × (has_line_feed line ≡ false)
+AreLines (line ∷ lines) text = (rest : List ℕ) × (text ≡ line ++ 10 ∷ rest) × (has_line_feed line ≡ false) × AreLines lines rest
+
+module _ {A : Type 0} where
+  -- who gives the command, the command, and spaces to the end of the line
+  abbrev pub SpellsLine : Line A → List ℕ → Type 0
+  SpellsLine line text =
+      (rest : List ℕ) × (SpelledWorker line.worker ▸ SpelledCommand line.command line.show) text rest × (behind_blanks rest ≡ [])
+
+  -- these are the lines with one more, or with none where the text says nothing
+  abbrev pub IsRead : List ℕ → List (Line A) → List (Line A) → Type 0
+  IsRead text old new =
+      ((is_ignored text ≡ true) × (new ≡ old)) ⊎ ((line : Line A) × SpellsLine line text × (new ≡ old ++ line ∷ []))
+
+  -- each line of the text says nothing, or spells the next command
+  abbrev pub SpellsLines : List (Line A) → List (List ℕ) → Type 0
+  SpellsLines [] [] = Unit {0}
+  SpellsLines (line ∷ lines) [] = ⊥
+  SpellsLines [] (text ∷ texts) = (is_ignored text ≡ true) × SpellsLines [] texts
+  SpellsLines (line ∷ lines) (text ∷ texts) =
+      ((is_ignored text ≡ true) × SpellsLines (line ∷ lines) texts) ⊎ (SpellsLine line text × SpellsLines lines texts)
+
+  -- the text spells these lines
+  unfoldable pub SpellsScript : List (Line A) → List ℕ → Type 0
+  SpellsScript lines text = (texts : List (List ℕ)) × AreLines texts text × SpellsLines lines texts

@@ -1,0 +1,72 @@
+-- The tokens of a line.
+use Rattle.std.specs.Prelude.{◌≡◌, ℕ, List, [], ◌∷◌, ◌++◌, length, Bool, true, false, ◌==◌, ◌&&◌, ◌||◌, if◌then◌else◌, Ok, ℤ, pos, neg_ℤ, ◌<◌}
+use Rattle.std.specs.Char.{is_ascii_alphabetic, is_ascii_digit}
+use Rattle.std.specs.List.{list_all}
+use Rattle.std.specs.Str.Parse.{digits_value}
+use Rattle.hex.specs.Hex.{decode_of}
+use Rattle.cap_filter.specs.Printed.{quote, quoted}
+use Rattle.cap_filter.specs.Tokens.{blank, is_word, is_word_byte}
+
+pub data Token : Type 0 where
+  -- a letter or `_`, and then letters, digits and `_`
+  word : List ℕ → Token
+  -- decimal digits, after a minus sign or not
+  integer : Bool → ℕ → Token
+  -- what stands between quotes, each doubled quote taken as one
+  text : List ℕ → Token
+  -- the bytes whose hex digits stand between quotes, after an `x`
+  blob : List ℕ → Token
+  sign : ℕ → Token
+
+abbrev pub is_blank : ℕ → Bool
+is_blank byte = byte == blank
+
+-- behind the spaces at the front
+abbrev pub behind_blanks : List ℕ → List ℕ
+behind_blanks [] = []
+behind_blanks (byte ∷ rest) = if is_blank byte then behind_blanks rest else byte ∷ rest
+
+-- whether the text begins with such a byte
+abbrev pub begins : (ℕ → Bool) → List ℕ → Bool
+begins is_one [] = false
+begins is_one (byte ∷ rest) = is_one byte
+
+-- an ASCII letter or `_`
+abbrev pub is_letter : ℕ → Bool
+is_letter byte = is_ascii_alphabetic byte || byte == 95
+
+abbrev pub is_quote : ℕ → Bool
+is_quote byte = byte == quote
+
+-- an `x` and a quote right behind it, which begin no word
+abbrev pub begins_blob : List ℕ → Bool
+begins_blob (byte ∷ next ∷ rest) = byte == 120 && is_quote next
+begins_blob _ = false
+
+abbrev pub minus : Bool → List ℕ → List ℕ
+minus true digits = 45 ∷ digits
+minus false digits = digits
+
+-- The line begins with the token, and the rest stands behind it. Words and integers are as long as they go.
+abbrev pub Begins : Token → List ℕ → List ℕ → Type 0
+Begins (word w) line rest =
+    (line ≡ w ++ rest) × (begins is_letter line ≡ true) × (begins_blob line ≡ false) × (is_word w ≡ true) × (begins is_word_byte rest ≡ false)
+Begins (integer negative n) line rest =
+    (digits : List ℕ) × (line ≡ minus negative digits ++ rest) × (0 < length digits) × (list_all is_ascii_digit digits ≡ true) × (digits_value 10 digits ≡ n)
+    × (begins is_ascii_digit rest ≡ false)
+Begins (text t) line rest = (line ≡ quoted t ++ rest) × (begins is_quote rest ≡ false)
+Begins (blob bytes) line rest = (digits : List ℕ) × (line ≡ 120 ∷ quote ∷ digits ++ quote ∷ rest) × (decode_of digits ≡ Ok bytes)
+Begins (sign s) line rest = line ≡ s ∷ rest
+
+-- the next token of the line, behind spaces or not, and the rest
+abbrev pub Next : Token → List ℕ → List ℕ → Type 0
+Next token line rest = Begins token (behind_blanks line) rest
+
+-- the number with this sign
+abbrev pub signed : Bool → ℕ → ℤ
+signed true n = neg_ℤ (pos n)
+signed false n = pos n
+
+-- an integer is next
+abbrev pub NextInteger : ℤ → List ℕ → List ℕ → Type 0
+NextInteger number line rest = (negative : Bool) × (n : ℕ) × Next (integer negative n) line rest × (number ≡ signed negative n)

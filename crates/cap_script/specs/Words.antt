@@ -1,0 +1,58 @@
+-- The words of commands.
+use Rattle.std.specs.Prelude.{ℕ, Bool, true, false, if◌then◌else◌, List, map, Option, Some, None, codes}
+use Rattle.cap_apply.specs.declared.policy.Answer.{Answer}
+use Rattle.cap_apply.specs.declared.policy.Answer.TheVariants.{Omit, Replace, Abort}
+use Rattle.cap_script.specs.declared.words.Head.{Head}
+use Rattle.cap_script.specs.declared.words.Head.TheVariants as head
+use Rattle.cap_script.specs.declared.words.SessionWord.{SessionWord}
+use Rattle.cap_script.specs.declared.words.SessionWord.TheVariants as session
+use Rattle.cap_script.specs.declared.words.Verb.{Verb}
+use Rattle.cap_script.specs.declared.words.Verb.TheVariants.{Insert, Update, Delete}
+
+-- the word that begins a command on one session
+abbrev pub session_word : SessionWord → List ℕ
+session_word session.Drop = codes "drop"
+session_word session.Attach = codes "attach"
+session_word session.AttachAll = codes "attachall"
+session_word session.Filter = codes "filter"
+session_word session.Enable = codes "enable"
+session_word session.Indirect = codes "indirect"
+session_word session.IsEmpty = codes "isempty"
+session_word session.Diff = codes "diff"
+session_word session.Changeset = codes "changeset"
+session_word session.Patchset = codes "patchset"
+session_word session.Restart = codes "restart"
+
+-- the word that begins a command
+abbrev pub head_word : Head → List ℕ
+head_word head.Create = codes "create"
+head_word head.Commit = codes "commit"
+head_word head.CommitAt = codes "commitat"
+head_word head.Apply = codes "apply"
+head_word head.Get = codes "get"
+head_word head.Scan = codes "scan"
+head_word head.Save = codes "save"
+head_word head.Session = codes "session"
+head_word (head.Of word) = session_word word
+
+-- the word that begins an operation
+abbrev pub verb_word : Verb → List ℕ
+verb_word Insert = codes "insert"
+verb_word Update = codes "update"
+verb_word Delete = codes "delete"
+
+-- what is done about a conflict
+abbrev pub answer_word : Answer → List ℕ
+answer_word Omit = codes "omit"
+answer_word Replace = codes "replace"
+answer_word Abort = codes "abort"
+
+-- what a flag shall be, or that it is only asked for
+abbrev pub flag_word : Option Bool → List ℕ
+flag_word (Some true) = codes "on"
+flag_word (Some false) = codes "off"
+flag_word None = codes "ask"
+
+-- a word of `k` for each key column and `v` for each other
+abbrev pub letters : List Bool → List ℕ
+letters flags = map (λ flag. if flag then 107 else 118) flags

@@ -1,0 +1,180 @@
+//! Commands. Each function but the first reads what stands behind the word that begins the command.
+ghost use Rattle.std.specs.Prelude.{List, ℕ, IfOk, codes};
+ghost use Rattle.cap_script.specs.Commands.{SpelledBlob, SpelledCommand, SpelledPolicy};
+ghost use Rattle.cap_script.specs.Forms.{Word};
+ghost use Rattle.cap_script.specs.Words.{answer_word, head_word, letters};
+
+use crate::Show;
+use crate::cursor::Cursor;
+use crate::fault::LineFault;
+use crate::operation::{batch, name};
+use crate::session_command::session_command;
+use crate::value::row_ref;
+use crate::words::{Head, answer_of, flags_of, head_of};
+use cap_apply::{Answer, Policy};
+use cap_codec::{Contents, read_blob};
+use cap_core::Command;
+use cap_row::Schema;
+use cap_txn::Batch;
+use cap_value::{AllocHandle, BYTES_MAX, Refusal};
+
+/// The command that is next, and what is printed of its reply.
+pub(crate) fn command<A: AllocHandle>(
+    alloc: A,
+    cursor: &mut Cursor<'_>,
+) -> Result<(Command<A>, Show<A>), LineFault>
+    ensures { IfOk result (λ made. SpelledCommand made.0 made.1 cursor.old.rest.now cursor.new.rest.now) }
+{
+    let word = cursor.word()?;
+    let head = head_of(word.text).ok_or(word.misfit)?;
+    command_of(alloc, cursor, head)
+}
+
+// The command that this word begins, and what is printed of its reply.
+fn command_of<A: AllocHandle>(
+    alloc: A,
+    cursor: &mut Cursor<'_>,
+    head: Head,
+) -> Result<(Command<A>, Show<A>), LineFault>
+    ensures { (line : List ℕ) → Word (head_word head) line cursor.old.rest.now
+        → IfOk result (λ made. SpelledCommand made.0 made.1 line cursor.new.rest.now) }
+{
+    match head {
+        Head::Create => create(alloc, cursor),
+        Head::Commit => commit(alloc, cursor),
+        Head::CommitAt => commit_at(alloc, cursor),
+        Head::Apply => apply(alloc, cursor),
+        Head::Get => get(alloc, cursor),
+        Head::Scan => scan(alloc, cursor),
+        Head::Save => save(alloc, cursor),
+        Head::Session => Ok((Command::NewSession, Show::Plain)),
+        Head::Of(word) => session_command(alloc, cursor, word),
+    }
+}
+
+// A new table: `T F`.
+fn create<A: AllocHandle>(
+    alloc: A,
+    cursor: &mut Cursor<'_>,
+) -> Result<(Command<A>, Show<A>), LineFault>
+    ensures { (line : List ℕ) → Word (codes "create") line cursor.old.rest.now
+        → IfOk result (λ made. SpelledCommand made.0 made.1 line cursor.new.rest.now) }
+{
+    let table = name(alloc, cursor)?;
+    let schema = schema(alloc, cursor)?;
+    Ok((Command::CreateTable { table, schema }, Show::Plain))
+}
+
+/// The columns of a table: a word of `k` for a column of the primary key and `v` for another, one letter a column.
+fn schema<A: AllocHandle>(alloc: A, cursor: &mut Cursor<'_>) -> Result<Schema<A>, LineFault>
+    ensures { IfOk result (λ made. Word (letters made) cursor.old.rest.now cursor.new.rest.now) }
+{
+    let word = cursor.word()?;
+    let flags = flags_of(alloc, word.text)?.ok_or(word.misfit)?;
+    Ok(Schema::new(alloc, flags.as_slice())?)
+}
+
+// A batch that may be made on any version: `OP ; OP ..`.
+fn commit<A: AllocHandle>(
+    alloc: A,
+    cursor: &mut Cursor<'_>,
+) -> Result<(Command<A>, Show<A>), LineFault>
+    ensures { (line : List ℕ) → Word (codes "commit") line cursor.old.rest.now
+        → IfOk result (λ made. SpelledCommand made.0 made.1 line cursor.new.rest.now) }
+{
+    let batch = batch(alloc, cursor, Batch::blind(alloc))?;
+    Ok((Command::Commit(batch), Show::Plain))
+}
+
+// A batch that may be made on one version alone: `N OP ; OP ..`.
+fn commit_at<A: AllocHandle>(
+    alloc: A,
+    cursor: &mut Cursor<'_>,
+) -> Result<(Command<A>, Show<A>), LineFault>
+    ensures { (line : List ℕ) → Word (codes "commitat") line cursor.old.rest.now
+        → IfOk result (λ made. SpelledCommand made.0 made.1 line cursor.new.rest.now) }
+{
+    let base = cursor.natural()?;
+    let batch = batch(alloc, cursor, Batch::based(alloc, base))?;
+    Ok((Command::Commit(batch), Show::Plain))
+}
+
+// A blob, and the answers to conflicts of data, to rows that are not found, and to conflicts of keys:
+// `x'..' D N C`.
+fn apply<A: AllocHandle>(
+    alloc: A,
+    cursor: &mut Cursor<'_>,
+) -> Result<(Command<A>, Show<A>), LineFault>
+    ensures { (line : List ℕ) → Word (codes "apply") line cursor.old.rest.now
+        → IfOk result (λ made. SpelledCommand made.0 made.1 line cursor.new.rest.now) }
+{
+    let blob = contents(alloc, cursor)?;
+    let policy = policy(cursor)?;
+    Ok((Command::Apply { blob, policy }, Show::Plain))
+}
+
+/// What is in the blob that is the next token.
+fn contents<A: AllocHandle>(alloc: A, cursor: &mut Cursor<'_>) -> Result<Contents<A>, LineFault>
+    ensures { IfOk result (λ made. SpelledBlob made cursor.old.rest.now cursor.new.rest.now) }
+{
+    let bytes = cursor.blob(alloc)?;
+    if bytes.len() > BYTES_MAX {
+        return Err(LineFault::Limit(Refusal::TooLong));
+    }
+    Ok(read_blob(alloc, bytes.as_slice())?)
+}
+
+fn policy(cursor: &mut Cursor<'_>) -> Result<Policy, LineFault>
+    ensures { IfOk result (λ made. SpelledPolicy made cursor.old.rest.now cursor.new.rest.now) }
+{
+    Ok(Policy {
+        on_data: answer(cursor)?,
+        on_notfound: answer(cursor)?,
+        on_conflict: answer(cursor)?,
+    })
+}
+
+/// What is done about a conflict: `omit`, `replace` or `abort`.
+fn answer(cursor: &mut Cursor<'_>) -> Result<Answer, LineFault>
+    ensures { IfOk result (λ made. Word (answer_word made) cursor.old.rest.now cursor.new.rest.now) }
+{
+    let word = cursor.word()?;
+    answer_of(word.text).ok_or(word.misfit)
+}
+
+// A row of a snapshot: `T REF`.
+fn get<A: AllocHandle>(
+    alloc: A,
+    cursor: &mut Cursor<'_>,
+) -> Result<(Command<A>, Show<A>), LineFault>
+    ensures { (line : List ℕ) → Word (codes "get") line cursor.old.rest.now
+        → IfOk result (λ made. SpelledCommand made.0 made.1 line cursor.new.rest.now) }
+{
+    let table = name(alloc, cursor)?;
+    let row = row_ref(alloc, cursor)?;
+    Ok((Command::Read, Show::Get(table, row)))
+}
+
+// All rows of a table of a snapshot: `T`.
+fn scan<A: AllocHandle>(
+    alloc: A,
+    cursor: &mut Cursor<'_>,
+) -> Result<(Command<A>, Show<A>), LineFault>
+    ensures { (line : List ℕ) → Word (codes "scan") line cursor.old.rest.now
+        → IfOk result (λ made. SpelledCommand made.0 made.1 line cursor.new.rest.now) }
+{
+    let table = name(alloc, cursor)?;
+    Ok((Command::Read, Show::Scan(table)))
+}
+
+// The name under which the tables are saved: `B`.
+fn save<A: AllocHandle>(
+    alloc: A,
+    cursor: &mut Cursor<'_>,
+) -> Result<(Command<A>, Show<A>), LineFault>
+    ensures { (line : List ℕ) → Word (codes "save") line cursor.old.rest.now
+        → IfOk result (λ made. SpelledCommand made.0 made.1 line cursor.new.rest.now) }
+{
+    let database = name(alloc, cursor)?;
+    Ok((Command::SaveAs { database }, Show::Plain))
+}

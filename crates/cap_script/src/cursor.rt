@@ -1,0 +1,248 @@
+ghost use Rattle.std.specs.Prelude.{◌≡◌, ◌≤◌, ◌<◌, ◌^◌, [], Bool, true, false, ℕ, List, length, OnOk, IfOk, IsTrue, string_bytes};
+ghost use Rattle.cap_script.specs.Tokens.{Begins, Next, NextInteger, behind_blanks, blob, integer, sign, text, word};
+ghost use Rattle.cap_script.specs.Script.{SpelledWorker};
+
+use crate::fault::LineFault;
+use crate::token::{
+    after, after_blanks, after_blob_start, begins_blank, begins_name, integer_of, split_at_quote,
+    split_digits, split_integer, split_quoted, split_word,
+};
+use cap_value::AllocHandle;
+use hex::FromHexError;
+
+/// The greatest number of an integer.
+const INTEGER_MAX: u64 = (1 << 63) - 1;
+
+/// The greatest number of a worker.
+const WORKER_MAX: u64 = 63;
+
+/// What is left of a line, token by token. Spaces may stand before, between and after tokens, and tokens may touch.
+#[derive(Drop)]
+pub(crate) struct Cursor<'a> {
+    rest: &'a str,
+    line_len: usize,
+    ghost within: { length rest.now ≤ line_len },
+}
+
+/// A word of a line, and the fault of the line where it does not fit there.
+#[derive(Clone, Copy, Drop)]
+pub(crate) struct Word<'a> {
+    pub(crate) text: &'a str,
+    pub(crate) misfit: LineFault,
+}
+
+impl<'a> Cursor<'a> {
+    /// The tokens of a line.
+    pub(crate) fn new(line: &'a str) -> Self
+        ensures { result.rest.now ≡ line.now }
+    {
+        Cursor {
+            rest: line,
+            line_len: line.len(),
+        }
+    }
+
+    /// The fault of a token that begins here and does not fit.
+    pub(crate) fn misfit(&self) -> LineFault {
+        LineFault::Syntax {
+            at: (self.line_len - self.rest.len()) as u64,
+        }
+    }
+
+    /// The fault of a token of the rest that begins at this byte of the rest, or at its end, and does not fit.
+    pub(crate) fn misfit_at(&self, at: u64) -> LineFault
+        requires { at ≤ length self.now.rest.now }
+    {
+        LineFault::Syntax {
+            at: (self.line_len - self.rest.len()) as u64 + at,
+        }
+    }
+
+    /// What is left of the line.
+    pub(crate) fn rest(&self) -> &'a str
+        ensures { result.now ≡ self.now.rest.now }
+    {
+        self.rest
+    }
+
+    /// Passes over all that is left of the line.
+    pub(crate) fn finish(&mut self)
+        ensures { self.new.rest.now ≡ [] }
+    {
+        self.rest = "";
+    }
+
+    /// The first byte of the next token, where the line has one.
+    pub(crate) fn first_byte(&self) -> Option<u8> {
+        after_blanks(self.rest).as_bytes().first().copied()
+    }
+
+    /// Passes over the spaces before the next token.
+    pub(crate) fn skip_spaces(&mut self)
+        ensures behind { self.new.rest.now ≡ behind_blanks self.old.rest.now }
+        ensures left { length self.new.rest.now ≤ length self.old.rest.now }
+    {
+        self.rest = after_blanks(self.rest);
+    }
+
+    /// Passes over the sign, if it is the next token.
+    pub(crate) fn takes_sign(&mut self, wanted: char) -> bool
+        requires { wanted < 128 }
+        ensures next { IsTrue result → Next (sign wanted) self.old.rest.now self.new.rest.now }
+        ensures other { result ≡ false → self.new.rest.now ≡ behind_blanks self.old.rest.now }
+        ensures left { length self.new.rest.now ≤ length self.old.rest.now }
+        ensures less { IsTrue result → length self.new.rest.now < length self.old.rest.now }
+    {
+        self.skip_spaces();
+        match after(self.rest, wanted) {
+            Some(rest) => {
+                self.rest = rest;
+                true
+            }
+            None => false,
+        }
+    }
+
+    /// Passes over the sign, which has to be the next token.
+    pub(crate) fn sign(&mut self, wanted: char) -> Result<(), LineFault>
+        requires { wanted < 128 }
+        ensures next { OnOk result (Next (sign wanted) self.old.rest.now self.new.rest.now) }
+        ensures left { length self.new.rest.now ≤ length self.old.rest.now }
+    {
+        if self.takes_sign(wanted) {
+            Ok(())
+        } else {
+            Err(self.misfit())
+        }
+    }
+
+    /// The end of the line has to be next.
+    pub(crate) fn end(&mut self) -> Result<(), LineFault>
+        ensures { OnOk result (behind_blanks self.old.rest.now ≡ []) }
+    {
+        self.skip_spaces();
+        if self.rest.is_empty() {
+            Ok(())
+        } else {
+            Err(self.misfit())
+        }
+    }
+
+    /// A word, which is the next token: an ASCII letter or `_`, and then letters, digits or `_`.
+    pub(crate) fn word(&mut self) -> Result<Word<'a>, LineFault>
+        ensures next { IfOk result (λ found. Next (word found.text.now) self.old.rest.now self.new.rest.now) }
+        ensures left { length self.new.rest.now ≤ length self.old.rest.now }
+    {
+        self.skip_spaces();
+        let misfit = self.misfit();
+        if !begins_name(self.rest) || after_blob_start(self.rest).is_some() {
+            return Err(misfit);
+        }
+        let (text, rest) = split_word(self.rest).ok_or(misfit)?;
+        self.rest = rest;
+        Ok(Word { text, misfit })
+    }
+
+    /// Passes over this word, which has to be the next token.
+    pub(crate) fn keyword(&mut self, wanted: &str) -> Result<(), LineFault>
+        ensures next { OnOk result (Next (word wanted.now) self.old.rest.now self.new.rest.now) }
+        ensures left { length self.new.rest.now ≤ length self.old.rest.now }
+    {
+        let found = self.word()?;
+        if found.text == wanted {
+            Ok(())
+        } else {
+            Err(found.misfit)
+        }
+    }
+
+    /// An integer, which is the next token: an optional `-` and decimal digits.
+    pub(crate) fn integer(&mut self) -> Result<i64, LineFault>
+        ensures next { IfOk result (λ number. NextInteger number self.old.rest.now self.new.rest.now) }
+        ensures left { length self.new.rest.now ≤ length self.old.rest.now }
+    {
+        self.skip_spaces();
+        let misfit = self.misfit();
+        let (digits, rest) = split_integer(self.rest).ok_or(misfit)?;
+        let number = integer_of(digits).ok_or(misfit)?;
+        self.rest = rest;
+        Ok(number)
+    }
+
+    /// An integer without `-`, which is the next token.
+    pub(crate) fn natural(&mut self) -> Result<u64, LineFault>
+        ensures next { IfOk result (λ n. Next (integer false n) self.old.rest.now self.new.rest.now) }
+        ensures left { length self.new.rest.now ≤ length self.old.rest.now }
+        ensures fits { IfOk result (λ n. n < 2 ^ 63) }
+    {
+        self.skip_spaces();
+        self.digits()
+    }
+
+    /// An integer without `-` that begins right here.
+    fn digits(&mut self) -> Result<u64, LineFault>
+        ensures here { IfOk result (λ n. Begins (integer false n) self.old.rest.now self.new.rest.now) }
+        ensures left { length self.new.rest.now ≤ length self.old.rest.now }
+        ensures fits { IfOk result (λ n. n < 2 ^ 63) }
+    {
+        let misfit = self.misfit();
+        let (digits, rest) = split_digits(self.rest).ok_or(misfit)?;
+        let number = digits.parse::<u64>().map_err(|_| misfit)?;
+        if number > INTEGER_MAX {
+            return Err(misfit);
+        }
+        self.rest = rest;
+        Ok(number)
+    }
+
+    /// Who gives the command: the number right behind `@`, from 0 to 63, with a space right behind it, where the line
+    /// begins with `@`.
+    pub(crate) fn worker(&mut self) -> Result<Option<u64>, LineFault>
+        ensures next { IfOk result (λ made. SpelledWorker made self.old.rest.now self.new.rest.now) }
+        ensures left { length self.new.rest.now ≤ length self.old.rest.now }
+    {
+        if !self.takes_sign('@') {
+            return Ok(None);
+        }
+        let misfit = self.misfit();
+        let worker = self.digits()?;
+        if worker > WORKER_MAX {
+            return Err(misfit);
+        }
+        if begins_blank(self.rest) {
+            Ok(Some(worker))
+        } else {
+            Err(self.misfit())
+        }
+    }
+
+    /// A quoted text, which is the next token. Between its quotes two quotes stand for one.
+    pub(crate) fn quoted<A: AllocHandle>(&mut self, alloc: A) -> Result<String<A>, LineFault>
+        ensures next { IfOk result (λ t. Next (text (string_bytes t)) self.old.rest.now self.new.rest.now) }
+        ensures left { length self.new.rest.now ≤ length self.old.rest.now }
+    {
+        self.skip_spaces();
+        let misfit = self.misfit();
+        let begun = after(self.rest, '\'').ok_or(misfit)?;
+        let (text, rest) = split_quoted(alloc, begun)?.ok_or(misfit)?;
+        self.rest = rest;
+        Ok(text)
+    }
+
+    /// The bytes of a blob, which is the next token: an `x`, and right after it hex digits in pairs between quotes.
+    pub(crate) fn blob<A: AllocHandle>(&mut self, alloc: A) -> Result<Vec<u8, A>, LineFault>
+        ensures next { IfOk result (λ bytes. Next (blob bytes.items) self.old.rest.now self.new.rest.now) }
+        ensures left { length self.new.rest.now ≤ length self.old.rest.now }
+    {
+        self.skip_spaces();
+        let misfit = self.misfit();
+        let begun = after_blob_start(self.rest).ok_or(misfit)?;
+        let (digits, rest) = split_at_quote(begun).ok_or(misfit)?;
+        let bytes = hex::decode(alloc, digits).map_err(|error| match error {
+            FromHexError::OutOfMemory => LineFault::OutOfMemory,
+            _ => misfit,
+        })?;
+        self.rest = rest;
+        Ok(bytes)
+    }
+}

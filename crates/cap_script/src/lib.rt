@@ -1,0 +1,21 @@
+//! The text of workloads and of their replies: a command a line, and a line or more a reply.
+#![tactic(auto)]
+
+mod command;
+mod cursor;
+mod fault;
+mod line;
+mod operation;
+mod refusal_text;
+mod reply;
+mod row_text;
+mod session_command;
+mod token;
+mod value;
+mod words;
+mod workload;
+
+pub use fault::ScriptFault;
+pub use line::{Line, Show};
+pub use reply::print_reply;
+pub use workload::{Workload, parse};

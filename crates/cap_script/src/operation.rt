@@ -1,0 +1,168 @@
+ghost use Rattle.std.specs.Prelude.{◌≡◌, ◌≤◌, ◌++◌, ◌∷◌, [], List, ℕ, length, IfOk, OnOk, codes};
+ghost use Rattle.cap_script.specs.Forms.{◌▸◌, Word};
+ghost use Rattle.cap_script.specs.Operations.{SpelledAction, SpelledField, SpelledFields, SpelledOperation, SpelledOperations};
+ghost use Rattle.cap_script.specs.Words.{verb_word};
+
+use crate::cursor::Cursor;
+use crate::fault::LineFault;
+use crate::value::{row_ref, value, values};
+use crate::words::{Verb, verb_of};
+use cap_row::Row;
+use cap_txn::{Action, Assignments, Batch, Cause, OPS_MAX, Op};
+use cap_value::{AllocHandle, Name, Refusal, Value};
+
+/// The name of a table or of a saved database.
+pub(crate) fn name<A: AllocHandle>(alloc: A, cursor: &mut Cursor<'_>) -> Result<Name<A>, LineFault>
+    ensures next { IfOk result (λ made. Word made cursor.old.rest.now cursor.new.rest.now) }
+    ensures left { length cursor.new.rest.now ≤ length cursor.old.rest.now }
+{
+    let word = cursor.word()?;
+    Ok(Name::new(alloc, word.text)?)
+}
+
+/// The batch, which is empty, with these operations: `OP ; OP ..`.
+pub(crate) fn batch<A: AllocHandle>(
+    alloc: A,
+    cursor: &mut Cursor<'_>,
+    mut batch: Batch<A>,
+) -> Result<Batch<A>, LineFault>
+    requires { batch.ops ≡ [] }
+    ensures base { IfOk result (λ made. made.base ≡ batch.base) }
+    ensures next { IfOk result (λ made.
+        SpelledOperations made.ops cursor.old.rest.now cursor.new.rest.now) }
+{
+    push(&mut batch, operation(alloc, cursor, false)?)?;
+    while cursor.takes_sign(';') {
+        let is_full = batch.ops().len() >= OPS_MAX;
+        push(&mut batch, operation(alloc, cursor, is_full)?)?;
+    }
+    Ok(batch)
+}
+
+// Puts the operation last.
+fn push<A: AllocHandle>(batch: &mut Batch<A>, op: Op<A>) -> Result<(), LineFault>
+    ensures base { OnOk result (batch.new.base ≡ batch.old.base) }
+    ensures ops { OnOk result (batch.new.ops ≡ batch.old.ops ++ op ∷ []) }
+{
+    Ok(batch.push(op)?)
+}
+
+/// An operation: `insert T (V,..)`, `update T REF set I = V , ..` or `delete T REF`, with `cascade` before it for that
+/// cause. Where the batch is full its first token passes the limit, if it fits.
+fn operation<A: AllocHandle>(
+    alloc: A,
+    cursor: &mut Cursor<'_>,
+    is_full: bool,
+) -> Result<Op<A>, LineFault>
+    ensures next { IfOk result (λ made. SpelledOperation made cursor.old.rest.now cursor.new.rest.now) }
+    ensures left { length cursor.new.rest.now ≤ length cursor.old.rest.now }
+{
+    let word = cursor.word()?;
+    match verb_of(word.text) {
+        Some(verb) => {
+            has_room(is_full)?;
+            operation_of(alloc, cursor, Cause::Direct, verb)
+        }
+        None => {
+            if word.text != "cascade" {
+                return Err(word.misfit);
+            }
+            has_room(is_full)?;
+            cascaded(alloc, cursor)
+        }
+    }
+}
+
+// Nothing, where one more operation has room.
+fn has_room(is_full: bool) -> Result<(), LineFault> {
+    if is_full {
+        Err(LineFault::Limit(Refusal::TooMany))
+    } else {
+        Ok(())
+    }
+}
+
+// The operation behind the word `cascade`.
+fn cascaded<A: AllocHandle>(alloc: A, cursor: &mut Cursor<'_>) -> Result<Op<A>, LineFault>
+    ensures next { (line : List ℕ) → Word (codes "cascade") line cursor.old.rest.now
+        → IfOk result (λ made. SpelledOperation made line cursor.new.rest.now) }
+    ensures left { length cursor.new.rest.now ≤ length cursor.old.rest.now }
+{
+    let word = cursor.word()?;
+    let verb = verb_of(word.text).ok_or(word.misfit)?;
+    operation_of(alloc, cursor, Cause::Cascade, verb)
+}
+
+// The operation with this cause that the verb begins.
+fn operation_of<A: AllocHandle>(
+    alloc: A,
+    cursor: &mut Cursor<'_>,
+    cause: Cause,
+    verb: Verb,
+) -> Result<Op<A>, LineFault>
+    ensures cause { IfOk result (λ made. made.cause ≡ cause) }
+    ensures next { (line : List ℕ) → Word (verb_word verb) line cursor.old.rest.now
+        → IfOk result (λ made. SpelledAction made.table made.action line cursor.new.rest.now) }
+    ensures left { length cursor.new.rest.now ≤ length cursor.old.rest.now }
+{
+    let table = name(alloc, cursor)?;
+    match verb {
+        Verb::Insert => {
+            let row = Row::new(values(alloc, cursor)?)?;
+            let action = Action::Insert(row);
+            Ok(Op {
+                table,
+                cause,
+                action,
+            })
+        }
+        Verb::Update => {
+            let row = row_ref(alloc, cursor)?;
+            let action = Action::Update(row, assignments(alloc, cursor)?);
+            Ok(Op {
+                table,
+                cause,
+                action,
+            })
+        }
+        Verb::Delete => {
+            let action = Action::Delete(row_ref(alloc, cursor)?);
+            Ok(Op {
+                table,
+                cause,
+                action,
+            })
+        }
+    }
+}
+
+/// What an update sets: `set I = V , ..`.
+fn assignments<A: AllocHandle>(
+    alloc: A,
+    cursor: &mut Cursor<'_>,
+) -> Result<Assignments<A>, LineFault>
+    ensures next { IfOk result (λ made.
+        (Word (codes "set") ▸ SpelledFields made) cursor.old.rest.now cursor.new.rest.now) }
+    ensures left { length cursor.new.rest.now ≤ length cursor.old.rest.now }
+{
+    cursor.keyword("set")?;
+    let mut fields = Vec::new(alloc);
+    fields.push(assignment(alloc, cursor)?)?;
+    while cursor.takes_sign(',') {
+        fields.push(assignment(alloc, cursor)?)?;
+    }
+    Ok(Assignments::new(fields))
+}
+
+/// A column, counted from 0, and its new value: `I = V`.
+fn assignment<A: AllocHandle>(
+    alloc: A,
+    cursor: &mut Cursor<'_>,
+) -> Result<(usize, Value<A>), LineFault>
+    ensures next { IfOk result (λ made. SpelledField made cursor.old.rest.now cursor.new.rest.now) }
+    ensures left { length cursor.new.rest.now ≤ length cursor.old.rest.now }
+{
+    let column = cursor.natural()? as usize;
+    cursor.sign('=')?;
+    Ok((column, value(alloc, cursor)?))
+}

@@ -1,0 +1,107 @@
+ghost use Rattle.std.specs.Prelude.{◌≡◌, IfOk, string_bytes, codes, ◌++◌};
+ghost use Rattle.cap_changes.specs.Patch.{patch_list_of};
+ghost use Rattle.cap_codec.specs.Changeset.{list_bytes};
+ghost use Rattle.cap_codec.specs.Patchset.{patch_list_bytes};
+ghost use Rattle.cap_script.specs.ReplyText.{applied_text, capture_text, flag_text, hex_or_dash, reply_text};
+
+use crate::refusal_text::RefusalText;
+use crate::row_text::snapshot_text;
+use crate::{Line, Show};
+use cap_apply::Report;
+use cap_core::{Capture, Command, Reply};
+use cap_value::{AllocHandle, OutOfMemory};
+
+/// The text of the reply to a line's command, without a line feed at its end. It has more than one line where it
+/// tells rows.
+#[tactic(auto, unfolding(crate::specs::ReplyText::reply_text))]
+pub fn print_reply<A: AllocHandle>(
+    alloc: A,
+    line: &Line<A>,
+    reply: &Reply<A>,
+) -> Result<String<A>, OutOfMemory>
+    ensures { IfOk result (λ text. string_bytes text ≡ reply_text line.now reply.now) }
+{
+    match reply {
+        Reply::Done => String::from_str(alloc, "ok"),
+        Reply::Written { version } => format!(in alloc; "ok version {version}"),
+        Reply::Applied { version, report } => applied_text(alloc, *version, report),
+        Reply::Session(number) => format!(in alloc; "session {number}"),
+        Reply::Snapshot(snapshot) => snapshot_text(alloc, &line.show, snapshot),
+        Reply::Flag(flag) => String::from_str(alloc, flag_text(&line.command, *flag)),
+        Reply::Capture(capture) => capture_text(alloc, &line.show, capture),
+        Reply::Refused {
+            at: Some(place),
+            why,
+        } => format!(in alloc; "refused at {place}: {}", RefusalText(*why)),
+        Reply::Refused { at: None, why } => { format!(in alloc; "refused: {}", RefusalText(*why)) }
+    }
+}
+
+// What became of a blob that was applied.
+fn applied_text<A: AllocHandle>(
+    alloc: A,
+    version: u64,
+    report: &Report<A>,
+) -> Result<String<A>, OutOfMemory>
+    ensures { IfOk result (λ text. string_bytes text ≡ applied_text version report.now) }
+{
+    let applied = report.applied();
+    let omitted = report.omitted().len();
+    let skipped = report.skipped().len();
+    format!(in alloc;
+        "ok version {version}, applied {applied}, omitted {omitted}, skipped {skipped}"
+    )
+}
+
+// A flag as it is now, or whether a session is empty.
+fn flag_text<A: AllocHandle>(command: &Command<A>, flag: bool) -> &'static str
+    ensures { result.now ≡ flag_text command.now flag }
+{
+    match command {
+        Command::IsEmpty { .. } => if flag { "true" } else { "false" },
+        _ => if flag { "on" } else { "off" },
+    }
+}
+
+// What is told of a capture.
+fn capture_text<A: AllocHandle>(
+    alloc: A,
+    show: &Show<A>,
+    capture: &Capture<A>,
+) -> Result<String<A>, OutOfMemory>
+    ensures { IfOk result (λ text. string_bytes text ≡ capture_text show.now capture.now) }
+{
+    match show {
+        Show::Changeset => changeset_text(alloc, capture),
+        Show::Patchset => patchset_text(alloc, capture),
+        _ => String::from_str(alloc, "ok"),
+    }
+}
+
+fn changeset_text<A: AllocHandle>(alloc: A, capture: &Capture<A>) -> Result<String<A>, OutOfMemory>
+    ensures { IfOk result (λ text.
+        string_bytes text ≡ codes "changeset " ++ hex_or_dash (list_bytes capture.now)) }
+{
+    let bytes = capture.changeset(alloc)?;
+    let digits = hex_or_dash(alloc, bytes.as_slice())?;
+    format!(in alloc; "changeset {digits}")
+}
+
+fn patchset_text<A: AllocHandle>(alloc: A, capture: &Capture<A>) -> Result<String<A>, OutOfMemory>
+    ensures { IfOk result (λ text. string_bytes text
+        ≡ codes "patchset " ++ hex_or_dash (patch_list_bytes (patch_list_of capture.now))) }
+{
+    let bytes = capture.patchset(alloc)?;
+    let digits = hex_or_dash(alloc, bytes.as_slice())?;
+    format!(in alloc; "patchset {digits}")
+}
+
+// Lower case hex digits, or `-` where there are no bytes.
+fn hex_or_dash<A: AllocHandle>(alloc: A, bytes: &[u8]) -> Result<String<A>, OutOfMemory>
+    ensures { IfOk result (λ text. string_bytes text ≡ hex_or_dash bytes.now) }
+{
+    if bytes.is_empty() {
+        return String::from_str(alloc, "-");
+    }
+    hex::encode(alloc, bytes)
+}

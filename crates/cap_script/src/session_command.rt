@@ -1,0 +1,97 @@
+//! Commands on one session, behind the word that begins them.
+ghost use Rattle.std.specs.Prelude.{◌≡◌, ◌≤◌, List, ℕ, IfOk, IfErr, length};
+ghost use Rattle.cap_filter.specs.Grammar.{Spells};
+ghost use Rattle.cap_script.specs.Commands.{SpelledCommand, SpelledFilter};
+ghost use Rattle.cap_script.specs.Forms.{Word};
+ghost use Rattle.cap_script.specs.Words.{flag_word, session_word};
+
+use crate::Show;
+use crate::cursor::Cursor;
+use crate::fault::LineFault;
+use crate::operation::name;
+use crate::words::{SessionWord, flag_of};
+use cap_core::Command;
+use cap_filter::{TableFilter, unfit_place};
+use cap_value::{AllocHandle, Fault, Refusal};
+
+/// The command that this word begins, and what is printed of its reply.
+pub(crate) fn session_command<A: AllocHandle>(
+    alloc: A,
+    cursor: &mut Cursor<'_>,
+    word: SessionWord,
+) -> Result<(Command<A>, Show<A>), LineFault>
+    ensures { (line : List ℕ) → Word (session_word word) line cursor.old.rest.now
+        → IfOk result (λ made. SpelledCommand made.0 made.1 line cursor.new.rest.now) }
+{
+    let session = cursor.natural()?;
+    match word {
+        SessionWord::Changeset => Ok((Command::Capture { session }, Show::Changeset)),
+        SessionWord::Patchset => Ok((Command::Capture { session }, Show::Patchset)),
+        SessionWord::Restart => Ok((Command::Restart { session }, Show::Changeset)),
+        SessionWord::Drop => Ok((Command::DropSession { session }, Show::Plain)),
+        SessionWord::AttachAll => Ok((Command::AttachAll { session }, Show::Plain)),
+        SessionWord::IsEmpty => Ok((Command::IsEmpty { session }, Show::Plain)),
+        SessionWord::Attach => {
+            let table = name(alloc, cursor)?;
+            Ok((Command::Attach { session, table }, Show::Plain))
+        }
+        SessionWord::Filter => {
+            let filter = filter(alloc, cursor)?;
+            Ok((Command::SetFilter { session, filter }, Show::Plain))
+        }
+        SessionWord::Enable => {
+            let enabled = flag(cursor)?;
+            Ok((Command::Enable { session, enabled }, Show::Plain))
+        }
+        SessionWord::Indirect => {
+            let indirect = flag(cursor)?;
+            Ok((Command::Indirect { session, indirect }, Show::Plain))
+        }
+        SessionWord::Diff => {
+            let from = name(alloc, cursor)?;
+            let table = name(alloc, cursor)?;
+            Ok((
+                Command::Diff {
+                    session,
+                    from,
+                    table,
+                },
+                Show::Plain,
+            ))
+        }
+    }
+}
+
+/// The filter whose text is all that is left of the line.
+fn filter<A: AllocHandle>(alloc: A, cursor: &mut Cursor<'_>) -> Result<TableFilter<A>, LineFault>
+    ensures { IfOk result (λ made. SpelledFilter made cursor.old.rest.now cursor.new.rest.now) }
+{
+    let text = cursor.rest();
+    match filter_of(alloc, text) {
+        Ok(filter) => {
+            cursor.finish();
+            Ok(filter)
+        }
+        Err(Fault::Refused(Refusal::BadFilter { at })) => Err(cursor.misfit_at(at)),
+        Err(Fault::Refused(why)) => Err(LineFault::Limit(why)),
+        Err(Fault::OutOfMemory) => Err(LineFault::OutOfMemory),
+    }
+}
+
+// The filter that the text spells. A token that does not fit begins in the text, or at its end.
+fn filter_of<A: AllocHandle>(alloc: A, text: &str) -> Result<TableFilter<A>, Fault<Refusal>>
+    ensures found { IfOk result (λ made. Spells text.now made) }
+    ensures place { IfErr result (λ fault. (at : ℕ)
+        → fault ≡ Fault.Refused (Refusal.BadFilter at) → at ≤ length text.now) }
+{
+    unfit_place();
+    TableFilter::parse(alloc, text)
+}
+
+/// What a flag shall be: `on` or `off`, or `ask` where it is only asked for.
+fn flag(cursor: &mut Cursor<'_>) -> Result<Option<bool>, LineFault>
+    ensures { IfOk result (λ made. Word (flag_word made) cursor.old.rest.now cursor.new.rest.now) }
+{
+    let word = cursor.word()?;
+    flag_of(word.text).ok_or(word.misfit)
+}

@@ -1,0 +1,146 @@
+//! What a text begins with.
+ghost use Rattle.std.specs.Prelude.{◌≡◌, ◌≢◌, ◌≤◌, ◌<◌, ◌++◌, ◌∷◌, ◌^◌, ℕ, List, Bool, true, false, length, take_while, IfOk, IfSome, MatchOption, string_bytes, FitsSigned};
+ghost use Rattle.std.specs.Char.{is_ascii_digit};
+ghost use Rattle.std.specs.Int.{w64};
+ghost use Rattle.std.specs.List.{list_all};
+ghost use Rattle.std.specs.Str.Parse.{digits_value};
+ghost use Rattle.cap_filter.specs.Printed.{quote, quoted};
+ghost use Rattle.cap_filter.specs.Tokens.{has_quote, is_word, is_word_byte};
+ghost use Rattle.cap_script.specs.Tokens.{begins, begins_blob, behind_blanks, is_blank, is_letter, is_quote, minus, signed};
+
+use cap_value::{AllocHandle, OutOfMemory};
+
+/// The text behind its first character, where that is this ASCII one.
+pub(crate) fn after(text: &str, first: char) -> Option<&str>
+    requires { first < 128 }
+    ensures { MatchOption result ((rest : List ℕ) → text.now ≢ first ∷ rest)
+        (λ rest. text.now ≡ first ∷ rest.now) }
+{
+    text.strip_prefix(first)
+}
+
+/// The text behind the spaces at its front.
+pub(crate) fn after_blanks(text: &str) -> &str
+    ensures same { result.now ≡ behind_blanks text.now }
+    ensures left { length result.now ≤ length text.now }
+{
+    let mut rest = text;
+    while let Some(behind) = after(rest, ' ') {
+        rest = behind;
+    }
+    rest
+}
+
+/// The letters, digits and `_` at the front of the text, and the text behind them.
+pub(crate) fn split_word(text: &str) -> Option<(&str, &str)>
+    ensures { IfSome result (λ parts. (text.now ≡ parts.0.now ++ parts.1.now)
+        × (is_word parts.0.now ≡ true) × (begins is_word_byte parts.1.now ≡ false)) }
+{
+    text.split_at_checked(word_len(text.as_bytes()))
+}
+
+fn word_len(bytes: &[u8]) -> usize
+    ensures { result ≡ length (take_while is_word_byte bytes.now) }
+{
+    bytes.iter().take_while(|byte| is_word_byte(**byte)).count()
+}
+
+fn is_word_byte(byte: u8) -> bool
+    ensures { result ≡ is_word_byte byte }
+{
+    byte.is_ascii_alphanumeric() || byte == b'_'
+}
+
+/// The decimal digits at the front of the text, and the text behind them.
+pub(crate) fn split_digits(text: &str) -> Option<(&str, &str)>
+    ensures { IfSome result (λ parts. (text.now ≡ parts.0.now ++ parts.1.now)
+        × (list_all is_ascii_digit parts.0.now ≡ true) × (begins is_ascii_digit parts.1.now ≡ false)) }
+{
+    text.split_at_checked(digits_len(text.as_bytes()))
+}
+
+fn digits_len(bytes: &[u8]) -> usize
+    ensures { result ≡ length (take_while is_ascii_digit bytes.now) }
+{
+    bytes
+        .iter()
+        .take_while(|byte| byte.is_ascii_digit())
+        .count()
+}
+
+/// What stands before the first quote of the text, and behind it.
+pub(crate) fn split_at_quote(text: &str) -> Option<(&str, &str)>
+    ensures { MatchOption result (has_quote text.now ≡ false)
+        (λ parts. (text.now ≡ parts.0.now ++ quote ∷ parts.1.now) × (has_quote parts.0.now ≡ false)) }
+{
+    text.split_once('\'')
+}
+
+/// The integer at the front of the text, an optional `-` and digits, and the text behind it.
+pub(crate) fn split_integer(text: &str) -> Option<(&str, &str)>
+    ensures { IfSome result (λ parts. (negative : Bool) × (digits : List ℕ)
+        × (text.now ≡ parts.0.now ++ parts.1.now) × (parts.0.now ≡ minus negative digits)
+        × (list_all is_ascii_digit digits ≡ true) × (begins is_ascii_digit parts.1.now ≡ false)) }
+{
+    match after(text, '-') {
+        Some(digits) => text.split_at_checked(digits_len(digits.as_bytes()) + 1),
+        None => split_digits(text),
+    }
+}
+
+/// Whether the text begins with an ASCII letter or `_`.
+pub(crate) fn begins_name(text: &str) -> bool
+    ensures { result ≡ begins is_letter text.now }
+{
+    match text.as_bytes().first() {
+        Some(byte) => byte.is_ascii_alphabetic() || *byte == b'_',
+        None => false,
+    }
+}
+
+/// Whether the text begins with a space.
+pub(crate) fn begins_blank(text: &str) -> bool
+    ensures { result ≡ begins is_blank text.now }
+{
+    text.as_bytes().first() == Some(&b' ')
+}
+
+/// The text behind the `x` and the quote that begin a blob, where the text begins with them.
+pub(crate) fn after_blob_start(text: &str) -> Option<&str>
+    ensures { MatchOption result (begins_blob text.now ≡ false)
+        (λ rest. text.now ≡ 120 ∷ quote ∷ rest.now) }
+{
+    after(after(text, 'x')?, '\'')
+}
+
+/// The quoted text behind its first quote, and the text behind it. None where no quote ends it.
+pub(crate) fn split_quoted<A: AllocHandle>(
+    alloc: A,
+    text: &str,
+) -> Result<Option<(String<A>, &str)>, OutOfMemory>
+    ensures { IfOk result (λ found. IfSome found (λ parts.
+        (quote ∷ text.now ≡ quoted (string_bytes parts.0) ++ parts.1.now)
+        × (begins is_quote parts.1.now ≡ false))) }
+{
+    let mut word = String::new(alloc);
+    let mut rest = text;
+    while let Some((piece, behind)) = split_at_quote(rest) {
+        word.push_str(piece)?;
+        let Some(more) = after(behind, '\'') else {
+            return Ok(Some((word, behind)));
+        };
+        word.push_str("'")?;
+        rest = more;
+    }
+    Ok(None)
+}
+
+/// The integer that the text spells, an optional `-` and digits, where it is in the range of 64 bits.
+pub(crate) fn integer_of(text: &str) -> Option<i64>
+    ensures value { (negative : Bool) (digits : List ℕ) → text.now ≡ minus negative digits
+        → list_all is_ascii_digit digits ≡ true
+        → IfSome result (λ number. (0 < length digits) × (number ≡ signed negative (digits_value 10 digits))) }
+    ensures fits { IfSome result (λ number. FitsSigned w64 number) }
+{
+    text.parse::<i64>().ok()
+}
