@@ -1,2 +1,1 @@
-mod RowLemmas
 mod RunLemmas

@@ -10,11 +10,11 @@ use Rattle.cap_core.specs.declared.fault.CallFault.TheVariants as call
 use Rattle.cap_core.specs.declared.reply.Reply.{Reply}
 use Rattle.cap_core.specs.Answer.{State, IsLegal, IsLegalPast, answer, event_by, history_of, reply_of, state}
 use Rattle.cap_core.specs.Transition.{next}
-use Rattle.cap_run.specs.declared.script.line.Line.{Line}
+use Rattle.cap_script.specs.declared.line.Line.{Line}
 use Rattle.cap_run.specs.declared.fault.RunFault.{RunFault}
 use Rattle.cap_run.specs.declared.fault.RunFault.TheVariants.{Script, NotUtf8, NotHex, Blob, Call, Read, Write, Memory}
-use Rattle.cap_run.specs.ReplyText.{reply_text}
-use Rattle.cap_run.specs.Run.{AppendsFront, BeginsRun, Ended, EndsAt, IsRun, MatchFault, Writes, WritesRun, commands_of, ending, events_max, on_a_line, reply_lines, run_outcome}
+use Rattle.cap_script.specs.ReplyText.{reply_text}
+use Rattle.cap_run.specs.Run.{AppendsFront, BeginsRun, Ended, EndsAt, IsRun, IsSpelled, MatchFault, Writes, WritesInput, WritesRun, commands_of, ending, events_max, on_a_line, reply_lines, run_outcome}
 use Rattle.cap_run.specs.RunFault.{RunsNothing}
 
 -- ---- what of the bytes was written
@@ -89,14 +89,14 @@ module _ {A : Type 0} where
   reply_lines-none (x ∷ lines) = refl
 
   reply_lines-push : (lines : List (Line A)) (replies : List (Reply A)) (line : Line A) (reply : Reply A) → length replies < length lines → line ≡ get_or lines (length replies) line
-      → reply_lines lines (replies ++ reply ∷ []) ≡ reply_lines lines replies ++ on_a_line (reply_text line.show reply)
+      → reply_lines lines (replies ++ reply ∷ []) ≡ reply_lines lines replies ++ on_a_line (reply_text line reply)
   reply_lines-push [] replies line reply less is = absurd (omega arith)
   reply_lines-push (x ∷ lines) [] line reply less is =
-      ap₂ (λ (l : Line A) (t : List ℕ). on_a_line (reply_text l.show reply) ++ t) (sym is) (reply_lines-none lines) ∙ append-nil (on_a_line (reply_text line.show reply))
+      ap₂ (λ (l : Line A) (t : List ℕ). on_a_line (reply_text l reply) ++ t) (sym is) (reply_lines-none lines) ∙ append-nil (on_a_line (reply_text line reply))
   reply_lines-push (x ∷ lines) (y ∷ replies) line reply less is =
-      let first = on_a_line (reply_text x.show y) in
+      let first = on_a_line (reply_text x y) in
       ap (λ (t : List ℕ). first ++ t) (reply_lines-push lines replies line reply (omega arith) is)
-      ∙ sym (append_assoc first (reply_lines lines replies) (on_a_line (reply_text line.show reply)))
+      ∙ sym (append_assoc first (reply_lines lines replies) (on_a_line (reply_text line reply)))
 
   -- ---- a run so far
 
@@ -127,7 +127,7 @@ module _ {A : Type 0} where
   -- what a line makes of the server and the text, after each legal history that left the server
   abbrev pub IsStep : State A → Line A → List ℕ → State A → List ℕ → Type 0
   IsStep core line old next new = (h : List (Event A)) → IsLegal h → state h ≡ core →
-      (next ≡ state (h ++ event_by 0 line.command (reply_of h line.command) ∷ [])) × (new ≡ old ++ on_a_line (reply_text line.show (reply_of h line.command)))
+      (next ≡ state (h ++ event_by 0 line.command (reply_of h line.command) ∷ [])) × (new ≡ old ++ on_a_line (reply_text line (reply_of h line.command)))
 
   pub reached-push : (lines : List (Line A)) (core next : State A) (count : ℕ) (written old new : List ℕ) (line : Line A) → IsReached lines core count (written ++ old)
       → count < length lines → line ≡ get_or lines count line → IsStep core line old next new → IsReached lines next (count + 1) (written ++ new)
@@ -143,8 +143,8 @@ module _ {A : Type 0} where
         counted = omega (arith, length-append so.replies (reply ∷ []), so.counted);
         legal = subst IsLegal (sym pushed) (IsLegal-push h line.command so.legal);
         leaves = ap state pushed ∙ sym met.0;
-        text_is = ap (λ (t : List ℕ). written ++ t) met.1 ∙ sym (append_assoc written old (on_a_line (reply_text line.show reply)))
-            ∙ ap (λ (t : List ℕ). t ++ on_a_line (reply_text line.show reply)) so.text_is
+        text_is = ap (λ (t : List ℕ). written ++ t) met.1 ∙ sym (append_assoc written old (on_a_line (reply_text line reply)))
+            ∙ ap (λ (t : List ℕ). t ++ on_a_line (reply_text line reply)) so.text_is
             ∙ sym (reply_lines-push lines so.replies line reply few here);
       }
 
@@ -168,15 +168,27 @@ module _ {A : Type 0} where
   -- ---- what a run wrote
 
   -- nothing, where it did not begin
-  pub writes_nothing : (fault : RunFault) (a : Option (List ℕ)) → RunsNothing fault → (lines : List (Line A)) → Writes lines (Err fault) a a
-  writes_nothing (Script fault) a early lines = Keeps-refl a
-  writes_nothing NotUtf8 a early lines = Keeps-refl a
-  writes_nothing NotHex a early lines = Keeps-refl a
-  writes_nothing (Blob fault) a early lines = Keeps-refl a
-  writes_nothing (Call fault) a early lines = absurd early
-  writes_nothing Read a early lines = Keeps-refl a
-  writes_nothing Write a early lines = absurd early
-  writes_nothing Memory a early lines = Keeps-refl a
+  pub writes_nothing : (input : Option (List ℕ)) (fault : RunFault) (a : Option (List ℕ)) → RunsNothing fault → WritesInput {A = A} input (Err fault) a a
+  writes_nothing input (Script fault) a early = Keeps-refl a
+  writes_nothing input NotUtf8 a early = Keeps-refl a
+  writes_nothing input NotHex a early = Keeps-refl a
+  writes_nothing input (Blob fault) a early = Keeps-refl a
+  writes_nothing input (Call fault) a early = absurd early
+  writes_nothing input Read a early = Keeps-refl a
+  writes_nothing input Write a early = absurd early
+  writes_nothing input Memory a early = Keeps-refl a
+
+  -- what a run of the lines wrote that the input spells
+  pub writes_input : (input : Option (List ℕ)) (lines : List (Line A)) (outcome : Result (Unit {0}) RunFault) (a b : Option (List ℕ)) → IsSpelled input lines → Writes lines outcome a b → WritesInput {A = A} input outcome a b
+  writes_input input lines (Ok done) a b spelled wrote = (lines, spelled, wrote)
+  writes_input input lines (Err (Script fault)) a b spelled wrote = wrote
+  writes_input input lines (Err NotUtf8) a b spelled wrote = wrote
+  writes_input input lines (Err NotHex) a b spelled wrote = wrote
+  writes_input input lines (Err (Blob fault)) a b spelled wrote = wrote
+  writes_input input lines (Err (Call fault)) a b spelled wrote = (lines, spelled, wrote)
+  writes_input input lines (Err Read) a b spelled wrote = wrote
+  writes_input input lines (Err Write) a b spelled wrote = (lines, spelled, wrote)
+  writes_input input lines (Err Memory) a b spelled wrote = wrote
 
   -- a beginning, where the last replies were not all written
   pub begins_front : (lines : List (Line A)) (a b c : Option (List ℕ)) (count : ℕ) (written pending : List ℕ) → IsRun lines count (Ok tt) (written ++ pending)
@@ -231,12 +243,12 @@ module _ {A : Type 0} where
       (replied, leaves ∙ ap (λ (s : State A). next s c) (sym is) ∙ sym grows ∙ ap (λ (r : Reply A). state (h ++ event_by 0 c r ∷ [])) (sym replied))
 
   pub step_met : (h : List (Event A)) (line : Line A) (next : State A) (reply : Reply A) (old text new : List ℕ) (b : Bool) → IsPrepared h line.command (next, reply)
-      → text ≡ on_a_line (reply_text line.show reply) → true ≡ b → new ≡ cond b (old ++ text) old
-      → (next ≡ state (h ++ event_by 0 line.command (reply_of h line.command) ∷ [])) × (new ≡ old ++ on_a_line (reply_text line.show (reply_of h line.command)))
+      → text ≡ on_a_line (reply_text line reply) → true ≡ b → new ≡ cond b (old ++ text) old
+      → (next ≡ state (h ++ event_by 0 line.command (reply_of h line.command) ∷ [])) × (new ≡ old ++ on_a_line (reply_text line (reply_of h line.command)))
   step_met h line next reply old text new b met texted went appended =
       let pushed : new ≡ old ++ text = subst (λ (v : Bool). new ≡ cond v (old ++ text) old) (sym went) appended in (
         met.1 ∙ ap (λ (r : Reply A). state (h ++ event_by 0 line.command r ∷ [])) met.0,
-        pushed ∙ ap (λ (t : List ℕ). old ++ t) (texted ∙ ap (λ (r : Reply A). on_a_line (reply_text line.show r)) met.0),
+        pushed ∙ ap (λ (t : List ℕ). old ++ t) (texted ∙ ap (λ (r : Reply A). on_a_line (reply_text line r)) met.0),
       )
 
   -- how the run of the lines ended, as the run's own outcome

@@ -1,5 +1,5 @@
 -- What a run writes: the text of each reply on a line, and then that of the fault at which it ended.
-use Rattle.std.specs.Prelude.{◌≡◌, ℕ, ◌-◌, ◌^◌, ◌<◌, List, [], ◌∷◌, ◌++◌, Option, Result, Ok, Err, map, length, codes}
+use Rattle.std.specs.Prelude.{◌≡◌, ℕ, ◌-◌, ◌^◌, ◌<◌, List, [], ◌∷◌, ◌++◌, Option, Result, Ok, Err, IfSome, map, length, codes}
 use Rattle.std.specs.Io.KnownBytes.{Appends, Keeps}
 use Rattle.cap_core.specs.declared.command.Command.{Command}
 use Rattle.cap_core.specs.declared.fault.CallFault.{CallFault}
@@ -8,8 +8,9 @@ use Rattle.cap_core.specs.declared.reply.Reply.{Reply}
 use Rattle.cap_core.specs.Answer.{IsLegal, history_of}
 use Rattle.cap_run.specs.declared.fault.RunFault.{RunFault}
 use Rattle.cap_run.specs.declared.fault.RunFault.TheVariants.{Call, Write}
-use Rattle.cap_run.specs.declared.script.line.Line.{Line}
-use Rattle.cap_run.specs.ReplyText.{reply_text}
+use Rattle.cap_script.specs.declared.line.Line.{Line}
+use Rattle.cap_script.specs.ReplyText.{reply_text}
+use Rattle.cap_script.specs.Script.{SpellsScript}
 
 -- what a writer holds, where it is known
 abbrev pub Known : Type 0
@@ -67,7 +68,7 @@ module _ {A : Type 0} where
   reply_lines [] replies = []
   reply_lines (line ∷ lines) [] = []
   reply_lines (line ∷ lines) (reply ∷ replies) =
-      on_a_line (reply_text line.show reply) ++ reply_lines lines replies
+      on_a_line (reply_text line reply) ++ reply_lines lines replies
 
   -- The text is that of the replies to the first `count` lines and of what ended the run there. The replies are
   -- those of a legal history of the lines' commands.
@@ -95,3 +96,14 @@ module _ {A : Type 0} where
   Writes lines (Err (Call fault)) old new = WritesRun lines (Err fault) old new
   Writes lines (Err Write) old new = BeginsRun lines old new
   Writes lines (Err fault) old new = Keeps old new
+
+  -- the input spells the lines, where it is known
+  abbrev pub IsSpelled : Known → List (Line A) → Type 0
+  IsSpelled input lines = IfSome input (λ text. SpellsScript lines text)
+
+  -- the same of a run of the lines that the input spells
+  abbrev pub WritesInput : Known → Result (Unit {0}) RunFault → Known → Known → Type 0
+  WritesInput input (Ok done) old new = (lines : List (Line A)) × IsSpelled input lines × WritesRun lines (Ok done) old new
+  WritesInput input (Err (Call fault)) old new = (lines : List (Line A)) × IsSpelled input lines × WritesRun lines (Err fault) old new
+  WritesInput input (Err Write) old new = (lines : List (Line A)) × IsSpelled input lines × BeginsRun lines old new
+  WritesInput input (Err fault) old new = Keeps old new

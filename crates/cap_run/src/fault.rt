@@ -1,6 +1,6 @@
-use crate::script::ScriptFault;
 use cap_codec::BlobFault;
 use cap_core::CallFault;
+use cap_script::ScriptFault;
 use cap_value::Fault;
 use thiserror::Error;
 

@@ -6,7 +6,6 @@ mod fault;
 mod input;
 mod output;
 mod run;
-mod script;
 mod show;
 #[cfg(test)]
 mod show_tests;
@@ -15,5 +14,4 @@ mod tests;
 
 pub use fault::RunFault;
 pub use run::run_core;
-pub use script::ScriptFault;
 pub use show::show_blob;

@@ -3,17 +3,18 @@ ghost use Rattle.std.specs.Io.KnownBytes.{Appends};
 ghost use Rattle.cap_core.specs.Answer.{IsLegal, answer, event_by, reply_of, state};
 ghost use Rattle.cap_core.specs.Transition.{next};
 ghost use Rattle.cap_core.specs.declared.event.Event.{Event};
-ghost use Rattle.cap_run.specs.ReplyText.{reply_text};
-ghost use Rattle.cap_run.specs.Run.{AppendsFront, BeginsRun, EndsAt, IsRun, MatchFault, Writes, ending, events_max, on_a_line, run_outcome};
+ghost use Rattle.cap_run.specs.Run.{AppendsFront, BeginsRun, EndsAt, IsRun, MatchFault, Writes, WritesInput, ending, events_max, on_a_line, run_outcome};
 ghost use Rattle.cap_run.specs.RunFault.{exit_status, input_fault, IsUnread, RunsNothing};
-ghost use Rattle.cap_run.specs.declared.script.line.Line.{Line};
+ghost use Rattle.cap_script.specs.ReplyText.{reply_text};
+ghost use Rattle.cap_script.specs.Script.{SpellsScript};
+ghost use Rattle.cap_script.specs.declared.line.Line.{Line};
 
 use crate::RunFault;
 use crate::input::read_whole;
 use crate::output::write_whole;
-use crate::script::{Line, Workload, reply_line};
 use cap_core::{Agree, CallFault, Command, Core, Reply, legal_histories_grow};
-use cap_value::{AllocHandle, Fault};
+use cap_script::{Line, Workload, parse, print_reply};
+use cap_value::{AllocHandle, Fault, OutOfMemory};
 use std::io::{Read, Write};
 
 /// The most commands that a server answers.
@@ -28,8 +29,9 @@ const PIECE_LEN: usize = 8192;
 /// written, then its fault, and the run ends.
 ///
 /// Its contracts say of the input which bytes are refused as no text: exactly, but for a read that failed and want of
-/// memory, which may come before any other answer, and for readers of which it is not known what they give. Of the
-/// output they say all, for writers of which it is known what they hold, but not how the lines follow from the text.
+/// memory, which may come before any other answer, and for readers of which it is not known what they give. Which other
+/// texts are refused, and with which fault, is told by `cap_script::parse` and tested; what is run is spelled by the
+/// text. Of the output they say all, for writers of which it is known what they hold.
 pub fn run_core<A: AllocHandle, R: Read, W: Write>(
     alloc: A,
     reader: &mut R,
@@ -44,12 +46,13 @@ pub fn run_core<A: AllocHandle, R: Read, W: Write>(
     // Nothing is written where the input is refused.
     ensures silent { IfErr result (λ fault. exit_status fault ≡ 1 → writer.new ≡ writer.old) }
 
-    // What is written is the text of the replies of a legal history, line by line, as far as the run came.
-    ensures written { (lines : List (Line A))
-        × Writes lines result (W.contents writer.old) (W.contents writer.new) }
+    // What is written is the text of the replies of a legal history of the commands that the input spells, line by
+    // line, as far as the run came.
+    ensures written { WritesInput {A = A} (R.remaining reader.old) result
+        (W.contents writer.old) (W.contents writer.new) }
 {
     let workload = read_workload(alloc, reader)?;
-    run_lines(alloc, workload.lines(), writer)
+    run_lines(alloc, workload.lines.as_slice(), writer)
 }
 
 /// The workload that the reader gives.
@@ -59,6 +62,8 @@ fn read_workload<A: AllocHandle, R: Read>(alloc: A, reader: &mut R) -> Result<Wo
     ensures text { IfSome (R.remaining reader.old) (λ given.
         result ≡ Err RunFault.NotUtf8 → ¬ (IsUtf8 given)) }
     ensures early { IfErr result RunsNothing }
+    ensures spelled { IfOk result (λ workload. IfSome (R.remaining reader.old)
+        (λ given. SpellsScript workload.lines.items given)) }
 {
     let bytes = read_whole(alloc, reader)?;
     Ok(workload_of(alloc, bytes.as_slice())?)
@@ -69,9 +74,10 @@ fn workload_of<A: AllocHandle>(alloc: A, bytes: &[u8]) -> Result<Workload<A>, Fa
     ensures no_text { ¬ (IsUtf8 bytes.now) → result ≡ Err (Fault.Refused RunFault.NotUtf8) }
     ensures text { result ≡ Err (Fault.Refused RunFault.NotUtf8) → ¬ (IsUtf8 bytes.now) }
     ensures early { IfErr result (λ fault. RunsNothing (input_fault fault)) }
+    ensures spelled { IfOk result (λ workload. SpellsScript workload.lines.items bytes.now) }
 {
     let text = str::from_utf8(bytes).map_err(|_| Fault::Refused(RunFault::NotUtf8))?;
-    Workload::parse(alloc, text).map_err(|fault| match fault {
+    parse(alloc, text).map_err(|fault| match fault {
         Fault::Refused(fault) => Fault::Refused(RunFault::Script(fault)),
         Fault::OutOfMemory => Fault::OutOfMemory,
     })
@@ -138,7 +144,7 @@ fn run_line<A: AllocHandle>(
     ensures history { (h : List (Event A)) → IsLegal h → state h ≡ core.old → OnOk result (
         (core.new ≡ state (h ++ event_by 0 line.now.command (reply_of h line.now.command) ∷ []))
         × (string_bytes pending.new
-        ≡ string_bytes pending.old ++ on_a_line (reply_text line.now.show (reply_of h line.now.command)))) }
+        ≡ string_bytes pending.old ++ on_a_line (reply_text line.now (reply_of h line.now.command)))) }
     ensures room { OnOk result (core.old.events < events_max) }
     ensures full { IfErr result (λ fault.
         MatchFault fault (core.old.events < events_max) (events_max ≤ core.old.events)) }
@@ -149,11 +155,24 @@ fn run_line<A: AllocHandle>(
         return Err(CallFault::HistoryFull);
     }
     let reply = run_command(core, &line.command)?;
-    let text = reply_line(alloc, &line.show, &reply).map_err(|_| CallFault::OutOfMemory)?;
+    let text = reply_line(alloc, line, &reply).map_err(|_| CallFault::OutOfMemory)?;
     match pending.push_str(text.as_str()) {
         Ok(()) => Ok(()),
         Err(_) => Err(CallFault::OutOfMemory),
     }
+}
+
+/// The text of a reply, with the line feed at its end.
+fn reply_line<A: AllocHandle>(
+    alloc: A,
+    line: &Line<A>,
+    reply: &Reply<A>,
+) -> Result<String<A>, OutOfMemory>
+    ensures { IfOk result (λ text. string_bytes text ≡ on_a_line (reply_text line.now reply.now)) }
+{
+    let mut text = print_reply(alloc, line, reply)?;
+    text.push_str("\n")?;
+    Ok(text)
 }
 
 /// Runs a command that no step outside belongs to.

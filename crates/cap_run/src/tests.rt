@@ -12,6 +12,13 @@ const WORKLOAD: &str =
 const REPLIES: &str =
     "ok version 1\nok version 2\nsession 1\nok\nok version 3\nok version 4\nrefused at 0: E5 Duplicate\nchangeset 5402010074001200010000000000000001030178170001000000000000000203016100040200ff\nok version 5\nrow (1,'x')\nok version 6\nrows 3\n(1,'x')\n(2,x'00ff')\nloose 2 (null,'w')\n";
 
+// The commands that are not in `WORKLOAD`.
+const MORE: &str =
+    "create t kv\ncommit insert t (1,'x')\nsession\nattachall 1\nfilter 1 not is audit\ncreate audit kv\ncommit insert audit (1,'a') ; insert t (2,'y')\nsave old\napply x'5402010074001200010000000000000001030179' omit omit replace\nisempty 1\nchangeset 1\npatchset 1\nrestart 1\nisempty 1\nindirect 1 on\nenable 1 off\ncommit delete t key(2)\ndiff 1 old t\nchangeset 1\ndiff 1 none t\nget t key(1)\nscan audit\ndrop 1\nisempty 1\n@5 session\n";
+
+const MORE_REPLIES: &str =
+    "ok version 1\nok version 2\nsession 1\nok\nok\nok version 3\nok version 4\nok\nok version 5, applied 1, omitted 0, skipped 0\nfalse\nchangeset 5402010074001700010000000000000001030178000301791200010000000000000002030179\npatchset 50020100740017000100000000000000010301791200010000000000000002030179\nchangeset 5402010074001700010000000000000001030178000301791200010000000000000002030179\ntrue\non\noff\nok version 6\nok\nchangeset 5402010074001701010000000000000001030178000301790901010000000000000002030179\nrefused: E19 NoDatabase\nrow (1,'y')\nrows 1\n(1,'a')\nok\nrefused: E18 NoSession\nsession 2\n";
+
 const NO_MEMORY: &[u8] = b"refused for memory\n";
 
 fn run(alloc: Global, workload: &[u8], written: &mut Vec<u8>) -> Result<(), RunFault> {
@@ -23,6 +30,7 @@ fn run(alloc: Global, workload: &[u8], written: &mut Vec<u8>) -> Result<(), RunF
 fn replies(rt: HostRuntime) -> Result<(), Fail> {
     let table = [
         (WORKLOAD, REPLIES),
+        (MORE, MORE_REPLIES),
         (
             "create t kv\nsession\nattach 1 t\ncommit insert t (1,'x')\nchangeset 1",
             "ok version 1\nsession 1\nok\nok version 2\nchangeset 5402010074001200010000000000000001030178\n",
@@ -65,79 +73,18 @@ fn replies(rt: HostRuntime) -> Result<(), Fail> {
     Ok(())
 }
 
-// Each fault is that of the first token that does not fit, however the line goes on, and nothing runs before it.
+// Nothing runs before a fault of the text.
 #[test]
 fn faults(rt: HostRuntime) -> Result<(), Fail> {
     let table = [
-        ("frob", "line 1: G1 Syntax at 0"),
         ("session\n\n  Session", "line 3: G1 Syntax at 2"),
-        ("create t", "line 1: G1 Syntax at 8"),
-        ("create t  ", "line 1: G1 Syntax at 10"),
-        ("create 1 kv", "line 1: G1 Syntax at 7"),
-        ("create t kvx 5", "line 1: G1 Syntax at 9"),
-        ("create t kv 5", "line 1: G1 Syntax at 12"),
-        ("session\t", "line 1: G1 Syntax at 7"),
-        (" # session", "line 1: G1 Syntax at 1"),
-        ("session\r\n", "line 1: G1 Syntax at 7"),
-        ("attach 1t\nattach -1 t", "line 2: G1 Syntax at 7"),
+        ("filter 1 all\nfilter 1 not", "line 2: G1 Syntax at 12"),
+        ("session\ncreate ' kv", "line 2: G1 Syntax at 7"),
         (
-            "attach 9223372036854775807 t\nattach 9223372036854775808 t",
-            "line 2: G1 Syntax at 7",
+            "session\napply x'5402' omit omit omit\nfrob",
+            "line 2: G3 D1 Truncated at 2",
         ),
-        ("attach 1 x'00'", "line 1: G1 Syntax at 9"),
-        ("commit insert x (x'0')", "line 1: G1 Syntax at 17"),
-        ("commit insert x (1,x'00", "line 1: G1 Syntax at 19"),
-        ("commit insert x (1,x '00')", "line 1: G1 Syntax at 19"),
-        ("commit insert t ()", "line 1: G1 Syntax at 17"),
-        ("commit insert t (1,)", "line 1: G1 Syntax at 19"),
-        ("commit insert t (1 2)", "line 1: G1 Syntax at 19"),
-        ("commit insert t (--1)", "line 1: G1 Syntax at 17"),
-        (
-            "commit insert t (-9223372036854775809)",
-            "line 1: G1 Syntax at 17",
-        ),
-        ("commit insert t ('é','it''s)", "line 1: G1 Syntax at 22"),
-        ("commit insert t (nul)", "line 1: G1 Syntax at 17"),
-        ("commit insert t (é)", "line 1: G1 Syntax at 17"),
-        ("commit insert t (1);", "line 1: G1 Syntax at 20"),
-        ("commit insert t (1) ; set", "line 1: G1 Syntax at 22"),
-        (
-            "commit insert t (1) insert t (2)",
-            "line 1: G1 Syntax at 20",
-        ),
-        (
-            "commit cascade cascade insert t (1)",
-            "line 1: G1 Syntax at 15",
-        ),
-        ("commit cascade", "line 1: G1 Syntax at 14"),
-        ("commitat -1 insert t (1)", "line 1: G1 Syntax at 9"),
-        ("commitat insert t (1)", "line 1: G1 Syntax at 9"),
-        ("commitat 1", "line 1: G1 Syntax at 10"),
-        ("get t", "line 1: G1 Syntax at 5"),
-        ("get t key()", "line 1: G1 Syntax at 10"),
-        ("get t loose -1", "line 1: G1 Syntax at 12"),
-        ("scan", "line 1: G1 Syntax at 4"),
-        ("scan t t", "line 1: G1 Syntax at 7"),
-        (
-            "commit update t key(1) set 1 : 2",
-            "line 1: G1 Syntax at 29",
-        ),
-        (
-            "commit update t keys(1) set 1 = 2",
-            "line 1: G1 Syntax at 16",
-        ),
-        (
-            "commit update t loose -1 set 1 = 2",
-            "line 1: G1 Syntax at 22",
-        ),
-        ("commit delete t key(1) set", "line 1: G1 Syntax at 23"),
-        ("@64 session", "line 1: G1 Syntax at 1"),
-        ("@ 1 session", "line 1: G1 Syntax at 1"),
-        ("@-0 session", "line 1: G1 Syntax at 1"),
-        ("@1session", "line 1: G1 Syntax at 2"),
-        ("  @1", "line 1: G1 Syntax at 4"),
-        ("@1 ", "line 1: G1 Syntax at 3"),
-        ("@1 @1 session", "line 1: G1 Syntax at 3"),
+        ("session\n@64 session", "line 2: G1 Syntax at 1"),
     ];
     for (text, fault) in table {
         let mut written = Vec::new(rt.alloc());
@@ -167,42 +114,6 @@ fn repeat_text(
     Ok(text)
 }
 
-#[test]
-fn limits(rt: HostRuntime) -> Result<(), Fail> {
-    let table = [
-        (("create w ", "v", ""), 2_000, "ok version 1\n"),
-        (("create w ", "v", ""), 2_001, "line 1: G2 E2 BadSchema"),
-        (("create w ", "v", "x"), 2_001, "line 1: G1 Syntax at 9"),
-        (("create ", "n", " kv"), 255, "ok version 1\n"),
-        (("create ", "n", " kv"), 256, "line 1: G2 E17 BadName"),
-        (("create ", "n", " x"), 256, "line 1: G2 E17 BadName"),
-        (
-            ("commit ", "delete t loose 1 ; ", "delete t loose 1"),
-            9_999,
-            "refused at 0: E8 NoTable\n",
-        ),
-        (
-            ("commit ", "delete t loose 1 ; ", "cascade"),
-            10_000,
-            "line 1: G2 E10 TooMany",
-        ),
-        (
-            ("commit ", "delete t loose 1;", "create"),
-            10_000,
-            "line 1: G1 Syntax at 170007",
-        ),
-    ];
-    for (parts, count, shown) in table {
-        let text = repeat_text(rt.alloc(), parts, count)?;
-        let mut written = Vec::new(rt.alloc());
-        match run(rt.alloc(), text.as_bytes(), &mut written) {
-            Ok(()) => assert_eq!(rt; str::from_utf8(written.as_slice())?, shown),
-            Err(found) => assert_eq!(rt; format!(in rt.alloc(); "{found}")?.as_str(), shown),
-        }
-    }
-    Ok(())
-}
-
 // More output than is held back for one write.
 #[test]
 fn many_replies(rt: HostRuntime) -> Result<(), Fail> {
@@ -227,37 +138,42 @@ fn bytes_that_are_no_text(rt: HostRuntime) -> Result<(), Fail> {
     Ok(())
 }
 
-// Whether these are the replies to some commands, and then the fault of the next.
-fn ends_for_memory(written: &[u8]) -> bool {
+// Whether these are the first of the replies, and then the fault of a command.
+fn ends_for_memory(replies: &str, written: &[u8]) -> bool {
     match written.strip_suffix(NO_MEMORY) {
         Some(before) => {
-            REPLIES.as_bytes().starts_with(before) && (before.is_empty() || before.ends_with(b"\n"))
+            replies.as_bytes().starts_with(before) && (before.is_empty() || before.ends_with(b"\n"))
         }
         None => false,
     }
 }
 
 // Heaps of every size up to the one that suffices: each growth is refused in one of them.
-#[test]
-fn want_of_memory(rt: HostRuntime) -> Result<(), Fail> {
-    for units in 0..4096 {
+fn runs_on_every_heap(rt: &HostRuntime, workload: &str, replies: &str) -> Result<(), Fail> {
+    for units in 0..8192 {
         let heap = LocalHeap::new(rt.alloc(), units * 16)?;
-        let mut reader = WORKLOAD.as_bytes();
+        let mut reader = workload.as_bytes();
         let mut written = Vec::new(rt.alloc());
         match run_core(&heap, &mut reader, &mut written) {
             Ok(()) => {
-                assert_eq!(rt; str::from_utf8(written.as_slice())?, REPLIES);
+                assert_eq!(rt; str::from_utf8(written.as_slice())?, replies);
                 return Ok(());
             }
             Err(RunFault::Memory) => assert!(rt; written.is_empty()),
             Err(fault) => {
                 assert_eq!(rt; fault, RunFault::Call(CallFault::OutOfMemory));
                 assert_eq!(rt; fault.status(), 3);
-                assert!(rt; ends_for_memory(written.as_slice()), "{units}");
+                assert!(rt; ends_for_memory(replies, written.as_slice()), "{units}");
             }
         }
     }
     Err(Fail::from("no heap suffices"))
+}
+
+#[test]
+fn want_of_memory(rt: HostRuntime) -> Result<(), Fail> {
+    runs_on_every_heap(&rt, WORKLOAD, REPLIES)?;
+    runs_on_every_heap(&rt, MORE, MORE_REPLIES)
 }
 
 // Gives three bytes a read, and fails with `kind` when `reads` are done. Goes on after that.

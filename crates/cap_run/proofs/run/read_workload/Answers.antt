@@ -2,6 +2,7 @@ use Rattle.std.proofs.Common.{◌≡◌, ◌∙◌, ℕ, List, Option, Some, Non
 use Rattle.std.proofs.lemmas.Result.{err_from_is_err_and}
 use Rattle.cap_run.specs.RunFault.{IsUnread, input_fault}
 use Rattle.cap_run.specs.declared.fault.RunFault.TheVariants.{NotUtf8}
+use Rattle.cap_script.specs.Script.{SpellsScript}
 use Rattle.cap_run.proofs.run.read_workload.Goals as goal
 
 -- what is so of the bytes that were read is so of what the reader gave
@@ -25,3 +26,8 @@ pub returns-clause-no_text : goal.returns-clause-no_text
 returns-clause-no_text g c =
     of_bytes (λ given. ¬ (IsUtf8 given) → ⊥) (g.R.Read.remaining c.args.reader.now) c.in_ok-bytes.bytes.items c.as_slice.result.now
     c.as_slice.ensures.value c.in_ok-bytes.ensures.whole (λ no. cc (c.in_ok-workload_of.ensures.no_text no))
+
+pub returns-clause-spelled : goal.returns-clause-spelled
+returns-clause-spelled g c =
+    of_bytes (λ given. SpellsScript c.in_ok-workload_of.field-0.lines.items given) (g.R.Read.remaining c.args.reader.now) c.in_ok-bytes.bytes.items c.as_slice.result.now
+    c.as_slice.ensures.value c.in_ok-bytes.ensures.whole c.in_ok-workload_of.ensures.spelled
