@@ -1,7 +1,9 @@
-//! Tests of the sequential server through its public calls. They stand in a crate of their own, since a crate's
-//! functions are proved once more with the tests that stand in it.
+//! Tests of the sequential server and of the text of workloads, through their public calls. They stand in a crate of
+//! their own, since a crate's functions are proved once more with the tests that stand in it.
 #![tactic(auto)]
 
+#[cfg(test)]
+mod script;
 #[cfg(test)]
 mod sessions;
 #[cfg(test)]
