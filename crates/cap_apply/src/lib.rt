@@ -12,8 +12,6 @@ mod one;
 mod policy;
 mod report;
 mod target;
-#[cfg(test)]
-mod tests;
 mod turn;
 
 pub use applied::Applied;

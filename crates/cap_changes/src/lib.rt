@@ -25,6 +25,3 @@ pub use patch::Patch;
 pub use patches::to_patches;
 pub use record::Record;
 pub use rule::Rule;
-
-#[cfg(test)]
-mod tests;

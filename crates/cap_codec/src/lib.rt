@@ -33,8 +33,3 @@ pub use read::{Contents, read_blob};
 pub use stream::{ReadFault, WriteFault, read_from, write_changes_to, write_patches_to};
 pub use writable::{changes_are_writable, patches_are_writable};
 pub use write::{write_changes, write_patches};
-
-#[cfg(test)]
-mod stream_tests;
-#[cfg(test)]
-mod tests;

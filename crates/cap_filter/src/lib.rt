@@ -5,8 +5,6 @@ mod filter;
 mod laws;
 mod reading;
 mod table_filter;
-#[cfg(test)]
-mod tests;
 mod token;
 mod word;
 

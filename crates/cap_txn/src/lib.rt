@@ -15,8 +15,6 @@ mod run;
 mod savepoint;
 mod snapshot;
 mod step;
-#[cfg(test)]
-mod tests;
 mod told;
 mod txn;
 

@@ -1,4 +1,4 @@
-use super::*;
+use cap_filter::{Filter, TableFilter, Word};
 use cap_value::{AllocHandle, Fault, Name, OutOfMemory, Refusal};
 use linked_list_allocator::LocalHeap;
 use std::alloc::Global;

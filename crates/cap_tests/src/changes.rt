@@ -2,7 +2,7 @@ ghost use Rattle.std.specs.Prelude.{◌≡◌, pos, [], ◌∷◌, true, false, 
 ghost use Rattle.std.specs.Option.{option_copied, option_map};
 ghost use Rattle.cap_value.specs.declared.value.Value.TheVariants.{Int, Text};
 
-use crate::{
+use cap_changes::{
     Change, ChangeList, Group, Patch, PatchList, Record, change_between, invert, to_patches,
 };
 use cap_row::{Row, Schema};

@@ -1,5 +1,5 @@
-use super::*;
 use cap_changes::{Change, ChangeList, Group, Record, to_patches};
+use cap_codec::{BlobFault, Contents, FaultKind, read_blob, write_changes, write_patches};
 use cap_row::Schema;
 use cap_value::{Fault, Name, Value};
 use std::alloc::Global;

@@ -1,4 +1,4 @@
-use crate::{Answer, Applied, Conflict, ConflictKind, Policy, apply};
+use cap_apply::{Answer, Applied, Conflict, ConflictKind, Policy, apply};
 use cap_codec::{Contents, read_blob};
 use cap_row::{Key, Row, Schema};
 use cap_table::RowRef;

@@ -1,7 +1,10 @@
 ghost use Rattle.std.specs.Prelude.{◌≤◌};
 
-use super::*;
 use cap_changes::PatchList;
+use cap_codec::{
+    BlobFault, Contents, Decoder, FaultKind, ReadFault, WriteFault, read_blob, read_from,
+    write_changes, write_changes_to, write_patches, write_patches_to,
+};
 use cap_value::Fault;
 use linked_list_allocator::LocalHeap;
 use std::alloc::Global;

@@ -1,10 +1,10 @@
-use crate::{
-    Action, Assignments, Batch, Cause, Database, Mark, OPS_MAX, Op, RefusedAt, SAVEPOINTS_MAX,
-    Snapshot, TABLES_MAX, Txn, run_ops,
-};
 use cap_row::{Key, Row, Schema};
 use cap_table::{NotMade, RowRef};
 use cap_tree::Confirm;
+use cap_txn::{
+    Action, Assignments, Batch, Cause, Database, Mark, OPS_MAX, Op, RefusedAt, SAVEPOINTS_MAX,
+    Snapshot, TABLES_MAX, Txn, run_ops,
+};
 use cap_value::{AllocHandle, Fault, Name, Refusal, Value};
 use linked_list_allocator::LocalHeap;
 use std::alloc::Global;
