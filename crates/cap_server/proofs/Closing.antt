@@ -1,12 +1,13 @@
 -- A history that all seats agree on is the one that a closed server leaves.
-use Rattle.std.proofs.Common.{◌≡◌, inl, inr, ℕ, ◌≤◌, List, [], length, refl, ap, sym, subst, ◌∙◌, arith, All, slice_index_or}
+use Rattle.std.proofs.Common.{◌≡◌, ◌≢◌, ◌<◌, Any, slice_index, inl, inr, ℕ, ◌≤◌, List, [], length, refl, ap, sym, subst, ◌∙◌, arith, All, slice_index_or}
 use Rattle.std.proofs.lemmas.Bool.{cases_lt}
 use mathlib.Core.List.{IsPrefix}
 use Rattle.cap_core.specs.declared.event.Event.{Event}
 use Rattle.cap_core.specs.Answer.{State, IsLegal, state}
 use Rattle.cap_history.specs.Beginnings.{prefix-of-none, prefix-trans, prefix-whole}
+use Rattle.cap_history.specs.History.{own}
 use Rattle.cap_history.specs.Own.{own-same}
-use Rattle.cap_history.specs.Seat.{SeatState}
+use Rattle.cap_history.specs.Seat.{SeatState, calls}
 use Rattle.cap_server.specs.Close.{FirstHasSeen, HasAll, IsClosed, IsMissing}
 use Rattle.cap_server.specs.Code.Counts.{Agrees, IsCounted}
 use Rattle.cap_server.specs.Fault.{MatchCloseFault}
@@ -37,6 +38,14 @@ module _ {A : Type 0} where
           | inr beyond ↦ counted.others number beyond
         ];
       }
+
+  -- a seat of which other calls are counted
+  abbrev pub IsOff : ℕ → List ℕ → SeatState A → Type 0
+  IsOff count counts seat = (seat.number < count) × (slice_index counts seat.number ≢ length (calls seat))
+
+  pub differs : (seats : List (SeatState A)) (count : ℕ) (counts : List ℕ) (history : List (Event A)) → IsCounted count counts history → Any (IsOff count counts) seats
+      → Any (λ seat. length (own seat.number history) ≢ length (calls seat)) seats
+  differs seats count counts history counted (k, seat, within, is, off) = (k, seat, within, is, λ same. off.1 (counted.each seat.number off.0 ∙ same))
 
   -- what the first seat has seen begins with any shorter list too
   pub shown_by_any : (fault : CloseFault) (missing : ℕ → Type 0) (all : Type 0) (old new : List (SeatState A)) (least : List (Event A)) → MatchCloseFault fault missing (λ front. all × FirstHasSeen old new least front)

@@ -78,10 +78,13 @@ fn inserts<J: Naming>(
 }
 
 // The number of rows of `t` in a snapshot.
-fn rows(alloc: Global, snapshot: &Snapshot<Global>) -> Option<usize> {
+fn rows(alloc: Global, snapshot: &Snapshot<Global>) -> Option<u64> {
     let table = Name::new(alloc, "t").ok()?;
-    let rows = snapshot.scan(&table).ok()?;
-    Some(rows.count())
+    let mut rows = 0u64;
+    for _row in snapshot.scan(&table).ok()? {
+        rows = rows.checked_add(1)?;
+    }
+    Some(rows)
 }
 
 // The text in the row of a key of `t`.
@@ -156,7 +159,7 @@ fn commits<J: Naming>(
     server: &Server<J, Global>,
     mut seat: Seat<J, Global>,
 ) -> Option<Seat<J, Global>> {
-    let first = (seat.number() as i64).checked_mul(1000)?;
+    let first = i64::try_from(seat.number()).ok()?.checked_mul(1000)?;
     for i in 0..100i64 {
         if !inserts(rt, alloc, server, &mut seat, first.checked_add(i)?, "x") {
             return None;
@@ -166,7 +169,7 @@ fn commits<J: Naming>(
 }
 
 // How many rows `t` has in the core that a closed server left.
-fn rows_left(alloc: Global, closed: &Closed<Global>) -> Option<usize> {
+fn rows_left(alloc: Global, closed: &Closed<Global>) -> Option<u64> {
     if closed.core.events() >= 1000 {
         return None;
     }

@@ -1,9 +1,9 @@
-use Rattle.std.proofs.Common.{◌≡◌, ◌≤◌, ℕ, refl, sym, ap, subst, ◌∙◌, arith, All, List, length}
+use Rattle.std.proofs.Common.{◌≡◌, inr, Any, ◌≤◌, ℕ, refl, sym, ap, subst, ◌∙◌, arith, All, List, length}
 use mathlib.Core.List.{IsPrefix}
 use Rattle.cap_history.specs.Seat.{SeatState}
 use Rattle.cap_server.specs.Close.{FirstHasSeen, HasAll, IsMissing}
 use Rattle.cap_server.specs.Code.Counts.{Agrees}
-use Rattle.cap_server.proofs.Closing.{closed}
+use Rattle.cap_server.proofs.Closing.{IsOff, closed, differs}
 use Rattle.cap_server.proofs.Places.{has-first}
 use Rattle.cap_server.proofs.locked.Locked.close.Goals as goal
 
@@ -29,6 +29,14 @@ returns-then-not-agree-clause-refused g c =
       subst (λ (n : ℕ). HasAll c.args.seats.items n) count all,
       rw (← c.self.view_is) c.first_sees_all-events.ensures,
     )
+
+pub returns-then-not-agree-clause-overtaken : goal.returns-then-not-agree-clause-overtaken
+returns-then-not-agree-clause-overtaken g c =
+    let count = g.J.Naming.seats in
+    let counts = c.self.inside.counts.items in
+    let some = subst (λ (l : List (SeatState g.row.A.Denot)). Any (IsOff count counts) l) c.as_slice-2.ensures.value
+    (subst (λ (l : List ℕ). Any (IsOff count l) c.as_slice-2.result.now) c.as_slice-3.ensures.value c.if-not-agree.ensures) in
+    rw (← c.self.view_is) (inr (differs c.args.seats.items count counts c.self.inside.list c.self.invariant.1 some))
 
 pub returns-then-events-len-clause-refused : goal.returns-then-events-len-clause-refused
 returns-then-events-len-clause-refused g c =
