@@ -1,11 +1,14 @@
 //! One call for each command. Each is `Server::call` of that command.
 ghost use Rattle.std.specs.Prelude.{◌≡◌, IfOk, IfErr};
-ghost use Rattle.cap_core.specs.declared.command.Command.TheVariants.{CreateTable, Commit, Read, NewSession, Attach, Capture};
+ghost use Rattle.cap_core.specs.declared.command.Command.TheVariants.{CreateTable, Commit, Apply, Read, SaveAs, NewSession, DropSession, Attach, AttachAll, SetFilter, Enable, Indirect, IsEmpty, Diff, Capture, Restart};
 ghost use Rattle.cap_history.specs.Seat.{HasCalled};
 ghost use Rattle.cap_server.specs.Fault.{LeavesSeat};
 
 use crate::{CallFault, Server};
+use cap_apply::Policy;
+use cap_codec::Contents;
 use cap_core::{Command, Reply};
+use cap_filter::TableFilter;
 use cap_history::{Naming, Seat};
 use cap_row::Schema;
 use cap_txn::Batch;
@@ -81,5 +84,149 @@ impl<J: Naming, A: AllocHandle> Server<J, A> {
         ensures refused { IfErr result (λ fault. LeavesSeat fault seat.old seat.new) }
     {
         self.call(rt, seat, &Command::Capture { session })
+    }
+
+    /// Applies a changeset or patchset.
+    pub fn apply<R: Wait>(
+        &self,
+        rt: &R,
+        seat: &mut Seat<J, A>,
+        blob: Contents<A>,
+        policy: Policy,
+    ) -> Result<Reply<A>, CallFault>
+        ensures called { IfOk result (λ reply. HasCalled seat.old seat.new (Apply blob policy) reply) }
+        ensures refused { IfErr result (λ fault. LeavesSeat fault seat.old seat.new) }
+    {
+        self.call(rt, seat, &Command::Apply { blob, policy })
+    }
+
+    /// Saves the tables under a name.
+    pub fn save_as<R: Wait>(
+        &self,
+        rt: &R,
+        seat: &mut Seat<J, A>,
+        database: Name<A>,
+    ) -> Result<Reply<A>, CallFault>
+        ensures called { IfOk result (λ reply. HasCalled seat.old seat.new (SaveAs database) reply) }
+        ensures refused { IfErr result (λ fault. LeavesSeat fault seat.old seat.new) }
+    {
+        self.call(rt, seat, &Command::SaveAs { database })
+    }
+
+    /// Ends a session.
+    pub fn drop_session<R: Wait>(
+        &self,
+        rt: &R,
+        seat: &mut Seat<J, A>,
+        session: u64,
+    ) -> Result<Reply<A>, CallFault>
+        ensures called { IfOk result (λ reply. HasCalled seat.old seat.new (DropSession session) reply) }
+        ensures refused { IfErr result (λ fault. LeavesSeat fault seat.old seat.new) }
+    {
+        self.call(rt, seat, &Command::DropSession { session })
+    }
+
+    /// Lets a session attach each table when one of its rows changes, unless it has a filter.
+    pub fn attach_all<R: Wait>(
+        &self,
+        rt: &R,
+        seat: &mut Seat<J, A>,
+        session: u64,
+    ) -> Result<Reply<A>, CallFault>
+        ensures called { IfOk result (λ reply. HasCalled seat.old seat.new (AttachAll session) reply) }
+        ensures refused { IfErr result (λ fault. LeavesSeat fault seat.old seat.new) }
+    {
+        self.call(rt, seat, &Command::AttachAll { session })
+    }
+
+    /// Lets a session attach each table that the filter accepts when one of its rows changes.
+    pub fn set_filter<R: Wait>(
+        &self,
+        rt: &R,
+        seat: &mut Seat<J, A>,
+        session: u64,
+        filter: TableFilter<A>,
+    ) -> Result<Reply<A>, CallFault>
+        ensures called { IfOk result (λ reply. HasCalled seat.old seat.new (SetFilter session filter) reply) }
+        ensures refused { IfErr result (λ fault. LeavesSeat fault seat.old seat.new) }
+    {
+        self.call(rt, seat, &Command::SetFilter { session, filter })
+    }
+
+    /// Sets whether a session is enabled, or only asks.
+    pub fn enable<R: Wait>(
+        &self,
+        rt: &R,
+        seat: &mut Seat<J, A>,
+        session: u64,
+        enabled: Option<bool>,
+    ) -> Result<Reply<A>, CallFault>
+        ensures called { IfOk result (λ reply. HasCalled seat.old seat.new (Enable session enabled) reply) }
+        ensures refused { IfErr result (λ fault. LeavesSeat fault seat.old seat.new) }
+    {
+        self.call(rt, seat, &Command::Enable { session, enabled })
+    }
+
+    /// Sets whether a session's touches are indirect, or only asks.
+    pub fn indirect<R: Wait>(
+        &self,
+        rt: &R,
+        seat: &mut Seat<J, A>,
+        session: u64,
+        indirect: Option<bool>,
+    ) -> Result<Reply<A>, CallFault>
+        ensures called { IfOk result (λ reply. HasCalled seat.old seat.new (Indirect session indirect) reply) }
+        ensures refused { IfErr result (λ fault. LeavesSeat fault seat.old seat.new) }
+    {
+        self.call(rt, seat, &Command::Indirect { session, indirect })
+    }
+
+    /// Asks whether a session has touched no row.
+    pub fn is_empty<R: Wait>(
+        &self,
+        rt: &R,
+        seat: &mut Seat<J, A>,
+        session: u64,
+    ) -> Result<Reply<A>, CallFault>
+        ensures called { IfOk result (λ reply. HasCalled seat.old seat.new (IsEmpty session) reply) }
+        ensures refused { IfErr result (λ fault. LeavesSeat fault seat.old seat.new) }
+    {
+        self.call(rt, seat, &Command::IsEmpty { session })
+    }
+
+    /// Records how a table differs from the one in a saved database.
+    pub fn diff<R: Wait>(
+        &self,
+        rt: &R,
+        seat: &mut Seat<J, A>,
+        session: u64,
+        from: Name<A>,
+        table: Name<A>,
+    ) -> Result<Reply<A>, CallFault>
+        ensures called { IfOk result (λ reply. HasCalled seat.old seat.new (Diff session from table) reply) }
+        ensures refused { IfErr result (λ fault. LeavesSeat fault seat.old seat.new) }
+    {
+        self.call(
+            rt,
+            seat,
+            &Command::Diff {
+                session,
+                from,
+                table,
+            },
+        )
+    }
+
+    /// Captures a session's changes, and then forgets all that it has recorded.
+    pub fn restart<R: Wait>(
+        &self,
+        rt: &R,
+        seat: &mut Seat<J, A>,
+        session: u64,
+    ) -> Result<Reply<A>, CallFault>
+        ensures called { IfOk result (λ reply. HasCalled seat.old seat.new (Restart session) reply) }
+        ensures refused { IfErr result (λ fault. LeavesSeat fault seat.old seat.new) }
+    {
+        self.call(rt, seat, &Command::Restart { session })
     }
 }
