@@ -162,7 +162,7 @@ module _ {A : Type 0} where
   leaves-tables now (command.Apply blob policy) is = cc
   leaves-tables now _ is = refl
 
-  quiet-effect : (past : Past A) (event : Event A) → (is_accepted event.reply && is_write event.command) ≡ false → event_effect (snapshot past) event ≡ no_effect (main past)
+  pub quiet-effect : (past : Past A) (event : Event A) → (is_accepted event.reply && is_write event.command) ≡ false → event_effect (snapshot past) event ≡ no_effect (main past)
   quiet-effect past event quiet =
       elim (is_accepted event.reply) as (λ b. (b && is_write event.command) ≡ false → cond b (effect_of (main past) (outcome (snapshot past) event.command)) (no_effect (main past)) ≡ no_effect (main past)) [
         | true ↦ λ is. ap (effect_of (main past)) (leaves-tables (snapshot past) event.command is)

@@ -497,7 +497,7 @@ module _ {A : Type 0} where
   session-distinct past number =
       subst AreDistinct (sym (names-named (kept past number) (attach_list number past))) (first_of_each-distinct (table_names (attachings number past)))
 
-  records-named : (records : List ℕ → Records A) (names : List (List ℕ)) (name : List ℕ) (found : Records A) → attached_records (map (λ n. (n, records n)) names) name ≡ Some found → found ≡ records name
+  pub records-named : (records : List ℕ → Records A) (names : List (List ℕ)) (name : List ℕ) (found : Records A) → attached_records (map (λ n. (n, records n)) names) name ≡ Some found → found ≡ records name
   records-named records [] name found is = cc
   records-named records (n ∷ names) name found is =
       elim (bytes_eq name n) as (λ b. bytes_eq name n ≡ b → cond b (Some (records n)) (attached_records (map (λ k. (k, records k)) names) name) ≡ Some found → found ≡ records name) [
@@ -537,13 +537,18 @@ module _ {A : Type 0} where
       gives.4 ∙ ap (λ n. record { applied = n; conflicts = []; omitted = []; skipped = [] }) (total-is planned_capture.plan ∙ ap changes_in (planned_capture.is ∙ sym is)),
     )
 
+    -- the session's changes, where they are told or not
+    pub changes_apply : ((policy : Policy) (ts : List (TableRows A)) (tables : Tables A) → AllBefore ts tables → GivesAllRowsNow policy ts (Changes (map group_of_rows ts)) tables)
+        → (policy : Policy) (list : List (TableChanges A)) → list ≡ session_changes (main past) (session_of past number)
+        → AppliesWhole policy (Changes list) (changes_in list) database (main past) (session_of past number).tables
+    changes_apply law policy list told =
+        whole policy (Changes list) list told
+        (subst (λ l. Gives policy planned_capture.plan (Changes l) database) (planned_capture.is ∙ sym told) (law policy planned_capture.plan database planned_capture.before))
+
     pub changeset_applies : ((policy : Policy) (ts : List (TableRows A)) (tables : Tables A) → AllBefore ts tables → GivesAllRowsNow policy ts (Changes (map group_of_rows ts)) tables)
         → (policy : Policy) (list : List (TableChanges A)) → answer (state_after past) (command.Capture number) ≡ Captured list
         → AppliesWhole policy (Changes list) (changes_in list) database (main past) (session_of past number).tables
-    changeset_applies law policy list is =
-        let told = captured past number list is in
-        whole policy (Changes list) list told
-        (subst (λ l. Gives policy planned_capture.plan (Changes l) database) (planned_capture.is ∙ sym told) (law policy planned_capture.plan database planned_capture.before))
+    changeset_applies law policy list is = changes_apply law policy list (captured past number list is)
 
     pub patchset_applies : ((policy : Policy) (ts : List (TableRows A)) (tables : Tables A) → AllBefore ts tables → GivesAllRowsNow policy ts (Patches (patch_list_of (map group_of_rows ts))) tables)
         → (policy : Policy) (list : List (TableChanges A)) → answer (state_after past) (command.Capture number) ≡ Captured list

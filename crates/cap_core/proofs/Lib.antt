@@ -11,6 +11,7 @@ pub mod MakeLemmas
 pub mod NextLemmas
 pub mod NumberLemmas
 pub mod PrepareLemmas
+pub mod RestartLemmas
 pub mod SessionLemmas
 pub mod SessionStandLemmas
 pub mod SmallLemmas

@@ -91,7 +91,7 @@ module _ {A : Type 0} where
           ∙ first_of_each-append (table_names moments_before) (table_names by_changes)
           ∙ names-by-changes session past on 0 changes_made (first_of_each (table_names moments_before))
 
-      told-on : (name : List ℕ) → is_among name (attach_list session (event ∷ past)) ≡ true → map told (touches_of name (changes_touch session event past)) ≡ told_of_table name
+      pub told-on : (name : List ℕ) → is_among name (attach_list session (event ∷ past)) ≡ true → map told (touches_of name (changes_touch session event past)) ≡ told_of_table name
       told-on name listed =
           let found = filter_map (touch_of session past) (enumerate_from 0 changes_made) in
           let moments = attachings session (event ∷ past) in

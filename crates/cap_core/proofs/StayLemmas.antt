@@ -2,6 +2,8 @@
 use Rattle.std.proofs.Common.{◌≡◌, ℕ, ◌+◌, Bool, true, false, cond, Option, Some, None, Result, Ok, Err, IfOk, List, [], ◌∷◌, ◌++◌, ◌&&◌, ◌||◌, length, refl, sym, ap, ap₂, append_assoc, ◌∙◌}
 use Rattle.std.specs.Prelude.{is_some, nat_lt, option_and_then, ◌==◌, ◌^◌}
 use Rattle.std.specs.List.{list_any}
+use Rattle.std.specs.Option.{option_map}
+use Rattle.std.specs.Cmp.Lexicographic.{bytes_decides}
 use Rattle.std.specs.Ordering.{eq_by_cmp, is_eq}
 use Rattle.std.specs.BTreeMap.{is_at}
 use Rattle.std.specs.Cmp.{eq_by_cmp_equiv}
@@ -25,7 +27,7 @@ use Rattle.cap_txn.specs.Operation.{act, and_then, changed_keys, changes, change
 use Rattle.cap_txn.specs.Outcome.{OutcomeState}
 use Rattle.cap_txn.specs.Read.{row_at}
 use Rattle.cap_txn.specs.Batch.{SnapshotState}
-use Rattle.cap_txn.specs.Tables.{Tables, create, created as created_tables, table_of}
+use Rattle.cap_txn.specs.Tables.{Tables, create, created as created_tables, schema_of, table_of}
 use Rattle.cap_txn.specs.declared.cause.Cause.{Cause}
 use Rattle.cap_txn.specs.declared.cause.Cause.TheVariants.{Direct}
 use Rattle.cap_txn.specs.declared.change.Change.{Change}
@@ -164,6 +166,24 @@ module _ {A : Type 0} where
           | false ↦ λ _. refl
         ] refl
 
+    -- a change that names the row is of its table
+    named-table : (table : List ℕ) (cause : Cause) (keys : List (Option (Fields A))) → list_any (is_of_row name key) (changes_to table cause keys) ≡ true → bytes_eq name table ≡ true
+    named-table table cause [] named = cc
+    named-table table cause (own ∷ keys) named =
+        elim (bytes_eq name table) as (λ b. ((b && is_key_of own key) || list_any (is_of_row name key) (changes_to table cause keys)) ≡ true → bytes_eq name table ≡ b → b ≡ true) [
+          | true ↦ λ _ _. refl
+          | false ↦ λ rest apart. let clash : true ≡ false = sym (named-table table cause keys rest) ∙ apart in sym clash
+        ] named refl
+
+    -- a table of the same columns in place of one
+    put-columns : (tables : Tables A) (other : List ℕ) (before after : TableState A) → table_of tables other ≡ Some before → after.schema ≡ before.schema → schema_of (put_entry bytes_cmp tables other after) name ≡ schema_of tables name
+    put-columns tables other before after there same =
+        ap (option_map (λ t. t.schema)) (table_of-put tables other after name)
+        ∙ elim (is_eq (bytes_cmp name other)) as (λ b. is_eq (bytes_cmp name other) ≡ b → option_map (λ t. t.schema) (cond b (Some after) (table_of tables name)) ≡ schema_of tables name) [
+          | true ↦ λ is. ap Some same ∙ sym (ap (λ n. schema_of tables n) (tied bytes_cmp name other names_same is) ∙ ap (option_map (λ t. t.schema)) there)
+          | false ↦ λ _. refl
+        ] refl
+
     step-stays : (tables : Tables A) (op : Op A) → list_any (is_of_row name key) (changes tables op) ≡ false → IfOk (step tables op) (λ next. row_at next name key ≡ row_at tables name key)
     step-stays tables op apart =
         elim (table_of tables op.table) as (λ o. table_of tables op.table ≡ o → list_any (is_of_row name key) (changes_in o op) ≡ false → IfOk (stepped tables o op) (λ next. row_at next name key ≡ row_at tables name key)) [
@@ -207,9 +227,17 @@ module _ {A : Type 0} where
       more : List (Change A)
       are : left.changes ≡ state.changes ++ more
       stays : list_any (is_of_row name key) more ≡ false → row_at left.database name key ≡ row_at state.database name key
+      there : list_any (is_of_row name key) more ≡ true → is_some (schema_of state.database name) ≡ true
+      columns : schema_of left.database name ≡ schema_of state.database name
 
     nothing-more : (state left : AppliedState A) → left.changes ≡ state.changes → left.database ≡ state.database → MoreChanges state left
-    nothing-more state left changes database = record { more = []; are = changes ∙ sym (append-nil state.changes); stays = λ _. ap (λ tables. row_at tables name key) database }
+    nothing-more state left changes database = record {
+      more = [];
+      are = changes ∙ sym (append-nil state.changes);
+      stays = λ _. ap (λ tables. row_at tables name key) database;
+      there = λ named. cc;
+      columns = ap (λ tables. schema_of tables name) database;
+    }
 
     both-more : (state next left : AppliedState A) → MoreChanges state next → MoreChanges next left → MoreChanges state left
     both-more state next left a b = record {
@@ -219,6 +247,13 @@ module _ {A : Type 0} where
           let parts = sym (list_any-append (is_of_row name key) a.more b.more) ∙ unnamed in
           b.stays (other_false (list_any (is_of_row name key) a.more) (list_any (is_of_row name key) b.more) parts)
           ∙ a.stays (either_false (list_any (is_of_row name key) a.more) (list_any (is_of_row name key) b.more) parts);
+      there = λ named.
+          let parts = sym (list_any-append (is_of_row name key) a.more b.more) ∙ named in
+          elim (list_any (is_of_row name key) a.more) as (λ t. list_any (is_of_row name key) a.more ≡ t → (t || list_any (is_of_row name key) b.more) ≡ true → is_some (schema_of state.database name) ≡ true) [
+            | true ↦ λ first _. a.there first
+            | false ↦ λ _ second. ap is_some (sym a.columns) ∙ b.there second
+          ] refl parts;
+      columns = b.columns ∙ a.columns;
     }
 
     abbrev AppliedMore : AppliedState A → Result (AppliedState A) Refusal → Type 0
@@ -247,8 +282,16 @@ module _ {A : Type 0} where
       stays = λ unnamed. put-stays state.database other (with_row table own after)
           (λ same. kept before after found (sym (unnamed-keys other Direct (keys_with own before ++ keys_with own after) same) ∙ unnamed)
           ∙ ap (option_and_then (λ t. get fields_cmp t.keyed key)) (sym there) ∙ ap (λ n. row_at state.database n key) (sym same));
+      there = λ named.
+          let same : name ≡ other = (bytes_decides name other).0 (named-table other Direct (keys_with own before ++ keys_with own after) named) in
+          ap (λ n. is_some (schema_of state.database n)) same ∙ ap (λ t. is_some (option_map (λ s. s.schema) t)) there;
+      columns = put-columns state.database other table (with_row table own after) there (same_columns after);
     }
       where
+        same_columns : (row : Option (Fields A)) → (with_row table own row).schema ≡ table.schema
+        same_columns None = refl
+        same_columns (Some row) = refl
+
         kept : (before after : Option (Fields A)) → get fields_cmp table.keyed own ≡ before → list_any (λ k. is_key_of k key) (keys_with own before ++ keys_with own after) ≡ false
             → get fields_cmp (with_row table own after).keyed key ≡ get fields_cmp table.keyed key
         kept None None found unnamed = ap (λ es. get fields_cmp es key) (take-absent table.keyed own found)
@@ -283,6 +326,8 @@ module _ {A : Type 0} where
                 more = made.more;
                 are = made.are ∙ ap (λ cs. cs ++ made.more) same.0;
                 stays = λ unnamed. made.stays unnamed ∙ ap (λ tables. row_at tables name key) same.1;
+                there = λ named. ap (λ tables. is_some (schema_of tables name)) (sym same.1) ∙ made.there named;
+                columns = made.columns ∙ ap (λ tables. schema_of tables name) same.1;
               })
               (nothing-more state (left_out number kept) same.0 same.1)
         ] refl
@@ -360,3 +405,89 @@ module _ {A : Type 0} where
         inner : (r : Result (Effect A) Why) → EffectStays now.database r → list_any (is_of_row name key) (effect_of now.database r).changes ≡ false → row_at (effect_of now.database r).database name key ≡ row_at now.database name key
         inner (Ok effect) stays = stays
         inner (Err why) stays = λ _. refl
+
+    -- ---- the tables of changes are there, and stay with their columns
+
+    module _ (runs : (tables : Tables A) (ops : List (Op A)) → IfOk (run tables ops) (λ left. (other : List ℕ) → schema_of left.database other ≡ schema_of tables other))
+        (creates : (tables : Tables A) (other : List ℕ) (schema : List Bool) → IfOk (create tables other schema) (λ after. (table : List ℕ) (columns : List Bool) → schema_of tables table ≡ Some columns → schema_of after table ≡ Some columns)) where
+      abbrev RunThere : Tables A → Result (OutcomeState A) RefusedAt → Type 0
+      RunThere tables r = IfOk r (λ left. list_any (is_of_row name key) left.changes ≡ true → is_some (schema_of tables name) ≡ true)
+
+      step-columns : (tables : Tables A) (op : Op A) → IfOk (step tables op) (λ next. schema_of next name ≡ schema_of tables name)
+      step-columns tables op = inner (step tables op) (runs tables (op ∷ []))
+        where
+          inner : (r : Result (Tables A) Refusal) → IfOk (and_then (changes tables op) r (λ next. run next [])) (λ left. (other : List ℕ) → schema_of left.database other ≡ schema_of tables other)
+              → IfOk r (λ next. schema_of next name ≡ schema_of tables name)
+          inner (Ok next) same = same name
+          inner (Err why) same = tt
+
+      op-there : (tables : Tables A) (op : Op A) → list_any (is_of_row name key) (changes tables op) ≡ true → is_some (schema_of tables name) ≡ true
+      op-there tables op named =
+          elim (table_of tables op.table) as (λ o. table_of tables op.table ≡ o → list_any (is_of_row name key) (changes_in o op) ≡ true → is_some (schema_of tables name) ≡ true) [
+            | None ↦ λ _ e. cc
+            | Some table ↦ λ there e.
+                let same : name ≡ op.table = (bytes_decides name op.table).0 (named-table op.table op.cause (changed_keys table op.action) e) in
+                ap (λ n. is_some (schema_of tables n)) same ∙ ap (λ t. is_some (option_map (λ s. s.schema) t)) there
+          ] refl named
+
+      run-there : (ops : List (Op A)) (tables : Tables A) → RunThere tables (run tables ops)
+      run-there [] tables = λ named. cc
+      run-there (op ∷ ops) tables = first (λ next. run-there ops next) (step tables op) (step-columns tables op)
+        where
+          later : (next : Tables A) → schema_of next name ≡ schema_of tables name → (r : Result (OutcomeState A) RefusedAt) → RunThere next r → RunThere tables (and_then (changes tables op) (Ok next) (λ _. r))
+          later next same (Ok left) there = λ named.
+              elim (list_any (is_of_row name key) (changes tables op)) as (λ b. list_any (is_of_row name key) (changes tables op) ≡ b → (b || list_any (is_of_row name key) left.changes) ≡ true → is_some (schema_of tables name) ≡ true) [
+                | true ↦ λ here _. op-there tables op here
+                | false ↦ λ _ more. ap is_some (sym same) ∙ there more
+              ] refl (sym (list_any-append (is_of_row name key) (changes tables op) left.changes) ∙ named)
+          later next same (Err refused) there = tt
+
+          first : ((next : Tables A) → RunThere next (run next ops)) → (r : Result (Tables A) Refusal) → IfOk r (λ next. schema_of next name ≡ schema_of tables name)
+              → RunThere tables (and_then (changes tables op) r (λ next. run next ops))
+          first more (Ok next) same = later next same (run next ops) (more next)
+          first more (Err why) same = tt
+
+      -- what an effect keeps of the tables
+      pub record Keeps (tables : Tables A) (effect : Effect A) : Type 0 where
+        pub there : list_any (is_of_row name key) effect.changes ≡ true → is_some (schema_of tables name) ≡ true
+        pub columns : (columns : List Bool) → schema_of tables name ≡ Some columns → schema_of effect.database name ≡ Some columns
+
+      abbrev EffectKeeps : Tables A → Result (Effect A) Why → Type 0
+      EffectKeeps tables r = IfOk r (Keeps tables)
+
+      made-keeps : (tables : Tables A) (r : Result (OutcomeState A) RefusedAt) → RunThere tables r → IfOk r (λ left. (other : List ℕ) → schema_of left.database other ≡ schema_of tables other) → EffectKeeps tables (made r)
+      made-keeps tables (Ok left) there same = record { there = there; columns = λ columns is. same name ∙ is }
+      made-keeps tables (Err refused) there same = tt
+
+      commit-keeps : (why : Option Refusal) (tables : Tables A) (ops : List (Op A)) → EffectKeeps tables (commit_unless why tables ops)
+      commit-keeps (Some why) tables ops = tt
+      commit-keeps None tables ops = made-keeps tables (run tables ops) (run-there ops tables) (runs tables ops)
+
+      applied-keeps : (tables : Tables A) (r : Result (AppliedState A) Refusal) → AppliedMore (nothing_applied tables) r → EffectKeeps tables (applied_effect r)
+      applied-keeps tables (Ok left) more = record { there = λ named. more.there (ap (list_any (is_of_row name key)) (sym more.are) ∙ named); columns = λ columns is. more.columns ∙ is }
+      applied-keeps tables (Err why) more = tt
+
+      created-keeps : (tables : Tables A) (r : Result (Tables A) Refusal) → IfOk r (λ after. (table : List ℕ) (columns : List Bool) → schema_of tables table ≡ Some columns → schema_of after table ≡ Some columns)
+          → EffectKeeps tables (created r)
+      created-keeps tables (Ok after) keeps = record { there = λ named. cc; columns = λ columns is. keeps name columns is }
+      created-keeps tables (Err why) keeps = tt
+
+      nothing-keeps : (tables : Tables A) → Keeps tables (no_effect tables)
+      nothing-keeps tables = record { there = λ named. cc; columns = λ columns is. is }
+
+      outcome-keeps : (now : SnapshotState A) (c : Command A) → EffectKeeps now.database (outcome now c)
+      outcome-keeps now (command.CreateTable other schema) = created-keeps now.database (create now.database other schema) (creates now.database other schema)
+      outcome-keeps now (command.Commit batch) = commit-keeps (stale batch.base now.version) now.database batch.ops
+      outcome-keeps now (command.Apply blob policy) = applied-keeps now.database (apply now.database blob policy) (groups-more policy (asked_of blob) 0 0 (nothing_applied now.database))
+      outcome-keeps now _ = nothing-keeps now.database
+
+      pub event-keeps : (now : SnapshotState A) (event : Event A) → Keeps now.database (event_effect now event)
+      event-keeps now event =
+          elim (is_accepted event.reply) as (λ b. Keeps now.database (cond b (effect_of now.database (outcome now event.command)) (no_effect now.database))) [
+            | true ↦ inner (outcome now event.command) (outcome-keeps now event.command)
+            | false ↦ nothing-keeps now.database
+          ]
+        where
+          inner : (r : Result (Effect A) Why) → EffectKeeps now.database r → Keeps now.database (effect_of now.database r)
+          inner (Ok effect) keeps = keeps
+          inner (Err why) keeps = nothing-keeps now.database

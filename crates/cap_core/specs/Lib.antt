@@ -9,6 +9,7 @@ pub mod Insert
 pub mod Outcome
 pub mod Past
 pub mod Replies
+pub mod Restarts
 pub mod Session
 pub mod Table
 pub mod Touch

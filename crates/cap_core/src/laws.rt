@@ -1,8 +1,8 @@
 //! Laws of histories, sessions and captures, over the definitions alone. The functions do nothing.
-ghost use Rattle.std.specs.Prelude.{◌≡◌, ℕ, ◌+◌, false, Some, None, [], ◌∷◌, ◌++◌, List, IsTrue, length, map, reverse};
+ghost use Rattle.std.specs.Prelude.{◌≡◌, ℕ, ◌+◌, ◌&&◌, true, false, Some, None, [], ◌∷◌, ◌++◌, List, IsTrue, length, map, reverse};
 ghost use Rattle.std.specs.Option.{option_map};
 ghost use Rattle.std.specs.FinMap.Entries.{is_sorted};
-ghost use Rattle.std.specs.List.{All, list_any};
+ghost use Rattle.std.specs.List.{All, AllByRecursion, list_any};
 ghost use Rattle.cap_value.specs.Bytes.{bytes_cmp};
 ghost use Rattle.cap_row.specs.Fields.{Fields};
 ghost use Rattle.cap_row.specs.Key.{fields_cmp};
@@ -11,6 +11,7 @@ ghost use Rattle.cap_changes.specs.Change.{full_record};
 ghost use Rattle.cap_changes.specs.Group.{TableChanges};
 ghost use Rattle.cap_changes.specs.Patch.{patch_list_of};
 ghost use Rattle.cap_changes.specs.declared.change.Change.{Change};
+ghost use Rattle.cap_codec.specs.Writable.{IsWritable};
 ghost use Rattle.cap_codec.specs.declared.read.Contents.{Contents};
 ghost use Rattle.cap_session.specs.declared.record.Record.{Record};
 ghost use Rattle.cap_table.specs.Table.{TableState};
@@ -30,16 +31,17 @@ ghost use Rattle.cap_core.specs.Insert.{HasChange, IsInsertOfAbsent, changes_by_
 ghost use Rattle.cap_core.specs.Outcome.{is_of_row};
 ghost use Rattle.cap_core.specs.Past.{Past, is_accepted};
 ghost use Rattle.cap_core.specs.Replies.{replies_after};
+ghost use Rattle.cap_core.specs.Restarts.{AppliesAll, HasRowsNow, HoldsFirst, IsSteady, captures};
 ghost use Rattle.cap_core.specs.Session.{mark, records_of, session_of};
 ghost use Rattle.cap_core.specs.Table.{AreWritable, IsKeyed, IsLoose};
-ghost use Rattle.cap_core.specs.Touch.{Touch, touches, touches_of};
+ghost use Rattle.cap_core.specs.Touch.{Touch, restarts, touches, touches_of};
 ghost use Rattle.cap_core.specs.Transition.{next};
 
 use cap_apply::{
     a_changeset_gives_the_rows_now, a_patchset_gives_the_rows_now, applied_blobs_keep_order,
 };
 use cap_compare::differences_are_just_those;
-use cap_txn::tables_keep_order;
+use cap_txn::{tables_keep_columns, tables_keep_order};
 use cap_value::AllocHandle;
 
 /// The empty history is legal, and a legal history stays legal with an event whose reply is that of its
@@ -52,7 +54,8 @@ pub fn legal_histories_grow<A: AllocHandle>()
     ensures next { (h : List (Event A)) (by : ℕ) (command : Command A) → IsLegal h
         → state (h ++ event_by by command (reply_of h command) ∷ []) ≡ next (state h) command }
     ensures count { (h : List (Event A)) → (state h).events ≡ length h }
-    ensures reply { (h : List (Event A)) (command : Command A) → reply_of h command ≡ answer (state h) command }
+    ensures reply { (h : List (Event A)) (command : Command A)
+        → reply_of h command ≡ answer (state h) command }
 {}
 
 /// A session without touches captures nothing.
@@ -104,15 +107,17 @@ pub fn refusal_changes_no_reply<A: AllocHandle>()
 /// answers, as does `Restart`.
 pub fn a_capture_gives_the_rows_now<A: AllocHandle>()
     ensures changeset { (past : Past A) (session : ℕ) (list : List (TableChanges A)) (database : Tables A)
-        (policy : Policy) → answer (state_after past) (Command.Capture session) ≡ Reply.Capture list
-        → AreRising database → AreRising (main past) → HoldsImages database (main past) (session_of past session).tables
+        (policy : Policy)
+        → answer (state_after past) (Command.Capture session) ≡ Reply.Capture list → AreRising database
+        → AreRising (main past) → HoldsImages database (main past) (session_of past session).tables
         → AppliesWhole policy (Contents.Changes list) (changes_in list) database (main past)
         (session_of past session).tables }
     ensures patchset { (past : Past A) (session : ℕ) (list : List (TableChanges A)) (database : Tables A)
-        (policy : Policy) → answer (state_after past) (Command.Capture session) ≡ Reply.Capture list
-        → AreRising database → AreRising (main past) → HoldsImages database (main past) (session_of past session).tables
-        → AppliesWhole policy (Contents.Patches (patch_list_of list)) (changes_in list) database (main past)
-        (session_of past session).tables }
+        (policy : Policy)
+        → answer (state_after past) (Command.Capture session) ≡ Reply.Capture list → AreRising database
+        → AreRising (main past) → HoldsImages database (main past) (session_of past session).tables
+        → AppliesWhole policy (Contents.Patches (patch_list_of list)) (changes_in list) database
+        (main past) (session_of past session).tables }
     ensures restart { (past : Past A) (session : ℕ) → answer (state_after past) (Command.Restart session)
         ≡ answer (state_after past) (Command.Capture session) }
 {
@@ -124,15 +129,17 @@ pub fn a_capture_gives_the_rows_now<A: AllocHandle>()
 /// nor restarted. What it captures, applied to the saved database that it was compared with, leaves the table with the
 /// rows that it has now, key by key. No change meets a conflict, under any policy; the patchset does the same.
 pub fn a_capture_after_a_diff_gives_the_rows_now<A: AllocHandle>()
-    ensures changeset { (past : Past A) (event : Event A) (later : List (Event A)) (session : ℕ) (name : List ℕ)
-        (database : Tables A) (table : TableState A) (list : List (TableChanges A)) (policy : Policy)
+    ensures changeset { (past : Past A) (event : Event A) (later : List (Event A)) (session : ℕ)
+        (name : List ℕ) (database : Tables A) (table : TableState A) (list : List (TableChanges A))
+        (policy : Policy)
         → IsDiffed past event session name database table → AreQuiet session later → AreRising database
         → AreRising (main past)
         → answer (state_after (later ++ event ∷ past)) (Command.Capture session) ≡ Reply.Capture list
         → AppliesRows policy (Contents.Changes list) (changes_in list) database
         (main (later ++ event ∷ past)) name }
-    ensures patchset { (past : Past A) (event : Event A) (later : List (Event A)) (session : ℕ) (name : List ℕ)
-        (database : Tables A) (table : TableState A) (list : List (TableChanges A)) (policy : Policy)
+    ensures patchset { (past : Past A) (event : Event A) (later : List (Event A)) (session : ℕ)
+        (name : List ℕ) (database : Tables A) (table : TableState A) (list : List (TableChanges A))
+        (policy : Policy)
         → IsDiffed past event session name database table → AreQuiet session later → AreRising database
         → AreRising (main past)
         → answer (state_after (later ++ event ∷ past)) (Command.Capture session) ≡ Reply.Capture list
@@ -142,6 +149,28 @@ pub fn a_capture_after_a_diff_gives_the_rows_now<A: AllocHandle>()
     a_changeset_gives_the_rows_now::<A>();
     a_patchset_gives_the_rows_now::<A>();
     differences_are_just_those::<A>();
+}
+
+/// Captures in a row, each by a restart of the session, are applied in order to a database that has for each key that
+/// was touched over all of them its table, with the columns that it has now, and the row that was there first. They
+/// leave at each of these keys the row that is there at the last restart. At the start the session has no touches; from
+/// then on it is enabled, and no diff of it is made. What is applied and captured can be written, as all that a program
+/// can make are.
+pub fn captures_in_a_row_give_the_rows_now<A: AllocHandle>()
+    ensures { (policy : Policy) (session : ℕ) (start : Past A) (later : List (Event A)) (event : Event A)
+        (database : Tables A)
+        → touches session start ≡ [] → (is_accepted event.reply && restarts session event.command) ≡ true
+        → IsSteady session (event ∷ later) start → HoldsFirst database session (event ∷ later) start
+        → AreRising database → AreWritable (event ∷ later ++ start)
+        → AllByRecursion (λ list. IsWritable (Contents.Changes list))
+        (captures session (event ∷ later) start)
+        → (left : Tables A) × AppliesAll policy (captures session (event ∷ later) start) database left
+        × HasRowsNow left session (event ∷ later) start }
+{
+    a_changeset_gives_the_rows_now::<A>();
+    applied_blobs_keep_order::<A>();
+    tables_keep_columns::<A>();
+    tables_keep_order::<A>();
 }
 
 /// Whatever the command, a row under a key that none of its changes names stays as it was: so no session misses a row.
@@ -162,8 +191,8 @@ pub fn a_session_changes_no_others_capture<A: AllocHandle>()
 /// The order of two sessions' commands, one after the other, does not matter to any capture, whatever comes between.
 pub fn order_of_two_sessions_does_not_matter<A: AllocHandle>()
     ensures { (past : Past A) (first : Event A) (second : Event A) (one : ℕ) (other : ℕ)
-        → session_named first.command ≡ Some one → session_named second.command ≡ Some other → (one ≡ other → ⊥)
-        → (later : List (Event A)) (session : ℕ)
+        → session_named first.command ≡ Some one → session_named second.command ≡ Some other
+        → (one ≡ other → ⊥) → (later : List (Event A)) (session : ℕ)
         → answer (state_after (later ++ second ∷ first ∷ past)) (Command.Capture session)
         ≡ answer (state_after (later ++ first ∷ second ∷ past)) (Command.Capture session) }
 {}
@@ -173,8 +202,10 @@ pub fn order_of_two_sessions_does_not_matter<A: AllocHandle>()
 /// The blobs that were applied are such as can be written, as all that a program can make are.
 pub fn rows_stand_under_own_keys<A: AllocHandle>()
     ensures names { (h : List (Event A)) → AreWritable (reverse h) → IsOrdered bytes_cmp (state h).main }
-    ensures keyed { (h : List (Event A)) → AreWritable (reverse h) → All (λ named. IsKeyed named.1) (state h).main }
-    ensures loose { (h : List (Event A)) → AreWritable (reverse h) → All (λ named. IsLoose named.1) (state h).main }
+    ensures keyed { (h : List (Event A)) → AreWritable (reverse h)
+        → All (λ named. IsKeyed named.1) (state h).main }
+    ensures loose { (h : List (Event A)) → AreWritable (reverse h)
+        → All (λ named. IsLoose named.1) (state h).main }
 {
     tables_keep_order::<A>();
     applied_blobs_keep_order::<A>();
