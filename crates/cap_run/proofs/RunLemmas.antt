@@ -168,7 +168,7 @@ module _ {A : Type 0} where
   -- ---- what a run wrote
 
   -- nothing, where it did not begin
-  pub writes_nothing : (input : Option (List ℕ)) (fault : RunFault) (a : Option (List ℕ)) → RunsNothing fault → WritesInput {A = A} input (Err fault) a a
+  pub writes_nothing : (input : Option (List ℕ)) (fault : RunFault) (a : Option (List ℕ)) → RunsNothing fault → WritesInput A input (Err fault) a a
   writes_nothing input (Script fault) a early = Keeps-refl a
   writes_nothing input NotUtf8 a early = Keeps-refl a
   writes_nothing input NotHex a early = Keeps-refl a
@@ -179,7 +179,7 @@ module _ {A : Type 0} where
   writes_nothing input Memory a early = Keeps-refl a
 
   -- what a run of the lines wrote that the input spells
-  pub writes_input : (input : Option (List ℕ)) (lines : List (Line A)) (outcome : Result (Unit {0}) RunFault) (a b : Option (List ℕ)) → IsSpelled input lines → Writes lines outcome a b → WritesInput {A = A} input outcome a b
+  pub writes_input : (input : Option (List ℕ)) (lines : List (Line A)) (outcome : Result (Unit {0}) RunFault) (a b : Option (List ℕ)) → IsSpelled input lines → Writes lines outcome a b → WritesInput A input outcome a b
   writes_input input lines (Ok done) a b spelled wrote = (lines, spelled, wrote)
   writes_input input lines (Err (Script fault)) a b spelled wrote = wrote
   writes_input input lines (Err NotUtf8) a b spelled wrote = wrote

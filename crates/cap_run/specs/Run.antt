@@ -101,9 +101,9 @@ module _ {A : Type 0} where
   abbrev pub IsSpelled : Known → List (Line A) → Type 0
   IsSpelled input lines = IfSome input (λ text. SpellsScript lines text)
 
-  -- the same of a run of the lines that the input spells
-  abbrev pub WritesInput : Known → Result (Unit {0}) RunFault → Known → Known → Type 0
-  WritesInput input (Ok done) old new = (lines : List (Line A)) × IsSpelled input lines × WritesRun lines (Ok done) old new
-  WritesInput input (Err (Call fault)) old new = (lines : List (Line A)) × IsSpelled input lines × WritesRun lines (Err fault) old new
-  WritesInput input (Err Write) old new = (lines : List (Line A)) × IsSpelled input lines × BeginsRun lines old new
-  WritesInput input (Err fault) old new = Keeps old new
+-- the same of a run of the lines that the input spells
+abbrev pub WritesInput : (A : Type 0) → Known → Result (Unit {0}) RunFault → Known → Known → Type 0
+WritesInput A input (Ok done) old new = (lines : List (Line A)) × IsSpelled input lines × WritesRun lines (Ok done) old new
+WritesInput A input (Err (Call fault)) old new = (lines : List (Line A)) × IsSpelled input lines × WritesRun lines (Err fault) old new
+WritesInput A input (Err Write) old new = (lines : List (Line A)) × IsSpelled input lines × BeginsRun lines old new
+WritesInput A input (Err fault) old new = Keeps old new

@@ -48,7 +48,7 @@ pub fn run_core<A: AllocHandle, R: Read, W: Write>(
 
     // What is written is the text of the replies of a legal history of the commands that the input spells, line by
     // line, as far as the run came.
-    ensures written { WritesInput {A = A} (R.remaining reader.old) result
+    ensures written { WritesInput A (R.remaining reader.old) result
         (W.contents writer.old) (W.contents writer.new) }
 {
     let workload = read_workload(alloc, reader)?;
