@@ -172,20 +172,37 @@ fn limits(rt: HostRuntime) -> Result<(), Fail> {
         ),
         (("filter 1 ", "not ", "all"), 31, "read"),
         (("filter 1 ", "not ", "all"), 32, "line 1: G2 E13 TooDeep"),
-        (("filter 1 ", "not ", "all"), 10_000, "line 1: G2 E13 TooDeep"),
+        (
+            ("filter 1 ", "not ", "all"),
+            10_000,
+            "line 1: G2 E13 TooDeep",
+        ),
         (("filter 1 ", "and(", ""), 32, "line 1: G1 Syntax at 137"),
         (("filter 1 ", "and(", ""), 33, "line 1: G2 E13 TooDeep"),
         (("filter 1 or(all", ",all", ")"), 998, "read"),
-        (("filter 1 or(all", ",all", ")"), 999, "line 1: G2 E13 TooDeep"),
+        (
+            ("filter 1 or(all", ",all", ")"),
+            999,
+            "line 1: G2 E13 TooDeep",
+        ),
         (("save ", "b", ""), 256, "line 1: G2 E17 BadName"),
-        (("apply x'540201007400120001", "00", "' never"), 0, "line 1: G3 D1 Truncated at 9"),
+        (
+            ("apply x'540201007400120001", "00", "' never"),
+            0,
+            "line 1: G3 D1 Truncated at 9",
+        ),
         (("", "\n", "frob"), 100_000, "line 100001: G1 Syntax at 0"),
         (("", "frob\n", ""), 100_000, "line 1: G1 Syntax at 0"),
         (("", "@0 session\n", "@63 session"), 1_000, "read"),
     ];
     for (parts, count, shown) in table {
         let text = repeat_text(rt.alloc(), parts, count)?;
-        assert_eq!(rt; outcome(rt.alloc(), text.as_str())?.as_str(), shown, "{} {count}", parts.0);
+        assert_eq!(rt;
+            outcome(rt.alloc(), text.as_str())?.as_str(),
+            shown,
+            "{} {count}",
+            parts.0
+        );
     }
     Ok(())
 }
@@ -218,7 +235,13 @@ fn reply_to(alloc: Global, text: &str, reply: &Reply<Global>) -> Result<String, 
 fn replies(rt: HostRuntime) -> Result<(), Fail> {
     let table = [
         ("attach 1 t", Reply::Done, "ok"),
-        ("create t k", Reply::Written { version: 18446744073709551615 }, "ok version 18446744073709551615"),
+        (
+            "create t k",
+            Reply::Written {
+                version: 18446744073709551615,
+            },
+            "ok version 18446744073709551615",
+        ),
         ("session", Reply::Session(64), "session 64"),
         ("enable 1 ask", Reply::Flag(true), "on"),
         ("indirect 1 off", Reply::Flag(false), "off"),
@@ -226,12 +249,18 @@ fn replies(rt: HostRuntime) -> Result<(), Fail> {
         ("isempty 1", Reply::Flag(false), "false"),
         (
             "commit delete t loose 1",
-            Reply::Refused { at: Some(3), why: Refusal::NoRow },
+            Reply::Refused {
+                at: Some(3),
+                why: Refusal::NoRow,
+            },
             "refused at 3: E6 NoRow",
         ),
         (
             "commitat 1 delete t loose 1",
-            Reply::Refused { at: None, why: Refusal::Stale { base: 1, now: 20 } },
+            Reply::Refused {
+                at: None,
+                why: Refusal::Stale { base: 1, now: 20 },
+            },
             "refused: E11 Stale base 1 now 20",
         ),
     ];
@@ -269,7 +298,10 @@ fn refusals(rt: HostRuntime) -> Result<(), Fail> {
     for why in refusals {
         let alloc = rt.alloc();
         let shown = reply_to(alloc, "session", &Reply::Refused { at: None, why })?;
-        assert_eq!(rt; shown.as_str(), format!(in alloc; "refused: {why}")?.as_str());
+        assert_eq!(rt;
+            shown.as_str(),
+            format!(in alloc; "refused: {why}")?.as_str()
+        );
     }
     Ok(())
 }
