@@ -52,6 +52,17 @@ IsLegal-none : (A : Type 0) → IsLegal {A = A} []
 unfolding IsLegal
 IsLegal-none A = tt
 
+-- nothing, where it did not begin
+pub writes_nothing : (A : Type 0) (input : Option (List ℕ)) (fault : RunFault) (a : Option (List ℕ)) → RunsNothing fault → WritesInput A input (Err fault) a a
+writes_nothing A input (Script fault) a early = Keeps-refl a
+writes_nothing A input NotUtf8 a early = Keeps-refl a
+writes_nothing A input NotHex a early = Keeps-refl a
+writes_nothing A input (Blob fault) a early = Keeps-refl a
+writes_nothing A input (Call fault) a early = absurd early
+writes_nothing A input Read a early = Keeps-refl a
+writes_nothing A input Write a early = absurd early
+writes_nothing A input Memory a early = Keeps-refl a
+
 module _ {A : Type 0} where
   -- ---- histories
 
@@ -166,17 +177,6 @@ module _ {A : Type 0} where
   }
 
   -- ---- what a run wrote
-
-  -- nothing, where it did not begin
-  pub writes_nothing : (input : Option (List ℕ)) (fault : RunFault) (a : Option (List ℕ)) → RunsNothing fault → WritesInput A input (Err fault) a a
-  writes_nothing input (Script fault) a early = Keeps-refl a
-  writes_nothing input NotUtf8 a early = Keeps-refl a
-  writes_nothing input NotHex a early = Keeps-refl a
-  writes_nothing input (Blob fault) a early = Keeps-refl a
-  writes_nothing input (Call fault) a early = absurd early
-  writes_nothing input Read a early = Keeps-refl a
-  writes_nothing input Write a early = absurd early
-  writes_nothing input Memory a early = Keeps-refl a
 
   -- what a run of the lines wrote that the input spells
   pub writes_input : (input : Option (List ℕ)) (lines : List (Line A)) (outcome : Result (Unit {0}) RunFault) (a b : Option (List ℕ)) → IsSpelled input lines → Writes lines outcome a b → WritesInput A input outcome a b

@@ -31,3 +31,11 @@ pub returns-clause-spelled : goal.returns-clause-spelled
 returns-clause-spelled g c =
     of_bytes (λ given. SpellsScript c.in_ok-workload_of.field-0.lines.items given) (g.R.Read.remaining c.args.reader.now) c.in_ok-bytes.bytes.items c.as_slice.result.now
     c.as_slice.ensures.value c.in_ok-bytes.ensures.whole c.in_ok-workload_of.ensures.spelled
+
+-- a workload is no fault
+no_fault : {X E : Type 0} (P : List ℕ → Type 0) (known : Option (List ℕ)) (x : X) (e : E) → IfSome known (λ given. let read : Result X E = Ok x in read ≡ Err e → P given)
+no_fault P None x e = tt
+no_fault P (Some given) x e = λ same. absurd cc
+
+pub returns-clause-text : goal.returns-clause-text
+returns-clause-text g c = no_fault (λ given. ¬ (IsUtf8 given)) (g.R.Read.remaining c.args.reader.now) c.in_ok-workload_of.field-0 NotUtf8
