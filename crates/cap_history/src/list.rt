@@ -20,10 +20,14 @@ pub struct List<J: Naming, A: AllocHandle> {
 
 impl<J: Naming, A: AllocHandle> Model for List<J, A> {
     ghost use Rattle.std.specs.Prelude.{◌≡◌, List, length};
+    ghost use Rattle.std.specs.Coded.{codes};
+    ghost use Rattle.cap_filter.specs.Rule.{coded_rule};
     ghost use Rattle.cap_core.specs.declared.event.Event.{Event};
     ghost use Rattle.cap_history.specs.History.{IsHistory};
 
     ghost Value = { List (Event A) };
+
+    ghost coded = { Prim.hlevel (codes, coded_rule) };
 
     ghost view = { λ l. l.seen.log };
 

@@ -20,11 +20,15 @@ pub struct Seat<J: Naming, A: AllocHandle> {
 
 impl<J: Naming, A: AllocHandle> Model for Seat<J, A> {
     ghost use Rattle.std.specs.Prelude.{◌≡◌, ◌<◌, length};
+    ghost use Rattle.std.specs.Coded.{codes};
+    ghost use Rattle.cap_filter.specs.Rule.{coded_rule};
     ghost use mathlib.Core.List.{IsPrefix};
     ghost use Rattle.cap_history.specs.History.{own};
     ghost use Rattle.cap_history.specs.Seat.{SeatState};
 
     ghost Value = { SeatState A };
+
+    ghost coded = { Prim.hlevel (codes, coded_rule) };
 
     ghost view = { λ s. record { number = s.number; seen = s.seen; answered = s.answered } };
 

@@ -28,11 +28,15 @@ pub struct Locked<J: Naming, A: AllocHandle> {
 
 impl<J: Naming, A: AllocHandle> Model for Locked<J, A> {
     ghost use Rattle.std.specs.Prelude.{◌≡◌, List};
+    ghost use Rattle.std.specs.Coded.{codes};
+    ghost use Rattle.cap_filter.specs.Rule.{coded_rule};
     ghost use Rattle.cap_core.specs.declared.event.Event.{Event};
     ghost use Rattle.cap_core.specs.Answer.{state};
     ghost use Rattle.cap_server.specs.Code.Counts.{IsCounted};
 
     ghost Value = { List (Event A) };
+
+    ghost coded = { Prim.hlevel (codes, coded_rule) };
 
     ghost view = { λ l. l.list };
 
