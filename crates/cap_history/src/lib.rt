@@ -8,8 +8,6 @@ mod naming;
 mod opened;
 mod overtaken;
 mod seat;
-#[cfg(test)]
-mod tests;
 
 pub use front::Front;
 pub use law::Law;

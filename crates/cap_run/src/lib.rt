@@ -7,10 +7,6 @@ mod input;
 mod output;
 mod run;
 mod show;
-#[cfg(test)]
-mod show_tests;
-#[cfg(test)]
-mod tests;
 
 pub use fault::RunFault;
 pub use run::run_core;

@@ -8,8 +8,6 @@ mod fault;
 mod handed_back;
 mod locked;
 mod server;
-#[cfg(test)]
-mod tests;
 
 pub use closed::Closed;
 pub use fault::{CallFault, CloseFault};
