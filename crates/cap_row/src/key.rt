@@ -123,6 +123,7 @@ impl<A: AllocHandle> Key<A> {
     }
 
     /// The order of keys: value by value, and a key before what extends it.
+    #[inline]
     pub fn order(&self, other: &Self) -> Ordering
         ensures order { result ≡ fields_cmp self.now other.now }
         ensures equal { (result ≡ Ordering.Equal) ↔ (self.now ≡ other.now) }
@@ -235,6 +236,7 @@ impl<A: AllocHandle> Ord for Key<A> {
 
     ghost matches_eq = { λ x y. refl };
 
+    #[inline]
     fn cmp(&self, other: &Self) -> Ordering {
         self.order(other)
     }

@@ -11,6 +11,7 @@ use cap_value::AllocHandle;
 
 // The child among whose entries the key belongs, and the children behind it. It is the first one where all entries
 // are above the key.
+#[inline]
 pub(crate) fn child_for<'a, K: Ord, V, A: AllocHandle>(
     parts: &'a [Part<K, V, A>],
     key: &K,

@@ -10,6 +10,7 @@ use std::cmp::Ordering;
 use std::mem;
 
 // Whether the key is above that of the last entry.
+#[inline]
 fn is_past_last<K: Ord, V>(entries: &[(K, V)], key: &K) -> bool
     requires { IsOrdered K.cmp entries.now }
     ensures { result ≡ true → EachBelow K.cmp key.now entries.now }
@@ -25,6 +26,7 @@ fn is_past_last<K: Ord, V>(entries: &[(K, V)], key: &K) -> bool
 
 // The place of the key, or the place where it would stand. It looks at the last entry first, since rising keys belong
 // behind it.
+#[inline]
 pub(crate) fn search<K: Ord, V>(entries: &[(K, V)], key: &K) -> Result<usize, usize>
     requires { IsOrdered K.cmp entries.now }
     ensures within { MatchResult result (λ i. i < length entries.now) (λ i. i ≤ length entries.now) }

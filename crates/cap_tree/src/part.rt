@@ -50,6 +50,7 @@ pub(crate) fn count_of<K: Ord, V, A: AllocHandle>(parts: &[Part<K, V, A>]) -> us
 }
 
 // Whether the last child is not above the key.
+#[inline]
 fn is_up_to_last<K: Ord, V, A: AllocHandle>(parts: &[Part<K, V, A>], key: &K) -> bool
     ensures { (h : ℕ) → IsParts K.cmp h (seen parts.now) → result ≡ true
         → place K.cmp key.now (seen parts.now) ≡ length parts.now }
@@ -65,6 +66,7 @@ fn is_up_to_last<K: Ord, V, A: AllocHandle>(parts: &[Part<K, V, A>], key: &K) ->
 
 // How many of the children, from the first on, are not above the key. It looks at the last one first, since rising
 // keys belong there.
+#[inline]
 pub(crate) fn count_up_to<K: Ord, V, A: AllocHandle>(parts: &[Part<K, V, A>], key: &K) -> usize
     ensures within { result ≤ length parts.now }
     ensures place { (h : ℕ) → IsParts K.cmp h (seen parts.now)
