@@ -15,17 +15,20 @@ use Rattle.cap_changes.specs.declared.change.Change.TheVariants as changed
 use Rattle.cap_changes.specs.declared.patch.Patch.{Patch}
 use Rattle.cap_changes.specs.declared.patch.Patch.TheVariants as patched
 use Rattle.cap_codec.specs.declared.fault.BlobFault.{BlobFault}
+use Rattle.cap_codec.specs.declared.key_flags.KeyFlags.{KeyFlags}
+use Rattle.cap_codec.specs.declared.key_flags.KeyFlags.TheVariants.{Ones}
 use Rattle.cap_codec.specs.declared.read.Contents.{Contents}
 use Rattle.cap_codec.specs.declared.read.Contents.TheVariants.{Changes, Patches}
 use Rattle.cap_codec.specs.Changeset.{mark, flags_bytes, header_bytes, change_bytes, changes_under, group_bytes}
 use Rattle.cap_codec.specs.HeaderReading.{is_zero, is_set, count_at, flags_at, name_at, header_at}
-use Rattle.cap_codec.specs.Patchset.{patch_bytes, patch_group_bytes, patch_list_bytes}
+use Rattle.cap_codec.specs.Patchset.{patch_bytes, patch_group_bytes, patch_list_bytes_with}
 use Rattle.cap_codec.specs.Varint.{varint_bytes}
 use Rattle.cap_codec.specs.BlobReading.{is_operation, change_at, patch_at, group_at, patch_group_at, groups_at, blob_at}
 use Rattle.cap_codec.specs.Spelling.{SpellsEach, SpellsGroup, SpellsChange, SpellsPatch, SpellsChanges, SpellsPatches, Spells}
-use Rattle.cap_codec.specs.Writable.{IsTable, HasValues, PatchHasValues, IsGroup, IsPatchGroup, IsWritable, has_some, blob_bytes, of_patches, with_some, HasNoEmptyGroup}
+use Rattle.cap_codec.specs.Writable.{IsTable, HasValues, PatchHasValues, IsGroup, IsPatchGroup, IsWritable, has_some, blob_bytes, blob_bytes_with, of_patches, with_some, HasNoEmptyGroup}
 use Rattle.cap_codec.proofs.Binds.{ok_is}
 use Rattle.cap_codec.proofs.HeaderLemmas.{key_is_set}
+use Rattle.cap_codec.proofs.KeyFlagLemmas.{set_is, flags_set}
 use Rattle.cap_codec.proofs.FieldAgain.{varint_again, bytes_again}
 use Rattle.cap_codec.proofs.ChangeAgain.{NoChange, change_again, patch_again, each_again}
 
@@ -186,14 +189,6 @@ module _ {A : Type 0} where
 
 -- ---- what is written
 
-set_is : (flag : Bool) → is_set (mark flag) ≡ flag
-set_is true = refl
-set_is false = refl
-
-flags_set : (flags : List Bool) → map is_set (map mark flags) ≡ flags
-flags_set [] = refl
-flags_set (flag ∷ flags) = rw (set_is flag, flags_set flags) refl
-
 module _ {X : Type 0} (one : X → List ℕ → Type 0) (bytes : X → List ℕ) where
   each_written : (xs : List X) → AllByRecursion (λ x. one x (bytes x)) xs → SpellsEach one xs (flat_map bytes xs)
   each_written [] is = refl
@@ -215,22 +210,22 @@ all_kept {X = X} has [] each = refl
 all_kept {X = X} has (x ∷ xs) each = rw each.0 (ap (λ (others : List X). x ∷ others) (all_kept has xs each.1))
 
 -- a header that was written, and changes behind it
-under_header : {X : Type 0} (kind : ℕ) (table : List ℕ) (schema : List Bool) (one : X → List ℕ → Type 0) (xs : List X) (bytes : List ℕ) → IsTable table schema → SpellsEach one xs bytes
-    → SpellsGroup kind table schema one xs (header_bytes kind table schema ++ bytes)
-under_header kind table schema one xs bytes is each = record {
+under_header : {X : Type 0} (key_flags : KeyFlags) (kind : ℕ) (table : List ℕ) (schema : List Bool) (one : X → List ℕ → Type 0) (xs : List X) (bytes : List ℕ) → IsTable table schema → SpellsEach one xs bytes
+    → SpellsGroup kind table schema one xs (header_bytes key_flags kind table schema ++ bytes)
+under_header key_flags kind table schema one xs bytes is each = record {
   named = is;
-  flags = flags_bytes schema;
-  flagged = flags_set schema;
+  flags = flags_bytes key_flags schema;
+  flagged = flags_set key_flags schema;
   rest = bytes;
-  parts = ap (λ (b : List ℕ). kind ∷ b) (append_assoc (varint_bytes (length schema) ++ flags_bytes schema ++ table) (0 ∷ []) bytes);
+  parts = ap (λ (b : List ℕ). kind ∷ b) (append_assoc (varint_bytes (length schema) ++ flags_bytes key_flags schema ++ table) (0 ∷ []) bytes);
   each = each;
 }
 
-by_entries : {X : Type 0} (kind : ℕ) (bytes : X → List ℕ) (one : X → List ℕ → Type 0) (table : List ℕ) (schema : List Bool) (xs : List X) → SpellsGroup kind table schema one xs (header_bytes kind table schema ++ flat_map bytes xs)
-    → ((changes_under bytes (header_bytes kind table schema) xs ≡ []) × (has_some xs ≡ false))
-    ⊎ ((has_some xs ≡ true) × SpellsGroup kind table schema one xs (changes_under bytes (header_bytes kind table schema) xs))
-by_entries kind bytes one table schema [] spelled = inl (refl, refl)
-by_entries kind bytes one table schema (first ∷ others) spelled = inr (refl, spelled)
+by_entries : {X : Type 0} (key_flags : KeyFlags) (kind : ℕ) (bytes : X → List ℕ) (one : X → List ℕ → Type 0) (table : List ℕ) (schema : List Bool) (xs : List X) → SpellsGroup kind table schema one xs (header_bytes key_flags kind table schema ++ flat_map bytes xs)
+    → ((changes_under bytes (header_bytes key_flags kind table schema) xs ≡ []) × (has_some xs ≡ false))
+    ⊎ ((has_some xs ≡ true) × SpellsGroup kind table schema one xs (changes_under bytes (header_bytes key_flags kind table schema) xs))
+by_entries key_flags kind bytes one table schema [] spelled = inl (refl, refl)
+by_entries key_flags kind bytes one table schema (first ∷ others) spelled = inr (refl, spelled)
 
 module _ {A : Type 0} where
   change_written : (flags : List Bool) (change : Change A) → IsTrue (change_fits flags change) → HasValues change → SpellsChange flags change (change_bytes change)
@@ -253,22 +248,22 @@ module _ {A : Type 0} where
   patches_written flags [] fit values = tt
   patches_written flags (patch ∷ patches) fit values = (patch_written flags patch fit.0 values.0, patches_written flags patches fit.1 values.1)
 
-  groups_written : (groups : List (TableChanges A)) → AllByRecursion IsGroup groups → AllByRecursion (IsWritten SpellsChanges group_bytes (λ group. has_some group.changes)) groups
-  groups_written [] is = tt
-  groups_written (group ∷ groups) is = (
-    by_entries 0x54 change_bytes (SpellsChange group.schema) group.table group.schema group.changes (under_header 0x54 group.table group.schema (SpellsChange group.schema) group.changes (flat_map change_bytes group.changes) is.0.table
+  groups_written : (key_flags : KeyFlags) (groups : List (TableChanges A)) → AllByRecursion IsGroup groups → AllByRecursion (IsWritten SpellsChanges (group_bytes key_flags) (λ group. has_some group.changes)) groups
+  groups_written key_flags [] is = tt
+  groups_written key_flags (group ∷ groups) is = (
+    by_entries key_flags 0x54 change_bytes (SpellsChange group.schema) group.table group.schema group.changes (under_header key_flags 0x54 group.table group.schema (SpellsChange group.schema) group.changes (flat_map change_bytes group.changes) is.0.table
         (each_written (SpellsChange group.schema) change_bytes group.changes
         (changes_written group.schema group.changes (recursion_from_All (λ change. IsTrue (change_fits group.schema change)) group.changes is.0.fit) (recursion_from_All HasValues group.changes is.0.values)))),
-    groups_written groups is.1,
+    groups_written key_flags groups is.1,
   )
 
-  patch_groups_written : (groups : List (TablePatches A)) → AllByRecursion IsPatchGroup groups → AllByRecursion (IsWritten SpellsPatches patch_group_bytes (λ group. has_some group.changes)) groups
-  patch_groups_written [] is = tt
-  patch_groups_written (group ∷ groups) is = (
-    by_entries 0x50 patch_bytes (SpellsPatch group.schema) group.table group.schema group.changes (under_header 0x50 group.table group.schema (SpellsPatch group.schema) group.changes (flat_map patch_bytes group.changes) is.0.table
+  patch_groups_written : (key_flags : KeyFlags) (groups : List (TablePatches A)) → AllByRecursion IsPatchGroup groups → AllByRecursion (IsWritten SpellsPatches (patch_group_bytes key_flags) (λ group. has_some group.changes)) groups
+  patch_groups_written key_flags [] is = tt
+  patch_groups_written key_flags (group ∷ groups) is = (
+    by_entries key_flags 0x50 patch_bytes (SpellsPatch group.schema) group.table group.schema group.changes (under_header key_flags 0x50 group.table group.schema (SpellsPatch group.schema) group.changes (flat_map patch_bytes group.changes) is.0.table
         (each_written (SpellsPatch group.schema) patch_bytes group.changes
         (patches_written group.schema group.changes (recursion_from_All (λ patch. IsTrue (patch_fits group.schema patch)) group.changes is.0.fit) (recursion_from_All PatchHasValues group.changes is.0.values)))),
-    patch_groups_written groups is.1,
+    patch_groups_written key_flags groups is.1,
   )
 
   -- without groups it is a changeset
@@ -277,16 +272,16 @@ module _ {A : Type 0} where
   of_spelled (first ∷ others) bytes spelled = (spelled, λ e. cc)
 
   -- The bytes of a blob spell it, without the groups that have no change.
-  pub written_spelled : (blob : Contents A) → IsWritable blob → Spells (with_some blob) (blob_bytes blob)
-  written_spelled (Changes groups) writable =
-      some_written SpellsChanges group_bytes (λ group. has_some group.changes) groups (groups_written groups (recursion_from_All IsGroup groups writable))
-  written_spelled (Patches groups) writable =
-      of_spelled (filter (λ group. has_some group.changes) groups) (patch_list_bytes groups)
-      (some_written SpellsPatches patch_group_bytes (λ group. has_some group.changes) groups (patch_groups_written groups (recursion_from_All IsPatchGroup groups writable)))
+  pub written_spelled : (key_flags : KeyFlags) (blob : Contents A) → IsWritable blob → Spells (with_some blob) (blob_bytes_with key_flags blob)
+  written_spelled key_flags (Changes groups) writable =
+      some_written SpellsChanges (group_bytes key_flags) (λ group. has_some group.changes) groups (groups_written key_flags groups (recursion_from_All IsGroup groups writable))
+  written_spelled key_flags (Patches groups) writable =
+      of_spelled (filter (λ group. has_some group.changes) groups) (patch_list_bytes_with key_flags groups)
+      (some_written SpellsPatches (patch_group_bytes key_flags) (λ group. has_some group.changes) groups (patch_groups_written key_flags groups (recursion_from_All IsPatchGroup groups writable)))
 
   -- What was written for a blob reads as it, without the groups that have no change.
-  pub written_again : (blob : Contents A) → IsWritable blob → blob_at (blob_bytes blob) ≡ Ok (with_some blob)
-  written_again blob writable = blob_again (with_some blob) (blob_bytes blob) (written_spelled blob writable)
+  pub written_again : (key_flags : KeyFlags) (blob : Contents A) → IsWritable blob → blob_at (blob_bytes_with key_flags blob) ≡ Ok (with_some blob)
+  written_again key_flags blob writable = blob_again (with_some blob) (blob_bytes_with key_flags blob) (written_spelled key_flags blob writable)
 
   -- ---- no two blobs without empty groups have the same bytes
 
@@ -301,6 +296,6 @@ module _ {A : Type 0} where
 
   pub one_blob : (a b : Contents A) → IsWritable a → IsWritable b → HasNoEmptyGroup a → HasNoEmptyGroup b → blob_bytes a ≡ blob_bytes b → a ≡ b
   one_blob a b of_a of_b whole_a whole_b same =
-      let first : blob_at (blob_bytes a) ≡ Ok a = written_again a of_a ∙ ap (λ (x : Contents A). Ok x) (nothing_left_out a whole_a) in
-      let second : blob_at (blob_bytes b) ≡ Ok b = written_again b of_b ∙ ap (λ (x : Contents A). Ok x) (nothing_left_out b whole_b) in
+      let first : blob_at (blob_bytes a) ≡ Ok a = written_again Ones a of_a ∙ ap (λ (x : Contents A). Ok x) (nothing_left_out a whole_a) in
+      let second : blob_at (blob_bytes b) ≡ Ok b = written_again Ones b of_b ∙ ap (λ (x : Contents A). Ok x) (nothing_left_out b whole_b) in
       ok_is a b (sym first ∙ ap blob_at same ∙ second)

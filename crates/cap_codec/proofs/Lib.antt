@@ -3,6 +3,7 @@ pub mod Loops
 pub mod Left
 pub mod FitLemmas
 pub mod HeaderLemmas
+pub mod KeyFlagLemmas
 pub mod FieldAgain
 pub mod ChangeAgain
 pub mod BlobAgain

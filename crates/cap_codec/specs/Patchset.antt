@@ -4,6 +4,8 @@ use Rattle.std.specs.List.{flat_map}
 use Rattle.cap_changes.specs.declared.patch.Patch.{Patch}
 use Rattle.cap_changes.specs.declared.patch.Patch.TheVariants.{Insert, Update, Delete}
 use Rattle.cap_changes.specs.PatchGroup.{TablePatches}
+use Rattle.cap_codec.specs.declared.key_flags.KeyFlags.{KeyFlags}
+use Rattle.cap_codec.specs.declared.key_flags.KeyFlags.TheVariants.{Ones}
 use Rattle.cap_codec.specs.Field.{record_bytes, key_bytes}
 use Rattle.cap_codec.specs.Changeset.{mark, entries_bytes}
 
@@ -14,9 +16,13 @@ module _ {A : Type 0} where
   patch_bytes (Update indirect new) = 0x17 ∷ mark indirect ∷ record_bytes new
   patch_bytes (Delete indirect key) = 0x09 ∷ mark indirect ∷ key_bytes key
 
-  abbrev pub patch_group_bytes : TablePatches A → List ℕ
-  patch_group_bytes group = entries_bytes 0x50 patch_bytes group
+  abbrev pub patch_group_bytes : KeyFlags → TablePatches A → List ℕ
+  patch_group_bytes key_flags group = entries_bytes key_flags 0x50 patch_bytes group
 
   -- the groups in the list's order
+  abbrev pub patch_list_bytes_with : KeyFlags → List (TablePatches A) → List ℕ
+  patch_list_bytes_with key_flags groups = flat_map (patch_group_bytes key_flags) groups
+
+  -- with the key flags of the documentation
   abbrev pub patch_list_bytes : List (TablePatches A) → List ℕ
-  patch_list_bytes groups = flat_map patch_group_bytes groups
+  patch_list_bytes groups = patch_list_bytes_with Ones groups

@@ -11,10 +11,12 @@ use Rattle.cap_changes.specs.declared.change.Change.{Change}
 use Rattle.cap_changes.specs.declared.change.Change.TheVariants as changed
 use Rattle.cap_changes.specs.declared.patch.Patch.{Patch}
 use Rattle.cap_changes.specs.declared.patch.Patch.TheVariants as patched
+use Rattle.cap_codec.specs.declared.key_flags.KeyFlags.{KeyFlags}
+use Rattle.cap_codec.specs.declared.key_flags.KeyFlags.TheVariants.{Ones}
 use Rattle.cap_codec.specs.declared.read.Contents.{Contents}
 use Rattle.cap_codec.specs.declared.read.Contents.TheVariants.{Changes, Patches}
-use Rattle.cap_codec.specs.Changeset.{list_bytes}
-use Rattle.cap_codec.specs.Patchset.{patch_list_bytes}
+use Rattle.cap_codec.specs.Changeset.{list_bytes_with}
+use Rattle.cap_codec.specs.Patchset.{patch_list_bytes_with}
 
 -- a table's name and its columns, of which one at least is in the key
 pub record IsTable (table : List ℕ) (schema : List Bool) : Type 0 where
@@ -57,9 +59,12 @@ module _ {A : Type 0} where
   IsWritable (Changes groups) = All IsGroup groups
   IsWritable (Patches groups) = All IsPatchGroup groups
 
+  abbrev pub blob_bytes_with : KeyFlags → Contents A → List ℕ
+  blob_bytes_with key_flags (Changes groups) = list_bytes_with key_flags groups
+  blob_bytes_with key_flags (Patches groups) = patch_list_bytes_with key_flags groups
+
   abbrev pub blob_bytes : Contents A → List ℕ
-  blob_bytes (Changes groups) = list_bytes groups
-  blob_bytes (Patches groups) = patch_list_bytes groups
+  blob_bytes blob = blob_bytes_with Ones blob
 
   -- a patchset without groups has no bytes, as a changeset without groups
   abbrev pub of_patches : List (TablePatches A) → Contents A

@@ -2,12 +2,13 @@
 
 ghost use Rattle.std.specs.Prelude.{◌≡◌, ◌++◌, ℕ, List, Ok, Err};
 ghost use Rattle.cap_value.specs.Bytes.{AreBytes};
+ghost use Rattle.cap_codec.specs.declared.key_flags.KeyFlags.{KeyFlags};
 ghost use Rattle.cap_codec.specs.declared.read.Contents.{Contents};
 ghost use Rattle.cap_codec.specs.BlobReading.{blob_at};
 ghost use Rattle.cap_codec.specs.declared.fault.BlobFault.{BlobFault};
 ghost use Rattle.cap_codec.specs.Pieces.{lasting};
 ghost use Rattle.cap_codec.specs.Spelling.{Spells};
-ghost use Rattle.cap_codec.specs.Writable.{IsWritable, HasNoEmptyGroup, blob_bytes, with_some};
+ghost use Rattle.cap_codec.specs.Writable.{IsWritable, HasNoEmptyGroup, blob_bytes, blob_bytes_with, with_some};
 
 use cap_value::AllocHandle;
 
@@ -31,6 +32,15 @@ pub fn written_is_spelled<A: AllocHandle>()
 /// What was written for a list reads as that list, without its groups that have no change.
 pub fn written_is_read_again<A: AllocHandle>()
     ensures { (blob : Contents A) → IsWritable blob → blob_at (blob_bytes blob) ≡ Ok (with_some blob) }
+{}
+
+/// However the key columns are flagged, what was written for a list spells and reads as the same: that list,
+/// without its groups that have no change.
+pub fn key_flags_read_alike<A: AllocHandle>()
+    ensures spelled { (key_flags : KeyFlags) (blob : Contents A) → IsWritable blob →
+        Spells (with_some blob) (blob_bytes_with key_flags blob) }
+    ensures read { (key_flags : KeyFlags) (blob : Contents A) → IsWritable blob →
+        blob_at (blob_bytes_with key_flags blob) ≡ Ok (with_some blob) }
 {}
 
 /// No two lists of groups with changes have the same bytes, of changesets or of patchsets.

@@ -9,6 +9,7 @@ mod fault;
 mod field;
 mod group;
 mod header;
+mod key_flags;
 mod kind;
 mod laws;
 mod lent;
@@ -25,11 +26,12 @@ mod write;
 pub use calls::{Sink, Source};
 pub use decoder::Decoder;
 pub use fault::{BlobFault, FaultKind};
+pub use key_flags::KeyFlags;
 pub use laws::{
-    a_fault_lasts, no_bytes_spell_two, no_two_have_the_same_bytes, read_is_spelled,
-    written_is_read_again, written_is_spelled,
+    a_fault_lasts, key_flags_read_alike, no_bytes_spell_two, no_two_have_the_same_bytes,
+    read_is_spelled, written_is_read_again, written_is_spelled,
 };
 pub use read::{Contents, read_blob};
 pub use stream::{ReadFault, WriteFault, read_from, write_changes_to, write_patches_to};
 pub use writable::{changes_are_writable, patches_are_writable};
-pub use write::{write_changes, write_patches};
+pub use write::{write_changes, write_changes_with, write_patches, write_patches_with};

@@ -2,11 +2,14 @@
 
 ghost use Rattle.std.specs.Prelude.{◌≡◌, ◌++◌, ◌∷◌, [], ℕ, List, OnOk, IfOk};
 ghost use Rattle.std.specs.List.{flat_map};
-ghost use Rattle.cap_codec.specs.Changeset.{mark, flags_bytes, header_bytes, entries_bytes, list_bytes};
+ghost use Rattle.cap_codec.specs.declared.key_flags.KeyFlags.TheVariants.{Ones, Places};
+ghost use Rattle.cap_codec.specs.Changeset.{mark, flags_bytes, header_bytes, entries_bytes};
+ghost use Rattle.cap_codec.specs.Changeset.{list_bytes, list_bytes_with};
 ghost use Rattle.cap_codec.specs.Operation.{operation_byte};
-ghost use Rattle.cap_codec.specs.Patchset.{patch_list_bytes};
+ghost use Rattle.cap_codec.specs.Patchset.{patch_list_bytes, patch_list_bytes_with};
 
 use crate::field::{push_key, push_record};
+use crate::key_flags::KeyFlags;
 use crate::operation::Operation;
 use crate::varint::push_varint;
 use cap_changes::{Change, ChangeList, Entry, GroupList, Patch, PatchList, TableGroup};
@@ -18,8 +21,8 @@ pub const CHANGESET: u8 = 0x54;
 /// The first byte of a group of a patchset.
 pub const PATCHSET: u8 = 0x50;
 
-fn push_flags<A: AllocHandle>(out: &mut Vec<u8, A>, flags: &[bool]) -> Result<(), OutOfMemory>
-    ensures { OnOk result (out.new.items ≡ out.old.items ++ flags_bytes flags.now) }
+fn push_ones<A: AllocHandle>(out: &mut Vec<u8, A>, flags: &[bool]) -> Result<(), OutOfMemory>
+    ensures { OnOk result (out.new.items ≡ out.old.items ++ flags_bytes Ones flags.now) }
 {
     for flag in flags {
         out.push(*flag as u8)?;
@@ -27,18 +30,48 @@ fn push_flags<A: AllocHandle>(out: &mut Vec<u8, A>, flags: &[bool]) -> Result<()
     Ok(())
 }
 
+fn push_places<A: AllocHandle>(out: &mut Vec<u8, A>, flags: &[bool]) -> Result<(), OutOfMemory>
+    ensures { OnOk result (out.new.items ≡ out.old.items ++ flags_bytes Places flags.now) }
+{
+    let mut place = 0u8;
+    for flag in flags {
+        if *flag {
+            place = place.saturating_add(1);
+            out.push(place)?;
+        } else {
+            out.push(0)?;
+        }
+    }
+    Ok(())
+}
+
+fn push_flags<A: AllocHandle>(
+    out: &mut Vec<u8, A>,
+    key_flags: KeyFlags,
+    flags: &[bool],
+) -> Result<(), OutOfMemory>
+    ensures { OnOk result (out.new.items ≡ out.old.items ++ flags_bytes key_flags flags.now) }
+{
+    match key_flags {
+        KeyFlags::Ones => push_ones(out, flags),
+        KeyFlags::Places => push_places(out, flags),
+    }
+}
+
 /// Puts the header of a group last: its kind, the columns with their key flags, and the table's name.
 fn push_header<A: AllocHandle>(
     out: &mut Vec<u8, A>,
+    key_flags: KeyFlags,
     kind: u8,
     table: &Name<A>,
     schema: &Schema<A>,
 ) -> Result<(), OutOfMemory>
-    ensures { OnOk result (out.new.items ≡ out.old.items ++ header_bytes kind table.now schema.now) }
+    ensures { OnOk result (out.new.items
+        ≡ out.old.items ++ header_bytes key_flags kind table.now schema.now) }
 {
     out.push(kind)?;
     push_varint(out, schema.width())?;
-    push_flags(out, schema.flags())?;
+    push_flags(out, key_flags, schema.flags())?;
     out.extend_from_slice(table.as_str().as_bytes())?;
     out.push(0)?;
     Ok(())
@@ -150,49 +183,77 @@ fn push_changes<C: Encode<A>, A: AllocHandle>(
 /// Puts a group last. A group without changes has no bytes.
 fn push_group<C: Encode<A>, A: AllocHandle>(
     out: &mut Vec<u8, A>,
+    key_flags: KeyFlags,
     group: &TableGroup<C, A>,
 ) -> Result<(), OutOfMemory>
-    ensures { OnOk result (out.new.items ≡ out.old.items ++ entries_bytes C.kind C.bytes group.now) }
+    ensures { OnOk result (out.new.items
+        ≡ out.old.items ++ entries_bytes key_flags C.kind C.bytes group.now) }
 {
     let changes = group.changes();
     if changes.is_empty() {
         return Ok(());
     }
-    push_header(out, C::kind(), group.table(), group.schema())?;
+    push_header(out, key_flags, C::kind(), group.table(), group.schema())?;
     push_changes(out, changes)
 }
 
 fn write_groups<C: Encode<A>, A: AllocHandle>(
     alloc: A,
+    key_flags: KeyFlags,
     list: &GroupList<C, A>,
 ) -> Result<Vec<u8, A>, OutOfMemory>
-    ensures { IfOk result (λ bytes. bytes.items ≡ flat_map (entries_bytes C.kind C.bytes) list.now) }
+    ensures { IfOk result (λ bytes. bytes.items
+        ≡ flat_map (entries_bytes key_flags C.kind C.bytes) list.now) }
 {
     let mut out = Vec::new(alloc);
     for group in list.groups() {
-        push_group(&mut out, group)?;
+        push_group(&mut out, key_flags, group)?;
     }
     Ok(out)
 }
 
 /// The bytes of a changeset: its groups one after the other, in the list's order (The Session Extension,
-/// "Changeset Format"). A group without changes has no bytes.
+/// "Changeset Format"). A group without changes has no bytes. Each key column is flagged by `01`.
 pub fn write_changes<A: AllocHandle>(
     alloc: A,
     list: &ChangeList<A>,
 ) -> Result<Vec<u8, A>, OutOfMemory>
     ensures { IfOk result (λ bytes. bytes.items ≡ list_bytes list.now) }
 {
-    write_groups(alloc, list)
+    write_groups(alloc, KeyFlags::Ones, list)
+}
+
+/// The bytes of a changeset, with the key columns flagged so. SQLite applies a group with a key of several columns
+/// only where they are flagged by their places.
+pub fn write_changes_with<A: AllocHandle>(
+    alloc: A,
+    key_flags: KeyFlags,
+    list: &ChangeList<A>,
+) -> Result<Vec<u8, A>, OutOfMemory>
+    ensures { IfOk result (λ bytes. bytes.items ≡ list_bytes_with key_flags list.now) }
+{
+    write_groups(alloc, key_flags, list)
 }
 
 /// The bytes of a patchset: its groups one after the other, in the list's order (The Session Extension,
-/// "Changeset Format"). A group without patches has no bytes.
+/// "Changeset Format"). A group without patches has no bytes. Each key column is flagged by `01`.
 pub fn write_patches<A: AllocHandle>(
     alloc: A,
     list: &PatchList<A>,
 ) -> Result<Vec<u8, A>, OutOfMemory>
     ensures { IfOk result (λ bytes. bytes.items ≡ patch_list_bytes list.now) }
 {
-    write_groups(alloc, list)
+    write_groups(alloc, KeyFlags::Ones, list)
+}
+
+/// The bytes of a patchset, with the key columns flagged so. SQLite applies a group with a key of several columns
+/// only where they are flagged by their places.
+pub fn write_patches_with<A: AllocHandle>(
+    alloc: A,
+    key_flags: KeyFlags,
+    list: &PatchList<A>,
+) -> Result<Vec<u8, A>, OutOfMemory>
+    ensures { IfOk result (λ bytes. bytes.items ≡ patch_list_bytes_with key_flags list.now) }
+{
+    write_groups(alloc, key_flags, list)
 }

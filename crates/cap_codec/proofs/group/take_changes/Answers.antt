@@ -1,4 +1,4 @@
-use Rattle.std.proofs.Common.{ℕ, get_or, sym, arith, length-drop, length-take}
+use Rattle.std.proofs.Common.{ℕ, get_or, arith, length-drop, length-take}
 use Rattle.std.proofs.lemmas.Result.{err_from_is_err_and}
 use Rattle.cap_codec.proofs.Left.{behind_of, fails_on, changes_start, changes_go_on, changes_fail, changes_stop, changes_end}
 use Rattle.cap_codec.proofs.group.take_changes.Goals as goal

@@ -1,6 +1,0 @@
-use Rattle.std.proofs.Common.{◌≡◌, ◌++◌, take}
-use Rattle.cap_codec.specs.Changeset.{flags_bytes}
-use Rattle.cap_codec.proofs.write.push_flags.Given as goal
-
-abbrev pub invariant-loop-flag : goal.invariant-loop-flag
-invariant-loop-flag g l = l.out.items ≡ l.fn.out.items ++ flags_bytes (take l.flag-index l.flags)
