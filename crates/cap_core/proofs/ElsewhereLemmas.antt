@@ -537,23 +537,21 @@ module _ {A : Type 0} where
       gives.4 ∙ ap (λ n. record { applied = n; conflicts = []; omitted = []; skipped = [] }) (total-is planned_capture.plan ∙ ap changes_in (planned_capture.is ∙ sym is)),
     )
 
-    -- the session's changes, where they are told or not
-    pub changes_apply : ((policy : Policy) (ts : List (TableRows A)) (tables : Tables A) → AllBefore ts tables → GivesAllRowsNow policy ts (Changes (map group_of_rows ts)) tables)
+    -- the session's changes, where they are told or not, as a changeset or as a patchset
+    pub changes_apply : (blob_of : List (TableChanges A) → Contents A)
+        → ((policy : Policy) (ts : List (TableRows A)) (tables : Tables A) → AllBefore ts tables → GivesAllRowsNow policy ts (blob_of (map group_of_rows ts)) tables)
         → (policy : Policy) (list : List (TableChanges A)) → list ≡ session_changes (main past) (session_of past number)
-        → AppliesWhole policy (Changes list) (changes_in list) database (main past) (session_of past number).tables
-    changes_apply law policy list told =
-        whole policy (Changes list) list told
-        (subst (λ l. Gives policy planned_capture.plan (Changes l) database) (planned_capture.is ∙ sym told) (law policy planned_capture.plan database planned_capture.before))
+        → AppliesWhole policy (blob_of list) (changes_in list) database (main past) (session_of past number).tables
+    changes_apply blob_of law policy list told =
+        whole policy (blob_of list) list told
+        (subst (λ l. Gives policy planned_capture.plan (blob_of l) database) (planned_capture.is ∙ sym told) (law policy planned_capture.plan database planned_capture.before))
 
     pub changeset_applies : ((policy : Policy) (ts : List (TableRows A)) (tables : Tables A) → AllBefore ts tables → GivesAllRowsNow policy ts (Changes (map group_of_rows ts)) tables)
         → (policy : Policy) (list : List (TableChanges A)) → answer (state_after past) (command.Capture number) ≡ Captured list
         → AppliesWhole policy (Changes list) (changes_in list) database (main past) (session_of past number).tables
-    changeset_applies law policy list is = changes_apply law policy list (captured past number list is)
+    changeset_applies law policy list is = changes_apply Changes law policy list (captured past number list is)
 
     pub patchset_applies : ((policy : Policy) (ts : List (TableRows A)) (tables : Tables A) → AllBefore ts tables → GivesAllRowsNow policy ts (Patches (patch_list_of (map group_of_rows ts))) tables)
         → (policy : Policy) (list : List (TableChanges A)) → answer (state_after past) (command.Capture number) ≡ Captured list
         → AppliesWhole policy (Patches (patch_list_of list)) (changes_in list) database (main past) (session_of past number).tables
-    patchset_applies law policy list is =
-        let told = captured past number list is in
-        whole policy (Patches (patch_list_of list)) list told
-        (subst (λ l. Gives policy planned_capture.plan (Patches (patch_list_of l)) database) (planned_capture.is ∙ sym told) (law policy planned_capture.plan database planned_capture.before))
+    patchset_applies law policy list is = changes_apply (λ l. Patches (patch_list_of l)) law policy list (captured past number list is)

@@ -19,7 +19,6 @@ use Rattle.cap_txn.specs.declared.op.Op.{Op}
 use Rattle.cap_changes.specs.Group.{TableChanges}
 use Rattle.cap_codec.specs.Writable.{IsWritable}
 use Rattle.cap_codec.specs.declared.read.Contents.{Contents}
-use Rattle.cap_codec.specs.declared.read.Contents.TheVariants.{Changes}
 use Rattle.cap_apply.specs.Applied.{AppliedState}
 use Rattle.cap_apply.specs.Apply.{apply}
 use Rattle.cap_apply.specs.Captured.{AllBefore, GivesAllRowsNow, TableRows, changes_of as group_of_rows}
@@ -39,7 +38,7 @@ use Rattle.cap_core.specs.Outcome.{Effect, is_of_row, no_effect}
 use Rattle.cap_core.specs.Past.{Past, is_accepted}
 use Rattle.cap_core.specs.Capture.{session_changes}
 use Rattle.cap_core.specs.Elsewhere.{AppliesWhole, HoldsImages, but_keyed, changes_in}
-use Rattle.cap_core.specs.Restarts.{AppliesAll, HasRowsNow, HoldsFirst, IsSteady, captures, first_touched, touches_over}
+use Rattle.cap_core.specs.Restarts.{AppliesEach, HasRowsNow, HoldsFirst, IsSteady, captures, first_touched, touches_over}
 use Rattle.cap_core.specs.Session.{mark, session_of}
 use Rattle.cap_core.specs.Table.{AreWritable}
 use Rattle.cap_core.specs.Touch.{Touch, attach_list, attachings, changes_touch, diff_touches, event_attachings, event_changes, event_diff, event_touches, is_recorded, restarts, touch_of, touches, touches_of}
@@ -222,12 +221,12 @@ module _ {A : Type 0} where
   with-image None image is = cc
   with-image (Some r) image is = (r, refl)
 
-  -- ---- changesets one after the other
+  -- ---- blobs one after the other
 
-  applies-append : (policy : Policy) (lists : List (List (TableChanges A))) (list : List (TableChanges A)) (start mid : Tables A) (next : AppliedState A) → AppliesAll policy lists start mid
-      → apply mid (Changes list) policy ≡ Ok next → AppliesAll policy (lists ++ list ∷ []) start next.database
-  applies-append policy [] list start mid next all is = (next, ap (λ tables. apply tables (Changes list) policy) (sym all) ∙ is, refl)
-  applies-append policy (first ∷ lists) list start mid next all is = (all.0, all.1, applies-append policy lists list all.0.database mid next all.2 is)
+  applies-append : (blob_of : List (TableChanges A) → Contents A) (policy : Policy) (lists : List (List (TableChanges A))) (list : List (TableChanges A)) (start mid : Tables A) (next : AppliedState A) → AppliesEach blob_of policy lists start mid
+      → apply mid (blob_of list) policy ≡ Ok next → AppliesEach blob_of policy (lists ++ list ∷ []) start next.database
+  applies-append blob_of policy [] list start mid next all is = (next, ap (λ tables. apply tables (blob_of list) policy) (sym all) ∙ is, refl)
+  applies-append blob_of policy (first ∷ lists) list start mid next all is = (all.0, all.1, applies-append blob_of policy lists list all.0.database mid next all.2 is)
 
   same_schema : (found : Option (TableState A)) → option_map (λ t. t.schema) (option_map but_keyed found) ≡ option_map (λ t. t.schema) found
   same_schema None = refl
@@ -248,7 +247,8 @@ module _ {A : Type 0} where
       (creates_keep : (tables : Tables A) (other : List ℕ) (schema : List Bool) → IfOk (create tables other schema) (λ after. (table : List ℕ) (columns : List Bool) → schema_of tables table ≡ Some columns → schema_of after table ≡ Some columns))
       (rises : (past : Past A) → AreWritable past → AreRising (main past))
       (applies : (tables : Tables A) (blob : Contents A) (policy : Policy) → AreRising tables → IsWritable blob → IfOk (apply tables blob policy) (λ left. AreRising left.database))
-      (gives : (policy : Policy) (ts : List (TableRows A)) (tables : Tables A) → AllBefore ts tables → GivesAllRowsNow policy ts (Changes (map group_of_rows ts)) tables)
+      (blob_of : List (TableChanges A) → Contents A)
+      (gives : (policy : Policy) (ts : List (TableRows A)) (tables : Tables A) → AllBefore ts tables → GivesAllRowsNow policy ts (blob_of (map group_of_rows ts)) tables)
       (policy : Policy) (session : ℕ) (start : Past A) (fresh : touches session start ≡ []) (database : Tables A) (rise : AreRising database) where
     abbrev Over : List (Event A) → List ℕ → Fields A → Option (Option (Fields A))
     Over later name key = first_touched (touches_over session later start) name key
@@ -342,7 +342,7 @@ module _ {A : Type 0} where
     -- what is left after the captures so far
     record Left (later : List (Event A)) : Type 0 where
       left : Tables A
-      applied : AppliesAll policy (captures session later start) database left
+      applied : AppliesEach blob_of policy (captures session later start) database left
       rising : AreRising left
       columns : (name : List ℕ) → schema_of left name ≡ schema_of database name
       current : (name : List ℕ) (key : Fields A) (image : Option (Fields A)) → Since later name key ≡ Some image → row_at left name key ≡ image
@@ -365,7 +365,7 @@ module _ {A : Type 0} where
       other-left : (is_accepted event.reply && restarts session event.command) ≡ false → Left (event ∷ later)
       other-left kept_on = record {
         left = before.left;
-        applied = subst (λ lists. AppliesAll policy lists database before.left) (sym (ap (λ b. captures session later start ++ cond b (told ∷ []) []) kept_on ∙ append-nil (captures session later start))) before.applied;
+        applied = subst (λ lists. AppliesEach blob_of policy lists database before.left) (sym (ap (λ b. captures session later start ++ cond b (told ∷ []) []) kept_on ∙ append-nil (captures session later start))) before.applied;
         rising = before.rising;
         columns = before.columns;
         current = λ name key image is.
@@ -398,7 +398,7 @@ module _ {A : Type 0} where
 
       -- a restart, whose capture is applied
       module _ (restarted : (is_accepted event.reply && restarts session event.command) ≡ true) (main_rise : AreRising (main (later ++ start)))
-          (writable : IsWritable (Changes (session_changes (main (later ++ start)) (session_of (later ++ start) session)))) where
+          (writable : IsWritable (blob_of (session_changes (main (later ++ start)) (session_of (later ++ start) session)))) where
         abbrev list : List (TableChanges A)
         list = session_changes (main (later ++ start)) (session_of (later ++ start) session)
 
@@ -444,15 +444,15 @@ module _ {A : Type 0} where
           images = λ name key kept at. before.current name key kept.image (sym (record-touched (later ++ start) session name key) ∙ ap image_in at);
         }
 
-        whole : AppliesWhole policy (Changes list) (changes_in list) before.left (main (later ++ start)) tables_now
-        whole = changes_apply (later ++ start) session before.left before.rising main_rise images-now gives policy list refl
+        whole : AppliesWhole policy (blob_of list) (changes_in list) before.left (main (later ++ start)) tables_now
+        whole = changes_apply (later ++ start) session before.left before.rising main_rise images-now blob_of gives policy list refl
 
         restart-left : Left (event ∷ later)
         restart-left = record {
           left = whole.0.database;
-          applied = subst (λ lists. AppliesAll policy lists database whole.0.database) (sym (ap (λ b. captures session later start ++ cond b (list ∷ []) []) restarted))
-              (applies-append policy (captures session later start) list database before.left whole.0 before.applied whole.1);
-          rising = subst (λ r. IfOk r (λ next. AreRising next.database)) whole.1 (applies before.left (Changes list) policy before.rising writable);
+          applied = subst (λ lists. AppliesEach blob_of policy lists database whole.0.database) (sym (ap (λ b. captures session later start ++ cond b (list ∷ []) []) restarted))
+              (applies-append blob_of policy (captures session later start) list database before.left whole.0 before.applied whole.1);
+          rising = subst (λ r. IfOk r (λ next. AreRising next.database)) whole.1 (applies before.left (blob_of list) policy before.rising writable);
           columns = λ name. sym (same_schema (table_of whole.0.database name)) ∙ ap (option_map (λ t. t.schema)) (whole.2.others name) ∙ same_schema (table_of before.left name) ∙ before.columns name;
           current = λ name key image is. let clash : None ≡ Some image = sym (since-restart event later name key restarted) ∙ is in cc;
           earlier = λ name key image is none.
@@ -475,24 +475,24 @@ module _ {A : Type 0} where
         }
 
     left-after : (later : List (Event A)) → IsSteady session later start → HoldsFirst database session later start → AreWritable (later ++ start)
-        → AllByRecursion (λ list. IsWritable (Changes list)) (captures session later start) → Left later
+        → AllByRecursion (λ list. IsWritable (blob_of list)) (captures session later start) → Left later
     left-after [] steady holds writable told = start-left
     left-after (event ∷ later) steady holds writable told =
         let list = session_changes (main (later ++ start)) (session_of (later ++ start) session) in
         elim (is_accepted event.reply && restarts session event.command) as (λ b. (is_accepted event.reply && restarts session event.command) ≡ b
-        → AllByRecursion (λ l. IsWritable (Changes l)) (captures session later start ++ cond b (list ∷ []) []) → Left (event ∷ later)) [
+        → AllByRecursion (λ l. IsWritable (blob_of l)) (captures session later start ++ cond b (list ∷ []) []) → Left (event ∷ later)) [
           | true ↦ λ restarted all.
-              let parts = both-parts (λ l. IsWritable (Changes l)) (captures session later start) (list ∷ []) all in
+              let parts = both-parts (λ l. IsWritable (blob_of l)) (captures session later start) (list ∷ []) all in
               restart-left event later steady holds (left-after later steady.2 (holds-before event later steady holds) writable.1 parts.0) restarted (rises (later ++ start) writable.1) parts.1.0
           | false ↦ λ kept_on all.
-              let parts = both-parts (λ l. IsWritable (Changes l)) (captures session later start) [] all in
+              let parts = both-parts (λ l. IsWritable (blob_of l)) (captures session later start) [] all in
               other-left event later steady holds (left-after later steady.2 (holds-before event later steady holds) writable.1 parts.0) kept_on
         ] refl told
 
     -- where the last of the events is a restart
     pub in_a_row : (event : Event A) (later : List (Event A)) → (is_accepted event.reply && restarts session event.command) ≡ true → IsSteady session (event ∷ later) start
-        → HoldsFirst database session (event ∷ later) start → AreWritable (event ∷ later ++ start) → AllByRecursion (λ list. IsWritable (Changes list)) (captures session (event ∷ later) start)
-        → (left : Tables A) × AppliesAll policy (captures session (event ∷ later) start) database left × HasRowsNow left session (event ∷ later) start
+        → HoldsFirst database session (event ∷ later) start → AreWritable (event ∷ later ++ start) → AllByRecursion (λ list. IsWritable (blob_of list)) (captures session (event ∷ later) start)
+        → (left : Tables A) × AppliesEach blob_of policy (captures session (event ∷ later) start) database left × HasRowsNow left session (event ∷ later) start
     in_a_row event later restarted steady holds writable told =
         let found = left-after (event ∷ later) steady holds writable told in
         (found.left, found.applied, λ name key image is. found.earlier name key image is (since-restart event later name key restarted))

@@ -5,7 +5,9 @@ use Rattle.cap_row.specs.Fields.{Fields}
 use Rattle.cap_row.specs.Key.{fields_cmp}
 use Rattle.cap_tree.specs.Tree.{get}
 use Rattle.cap_changes.specs.Group.{TableChanges}
-use Rattle.cap_codec.specs.declared.read.Contents.TheVariants.{Changes}
+use Rattle.cap_changes.specs.Patch.{patch_list_of}
+use Rattle.cap_codec.specs.declared.read.Contents.{Contents}
+use Rattle.cap_codec.specs.declared.read.Contents.TheVariants.{Changes, Patches}
 use Rattle.cap_txn.specs.Read.{row_at}
 use Rattle.cap_txn.specs.Tables.{Tables, schema_of}
 use Rattle.cap_apply.specs.Applied.{AppliedState}
@@ -47,10 +49,18 @@ module _ {A : Type 0} where
         → (columns : List Bool) × (schema_of database name ≡ Some columns) × (schema_of (main (later ++ start)) name ≡ Some columns)
     pub images : (name : List ℕ) (key : Fields A) (image : Option (Fields A)) → first_touched (touches_over session later start) name key ≡ Some image → row_at database name key ≡ image
 
-  -- the changesets are applied one after the other, and leave this
+  -- the blobs of these changes are applied one after the other, and leave this
+  abbrev pub AppliesEach : (List (TableChanges A) → Contents A) → Policy → List (List (TableChanges A)) → Tables A → Tables A → Type 0
+  AppliesEach blob_of policy [] database left = left ≡ database
+  AppliesEach blob_of policy (list ∷ lists) database left = (next : AppliedState A) × (apply database (blob_of list) policy ≡ Ok next) × AppliesEach blob_of policy lists next.database left
+
+  -- their changesets
   abbrev pub AppliesAll : Policy → List (List (TableChanges A)) → Tables A → Tables A → Type 0
-  AppliesAll policy [] database left = left ≡ database
-  AppliesAll policy (list ∷ lists) database left = (next : AppliedState A) × (apply database (Changes list) policy ≡ Ok next) × AppliesAll policy lists next.database left
+  AppliesAll policy lists database left = AppliesEach Changes policy lists database left
+
+  -- their patchsets
+  abbrev pub AppliesAllPatches : Policy → List (List (TableChanges A)) → Tables A → Tables A → Type 0
+  AppliesAllPatches policy lists database left = AppliesEach (λ list. Patches (patch_list_of list)) policy lists database left
 
   -- at each key that was touched over all, what is left has main's row
   abbrev pub HasRowsNow : Tables A → ℕ → List (Event A) → Past A → Type 0

@@ -7,14 +7,14 @@ ghost use Rattle.cap_table.specs.Sound.{keyed_stands};
 ghost use Rattle.cap_tree.specs.Tree.{get};
 ghost use Rattle.cap_changes.specs.Fits.{change_fits};
 ghost use Rattle.cap_changes.specs.Patch.{patch_list_of};
-ghost use Rattle.cap_codec.specs.Changeset.{list_bytes};
-ghost use Rattle.cap_codec.specs.Patchset.{patch_list_bytes};
+ghost use Rattle.cap_codec.specs.Changeset.{list_bytes, list_bytes_with};
+ghost use Rattle.cap_codec.specs.Patchset.{patch_list_bytes, patch_list_bytes_with};
 ghost use Rattle.cap_core.specs.Capture.{change_now, changes_of, table_changes};
 ghost use Rattle.cap_core.specs.Code.Grouped.{IsGroupOf, changes_in};
 ghost use Rattle.cap_core.specs.Code.Sound.{image_stands, records_stand, tables_stand};
 
 use cap_changes::{Change, ChangeList, Group, change_between, to_patches};
-use cap_codec::{write_changes, write_patches};
+use cap_codec::{KeyFlags, write_changes, write_changes_with, write_patches, write_patches_with};
 use cap_row::{Key, Row, Schema};
 use cap_session::{Attached, Record, Records};
 use cap_table::Table;
@@ -51,12 +51,29 @@ impl<A: AllocHandle> Capture<A> {
         write_changes(alloc, &self.changes)
     }
 
+    /// The bytes of the changeset, with the key columns flagged so. By `KeyFlags::Places` they are those that
+    /// SQLite's code writes, which its applier takes also where the key has several columns.
+    pub fn changeset_with(&self, alloc: A, key_flags: KeyFlags) -> Result<Vec<u8, A>, OutOfMemory>
+        ensures { IfOk result (λ bytes. bytes.items ≡ list_bytes_with key_flags self.now) }
+    {
+        write_changes_with(alloc, key_flags, &self.changes)
+    }
+
     /// The bytes of the patchset (The Session Extension, "sqlite3session_patchset").
     pub fn patchset(&self, alloc: A) -> Result<Vec<u8, A>, OutOfMemory>
         ensures { IfOk result (λ bytes. bytes.items ≡ patch_list_bytes (patch_list_of self.now)) }
     {
         let patches = to_patches(alloc, &self.changes)?;
         write_patches(alloc, &patches)
+    }
+
+    /// The bytes of the patchset, with the key columns flagged so.
+    pub fn patchset_with(&self, alloc: A, key_flags: KeyFlags) -> Result<Vec<u8, A>, OutOfMemory>
+        ensures { IfOk result (λ bytes. bytes.items
+            ≡ patch_list_bytes_with key_flags (patch_list_of self.now)) }
+    {
+        let patches = to_patches(alloc, &self.changes)?;
+        write_patches_with(alloc, key_flags, &patches)
     }
 
     /// The changes, table by table in the order in which the tables were attached, and in a table in the

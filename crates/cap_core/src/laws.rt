@@ -31,7 +31,7 @@ ghost use Rattle.cap_core.specs.Insert.{HasChange, IsInsertOfAbsent, changes_by_
 ghost use Rattle.cap_core.specs.Outcome.{is_of_row};
 ghost use Rattle.cap_core.specs.Past.{Past, is_accepted};
 ghost use Rattle.cap_core.specs.Replies.{replies_after};
-ghost use Rattle.cap_core.specs.Restarts.{AppliesAll, HasRowsNow, HoldsFirst, IsSteady, captures};
+ghost use Rattle.cap_core.specs.Restarts.{AppliesAll, AppliesAllPatches, HasRowsNow, HoldsFirst, IsSteady, captures};
 ghost use Rattle.cap_core.specs.Session.{mark, records_of, session_of};
 ghost use Rattle.cap_core.specs.Table.{AreWritable, IsKeyed, IsLoose};
 ghost use Rattle.cap_core.specs.Touch.{Touch, restarts, touches, touches_of};
@@ -155,10 +155,10 @@ pub fn a_capture_after_a_diff_gives_the_rows_now<A: AllocHandle>()
 /// was touched over all of them its table, with the columns that it has now, and the row that was there first. They
 /// leave at each of these keys the row that is there at the last restart. At the start the session has no touches; from
 /// then on it is enabled, and no diff of it is made. What is applied and captured can be written, as all that a program
-/// can make are.
+/// can make are. The patchsets do the same as the changesets.
 pub fn captures_in_a_row_give_the_rows_now<A: AllocHandle>()
-    ensures { (policy : Policy) (session : ℕ) (start : Past A) (later : List (Event A)) (event : Event A)
-        (database : Tables A)
+    ensures changesets { (policy : Policy) (session : ℕ) (start : Past A) (later : List (Event A))
+        (event : Event A) (database : Tables A)
         → touches session start ≡ [] → (is_accepted event.reply && restarts session event.command) ≡ true
         → IsSteady session (event ∷ later) start → HoldsFirst database session (event ∷ later) start
         → AreRising database → AreWritable (event ∷ later ++ start)
@@ -166,8 +166,19 @@ pub fn captures_in_a_row_give_the_rows_now<A: AllocHandle>()
         (captures session (event ∷ later) start)
         → (left : Tables A) × AppliesAll policy (captures session (event ∷ later) start) database left
         × HasRowsNow left session (event ∷ later) start }
+    ensures patchsets { (policy : Policy) (session : ℕ) (start : Past A) (later : List (Event A))
+        (event : Event A) (database : Tables A)
+        → touches session start ≡ [] → (is_accepted event.reply && restarts session event.command) ≡ true
+        → IsSteady session (event ∷ later) start → HoldsFirst database session (event ∷ later) start
+        → AreRising database → AreWritable (event ∷ later ++ start)
+        → AllByRecursion (λ list. IsWritable (Contents.Patches (patch_list_of list)))
+        (captures session (event ∷ later) start)
+        → (left : Tables A)
+        × AppliesAllPatches policy (captures session (event ∷ later) start) database left
+        × HasRowsNow left session (event ∷ later) start }
 {
     a_changeset_gives_the_rows_now::<A>();
+    a_patchset_gives_the_rows_now::<A>();
     applied_blobs_keep_order::<A>();
     tables_keep_columns::<A>();
     tables_keep_order::<A>();

@@ -1,10 +1,18 @@
+use Rattle.cap_changes.specs.Patch.{patch_list_of}
+use Rattle.cap_codec.specs.declared.read.Contents.TheVariants.{Changes, Patches}
 use Rattle.cap_core.proofs.KeyedLemmas.{main-rises}
 use Rattle.cap_core.proofs.RestartLemmas.{in_a_row}
 use Rattle.cap_core.proofs.laws.captures_in_a_row_give_the_rows_now.Goals as goal
 
 pub returns : goal.returns
-returns g c = λ policy session start later event database fresh restarted steady holds rise writable told.
+returns g c =
     let order = c.tables_keep_order.ensures in
     let applies = c.applied_blobs_keep_order.ensures in
-    in_a_row c.tables_keep_columns.ensures.run c.tables_keep_columns.ensures.create (main-rises order.empty order.run order.create applies) applies c.a_changeset_gives_the_rows_now.ensures
-    policy session start fresh database rise event later restarted steady holds writable told
+    let rises = main-rises order.empty order.run order.create applies in
+    let keep = c.tables_keep_columns.ensures in
+    record {
+      changesets = λ policy session start later event database fresh restarted steady holds rise writable told.
+          in_a_row keep.run keep.create rises applies Changes c.a_changeset_gives_the_rows_now.ensures policy session start fresh database rise event later restarted steady holds writable told;
+      patchsets = λ policy session start later event database fresh restarted steady holds rise writable told.
+          in_a_row keep.run keep.create rises applies (λ list. Patches (patch_list_of list)) c.a_patchset_gives_the_rows_now.ensures policy session start fresh database rise event later restarted steady holds writable told;
+    }
