@@ -9,6 +9,8 @@ mod changes;
 #[cfg(test)]
 mod codec;
 #[cfg(test)]
+mod codec_sqlite;
+#[cfg(test)]
 mod codec_stream;
 #[cfg(test)]
 mod filter;
