@@ -1,3 +1,6 @@
+mod OneCommands
+mod OneForms
+mod OneTokens
 mod RowLemmas
 mod SpellLemmas
 mod TokenLemmas

@@ -1,19 +1,18 @@
 -- How forms are put together.
-use Rattle.std.proofs.Common.{◌≡◌, ◌≤◌, ◌-◌, ◌⊎◌, ℕ, List, [], ◌∷◌, ◌++◌, length, false, true, Option, None, Some, Result, Ok, Err, IfErr, IfOk, refl, sym, ap, subst, ◌∙◌, arith, append_assoc, append-nil, inl, inr}
+use Rattle.std.proofs.Common.{◌≡◌, ◌≤◌, ◌-◌, ℕ, List, [], ◌∷◌, ◌++◌, length, false, true, Option, None, Some, Result, Ok, Err, IfErr, IfOk, refl, sym, ap, subst, ◌∙◌, arith, append_assoc, append-nil, inl, inr}
 use Rattle.cap_value.specs.declared.memory.Fault.{Fault}
 use Rattle.cap_value.specs.declared.memory.Fault.TheVariants.{Refused, OutOfMemory}
 use Rattle.cap_value.specs.declared.refusal.Refusal.{Refusal}
 use Rattle.cap_value.specs.declared.refusal.Refusal.TheVariants.{BadFilter}
 use Rattle.cap_value.specs.Memory.{AnswersUnlessMemory}
 use Rattle.cap_filter.specs.Faults.{IsUnfitAt}
-use Rattle.cap_filter.specs.Reading.{filter_of}
 use Rattle.cap_filter.specs.Rule.{Rule}
 use Rattle.cap_txn.specs.Batch.{BatchState, push, pushed, refused_push}
 use Rattle.cap_txn.specs.declared.cause.Cause.{Cause}
 use Rattle.cap_txn.specs.declared.op.Op.{Op}
 use Rattle.cap_script.specs.Operations.{SpelledAction, SpelledCause, SpelledOperation}
-use Rattle.cap_script.specs.Script.{AreLines, IsRead, SpellsLine, SpellsLines, SpellsScript, has_line_feed, is_ignored}
-use Rattle.cap_script.specs.Tokens.{Begins, Next, Token, behind_blanks, sign}
+use Rattle.cap_script.specs.Script.{AreLines, IsRead, SpellsLines, SpellsScript, has_line_feed, is_ignored}
+use Rattle.cap_script.specs.Tokens.{Begins, Next, Token, behind_blanks}
 use Rattle.cap_script.specs.declared.line.Line.{Line}
 use Rattle.cap_script.proofs.TokenLemmas.{blanks_twice}
 

@@ -1,6 +1,6 @@
 -- What stands in a line: forms, one behind the other.
-use Rattle.std.specs.Prelude.{◌≡◌, ℕ, List, false}
-use Rattle.cap_script.specs.Tokens.{Next, behind_blanks, integer, sign, word}
+use Rattle.std.specs.Prelude.{◌≡◌, ℕ, List, false, ◌==◌}
+use Rattle.cap_script.specs.Tokens.{Next, begins, behind_blanks, integer, sign, word}
 
 -- what may stand at the front of a line, and what stands behind it then
 abbrev pub Form : Type 1
@@ -17,8 +17,9 @@ Never line rest = ⊥
 abbrev pub Nothing : Form
 Nothing line rest = rest ≡ line
 
-abbrev pub Spaces : Form
-Spaces line rest = rest ≡ behind_blanks line
+-- spaces, and behind them no such sign
+abbrev pub Without : ℕ → Form
+Without s line rest = (rest ≡ behind_blanks line) × (begins (λ byte. byte == s) rest ≡ false)
 
 -- this word, any word where a name is asked for
 abbrev pub Word : List ℕ → Form

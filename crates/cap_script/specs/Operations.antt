@@ -1,5 +1,5 @@
 -- How values, rows and operations are spelled.
-use Rattle.std.specs.Prelude.{◌≡◌, ◌⊎◌, ℕ, List, [], ◌∷◌, None, codes}
+use Rattle.std.specs.Prelude.{◌≡◌, ◌⊎◌, ℕ, List, [], ◌∷◌, Some, None, codes}
 use Rattle.cap_value.specs.declared.value.Value.{Value}
 use Rattle.cap_value.specs.declared.value.Value.TheVariants.{Null, Int, Text, Blob}
 use Rattle.cap_row.specs.Fields.{Fields}
@@ -12,7 +12,7 @@ use Rattle.cap_txn.specs.declared.cause.Cause.TheVariants.{Direct, Cascade}
 use Rattle.cap_txn.specs.declared.op.Action.{Action}
 use Rattle.cap_txn.specs.declared.op.Action.TheVariants.{Insert, Update, Delete}
 use Rattle.cap_txn.specs.declared.op.Op.{Op}
-use Rattle.cap_script.specs.Forms.{Form, ◌▸◌, Never, Nothing, Spaces, Word, Sign, Natural}
+use Rattle.cap_script.specs.Forms.{Form, ◌▸◌, Never, Nothing, Without, Word, Sign, Natural}
 use Rattle.cap_script.specs.Tokens.{Next, NextInteger, blob, text}
 
 -- nothing, or a word for the doing of a trigger or a foreign key action
@@ -39,7 +39,7 @@ module _ {A : Type 0} where
 
   -- A key, or an id. A key with a NULL among its values is read as the id 0, which no row has.
   abbrev pub SpelledRow : RowRef A → Form
-  SpelledRow (Key key) = Word (codes "key") ▸ SpelledValues key
+  SpelledRow (Key key) = λ line rest. (key_from key ≡ Some key) × (Word (codes "key") ▸ SpelledValues key) line rest
   SpelledRow (Loose id) = λ line rest.
       (Word (codes "loose") ▸ Natural id) line rest
       ⊎ ((id ≡ 0) × (fields : Fields A) × (key_from fields ≡ None) × (Word (codes "key") ▸ SpelledValues fields) line rest)
@@ -48,9 +48,9 @@ module _ {A : Type 0} where
   abbrev pub SpelledField : ℕ × Value A → Form
   SpelledField (column, value) = Natural column ▸ Sign 61 ▸ SpelledValue value
 
-  -- a comma before each
+  -- a comma before each, as many as there are
   abbrev pub MoreFields : Assigned A → Form
-  MoreFields [] = Spaces
+  MoreFields [] = Without 44
   MoreFields (field ∷ fields) = Sign 44 ▸ SpelledField field ▸ MoreFields fields
 
   abbrev pub SpelledFields : Assigned A → Form
@@ -66,9 +66,9 @@ module _ {A : Type 0} where
   abbrev pub SpelledOperation : Op A → Form
   SpelledOperation op = SpelledCause op.cause ▸ SpelledAction op.table op.action
 
-  -- a semicolon before each
+  -- a semicolon before each, as many as there are
   abbrev pub MoreOperations : List (Op A) → Form
-  MoreOperations [] = Spaces
+  MoreOperations [] = Without 59
   MoreOperations (op ∷ ops) = Sign 59 ▸ SpelledOperation op ▸ MoreOperations ops
 
   abbrev pub SpelledOperations : List (Op A) → Form

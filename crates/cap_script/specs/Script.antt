@@ -1,7 +1,7 @@
 -- How lines and workloads are spelled.
 use Rattle.std.specs.Prelude.{◌≡◌, ◌⊎◌, ◌≤◌, ℕ, Bool, true, false, ◌==◌, ◌||◌, length, List, [], ◌∷◌, ◌++◌, Option, Some, None}
 use Rattle.std.specs.List.{list_any}
-use Rattle.cap_script.specs.Forms.{Form, ◌▸◌, Spaces}
+use Rattle.cap_script.specs.Forms.{Form, ◌▸◌, Without}
 use Rattle.cap_script.specs.Commands.{SpelledCommand}
 use Rattle.cap_script.specs.Tokens.{Begins, begins, behind_blanks, integer, is_blank, Next, sign}
 use Rattle.cap_script.specs.declared.line.Line.{Line}
@@ -10,9 +10,9 @@ use Rattle.cap_script.specs.declared.line.Line.{Line}
 abbrev pub is_ignored : List ℕ → Bool
 is_ignored line = begins (λ byte. byte == 35) line || length (behind_blanks line) == 0
 
--- Who gives the command: `@` and right behind it a number of at most 63, with a space right behind that, or nothing.
+-- Who gives the command: no `@`, or `@` and right behind it a number of at most 63, with a space right behind that, or nothing.
 abbrev pub SpelledWorker : Option ℕ → Form
-SpelledWorker None = Spaces
+SpelledWorker None = Without 64
 SpelledWorker (Some worker) = λ line rest.
     (digits : List ℕ) × Next (sign 64) line digits × Begins (integer false worker) digits rest × (worker ≤ 63)
     × (begins is_blank rest ≡ true)

@@ -1,5 +1,6 @@
 -- The tokens of a line.
-use Rattle.std.specs.Prelude.{◌≡◌, ℕ, List, [], ◌∷◌, ◌++◌, length, Bool, true, false, ◌==◌, ◌&&◌, ◌||◌, if◌then◌else◌, Ok, ℤ, pos, neg_ℤ, ◌<◌}
+use Rattle.std.specs.Prelude.{◌≡◌, ℕ, List, [], ◌∷◌, ◌++◌, length, Bool, true, false, ◌==◌, ◌&&◌, ◌||◌, if◌then◌else◌, Ok, ℤ, pos, neg_ℤ, ◌<◌, FitsSigned}
+use Rattle.std.specs.Int.{w64}
 use Rattle.std.specs.Char.{is_ascii_alphabetic, is_ascii_digit}
 use Rattle.std.specs.List.{list_all}
 use Rattle.std.specs.Str.Parse.{digits_value}
@@ -47,13 +48,19 @@ abbrev pub minus : Bool → List ℕ → List ℕ
 minus true digits = 45 ∷ digits
 minus false digits = digits
 
--- The line begins with the token, and the rest stands behind it. Words and integers are as long as they go.
+-- the number with this sign
+abbrev pub signed : Bool → ℕ → ℤ
+signed true n = neg_ℤ (pos n)
+signed false n = pos n
+
+-- The line begins with the token, and the rest stands behind it. Words and integers are as long as they go, and integers
+-- are in the range of 64 bits.
 abbrev pub Begins : Token → List ℕ → List ℕ → Type 0
 Begins (word w) line rest =
     (line ≡ w ++ rest) × (begins is_letter line ≡ true) × (begins_blob line ≡ false) × (is_word w ≡ true) × (begins is_word_byte rest ≡ false)
 Begins (integer negative n) line rest =
     (digits : List ℕ) × (line ≡ minus negative digits ++ rest) × (0 < length digits) × (list_all is_ascii_digit digits ≡ true) × (digits_value 10 digits ≡ n)
-    × (begins is_ascii_digit rest ≡ false)
+    × (begins is_ascii_digit rest ≡ false) × FitsSigned w64 (signed negative n)
 Begins (text t) line rest = (line ≡ quoted t ++ rest) × (begins is_quote rest ≡ false)
 Begins (blob bytes) line rest = (digits : List ℕ) × (line ≡ 120 ∷ quote ∷ digits ++ quote ∷ rest) × (decode_of digits ≡ Ok bytes)
 Begins (sign s) line rest = line ≡ s ∷ rest
@@ -61,11 +68,6 @@ Begins (sign s) line rest = line ≡ s ∷ rest
 -- the next token of the line, behind spaces or not, and the rest
 abbrev pub Next : Token → List ℕ → List ℕ → Type 0
 Next token line rest = Begins token (behind_blanks line) rest
-
--- the number with this sign
-abbrev pub signed : Bool → ℕ → ℤ
-signed true n = neg_ℤ (pos n)
-signed false n = pos n
 
 -- an integer is next
 abbrev pub NextInteger : ℤ → List ℕ → List ℕ → Type 0

@@ -1,4 +1,5 @@
 ghost use Rattle.std.specs.Prelude.{◌≡◌, ◌≤◌, ◌<◌, ◌^◌, [], Bool, true, false, ℕ, List, length, OnOk, IfOk, IsTrue, string_bytes};
+ghost use Rattle.cap_script.specs.Forms.{Without};
 ghost use Rattle.cap_script.specs.Tokens.{Begins, Next, NextInteger, behind_blanks, blob, integer, sign, text, word};
 ghost use Rattle.cap_script.specs.Script.{SpelledWorker};
 
@@ -89,7 +90,7 @@ impl<'a> Cursor<'a> {
     pub(crate) fn takes_sign(&mut self, wanted: char) -> bool
         requires { wanted < 128 }
         ensures next { IsTrue result → Next (sign wanted) self.old.rest.now self.new.rest.now }
-        ensures other { result ≡ false → self.new.rest.now ≡ behind_blanks self.old.rest.now }
+        ensures other { result ≡ false → Without wanted self.old.rest.now self.new.rest.now }
         ensures left { length self.new.rest.now ≤ length self.old.rest.now }
         ensures less { IsTrue result → length self.new.rest.now < length self.old.rest.now }
     {

@@ -4,6 +4,7 @@
 mod command;
 mod cursor;
 mod fault;
+mod laws;
 mod line;
 mod operation;
 mod refusal_text;
@@ -16,6 +17,7 @@ mod words;
 mod workload;
 
 pub use fault::ScriptFault;
+pub use laws::one_workload;
 pub use line::{Line, Show};
 pub use reply::print_reply;
 pub use workload::{Workload, parse};

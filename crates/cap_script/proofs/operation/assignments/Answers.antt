@@ -1,4 +1,4 @@
-use Rattle.std.proofs.Common.{[], ◌∷◌, ◌++◌, List, ℕ, codes, rules}
+use Rattle.std.proofs.Common.{[], ◌∷◌, codes, rules}
 use Rattle.cap_txn.specs.Assigned.{Assigned}
 use Rattle.cap_script.specs.Forms.{◌▸◌, Word}
 use Rattle.cap_script.specs.Operations.{SpelledFields}

@@ -1,4 +1,4 @@
-use Rattle.std.proofs.Common.{[], ◌∷◌, List, ℕ, ◌∙◌}
+use Rattle.std.proofs.Common.{[], ◌∷◌, List, ◌∙◌}
 use Rattle.cap_txn.specs.declared.op.Op.{Op}
 use Rattle.cap_script.specs.Operations.{SpelledOperations}
 use Rattle.cap_script.proofs.SpellLemmas.{no_more, one_more}

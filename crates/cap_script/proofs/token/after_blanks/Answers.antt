@@ -1,4 +1,4 @@
-use Rattle.std.proofs.Common.{◌∙◌, sym, rules}
+use Rattle.std.proofs.Common.{◌∙◌, sym}
 use Rattle.cap_script.proofs.TokenLemmas.{no_blank_behind}
 use Rattle.cap_script.proofs.token.after_blanks.Goals as goal
 

@@ -1,4 +1,4 @@
-use Rattle.std.proofs.Common.{◌≡◌, ◌++◌, take}
+use Rattle.std.proofs.Common.{◌≡◌, take}
 use Rattle.cap_script.specs.Words.{letters}
 use Rattle.cap_script.proofs.words.flags_of.Given as goal
 

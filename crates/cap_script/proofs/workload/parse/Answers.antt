@@ -1,4 +1,4 @@
-use Rattle.std.proofs.Common.{◌≡◌, ◌+◌, ◌≤◌, ◌++◌, ◌∷◌, List, ℕ, length, sym, ap, subst, ◌∙◌, arith, append_assoc, length-append, rules}
+use Rattle.std.proofs.Common.{◌≡◌, ◌++◌, ◌∷◌, List, ℕ, length, sym, ap, subst, ◌∙◌, arith, append_assoc, length-append, rules}
 use Rattle.cap_script.specs.Script.{SpellsScript}
 use Rattle.cap_script.specs.declared.line.Line.{Line}
 use Rattle.cap_script.proofs.SpellLemmas.{last_line, line_in_front}

@@ -1,4 +1,4 @@
-use Rattle.std.proofs.Common.{◌≤◌, ◌+◌, ◌++◌, length, List, ℕ}
+use Rattle.std.proofs.Common.{◌≤◌, ◌+◌, ◌++◌, length, List}
 use denote.Text.{Utf8}
 use denote.Shadow.{shadow}
 use Rattle.cap_script.specs.Script.{SpellsScript}

@@ -1,4 +1,4 @@
-use Rattle.std.proofs.Common.{◌≡◌, refl, sym, ◌∙◌, to_z-of_z, rules}
+use Rattle.std.proofs.Common.{ℤ, FitsSigned, refl, subst, sym, ◌∙◌, to_z-of_z, w64}
 use Rattle.std.specs.Str.Parse.{digits_value}
 use Rattle.cap_script.proofs.cursor.Cursor.integer.Goals as goal
 
@@ -7,4 +7,4 @@ returns-clause-next c =
     let parts = rw c.in_ok-digits.ensures.ok_part at c.split_integer.ensures in
     let number = rw c.in_ok-number.ensures.ok_part at (c.integer_of.ensures.value parts.0 parts.1 parts.3 parts.4) in
     let fits = rw c.in_ok-number.ensures.ok_part at c.integer_of.ensures.fits in
-    (parts.0, digits_value 10 parts.1, (parts.1, sym c.skip_spaces.ensures.behind ∙ rw parts.3 at parts.2, number.0, parts.4, refl, parts.5), to_z-of_z fits ∙ number.1)
+    (parts.0, digits_value 10 parts.1, (parts.1, sym c.skip_spaces.ensures.behind ∙ rw parts.3 at parts.2, number.0, parts.4, refl, parts.5, subst (λ (z : ℤ). FitsSigned w64 z) number.1 fits), to_z-of_z fits ∙ number.1)
