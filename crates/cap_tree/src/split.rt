@@ -14,19 +14,29 @@ use std::sync::Arc;
 
 impl<K: Ord, V, A: AllocHandle> Node<K, V, A> {
     // Where a full node is cut into which the key is to be put: near its end where the key belongs behind all items,
-    // so that rising keys leave full nodes behind, and else in the middle.
+    // near its start where it belongs in front of all, so that rising and falling keys leave full nodes behind, and
+    // else in the middle.
     pub(crate) fn cut_for(&self, key: &K) -> usize
         ensures least { 4 ≤ result }
         ensures most { result ≤ 12 }
     {
-        let last = match &self.link {
-            Link::Leaf(entries) => entries.last().map(|entry| &entry.0),
-            Link::Inner(_, _, parts) => parts.last().map(|part| &part.least),
+        let (first, last) = match &self.link {
+            Link::Leaf(entries) => match entries.as_slice() {
+                [first, .., last] => (&first.0, &last.0),
+                _ => return 8,
+            },
+            Link::Inner(_, _, parts) => match parts.as_slice() {
+                [first, .., last] => (&first.least, &last.least),
+                _ => return 8,
+            },
         };
-        match last {
-            Some(last) if key.cmp(last) == Ordering::Greater => 12,
-            _ => 8,
+        if key.cmp(last) == Ordering::Greater {
+            return 12;
         }
+        if key.cmp(first) == Ordering::Less {
+            return 4;
+        }
+        8
     }
 }
 
