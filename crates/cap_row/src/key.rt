@@ -123,15 +123,24 @@ impl<A: AllocHandle> Key<A> {
     }
 
     /// The order of keys: value by value, and a key before what extends it.
-    #[inline]
+    #[inline(always)]
     pub fn order(&self, other: &Self) -> Ordering
         ensures order { result ≡ fields_cmp self.now other.now }
         ensures equal { (result ≡ Ordering.Equal) ↔ (self.now ≡ other.now) }
     {
         match (&self.values, &other.values) {
             (Values::One(value), Values::One(against)) => value.order(against),
-            _ => self.fields().cmp(other.fields()),
+            _ => self.order_of_many(other),
         }
+    }
+
+    // Most keys are one value, so the order of these alone is made part of the callers.
+    #[inline(never)]
+    fn order_of_many(&self, other: &Self) -> Ordering
+        ensures order { result ≡ fields_cmp self.now other.now }
+        ensures equal { (result ≡ Ordering.Equal) ↔ (self.now ≡ other.now) }
+    {
+        self.fields().cmp(other.fields())
     }
 
     /// Whether both are the same key.
@@ -236,7 +245,7 @@ impl<A: AllocHandle> Ord for Key<A> {
 
     ghost matches_eq = { λ x y. refl };
 
-    #[inline]
+    #[inline(always)]
     fn cmp(&self, other: &Self) -> Ordering {
         self.order(other)
     }

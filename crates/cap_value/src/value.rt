@@ -37,7 +37,7 @@ impl<A: AllocHandle> Value<A> {
 
     /// The order of values: NULL, then integers by number, then texts and then blobs by their bytes
     /// (Datatypes In SQLite, "Sort Order").
-    #[inline]
+    #[inline(always)]
     pub fn order(&self, other: &Self) -> Ordering
         ensures order { result ≡ value_cmp self.now other.now }
         ensures equal { (result ≡ Ordering.Equal) ↔ (self.now ≡ other.now) }
