@@ -60,8 +60,9 @@ struct Trial {
 #[derive(Clone, Copy)]
 struct Extras {
     from_sorted: u128,
-    // Inserts while copies are kept, so that nodes are shared.
+    // Inserts while copies are kept, so that nodes are shared, and freeing all of these copies with what was inserted.
     shared: u128,
+    freed: u128,
     copy: u128,
     // Both trees hold the entries of the digest.
     is_right: bool,
@@ -97,7 +98,10 @@ fn try_table<T: Table<Global>>(
 }
 
 // Puts the keys, and keeps a copy of the tree every so often.
-fn put_beside_copies(alloc: Global, keys: &[u64]) -> Result<usize, AllocError> {
+fn put_beside_copies(
+    alloc: Global,
+    keys: &[u64],
+) -> Result<(Numbers<Global>, Vec<Numbers<Global>>), AllocError> {
     let mut tree: Numbers<Global> = Tree::empty(alloc);
     let mut copies = Vec::new(alloc);
     for run in keys.chunks(INSERTS_A_COPY) {
@@ -106,7 +110,7 @@ fn put_beside_copies(alloc: Global, keys: &[u64]) -> Result<usize, AllocError> {
             tree.insert(*key, value_of(*key))?;
         }
     }
-    Ok(tree.len())
+    Ok((tree, copies))
 }
 
 // Makes a tree of a tree's list of entries, puts the keys once more beside copies, and copies the first.
@@ -120,8 +124,13 @@ fn try_extras(rt: &(impl CpuClock + AllocGlobal), keys: &[u64], digest: u64) -> 
     let whole = Tree::from_sorted(rt.alloc(), entries)?;
     let from_sorted = watch.read(rt)?;
     let watch = Stopwatch::start(rt)?;
-    let count = put_beside_copies(rt.alloc(), keys)?;
+    let (grown, copies) = put_beside_copies(rt.alloc(), keys)?;
     let shared = watch.read(rt)?;
+    let count = grown.len();
+    let watch = Stopwatch::start(rt)?;
+    drop(copies);
+    drop(grown);
+    let freed = watch.read(rt)?;
     let is_right = count == keys.len()
         && tree.digest() == digest
         && whole.is_some_and(|other| other.digest() == digest);
@@ -132,6 +141,7 @@ fn try_extras(rt: &(impl CpuClock + AllocGlobal), keys: &[u64], digest: u64) -> 
     Ok(Extras {
         from_sorted,
         shared,
+        freed,
         copy: watch.read(rt)? / u128::from(COPIES),
         is_right,
     })
@@ -162,6 +172,7 @@ fn print_times(
     print_ratio(rt, "put", of_tree.put, of_map.put, calls)?;
     print_ratio(rt, "from_sorted", extras.from_sorted, of_map.put, calls)?;
     print_ratio(rt, "put beside copies", extras.shared, of_map.put, calls)?;
+    print_ratio(rt, "free copies", extras.freed, of_map.put, calls)?;
     print_ratio(rt, "get", of_tree.get, of_map.get, calls)?;
     print_ratio(rt, "iterate", of_tree.iterate, of_map.iterate, calls)?;
     print_ratio(rt, "take", of_tree.take, of_map.take, calls)?;
@@ -181,6 +192,7 @@ pub(crate) fn try_order(
     let mut extras = Extras {
         from_sorted: 0,
         shared: 0,
+        freed: 0,
         copy: 0,
         is_right: true,
     };
@@ -193,6 +205,7 @@ pub(crate) fn try_order(
         extras = Extras {
             from_sorted: extras.from_sorted.saturating_add(more.from_sorted),
             shared: extras.shared.saturating_add(more.shared),
+            freed: extras.freed.saturating_add(more.freed),
             copy: more.copy,
             is_right: extras.is_right
                 && more.is_right
