@@ -36,8 +36,6 @@ even_pair-requires-clause-back_most g c =
     let e = get_or backs 0 c.index-backs-0.result in
     let is_d : d ≡ get_or items at d = ap (λ z. get_or fronts at z) c.index-fronts-at.is ∙ ap (λ l. get_or l at d) fs ∙ front_read items at d in
     let is_e : e ≡ get_or items (at + 1) e = ap (λ z. get_or backs 0 z) c.index-backs-0.is ∙ ap (λ l. get_or l 0 e) bs ∙ back_read items at e in
-    let shape_d = child_is g.K.Ord.cmp items at d (omega (arith, within)) is_d c.args.height c.requires.parts in
-    let shape_e = child_is g.K.Ord.cmp items (at + 1) e within is_e c.args.height c.requires.parts in
     pair_has g.K.Ord.cmp g.met.K.Ord.total items at d e within is_d is_e (λ a b. a + b ≤ c.args.cut + 16) c.requires.back_most
 
 pub even_pair-requires-clause-within : goal.even_pair-requires-clause-within
@@ -70,8 +68,6 @@ even_pair-requires-clause-uneven g c =
     let e = get_or backs 0 c.index-backs-0.result in
     let is_d : d ≡ get_or items at d = ap (λ z. get_or fronts at z) c.index-fronts-at.is ∙ ap (λ l. get_or l at d) fs ∙ front_read items at d in
     let is_e : e ≡ get_or items (at + 1) e = ap (λ z. get_or backs 0 z) c.index-backs-0.is ∙ ap (λ l. get_or l 0 e) bs ∙ back_read items at e in
-    let shape_d = child_is g.K.Ord.cmp items at d (omega (arith, within)) is_d c.args.height c.requires.parts in
-    let shape_e = child_is g.K.Ord.cmp items (at + 1) e within is_e c.args.height c.requires.parts in
     pair_has g.K.Ord.cmp g.met.K.Ord.total items at d e within is_d is_e (λ a b. c.args.cut ≢ a) c.requires.uneven
 
 pub even_pair-requires-clause-fits : goal.even_pair-requires-clause-fits
@@ -104,8 +100,6 @@ even_pair-requires-clause-ordered g c =
     let e = get_or backs 0 c.index-backs-0.result in
     let is_d : d ≡ get_or items at d = ap (λ z. get_or fronts at z) c.index-fronts-at.is ∙ ap (λ l. get_or l at d) fs ∙ front_read items at d in
     let is_e : e ≡ get_or items (at + 1) e = ap (λ z. get_or backs 0 z) c.index-backs-0.is ∙ ap (λ l. get_or l 0 e) bs ∙ back_read items at e in
-    let shape_d = child_is g.K.Ord.cmp items at d (omega (arith, within)) is_d c.args.height c.requires.parts in
-    let shape_e = child_is g.K.Ord.cmp items (at + 1) e within is_e c.args.height c.requires.parts in
     ordered_pair g.K.Ord.cmp g.met.K.Ord.total items at d e within is_d is_e c.requires.ordered
 
 pub even_pair-requires-clause-below : goal.even_pair-requires-clause-below
@@ -121,8 +115,6 @@ even_pair-requires-clause-below g c =
     let e = get_or backs 0 c.index-backs-0.result in
     let is_d : d ≡ get_or items at d = ap (λ z. get_or fronts at z) c.index-fronts-at.is ∙ ap (λ l. get_or l at d) fs ∙ front_read items at d in
     let is_e : e ≡ get_or items (at + 1) e = ap (λ z. get_or backs 0 z) c.index-backs-0.is ∙ ap (λ l. get_or l 0 e) bs ∙ back_read items at e in
-    let shape_d = child_is g.K.Ord.cmp items at d (omega (arith, within)) is_d c.args.height c.requires.parts in
-    let shape_e = child_is g.K.Ord.cmp items (at + 1) e within is_e c.args.height c.requires.parts in
     below_pair g.K.Ord.cmp g.met.K.Ord.total items at d e within is_d is_e c.args.height c.requires.parts
 
 pub even_pair-requires-clause-not_below : goal.even_pair-requires-clause-not_below
@@ -138,8 +130,6 @@ even_pair-requires-clause-not_below g c =
     let e = get_or backs 0 c.index-backs-0.result in
     let is_d : d ≡ get_or items at d = ap (λ z. get_or fronts at z) c.index-fronts-at.is ∙ ap (λ l. get_or l at d) fs ∙ front_read items at d in
     let is_e : e ≡ get_or items (at + 1) e = ap (λ z. get_or backs 0 z) c.index-backs-0.is ∙ ap (λ l. get_or l 0 e) bs ∙ back_read items at e in
-    let shape_d = child_is g.K.Ord.cmp items at d (omega (arith, within)) is_d c.args.height c.requires.parts in
-    let shape_e = child_is g.K.Ord.cmp items (at + 1) e within is_e c.args.height c.requires.parts in
     not_below_pair g.K.Ord.cmp g.met.K.Ord.total items at d e within is_d is_e c.args.height c.requires.parts
 
 pub returns-in_err-even_pair-clause-entries : goal.returns-in_err-even_pair-clause-entries
@@ -155,8 +145,6 @@ returns-in_err-even_pair-clause-entries g c =
     let e = get_or backs 0 c.index-backs-0.result in
     let is_d : d ≡ get_or items at d = ap (λ z. get_or fronts at z) c.index-fronts-at.is ∙ ap (λ l. get_or l at d) fs ∙ front_read items at d in
     let is_e : e ≡ get_or items (at + 1) e = ap (λ z. get_or backs 0 z) c.index-backs-0.is ∙ ap (λ l. get_or l 0 e) bs ∙ back_read items at e in
-    let shape_d = child_is g.K.Ord.cmp items at d (omega (arith, within)) is_d c.args.height c.requires.parts in
-    let shape_e = child_is g.K.Ord.cmp items (at + 1) e within is_e c.args.height c.requires.parts in
     let x = c.even_pair.new.front in
     let y = c.even_pair.new.back in
     let whole = seam items fronts backs c.args.parts.now.len at x y c.args.parts.now.ok.0 within fs bs in
@@ -177,8 +165,6 @@ returns-in_err-even_pair-clause-parts g c =
     let e = get_or backs 0 c.index-backs-0.result in
     let is_d : d ≡ get_or items at d = ap (λ z. get_or fronts at z) c.index-fronts-at.is ∙ ap (λ l. get_or l at d) fs ∙ front_read items at d in
     let is_e : e ≡ get_or items (at + 1) e = ap (λ z. get_or backs 0 z) c.index-backs-0.is ∙ ap (λ l. get_or l 0 e) bs ∙ back_read items at e in
-    let shape_d = child_is g.K.Ord.cmp items at d (omega (arith, within)) is_d c.args.height c.requires.parts in
-    let shape_e = child_is g.K.Ord.cmp items (at + 1) e within is_e c.args.height c.requires.parts in
     let x = c.even_pair.new.front in
     let y = c.even_pair.new.back in
     let whole = seam items fronts backs c.args.parts.now.len at x y c.args.parts.now.ok.0 within fs bs in
@@ -199,8 +185,6 @@ returns-in_err-even_pair-clause-fit g c =
     let e = get_or backs 0 c.index-backs-0.result in
     let is_d : d ≡ get_or items at d = ap (λ z. get_or fronts at z) c.index-fronts-at.is ∙ ap (λ l. get_or l at d) fs ∙ front_read items at d in
     let is_e : e ≡ get_or items (at + 1) e = ap (λ z. get_or backs 0 z) c.index-backs-0.is ∙ ap (λ l. get_or l 0 e) bs ∙ back_read items at e in
-    let shape_d = child_is g.K.Ord.cmp items at d (omega (arith, within)) is_d c.args.height c.requires.parts in
-    let shape_e = child_is g.K.Ord.cmp items (at + 1) e within is_e c.args.height c.requires.parts in
     let x = c.even_pair.new.front in
     let y = c.even_pair.new.back in
     let whole = seam items fronts backs c.args.parts.now.len at x y c.args.parts.now.ok.0 within fs bs in

@@ -13,9 +13,6 @@ returns-clause-entries g c =
     let y : Part _ _ _ = record { least = c.in_ok-renamed.renamed; node = d.node } in
     let some : 0 < length ys = omega (arith, c.requires.some, e.back_len, c.reserve_for.new.back.ok.0) in
     let renamed = g.met.K.Exact.exact _ _ c.in_ok-renamed.ensures.cases in
-    let hx : IsParts g.K.Ord.cmp c.args.height (seen xs) = rw e.front c.requires.front_parts in
-    let hy : IsParts g.K.Ord.cmp c.args.height (seen ys) = rw e.back c.requires.back_parts in
-    let whole = joined_parts g.K.Ord.cmp g.met.K.Ord.total c.args.height c.args.least.now xs ys d y some c.index_mut-first.ensures.value renamed refl hx hy (rw e.front c.requires.below) (rw e.back c.requires.not_below) in
     let both = joined_entries g.K.Ord.cmp g.met.K.Ord.total c.args.height c.args.least.now xs ys d y some c.index_mut-first.ensures.value renamed refl in
     let cut = inner_entries g.K.Ord.cmp g.met.K.Ord.total (xs ++ set ys 0 y) c.args.at in
     rw (c.divide.ensures.front, c.divide.ensures.back) (sym cut ∙ both ∙ rw (e.front, e.back) refl)
@@ -57,9 +54,6 @@ returns-clause-front_fit g c =
     let y : Part _ _ _ = record { least = c.in_ok-renamed.renamed; node = d.node } in
     let some : 0 < length ys = omega (arith, c.requires.some, e.back_len, c.reserve_for.new.back.ok.0) in
     let renamed = g.met.K.Exact.exact _ _ c.in_ok-renamed.ensures.cases in
-    let hx : IsParts g.K.Ord.cmp c.args.height (seen xs) = rw e.front c.requires.front_parts in
-    let hy : IsParts g.K.Ord.cmp c.args.height (seen ys) = rw e.back c.requires.back_parts in
-    let whole = joined_parts g.K.Ord.cmp g.met.K.Ord.total c.args.height c.args.least.now xs ys d y some c.index_mut-first.ensures.value renamed refl hx hy (rw e.front c.requires.below) (rw e.back c.requires.not_below) in
     let fit = joined_fit g.K.Ord.cmp g.met.K.Ord.total c.args.height c.args.least.now xs ys d y some c.index_mut-first.ensures.value renamed refl (rw e.front c.requires.front_fit) (rw e.back c.requires.back_fit) in
     rw c.divide.ensures.front (inner_fit_front g.K.Ord.cmp g.met.K.Ord.total (xs ++ set ys 0 y) c.args.at fit)
 
@@ -72,9 +66,6 @@ returns-clause-back_fit g c =
     let y : Part _ _ _ = record { least = c.in_ok-renamed.renamed; node = d.node } in
     let some : 0 < length ys = omega (arith, c.requires.some, e.back_len, c.reserve_for.new.back.ok.0) in
     let renamed = g.met.K.Exact.exact _ _ c.in_ok-renamed.ensures.cases in
-    let hx : IsParts g.K.Ord.cmp c.args.height (seen xs) = rw e.front c.requires.front_parts in
-    let hy : IsParts g.K.Ord.cmp c.args.height (seen ys) = rw e.back c.requires.back_parts in
-    let whole = joined_parts g.K.Ord.cmp g.met.K.Ord.total c.args.height c.args.least.now xs ys d y some c.index_mut-first.ensures.value renamed refl hx hy (rw e.front c.requires.below) (rw e.back c.requires.not_below) in
     let fit = joined_fit g.K.Ord.cmp g.met.K.Ord.total c.args.height c.args.least.now xs ys d y some c.index_mut-first.ensures.value renamed refl (rw e.front c.requires.front_fit) (rw e.back c.requires.back_fit) in
     rw c.divide.ensures.back (inner_fit_back g.K.Ord.cmp g.met.K.Ord.total (xs ++ set ys 0 y) c.args.at fit)
 

@@ -101,14 +101,9 @@ returns-in_err-replaced-in-Inner-clause-err g t c =
     let whole = c.make_room.ensures.entries ∙ c.part_for.ensures.entries in
     let child = c.in_ok-child-in-Inner.child.now in
     let same : child ≡ part.node.value = either_way c.in_ok-child-in-Inner.ensures.value in
-    let room = child_has g.K.Ord.cmp items at part within is (λ n. n < 16) c.in_ok-at-in-Inner-2.ensures.room in
     let now = c.make_mut.follows.lender c.put_after-replaced.new.node in
     let new : now.value ≡ c.put_after-replaced.new.node = c.make_mut.follows.holds c.put_after-replaced.new.node (rw c.in_ok-child-in-Inner.was refl) in
     let x : Part _ _ _ = record { least = part.least; node = now } in
-    let e = c.put_after-replaced.ensures in
-    let own = child_fit g.K.Ord.cmp items at part within is fit in
-    let fit_x : IsFit now.value = rw new (omega (arith, e.not_less, ap (λ n. n.2) same, own.0), omega (arith, e.one_more, ap (λ n. n.2) same, room), c.len-length.ensures.filled) in
-    let child_x = child_still g.K.Ord.cmp items at part within is x refl c.in-Inner.height parts (ap (λ n. n.1) new ∙ e.height ∙ ap (λ n. n.1) same) fit_x in
     let kept = kept_entries g.K.Ord.cmp items at part within is x refl (ap (λ n. n.0) new ∙ c.in_err-replaced-in-Inner.ensures.err ∙ ap (λ n. n.0) same) in
     on_err c.from_residual-in_err-replaced-in-Inner.result (kept ∙ whole ∙ ap (λ n. n.0) view)
 
@@ -153,14 +148,9 @@ returns-in-Inner-clause-ok g t c =
     let whole = c.make_room.ensures.entries ∙ c.part_for.ensures.entries in
     let child = c.in_ok-child-in-Inner.child.now in
     let same : child ≡ part.node.value = either_way c.in_ok-child-in-Inner.ensures.value in
-    let room = child_has g.K.Ord.cmp items at part within is (λ n. n < 16) c.in_ok-at-in-Inner-2.ensures.room in
     let now = c.make_mut.follows.lender c.put_after-replaced.new.node in
     let new : now.value ≡ c.put_after-replaced.new.node = c.make_mut.follows.holds c.put_after-replaced.new.node (rw c.in_ok-child-in-Inner.was refl) in
     let x : Part _ _ _ = record { least = part.least; node = now } in
-    let e = c.put_after-replaced.ensures in
-    let own = child_fit g.K.Ord.cmp items at part within is fit in
-    let fit_x : IsFit now.value = rw new (omega (arith, e.not_less, ap (λ n. n.2) same, own.0), omega (arith, e.one_more, ap (λ n. n.2) same, room), c.len-length.ensures.filled) in
-    let child_x = child_still g.K.Ord.cmp items at part within is x refl c.in-Inner.height parts (ap (λ n. n.1) new ∙ e.height ∙ ap (λ n. n.1) same) fit_x in
     let put = put_there g.K.Ord.cmp items at part within is x refl g.met.K.Ord.total c.args.key c.args.value c.in-Inner.height parts c.in_ok-at-in-Inner-2.ensures.place (ap (λ n. n.0) new ∙ c.in_ok-replaced-in-Inner.ensures.ok ∙ ap (λ m. put_entry g.K.Ord.cmp m.0 c.args.key c.args.value) same) in
     put ∙ ap (λ l. put_entry g.K.Ord.cmp l c.args.key c.args.value) (whole ∙ ap (λ n. n.0) view)
 
@@ -178,6 +168,5 @@ returns-in-Inner-clause-replaced g t c =
     let whole = c.make_room.ensures.entries ∙ c.part_for.ensures.entries in
     let child = c.in_ok-child-in-Inner.child.now in
     let same : child ≡ part.node.value = either_way c.in_ok-child-in-Inner.ensures.value in
-    let room = child_has g.K.Ord.cmp items at part within is (λ n. n < 16) c.in_ok-at-in-Inner-2.ensures.room in
     let found = c.in_ok-replaced-in-Inner.ensures.replaced ∙ ap (λ m. get g.K.Ord.cmp m.0 c.args.key) same ∙ sym (get_child g.K.Ord.cmp items at part within is g.met.K.Ord.total c.args.key c.in-Inner.height parts c.in_ok-at-in-Inner-2.ensures.place) in
     found ∙ ap (λ l. get g.K.Ord.cmp l c.args.key) (whole ∙ ap (λ n. n.0) view)

@@ -24,10 +24,6 @@ split_part-requires-clause-ordered g c =
     let items = c.in_ok-try_reserve.ensures.items in
     let is = c.index_mut-part.ensures.value in
     let within : c.args.at < length c.try_reserve.new.self.items = omega (arith, c.requires.within, c.in_ok-try_reserve.ensures.len, c.try_reserve.new.self.ok.0) in
-    let h : IsParts g.K.Ord.cmp c.args.height (seen c.try_reserve.new.self.items) = rw items c.requires.parts in
-    let fit : AreFit (seen c.try_reserve.new.self.items) = rw items c.requires.fit in
-    let shape = child_is g.K.Ord.cmp c.try_reserve.new.self.items c.args.at part within is c.args.height h in
-    let full : part.node.value.2 ≡ 16 = child_has g.K.Ord.cmp c.try_reserve.new.self.items c.args.at part within is (λ n. n ≡ 16) (rw items c.requires.full) in
     child_ordered g.K.Ord.cmp c.try_reserve.new.self.items c.args.at part within is (rw items c.requires.ordered)
 
 pub returns-in_err-next-clause-entries : goal.returns-in_err-next-clause-entries
@@ -36,10 +32,6 @@ returns-in_err-next-clause-entries g c =
     let items = c.in_ok-try_reserve.ensures.items in
     let is = c.index_mut-part.ensures.value in
     let within : c.args.at < length c.try_reserve.new.self.items = omega (arith, c.requires.within, c.in_ok-try_reserve.ensures.len, c.try_reserve.new.self.ok.0) in
-    let h : IsParts g.K.Ord.cmp c.args.height (seen c.try_reserve.new.self.items) = rw items c.requires.parts in
-    let fit : AreFit (seen c.try_reserve.new.self.items) = rw items c.requires.fit in
-    let shape = child_is g.K.Ord.cmp c.try_reserve.new.self.items c.args.at part within is c.args.height h in
-    let full : part.node.value.2 ≡ 16 = child_has g.K.Ord.cmp c.try_reserve.new.self.items c.args.at part within is (λ n. n ≡ 16) (rw items c.requires.full) in
     let x = c.split_part.new.part in
     let kept : x.node.value ≡ part.node.value = at_err c.split_part.result _ c.in_err-next.was c.split_part.ensures.err in
     kept_entries g.K.Ord.cmp c.try_reserve.new.self.items c.args.at part within is x c.split_part.ensures.least (ap (λ n. n.0) kept) ∙ ap (λ l. entries_of (seen l)) items
@@ -51,9 +43,7 @@ returns-in_err-next-clause-parts g c =
     let is = c.index_mut-part.ensures.value in
     let within : c.args.at < length c.try_reserve.new.self.items = omega (arith, c.requires.within, c.in_ok-try_reserve.ensures.len, c.try_reserve.new.self.ok.0) in
     let h : IsParts g.K.Ord.cmp c.args.height (seen c.try_reserve.new.self.items) = rw items c.requires.parts in
-    let fit : AreFit (seen c.try_reserve.new.self.items) = rw items c.requires.fit in
     let shape = child_is g.K.Ord.cmp c.try_reserve.new.self.items c.args.at part within is c.args.height h in
-    let full : part.node.value.2 ≡ 16 = child_has g.K.Ord.cmp c.try_reserve.new.self.items c.args.at part within is (λ n. n ≡ 16) (rw items c.requires.full) in
     let x = c.split_part.new.part in
     let kept : x.node.value ≡ part.node.value = at_err c.split_part.result _ c.in_err-next.was c.split_part.ensures.err in
     kept_parts g.K.Ord.cmp c.try_reserve.new.self.items c.args.at part within is x c.split_part.ensures.least c.args.height h (rw kept shape) (ap (λ n. n.0) kept)
@@ -64,10 +54,7 @@ returns-in_err-next-clause-fit g c =
     let items = c.in_ok-try_reserve.ensures.items in
     let is = c.index_mut-part.ensures.value in
     let within : c.args.at < length c.try_reserve.new.self.items = omega (arith, c.requires.within, c.in_ok-try_reserve.ensures.len, c.try_reserve.new.self.ok.0) in
-    let h : IsParts g.K.Ord.cmp c.args.height (seen c.try_reserve.new.self.items) = rw items c.requires.parts in
     let fit : AreFit (seen c.try_reserve.new.self.items) = rw items c.requires.fit in
-    let shape = child_is g.K.Ord.cmp c.try_reserve.new.self.items c.args.at part within is c.args.height h in
-    let full : part.node.value.2 ≡ 16 = child_has g.K.Ord.cmp c.try_reserve.new.self.items c.args.at part within is (λ n. n ≡ 16) (rw items c.requires.full) in
     let x = c.split_part.new.part in
     let kept : x.node.value ≡ part.node.value = at_err c.split_part.result _ c.in_err-next.was c.split_part.ensures.err in
     fit_still g.K.Ord.cmp c.try_reserve.new.self.items c.args.at part within is x c.split_part.ensures.least fit (rw kept (child_fit g.K.Ord.cmp c.try_reserve.new.self.items c.args.at part within is fit))

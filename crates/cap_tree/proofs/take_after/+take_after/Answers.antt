@@ -160,14 +160,9 @@ returns-in_err-removed-in-Inner-clause-err g t c =
     let whole = c.make_spare.ensures.entries in
     let child = c.in_ok-child-in-Inner.child.now in
     let same : child ≡ part.node.value = either_way c.in_ok-child-in-Inner.ensures.value in
-    let spare = child_has g.K.Ord.cmp items at part within is (λ n. 4 < n) c.in_ok-at-in-Inner.ensures.spare in
     let now = c.make_mut.follows.lender c.take_after-removed.new.node in
     let new : now.value ≡ c.take_after-removed.new.node = c.make_mut.follows.holds c.take_after-removed.new.node (rw c.in_ok-child-in-Inner.was refl) in
     let x : Part _ _ _ = record { least = part.least; node = now } in
-    let e = c.take_after-removed.ensures in
-    let own = child_fit g.K.Ord.cmp items at part within is fit in
-    let fit_x : IsFit now.value = rw new (omega (arith, e.one_less, ap (λ n. n.2) same, spare), omega (arith, e.not_more, ap (λ n. n.2) same, own.1), c.len-length.ensures.filled) in
-    let child_x = child_still g.K.Ord.cmp items at part within is x refl c.in-Inner.height parts (ap (λ n. n.1) new ∙ e.height ∙ ap (λ n. n.1) same) fit_x in
     let kept = kept_entries g.K.Ord.cmp items at part within is x refl (ap (λ n. n.0) new ∙ c.in_err-removed-in-Inner.ensures.err ∙ ap (λ n. n.0) same) in
     on_err c.from_residual-in_err-removed-in-Inner.result (kept ∙ whole ∙ ap (λ n. n.0) view)
 
@@ -232,14 +227,9 @@ returns-in-Inner-clause-ok g t c =
     let whole = c.make_spare.ensures.entries in
     let child = c.in_ok-child-in-Inner.child.now in
     let same : child ≡ part.node.value = either_way c.in_ok-child-in-Inner.ensures.value in
-    let spare = child_has g.K.Ord.cmp items at part within is (λ n. 4 < n) c.in_ok-at-in-Inner.ensures.spare in
     let now = c.make_mut.follows.lender c.take_after-removed.new.node in
     let new : now.value ≡ c.take_after-removed.new.node = c.make_mut.follows.holds c.take_after-removed.new.node (rw c.in_ok-child-in-Inner.was refl) in
     let x : Part _ _ _ = record { least = part.least; node = now } in
-    let e = c.take_after-removed.ensures in
-    let own = child_fit g.K.Ord.cmp items at part within is fit in
-    let fit_x : IsFit now.value = rw new (omega (arith, e.one_less, ap (λ n. n.2) same, spare), omega (arith, e.not_more, ap (λ n. n.2) same, own.1), c.len-length.ensures.filled) in
-    let child_x = child_still g.K.Ord.cmp items at part within is x refl c.in-Inner.height parts (ap (λ n. n.1) new ∙ e.height ∙ ap (λ n. n.1) same) fit_x in
     let put = take_there g.K.Ord.cmp items at part within is x refl g.met.K.Ord.total c.args.key.now c.in-Inner.height parts c.in_ok-at-in-Inner.ensures.place (ap (λ n. n.0) new ∙ c.in_ok-removed-in-Inner.ensures.ok ∙ ap (λ m. take_entry g.K.Ord.cmp m.0 c.args.key.now) same) in
     put ∙ ap (λ l. take_entry g.K.Ord.cmp l c.args.key.now) (whole ∙ ap (λ n. n.0) view)
 
@@ -257,6 +247,5 @@ returns-in-Inner-clause-removed g t c =
     let whole = c.make_spare.ensures.entries in
     let child = c.in_ok-child-in-Inner.child.now in
     let same : child ≡ part.node.value = either_way c.in_ok-child-in-Inner.ensures.value in
-    let spare = child_has g.K.Ord.cmp items at part within is (λ n. 4 < n) c.in_ok-at-in-Inner.ensures.spare in
     let found = c.in_ok-removed-in-Inner.ensures.removed ∙ ap (λ m. get g.K.Ord.cmp m.0 c.args.key.now) same ∙ sym (get_child g.K.Ord.cmp items at part within is g.met.K.Ord.total c.args.key.now c.in-Inner.height parts c.in_ok-at-in-Inner.ensures.place) in
     found ∙ ap (λ l. get g.K.Ord.cmp l c.args.key.now) (whole ∙ ap (λ n. n.0) view)

@@ -76,12 +76,9 @@ pub returns-in-Inner-clause-entries : goal.returns-in-Inner-clause-entries
 returns-in-Inner-clause-entries g c =
     let n = rw c.in-Inner.is at c.self.invariant in
     let view = rw c.in-Inner.is at c.self.view_is in
-    let within : c.args.at < length c.in-Inner.parts.items = omega (arith, c.in-Inner.parts.ok.0, ap (λ n. n.2) view, c.requires.back) in
-    let least = g.met.K.Exact.exact _ _ c.in_ok-least-in-Inner.ensures.cases in
     let whole : c.in-Inner.parts.items ++ c.in_ok-back-in-Inner.back.items ≡ c.in-Inner.parts.items = rw c.in_ok-back-in-Inner.ensures.items (append-nil c.in-Inner.parts.items) in
     let front : c.shift_back-in-Inner.new.front.items ≡ take c.args.at c.in-Inner.parts.items = c.shift_back-in-Inner.ensures.front ∙ rw whole refl in
     let back : c.shift_back-in-Inner.new.back.items ≡ drop c.args.at c.in-Inner.parts.items = c.shift_back-in-Inner.ensures.back ∙ rw whole refl in
-    let counts = inner_count g.K.Ord.cmp g.met.K.Ord.total c.in-Inner.parts.items c.args.at in
     rw (front, back) (sym (ap (λ n. n.0) view) ∙ inner_entries g.K.Ord.cmp g.met.K.Ord.total c.in-Inner.parts.items c.args.at)
 
 pub returns-in-Inner-clause-below : goal.returns-in-Inner-clause-below
@@ -92,8 +89,6 @@ returns-in-Inner-clause-below g c =
     let least = g.met.K.Exact.exact _ _ c.in_ok-least-in-Inner.ensures.cases in
     let whole : c.in-Inner.parts.items ++ c.in_ok-back-in-Inner.back.items ≡ c.in-Inner.parts.items = rw c.in_ok-back-in-Inner.ensures.items (append-nil c.in-Inner.parts.items) in
     let front : c.shift_back-in-Inner.new.front.items ≡ take c.args.at c.in-Inner.parts.items = c.shift_back-in-Inner.ensures.front ∙ rw whole refl in
-    let back : c.shift_back-in-Inner.new.back.items ≡ drop c.args.at c.in-Inner.parts.items = c.shift_back-in-Inner.ensures.back ∙ rw whole refl in
-    let counts = inner_count g.K.Ord.cmp g.met.K.Ord.total c.in-Inner.parts.items c.args.at in
     rw front (inner_below g.K.Ord.cmp g.met.K.Ord.total _ c.in-Inner.parts.items c.args.at _ _ within c.index-in-Inner.ensures least n.2)
 
 pub returns-in-Inner-clause-not_below : goal.returns-in-Inner-clause-not_below
@@ -103,7 +98,5 @@ returns-in-Inner-clause-not_below g c =
     let within : c.args.at < length c.in-Inner.parts.items = omega (arith, c.in-Inner.parts.ok.0, ap (λ n. n.2) view, c.requires.back) in
     let least = g.met.K.Exact.exact _ _ c.in_ok-least-in-Inner.ensures.cases in
     let whole : c.in-Inner.parts.items ++ c.in_ok-back-in-Inner.back.items ≡ c.in-Inner.parts.items = rw c.in_ok-back-in-Inner.ensures.items (append-nil c.in-Inner.parts.items) in
-    let front : c.shift_back-in-Inner.new.front.items ≡ take c.args.at c.in-Inner.parts.items = c.shift_back-in-Inner.ensures.front ∙ rw whole refl in
     let back : c.shift_back-in-Inner.new.back.items ≡ drop c.args.at c.in-Inner.parts.items = c.shift_back-in-Inner.ensures.back ∙ rw whole refl in
-    let counts = inner_count g.K.Ord.cmp g.met.K.Ord.total c.in-Inner.parts.items c.args.at in
     rw back (inner_above g.K.Ord.cmp g.met.K.Ord.total _ c.in-Inner.parts.items c.args.at _ _ within c.index-in-Inner.ensures least n.2)
