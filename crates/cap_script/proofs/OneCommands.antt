@@ -4,6 +4,8 @@ use Rattle.std.proofs.lemmas.Bool.{eqb-true}
 use Rattle.cap_filter.specs.Grammar.{Spells as SpellsFilter}
 use Rattle.cap_filter.specs.Rule.{Rule}
 use Rattle.cap_codec.specs.Spelling.{Spells as SpellsBlob}
+use Rattle.cap_codec.specs.declared.key_flags.KeyFlags.{KeyFlags}
+use Rattle.cap_codec.specs.declared.key_flags.KeyFlags.TheVariants.{Ones, Places}
 use Rattle.cap_codec.specs.declared.read.Contents.{Contents}
 use Rattle.cap_apply.specs.declared.policy.Answer.{Answer}
 use Rattle.cap_apply.specs.declared.policy.Answer.TheVariants.{Omit, Replace, Abort}
@@ -13,7 +15,7 @@ use Rattle.cap_txn.specs.declared.op.Op.{Op}
 use Rattle.cap_core.specs.declared.command.Command.{Command}
 use Rattle.cap_core.specs.declared.command.Command.TheVariants as command
 use Rattle.cap_script.specs.Forms.{Form, ◌▸◌, Word, Natural}
-use Rattle.cap_script.specs.Commands.{SpelledBatch, SpelledBlob, SpelledCommand, SpelledFilter, SpelledPolicy}
+use Rattle.cap_script.specs.Commands.{SpelledBatch, SpelledBlob, SpelledCommand, SpelledFilter, SpelledKeyFlags, SpelledPolicy}
 use Rattle.cap_script.specs.Operations.{SpelledOperations, SpelledRow}
 use Rattle.cap_script.specs.Script.{AreLines, SpelledWorker, SpellsLine, SpellsLines, SpellsScript, has_line_feed, is_ignored}
 use Rattle.cap_script.specs.Tokens.{Begins, behind_blanks, begins, integer, is_letter}
@@ -162,6 +164,15 @@ same_flag x y line a b p q = let same = same_word (flag_word x) (flag_word y) li
 same_filter : OneFilter → (x y : Rule) (line a b : List ℕ) → SpelledFilter x line a → SpelledFilter y line b → (x ≡ y) × (a ≡ b)
 same_filter filters x y line a b p q = (filters line x y p.0 q.0, p.1 ∙ sym q.1)
 
+no_places : (line rest : List ℕ) → behind_blanks line ≡ [] → Word (codes "places") line rest → ⊥
+no_places line rest none p = let bad : false ≡ true = subst (λ (l : List ℕ). begins is_letter l ≡ true) none p.1 in absurd cc
+
+same_key_flags : (x y : KeyFlags) (line a b : List ℕ) → SpelledKeyFlags x line a → SpelledKeyFlags y line b → (x ≡ y) × (a ≡ b)
+same_key_flags Ones Ones line a b p q = (refl, p.1 ∙ sym q.1)
+same_key_flags Places Places line a b p q = (refl, (same_word (codes "places") (codes "places") line a b p q).1)
+same_key_flags Ones Places line a b p q = absurd (no_places line b p.0 q)
+same_key_flags Places Ones line a b p q = absurd (no_places line a q.0 p)
+
 -- who gives a command
 same_worker : (x y : Option ℕ) (line a b : List ℕ) → SpelledWorker x line a → SpelledWorker y line b → (x ≡ y) × (a ≡ b)
 same_worker None None line a b p q = (refl, same_without 64 line a b p q)
@@ -194,8 +205,8 @@ Said A (head.Of session.Enable) = ℕ × Option Bool
 Said A (head.Of session.Indirect) = ℕ × Option Bool
 Said A (head.Of session.IsEmpty) = ℕ
 Said A (head.Of session.Diff) = ℕ × List ℕ × List ℕ
-Said A (head.Of session.Changeset) = ℕ
-Said A (head.Of session.Patchset) = ℕ
+Said A (head.Of session.Changeset) = ℕ × KeyFlags
+Said A (head.Of session.Patchset) = ℕ × KeyFlags
 Said A (head.Of session.Restart) = ℕ
 
 -- bytes spell one blob
@@ -219,8 +230,8 @@ SpelledSaid A (head.Of session.Diff) x = Natural x.0 ▸ Word x.1 ▸ Word x.2
 SpelledSaid A (head.Of session.Drop) x = Natural x
 SpelledSaid A (head.Of session.AttachAll) x = Natural x
 SpelledSaid A (head.Of session.IsEmpty) x = Natural x
-SpelledSaid A (head.Of session.Changeset) x = Natural x
-SpelledSaid A (head.Of session.Patchset) x = Natural x
+SpelledSaid A (head.Of session.Changeset) x = Natural x.0 ▸ SpelledKeyFlags x.1
+SpelledSaid A (head.Of session.Patchset) x = Natural x.0 ▸ SpelledKeyFlags x.1
 SpelledSaid A (head.Of session.Restart) x = Natural x
 
 -- a number and what stands behind it
@@ -249,16 +260,16 @@ module _ {A : Type 0} where
   command_of (head.Of session.Indirect) x = command.Indirect x.0 x.1
   command_of (head.Of session.IsEmpty) x = command.IsEmpty x
   command_of (head.Of session.Diff) x = command.Diff x.0 x.1 x.2
-  command_of (head.Of session.Changeset) x = command.Capture x
-  command_of (head.Of session.Patchset) x = command.Capture x
+  command_of (head.Of session.Changeset) x = command.Capture x.0
+  command_of (head.Of session.Patchset) x = command.Capture x.0
   command_of (head.Of session.Restart) x = command.Restart x
 
   abbrev pub show_of : (word : Head) → Said A word → Show A
   show_of head.Get x = Get x.0 x.1
   show_of head.Scan x = Scan x
-  show_of (head.Of session.Changeset) x = Changeset
-  show_of (head.Of session.Patchset) x = Patchset
-  show_of (head.Of session.Restart) x = Changeset
+  show_of (head.Of session.Changeset) x = Changeset x.1
+  show_of (head.Of session.Patchset) x = Patchset x.1
+  show_of (head.Of session.Restart) x = Changeset Ones
   show_of _ x = Plain
 
   -- a command by its word
@@ -291,9 +302,9 @@ module _ {A : Type 0} where
   by_word (command.Indirect number asked) Plain line rest p = record { word = head.Of session.Indirect; said = (number, asked); behind = p.0; first = p.1; others = p.2; made_is = refl; show_is = refl }
   by_word (command.IsEmpty number) Plain line rest p = record { word = head.Of session.IsEmpty; said = number; behind = p.0; first = p.1; others = p.2; made_is = refl; show_is = refl }
   by_word (command.Diff number from table) Plain line rest p = record { word = head.Of session.Diff; said = (number, from, table); behind = p.0; first = p.1; others = p.2; made_is = refl; show_is = refl }
-  by_word (command.Capture number) Changeset line rest p = record { word = head.Of session.Changeset; said = number; behind = p.0; first = p.1; others = p.2; made_is = refl; show_is = refl }
-  by_word (command.Capture number) Patchset line rest p = record { word = head.Of session.Patchset; said = number; behind = p.0; first = p.1; others = p.2; made_is = refl; show_is = refl }
-  by_word (command.Restart number) Changeset line rest p = record { word = head.Of session.Restart; said = number; behind = p.0; first = p.1; others = p.2; made_is = refl; show_is = refl }
+  by_word (command.Capture number) (Changeset flags) line rest p = record { word = head.Of session.Changeset; said = (number, flags); behind = p.0; first = p.1; others = p.2; made_is = refl; show_is = refl }
+  by_word (command.Capture number) (Patchset flags) line rest p = record { word = head.Of session.Patchset; said = (number, flags); behind = p.0; first = p.1; others = p.2; made_is = refl; show_is = refl }
+  by_word (command.Restart number) (Changeset Ones) line rest p = record { word = head.Of session.Restart; said = number; behind = p.0; first = p.1; others = p.2; made_is = refl; show_is = refl }
   by_word made show line rest p = absurd p
 
   same_blob : OneBlob A → (x y : Contents A) (line a b : List ℕ) → SpelledBlob x line a → SpelledBlob y line b → (x ≡ y) × (a ≡ b)
@@ -331,8 +342,8 @@ module _ {A : Type 0} where
   same_said blobs filters (head.Of session.Drop) x y line a b p q = same_natural x y line a b p q
   same_said blobs filters (head.Of session.AttachAll) x y line a b p q = same_natural x y line a b p q
   same_said blobs filters (head.Of session.IsEmpty) x y line a b p q = same_natural x y line a b p q
-  same_said blobs filters (head.Of session.Changeset) x y line a b p q = same_natural x y line a b p q
-  same_said blobs filters (head.Of session.Patchset) x y line a b p q = same_natural x y line a b p q
+  same_said blobs filters (head.Of session.Changeset) x y line a b p q = numbered SpelledKeyFlags same_key_flags x.0 y.0 x.1 y.1 line a b p q
+  same_said blobs filters (head.Of session.Patchset) x y line a b p q = numbered SpelledKeyFlags same_key_flags x.0 y.0 x.1 y.1 line a b p q
   same_said blobs filters (head.Of session.Restart) x y line a b p q = same_natural x y line a b p q
 
   pub same_by_word : OneBlob A → OneFilter → (v w : Head) (x : Said A v) (y : Said A w) (line a b : List ℕ) → v ≡ w → SpelledSaid A v x line a → SpelledSaid A w y line b

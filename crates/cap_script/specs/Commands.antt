@@ -3,12 +3,14 @@ use Rattle.std.specs.Prelude.{◌≡◌, ℕ, List, [], Option, Some, None, code
 use Rattle.cap_filter.specs.Grammar.{Spells as SpellsFilter}
 use Rattle.cap_filter.specs.Rule.{Rule}
 use Rattle.cap_codec.specs.Spelling.{Spells as SpellsBlob}
+use Rattle.cap_codec.specs.declared.key_flags.KeyFlags.{KeyFlags}
+use Rattle.cap_codec.specs.declared.key_flags.KeyFlags.TheVariants.{Ones, Places}
 use Rattle.cap_codec.specs.declared.read.Contents.{Contents}
 use Rattle.cap_apply.specs.declared.policy.Policy.{Policy}
 use Rattle.cap_txn.specs.declared.op.Op.{Op}
 use Rattle.cap_core.specs.declared.command.Command.{Command}
 use Rattle.cap_core.specs.declared.command.Command.TheVariants as command
-use Rattle.cap_script.specs.Forms.{Form, ◌▸◌, Never, Word, Natural}
+use Rattle.cap_script.specs.Forms.{Form, ◌▸◌, AtEnd, Never, Word, Natural}
 use Rattle.cap_script.specs.Operations.{SpelledOperations, SpelledRow}
 use Rattle.cap_script.specs.Tokens.{Next, blob}
 use Rattle.cap_script.specs.Words.{answer_word, flag_word, letters}
@@ -18,6 +20,11 @@ use Rattle.cap_script.specs.declared.line.Show.TheVariants.{Plain, Get, Scan, Ch
 -- what is done about data that differ, rows that are not there, and keys that are taken
 abbrev pub SpelledPolicy : Policy → Form
 SpelledPolicy policy = Word (answer_word policy.on_data) ▸ Word (answer_word policy.on_notfound) ▸ Word (answer_word policy.on_conflict)
+
+-- nothing, or a word for each key column's place within the key
+abbrev pub SpelledKeyFlags : KeyFlags → Form
+SpelledKeyFlags Ones = AtEnd
+SpelledKeyFlags Places = Word (codes "places")
 
 -- a filter's text, to the line's end
 abbrev pub SpelledFilter : Rule → Form
@@ -50,7 +57,7 @@ module _ {A : Type 0} where
   SpelledCommand (command.Indirect session asked) Plain = Word (codes "indirect") ▸ Natural session ▸ Word (flag_word asked)
   SpelledCommand (command.IsEmpty session) Plain = Word (codes "isempty") ▸ Natural session
   SpelledCommand (command.Diff session from table) Plain = Word (codes "diff") ▸ Natural session ▸ Word from ▸ Word table
-  SpelledCommand (command.Capture session) Changeset = Word (codes "changeset") ▸ Natural session
-  SpelledCommand (command.Capture session) Patchset = Word (codes "patchset") ▸ Natural session
-  SpelledCommand (command.Restart session) Changeset = Word (codes "restart") ▸ Natural session
+  SpelledCommand (command.Capture session) (Changeset flags) = Word (codes "changeset") ▸ Natural session ▸ SpelledKeyFlags flags
+  SpelledCommand (command.Capture session) (Patchset flags) = Word (codes "patchset") ▸ Natural session ▸ SpelledKeyFlags flags
+  SpelledCommand (command.Restart session) (Changeset Ones) = Word (codes "restart") ▸ Natural session
   SpelledCommand _ _ = Never

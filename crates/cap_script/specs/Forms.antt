@@ -1,5 +1,5 @@
 -- What stands in a line: forms, one behind the other.
-use Rattle.std.specs.Prelude.{◌≡◌, ℕ, List, false, ◌==◌}
+use Rattle.std.specs.Prelude.{◌≡◌, ℕ, List, [], false, ◌==◌}
 use Rattle.cap_script.specs.Tokens.{Next, begins, behind_blanks, integer, sign, word}
 
 -- what may stand at the front of a line, and what stands behind it then
@@ -16,6 +16,10 @@ Never line rest = ⊥
 
 abbrev pub Nothing : Form
 Nothing line rest = rest ≡ line
+
+-- spaces to the end of the line
+abbrev pub AtEnd : Form
+AtEnd line rest = (behind_blanks line ≡ []) × (rest ≡ [])
 
 -- spaces, and behind them no such sign
 abbrev pub Without : ℕ → Form

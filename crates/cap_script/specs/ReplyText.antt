@@ -3,8 +3,8 @@ use Rattle.std.specs.Prelude.{ℕ, Bool, if◌then◌else◌, List, [], ◌∷�
 use Rattle.hex.specs.Hex.{encode_lower}
 use Rattle.cap_changes.specs.Group.{TableChanges}
 use Rattle.cap_changes.specs.Patch.{patch_list_of}
-use Rattle.cap_codec.specs.Changeset.{list_bytes}
-use Rattle.cap_codec.specs.Patchset.{patch_list_bytes}
+use Rattle.cap_codec.specs.Changeset.{list_bytes_with}
+use Rattle.cap_codec.specs.Patchset.{patch_list_bytes_with}
 use Rattle.cap_apply.specs.Report.{ReportState}
 use Rattle.cap_core.specs.declared.command.Command.{Command}
 use Rattle.cap_core.specs.declared.command.Command.TheVariants as command
@@ -35,8 +35,8 @@ module _ {A : Type 0} where
 
   -- what is told of a capture
   abbrev pub capture_text : Show A → List (TableChanges A) → List ℕ
-  capture_text Changeset changes = codes "changeset " ++ hex_or_dash (list_bytes changes)
-  capture_text Patchset changes = codes "patchset " ++ hex_or_dash (patch_list_bytes (patch_list_of changes))
+  capture_text (Changeset flags) changes = codes "changeset " ++ hex_or_dash (list_bytes_with flags changes)
+  capture_text (Patchset flags) changes = codes "patchset " ++ hex_or_dash (patch_list_bytes_with flags (patch_list_of changes))
   capture_text _ changes = codes "ok"
 
   -- what is printed of the reply to a line's command

@@ -1,5 +1,5 @@
 ghost use Rattle.std.specs.Prelude.{◌≡◌, ◌≤◌, ◌<◌, ◌^◌, [], Bool, true, false, ℕ, List, length, OnOk, IfOk, IsTrue, string_bytes};
-ghost use Rattle.cap_script.specs.Forms.{Without};
+ghost use Rattle.cap_script.specs.Forms.{AtEnd, Without};
 ghost use Rattle.cap_script.specs.Tokens.{Begins, Next, NextInteger, behind_blanks, blob, integer, sign, text, word};
 ghost use Rattle.cap_script.specs.Script.{SpelledWorker};
 
@@ -117,12 +117,21 @@ impl<'a> Cursor<'a> {
         }
     }
 
+    /// Passes over the spaces before the next token, and tells whether there is none.
+    pub(crate) fn takes_end(&mut self) -> bool
+        ensures end { IsTrue result → AtEnd self.old.rest.now self.new.rest.now }
+        ensures behind { self.new.rest.now ≡ behind_blanks self.old.rest.now }
+        ensures left { length self.new.rest.now ≤ length self.old.rest.now }
+    {
+        self.skip_spaces();
+        self.rest.is_empty()
+    }
+
     /// The end of the line has to be next.
     pub(crate) fn end(&mut self) -> Result<(), LineFault>
         ensures { OnOk result (behind_blanks self.old.rest.now ≡ []) }
     {
-        self.skip_spaces();
-        if self.rest.is_empty() {
+        if self.takes_end() {
             Ok(())
         } else {
             Err(self.misfit())

@@ -5,6 +5,7 @@ use crate::command::command;
 use crate::cursor::Cursor;
 use crate::fault::LineFault;
 use crate::token::after_blanks;
+use cap_codec::KeyFlags;
 use cap_core::Command;
 use cap_table::RowRef;
 use cap_value::{AllocHandle, Name};
@@ -18,10 +19,10 @@ pub enum Show<A: AllocHandle> {
     Get(Name<A>, RowRef<A>),
     /// All rows of a table of a snapshot.
     Scan(Name<A>),
-    /// The bytes of a capture's changeset.
-    Changeset,
-    /// The bytes of a capture's patchset.
-    Patchset,
+    /// The bytes of a capture's changeset, with its key columns flagged so.
+    Changeset(KeyFlags),
+    /// The bytes of a capture's patchset, with its key columns flagged so.
+    Patchset(KeyFlags),
 }
 
 /// A line of a workload: a command, who gives it, and what is printed of its reply.

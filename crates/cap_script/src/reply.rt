@@ -1,13 +1,14 @@
 ghost use Rattle.std.specs.Prelude.{◌≡◌, IfOk, string_bytes, codes, ◌++◌};
 ghost use Rattle.cap_changes.specs.Patch.{patch_list_of};
-ghost use Rattle.cap_codec.specs.Changeset.{list_bytes};
-ghost use Rattle.cap_codec.specs.Patchset.{patch_list_bytes};
+ghost use Rattle.cap_codec.specs.Changeset.{list_bytes_with};
+ghost use Rattle.cap_codec.specs.Patchset.{patch_list_bytes_with};
 ghost use Rattle.cap_script.specs.ReplyText.{applied_text, capture_text, flag_text, hex_or_dash, reply_text};
 
 use crate::refusal_text::RefusalText;
 use crate::row_text::snapshot_text;
 use crate::{Line, Show};
 use cap_apply::Report;
+use cap_codec::KeyFlags;
 use cap_core::{Capture, Command, Reply};
 use cap_value::{AllocHandle, OutOfMemory};
 
@@ -72,26 +73,34 @@ fn capture_text<A: AllocHandle>(
     ensures { IfOk result (λ text. string_bytes text ≡ capture_text show.now capture.now) }
 {
     match show {
-        Show::Changeset => changeset_text(alloc, capture),
-        Show::Patchset => patchset_text(alloc, capture),
+        Show::Changeset(flags) => changeset_text(alloc, capture, *flags),
+        Show::Patchset(flags) => patchset_text(alloc, capture, *flags),
         _ => String::from_str(alloc, "ok"),
     }
 }
 
-fn changeset_text<A: AllocHandle>(alloc: A, capture: &Capture<A>) -> Result<String<A>, OutOfMemory>
+fn changeset_text<A: AllocHandle>(
+    alloc: A,
+    capture: &Capture<A>,
+    flags: KeyFlags,
+) -> Result<String<A>, OutOfMemory>
     ensures { IfOk result (λ text.
-        string_bytes text ≡ codes "changeset " ++ hex_or_dash (list_bytes capture.now)) }
+        string_bytes text ≡ codes "changeset " ++ hex_or_dash (list_bytes_with flags capture.now)) }
 {
-    let bytes = capture.changeset(alloc)?;
+    let bytes = capture.changeset_with(alloc, flags)?;
     let digits = hex_or_dash(alloc, bytes.as_slice())?;
     format!(in alloc; "changeset {digits}")
 }
 
-fn patchset_text<A: AllocHandle>(alloc: A, capture: &Capture<A>) -> Result<String<A>, OutOfMemory>
+fn patchset_text<A: AllocHandle>(
+    alloc: A,
+    capture: &Capture<A>,
+    flags: KeyFlags,
+) -> Result<String<A>, OutOfMemory>
     ensures { IfOk result (λ text. string_bytes text
-        ≡ codes "patchset " ++ hex_or_dash (patch_list_bytes (patch_list_of capture.now))) }
+        ≡ codes "patchset " ++ hex_or_dash (patch_list_bytes_with flags (patch_list_of capture.now))) }
 {
-    let bytes = capture.patchset(alloc)?;
+    let bytes = capture.patchset_with(alloc, flags)?;
     let digits = hex_or_dash(alloc, bytes.as_slice())?;
     format!(in alloc; "patchset {digits}")
 }

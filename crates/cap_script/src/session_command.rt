@@ -1,7 +1,7 @@
 //! Commands on one session, behind the word that begins them.
 ghost use Rattle.std.specs.Prelude.{◌≡◌, ◌≤◌, List, ℕ, IfOk, IfErr, length};
 ghost use Rattle.cap_filter.specs.Grammar.{Spells};
-ghost use Rattle.cap_script.specs.Commands.{SpelledCommand, SpelledFilter};
+ghost use Rattle.cap_script.specs.Commands.{SpelledCommand, SpelledFilter, SpelledKeyFlags};
 ghost use Rattle.cap_script.specs.Forms.{Word};
 ghost use Rattle.cap_script.specs.Words.{flag_word, session_word};
 
@@ -10,6 +10,7 @@ use crate::cursor::Cursor;
 use crate::fault::LineFault;
 use crate::operation::name;
 use crate::words::{SessionWord, flag_of};
+use cap_codec::KeyFlags;
 use cap_core::Command;
 use cap_filter::{TableFilter, unfit_place};
 use cap_value::{AllocHandle, Fault, Refusal};
@@ -25,9 +26,20 @@ pub(crate) fn session_command<A: AllocHandle>(
 {
     let session = cursor.natural()?;
     match word {
-        SessionWord::Changeset => Ok((Command::Capture { session }, Show::Changeset)),
-        SessionWord::Patchset => Ok((Command::Capture { session }, Show::Patchset)),
-        SessionWord::Restart => Ok((Command::Restart { session }, Show::Changeset)),
+        SessionWord::Changeset => {
+            let flags = key_flags(cursor)?;
+            Ok((Command::Capture { session }, Show::Changeset(flags)))
+        }
+        SessionWord::Patchset => {
+            let flags = key_flags(cursor)?;
+            Ok((Command::Capture { session }, Show::Patchset(flags)))
+        }
+        SessionWord::Restart => {
+            Ok((
+                Command::Restart { session },
+                Show::Changeset(KeyFlags::Ones),
+            ))
+        }
         SessionWord::Drop => Ok((Command::DropSession { session }, Show::Plain)),
         SessionWord::AttachAll => Ok((Command::AttachAll { session }, Show::Plain)),
         SessionWord::IsEmpty => Ok((Command::IsEmpty { session }, Show::Plain)),
@@ -86,6 +98,17 @@ fn filter_of<A: AllocHandle>(alloc: A, text: &str) -> Result<TableFilter<A>, Fau
 {
     unfit_place();
     TableFilter::parse(alloc, text)
+}
+
+/// How the key columns are flagged: `places`, or nothing to the line's end for `01`.
+fn key_flags(cursor: &mut Cursor<'_>) -> Result<KeyFlags, LineFault>
+    ensures { IfOk result (λ made. SpelledKeyFlags made cursor.old.rest.now cursor.new.rest.now) }
+{
+    if cursor.takes_end() {
+        return Ok(KeyFlags::Ones);
+    }
+    cursor.keyword("places")?;
+    Ok(KeyFlags::Places)
 }
 
 /// What a flag shall be: `on` or `off`, or `ask` where it is only asked for.
