@@ -1,4 +1,5 @@
 pub mod Hex
+pub mod Options
 pub mod Run
 pub mod RunFault
 pub mod Show

@@ -2,12 +2,18 @@
 //! blob.
 #![tactic(auto)]
 
+mod asked;
+mod command_line;
 mod fault;
+mod gate;
 mod input;
 mod output;
 mod run;
 mod show;
 
+pub use asked::{Options, OptionsFault};
+pub use command_line::options;
 pub use fault::RunFault;
+pub use gate::{Gate, NoGate};
 pub use run::run_core;
 pub use show::show_blob;

@@ -1,0 +1,149 @@
+//! The command line of the program.
+ghost use Rattle.std.specs.Prelude.{IfOk};
+ghost use Rattle.cap_run.specs.Options.{IsInRange};
+
+use crate::{Options, OptionsFault};
+use clap::error::ErrorKind;
+use clap::{Arg, ArgMatches, Command, Error, value_parser};
+use std::alloc::{AllocError, Global};
+
+const ABOUT: &str =
+    "An in-memory table server that captures changes as the SQLite session extension does";
+
+const EXAMPLE: &str = "A first run. This text on the standard input of `changecap run`:
+
+    create t kv
+    session
+    attach 1 t
+    commit insert t (1,'x')
+    changeset 1
+
+makes a table with a key column and another one, records its changes, adds a row, and prints the changes
+as a changeset:
+
+    ok version 1
+    session 1
+    ok
+    ok version 2
+    changeset 5402010074001200010000000000000001030178
+
+`changecap run --help` has every command, and `changecap show` prints what is in those digits.";
+
+const RUN_ABOUT: &str = "Run the workload on standard input and print the reply to each command";
+
+const SHOW_ABOUT: &str =
+    "Print what is in the changeset or patchset on standard input, given as hex text";
+
+const THREADS_HELP: &str = "How many workers the lines that begin with @K belong to, from 1 to 63";
+
+const LANGUAGE: &str =
+    "A workload has one command a line. Empty lines and lines that begin with # are ignored.
+
+Tables:
+  create T F          make table T; F has k for each key column, v for another: create t kv
+  commit OP ; OP ..   commit a transaction: commit insert t (1,'x') ; delete t key(2)
+  commitat N OP ..    commit one that was made on version N: commitat 2 insert t (1,'x')
+  get T REF           read a row: get t key(1)
+  scan T              read all rows: scan t
+  save B              save all tables under a name: save old
+Sessions:
+  session             make a session, which records changes; its reply tells its number
+  drop S              end a session: drop 1
+  attach S T          let a session record changes to a table: attach 1 t
+  attachall S         let it attach each table that changes: attachall 1
+  filter S F          let it attach only tables of some names: filter 1 not is audit
+  enable S X          record or not, or only ask: enable 1 off, enable 1 ask
+  indirect S X        mark what is recorded as indirect or not: indirect 1 on
+  isempty S           ask whether nothing was recorded: isempty 1
+  diff S B T          record how a table differs from a saved one: diff 1 old t
+Changes:
+  changeset S         print a session's changes, with old values: changeset 1
+  patchset S          print them without old values: patchset 1
+  restart S           print them as changeset does, and forget them: restart 1
+  apply x'..' D N C   apply a changeset or patchset; D, N and C say omit, replace or abort, for
+                      rows that differ, are missing, or are there already:
+                      apply x'5402..' omit omit replace
+
+OP is insert T (V,..), update T REF set I = V , .. or delete T REF; cascade before it marks it as
+indirect. REF is key(V,..), or loose N for the row without a key that has the number N. V is null, 1,
+'text' or x'00ff'; I is a column's number, from 0. F in filter is all, nothing, is W, starts W, ends W,
+not F, and(F,..) or or(F,..).
+
+A line may begin with @K, K from 0 to 63, and then belongs to worker K mod N:
+@1 commit insert t (2,'y'). Replies are printed in the order of the lines.";
+
+const HEX: &str = "The digits may be of either case and end with a line feed. For example
+    echo 5402010074001200010000000000000001030178 | changecap show
+prints
+    changeset
+    group t kv
+    insert direct (1,'x')";
+
+/// The command line.
+fn command_line<'a>(alloc: Global) -> Result<Command<'a>, AllocError> {
+    let threads = Arg::new(alloc, "threads")
+        .long("threads")
+        .value_name("N")
+        .help(THREADS_HELP)
+        .value_parser(value_parser!(u64).range(1..=63))
+        .default_value("1");
+    let run = Command::new(alloc, "run")
+        .about(RUN_ABOUT)
+        .after_help(LANGUAGE)
+        .arg(threads)?;
+    let show = Command::new(alloc, "show")
+        .about(SHOW_ABOUT)
+        .after_help(HEX);
+    Command::new(alloc, "changecap")
+        .version("0.1.0")
+        .about(ABOUT)
+        .after_help(EXAMPLE)
+        .no_binary_name(true)
+        .bin_name("changecap")?
+        .subcommand_required(true)
+        .subcommand(run)?
+        .subcommand(show)
+}
+
+/// What the words after the program's name ask for.
+///
+/// `run` runs a workload, with `--threads N` on N threads, N from 1 to 63, else on 1. `show` shows a blob. All other
+/// words are refused with a text that says why, and `--help` and `--version` answer their text as a fault of status 0.
+pub fn options(alloc: Global, words: &[String]) -> Result<Options, OptionsFault>
+    // As many threads as a workload can be run on.
+    ensures range { IfOk result IsInRange }
+{
+    let command = command_line(alloc).map_err(|_| OptionsFault::Memory)?;
+    match command.try_get_matches_from(words) {
+        Ok(matches) => Ok(asked_for(&matches)),
+        Err(error) => Err(fault_of(alloc, &error)),
+    }
+}
+
+/// What was asked for, by what was found among the words.
+fn asked_for(matches: &ArgMatches) -> Options
+    ensures range { IsInRange result }
+{
+    match matches.subcommand() {
+        Some(("run", run)) => {
+            let threads = run.get_one::<u64>("threads").unwrap_or(1);
+            // The parser has refused all others.
+            Options::Run {
+                threads: threads.clamp(1, 63),
+            }
+        }
+        _ => Options::Show,
+    }
+}
+
+/// What the parser of the command line has to say.
+fn fault_of(alloc: Global, error: &Error) -> OptionsFault {
+    if error.kind() == ErrorKind::OutOfMemory {
+        return OptionsFault::Memory;
+    }
+    match format!(in alloc; "{error}") {
+        Ok(text) if error.use_stderr() => OptionsFault::Refused(text),
+        Ok(text) => OptionsFault::Help(text),
+        Err(_) => OptionsFault::Memory,
+    }
+}
