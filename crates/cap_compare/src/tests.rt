@@ -67,12 +67,14 @@ fn rows_gone_changed_and_new(rt: HostRuntime) -> Result<(), Fail> {
 fn other_columns_and_no_table_are_refused(rt: HostRuntime) -> Result<(), Fail> {
     let alloc = rt.alloc();
     let to = table(alloc, &[(Some(2), 20)])?;
-    let keyless = Table::empty(alloc, Schema::new(alloc, &[false, false])?);
-    let refused = matches!(
-        compare(alloc, Some(&keyless), &to),
-        Err(Fault::Refused(Refusal::Incompatible))
-    );
-    assert!(rt; refused);
+    for flags in [[true, false, false].as_slice(), &[false, false]] {
+        let other = Table::empty(alloc, Schema::new(alloc, flags)?);
+        let refused = matches!(
+            compare(alloc, Some(&other), &to),
+            Err(Fault::Refused(Refusal::Incompatible))
+        );
+        assert!(rt; refused);
+    }
     let refused = matches!(
         compare(alloc, None, &to),
         Err(Fault::Refused(Refusal::Incompatible))
