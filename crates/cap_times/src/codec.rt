@@ -10,18 +10,23 @@ use std::alloc::Global;
 use std::time::CpuClock;
 
 /// How many changes there are.
-const CHANGES: i64 = 100_000;
+pub(crate) const CHANGES: i64 = 100_000;
 
 /// The bytes of a piece.
 const PIECE_LEN: usize = 4096;
 
-/// The changeset that inserts the rows (0, 'x'), (1, 'x') and so on into `t`, a key and a value.
-fn inserts(alloc: Global) -> Option<ChangeList<Global>> {
+/// No change of the table `t`, a key and a value.
+pub(crate) fn group(alloc: Global) -> Option<Group<Global>> {
     let schema = Schema::new(alloc, &[true, false]).ok()?;
     if !schema.has_key() {
         return None;
     }
-    let mut group = Group::new(alloc, Name::new(alloc, "t").ok()?, schema);
+    Some(Group::new(alloc, Name::new(alloc, "t").ok()?, schema))
+}
+
+/// The changeset that inserts the rows (0, 'x'), (1, 'x') and so on.
+pub(crate) fn inserts(alloc: Global) -> Option<ChangeList<Global>> {
+    let mut group = group(alloc)?;
     for key in 0..CHANGES {
         let mut fields = Vec::new(alloc);
         fields.push(Some(Value::Int(key))).ok()?;

@@ -50,23 +50,33 @@ fn attach_table(alloc: Global) -> Option<Vec<Command<Global>>> {
     Some(commands)
 }
 
-/// The operation that inserts a row with this key.
-pub(crate) fn insert(alloc: Global, key: u64) -> Option<Op<Global>> {
+/// The row with this key and the value 'x'.
+pub(crate) fn row(alloc: Global, key: u64) -> Option<Row<Global>> {
     let mut fields = Vec::new(alloc);
     fields.push(Value::Int(signed(key))).ok()?;
     fields.push(Value::text(alloc, "x").ok()?).ok()?;
+    Row::new(fields).ok()
+}
+
+/// The key of that row.
+pub(crate) fn key_of(alloc: Global, key: u64) -> Option<Key<Global>> {
+    let mut fields = Vec::new(alloc);
+    fields.push(Value::Int(signed(key))).ok()?;
+    Key::new(alloc, fields).ok()?
+}
+
+/// The operation that inserts a row with this key.
+pub(crate) fn insert(alloc: Global, key: u64) -> Option<Op<Global>> {
     Some(Op {
         table: table(alloc)?,
         cause: Cause::Direct,
-        action: Action::Insert(Row::new(fields).ok()?),
+        action: Action::Insert(row(alloc, key)?),
     })
 }
 
 /// The operation that sets the value of the row with this key to a number.
 pub(crate) fn update(alloc: Global, key: u64, number: i64) -> Option<Op<Global>> {
-    let mut fields = Vec::new(alloc);
-    fields.push(Value::Int(signed(key))).ok()?;
-    let row = RowRef::Key(Key::new(alloc, fields).ok()??);
+    let row = RowRef::Key(key_of(alloc, key)?);
     let mut assigned = Vec::new(alloc);
     assigned.push((1, Value::Int(number))).ok()?;
     Some(Op {

@@ -1,8 +1,10 @@
 //! How long the calls of the libraries take, by the processor's time of one thread: `cap_times tree [N..]` tries trees
-//! of N keys beside std's map, `cap_times codec` a changeset, `cap_times txn` operations on tables, `cap_times core`
-//! commits under a session. Standard output says what was checked, and standard error how long it took.
+//! of N keys beside std's map, `cap_times codec` a changeset, `cap_times txn` operations on tables, `cap_times apply`
+//! changesets that are applied, `cap_times core` commits under a session. Standard output says what was checked, and
+//! standard error how long it took.
 #![tactic(auto)]
 
+mod apply;
 mod clock;
 mod codec;
 mod commits;
@@ -23,10 +25,11 @@ fn run(rt: &(impl Print + Eprint + Env + CpuClock + AllocGlobal)) -> Result<()> 
             "tree" => tree::report(rt, counts),
             "codec" => codec::report(rt),
             "txn" => tables::report(rt),
+            "apply" => apply::report(rt),
             "core" => commits::report(rt),
-            _ => bail!("{load} is no load: tree [N..], codec, txn or core"),
+            _ => bail!("{load} is no load: tree [N..], codec, txn, apply or core"),
         },
-        _ => bail!("which load: tree [N..], codec, txn or core"),
+        _ => bail!("which load: tree [N..], codec, txn, apply or core"),
     }
 }
 

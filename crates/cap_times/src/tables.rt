@@ -1,16 +1,17 @@
-//! How long operations on tables take, in place, without a server.
+//! How long operations on tables take, in place, without a server, and what of that a tree of the same rows takes.
 
 use crate::clock::Stopwatch;
-use crate::commits::{COMMITS, insert, table, update};
+use crate::commits::{COMMITS, insert, key_of, row, table, update};
 use crate::keys::{Order, keys};
 use anyhow::{Context, Result, bail};
-use cap_row::Schema;
+use cap_row::{Key, Row, Schema};
+use cap_tree::Tree;
 use cap_txn::{Database, OPS_MAX, Op, run_ops};
 use std::alloc::Global;
 use std::time::CpuClock;
 
 /// A database with the table, which has no row.
-fn database(alloc: Global) -> Option<Database<Global>> {
+pub(crate) fn database(alloc: Global) -> Option<Database<Global>> {
     let mut database = Database::empty(alloc);
     let schema = Schema::new(alloc, &[true, false]).ok()?;
     database.create(table(alloc)?, schema).ok()?;
@@ -100,6 +101,42 @@ fn try_scan(
     Ok(())
 }
 
+/// The rows of these keys, each with its key.
+fn entries(alloc: Global, keys: &[u64]) -> Option<Vec<(Key<Global>, Row<Global>)>> {
+    let mut entries = Vec::new(alloc);
+    for key in keys {
+        entries
+            .push((key_of(alloc, *key)?, row(alloc, *key)?))
+            .ok()?;
+    }
+    Some(entries)
+}
+
+// How long a tree takes to put in the rows of these keys one by one, and to go over them.
+fn try_tree(
+    rt: &(impl Print + Eprint + CpuClock + AllocGlobal),
+    load: &str,
+    keys: &[u64],
+) -> Result<()> {
+    let alloc = rt.alloc();
+    let mut tree = Tree::empty(alloc);
+    let entries = entries(alloc, keys).context("no rows")?;
+    let watch = Stopwatch::start(rt)?;
+    for (key, row) in entries {
+        tree.insert(key, row)?;
+    }
+    let put = watch.read(rt)? / (keys.len() as u128).max(1);
+    let watch = Stopwatch::start(rt)?;
+    let mut fields = 0usize;
+    for (_, row) in tree.iter() {
+        fields = fields.saturating_add(row.width());
+    }
+    let scanned = watch.read(rt)? / (tree.len() as u128).max(1);
+    eprintln!(rt; "the tree's share, {load}: {put} ns an operation, {scanned} ns a row scanned")?;
+    println!(rt; "{} rows of {fields} fields in the tree", tree.len())?;
+    Ok(())
+}
+
 /// Times inserts one by one and in a batch, updates, and a scan.
 pub(crate) fn report(rt: &(impl Print + Eprint + CpuClock + AllocGlobal)) -> Result<()> {
     let alloc = rt.alloc();
@@ -109,6 +146,7 @@ pub(crate) fn report(rt: &(impl Print + Eprint + CpuClock + AllocGlobal)) -> Res
         let mut tables = database(alloc).context("no database")?;
         timed(rt, load.as_str(), &mut tables, ops.as_slice())?;
         try_scan(rt, &tables)?;
+        try_tree(rt, load.as_str(), keys(alloc, order, COMMITS)?.as_slice())?;
         try_batch(rt, order)?;
     }
     let mut tables = database(alloc).context("no database")?;
@@ -116,5 +154,9 @@ pub(crate) fn report(rt: &(impl Print + Eprint + CpuClock + AllocGlobal)) -> Res
     make(&mut tables, rows.as_slice())?;
     let ops = updates(alloc, 1000).context("no operations")?;
     let load = format!(in alloc; "{COMMITS} updates of 1000 rows")?;
-    timed(rt, load.as_str(), &mut tables, ops.as_slice())
+    timed(rt, load.as_str(), &mut tables, ops.as_slice())?;
+    let keys: Vec<u64> = (0..COMMITS)
+        .map(|number| u64::from(number % 1000))
+        .collect(alloc)?;
+    try_tree(rt, load.as_str(), keys.as_slice())
 }

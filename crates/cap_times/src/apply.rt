@@ -1,0 +1,78 @@
+//! How long it takes to apply a changeset to a table, for each of its changes.
+
+use crate::clock::Stopwatch;
+use crate::codec::{CHANGES, group, inserts};
+use crate::tables::database;
+use anyhow::{Context, Result, bail};
+use cap_apply::{Answer, Policy, apply};
+use cap_changes::{Change, ChangeList, Record};
+use cap_codec::Contents;
+use cap_txn::Database;
+use cap_value::Value;
+use std::alloc::Global;
+use std::time::CpuClock;
+
+/// Nothing that stands in the way of a change is passed over.
+const POLICY: Policy = Policy {
+    on_data: Answer::Abort,
+    on_notfound: Answer::Abort,
+    on_conflict: Answer::Abort,
+};
+
+/// The changeset that gives each row that was inserted another value.
+fn updates(alloc: Global) -> Option<ChangeList<Global>> {
+    let mut group = group(alloc)?;
+    for key in 0..CHANGES {
+        let mut old = Vec::new(alloc);
+        old.push(Some(Value::Int(key))).ok()?;
+        old.push(Some(Value::text(alloc, "x").ok()?)).ok()?;
+        let mut new = Vec::new(alloc);
+        new.push(None).ok()?;
+        new.push(Some(Value::text(alloc, "y").ok()?)).ok()?;
+        let change = Change::Update {
+            indirect: false,
+            old: Record::new(old),
+            new: Record::new(new),
+        };
+        if !change.fits(group.schema()) {
+            return None;
+        }
+        group.push(change).ok()?;
+    }
+    let mut list = ChangeList::new(alloc);
+    list.push(group).ok()?;
+    Some(list)
+}
+
+/// The database after the changes, and the nanoseconds that each took.
+fn timed(
+    rt: &(impl Print + Eprint + CpuClock + AllocGlobal),
+    load: &str,
+    database: &Database<Global>,
+    blob: &Contents<Global>,
+) -> Result<Database<Global>> {
+    let watch = Stopwatch::start(rt)?;
+    let Ok(applied) = apply(rt.alloc(), database, blob, POLICY) else {
+        bail!("the changeset is refused");
+    };
+    let time = watch.read(rt)?;
+    let made = applied.report().applied();
+    eprintln!(rt;
+        "{made} {load} applied: {} ns a change",
+        time / u128::from(made).max(1)
+    )?;
+    println!(rt; "{made} {load} applied")?;
+    let (database, _, _) = applied.into_parts();
+    Ok(database)
+}
+
+/// Times inserts into an empty table, and then updates of the rows.
+pub(crate) fn report(rt: &(impl Print + Eprint + CpuClock + AllocGlobal)) -> Result<()> {
+    let alloc = rt.alloc();
+    let empty = database(alloc).context("no database")?;
+    let inserts = Contents::Changes(inserts(alloc).context("no changes")?);
+    let full = timed(rt, "inserts", &empty, &inserts)?;
+    let updates = Contents::Changes(updates(alloc).context("no changes")?);
+    timed(rt, "updates", &full, &updates)?;
+    Ok(())
+}
