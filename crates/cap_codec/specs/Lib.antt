@@ -14,3 +14,4 @@ pub mod Spelling
 pub mod Pieces
 pub mod Calls
 pub mod Stream
+pub mod Touched

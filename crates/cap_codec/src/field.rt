@@ -38,7 +38,8 @@ fn push_sized<A: AllocHandle>(out: &mut Vec<u8, A>, bytes: &[u8]) -> Result<(), 
     Ok(())
 }
 
-fn push_value<A: AllocHandle>(out: &mut Vec<u8, A>, value: &Value<A>) -> Result<(), OutOfMemory>
+/// Puts a value last.
+pub fn push_value<A: AllocHandle>(out: &mut Vec<u8, A>, value: &Value<A>) -> Result<(), OutOfMemory>
     ensures { OnOk result (out.new.items ≡ out.old.items ++ value_bytes value.now) }
 {
     match value {

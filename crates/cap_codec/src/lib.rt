@@ -18,6 +18,7 @@ mod read;
 mod record;
 mod scan;
 mod stream;
+mod touched;
 mod varint;
 mod within;
 mod writable;
@@ -33,5 +34,6 @@ pub use laws::{
 };
 pub use read::{Contents, read_blob};
 pub use stream::{ReadFault, WriteFault, read_from, write_changes_to, write_patches_to};
+pub use touched::{is_changed, push_change_between, push_group_header};
 pub use writable::{changes_are_writable, patches_are_writable};
 pub use write::{write_changes, write_changes_with, write_patches, write_patches_with};

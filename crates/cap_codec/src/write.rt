@@ -59,7 +59,7 @@ fn push_flags<A: AllocHandle>(
 }
 
 /// Puts the header of a group last: its kind, the columns with their key flags, and the table's name.
-fn push_header<A: AllocHandle>(
+pub fn push_header<A: AllocHandle>(
     out: &mut Vec<u8, A>,
     key_flags: KeyFlags,
     kind: u8,
@@ -78,7 +78,7 @@ fn push_header<A: AllocHandle>(
 }
 
 /// Puts an operation byte last, and whether the change is indirect.
-fn push_operation<A: AllocHandle>(
+pub fn push_operation<A: AllocHandle>(
     out: &mut Vec<u8, A>,
     operation: Operation,
     indirect: bool,

@@ -1,0 +1,144 @@
+//! The change of one touched key as bytes, straight from its rows: no record is made.
+
+ghost use Rattle.std.specs.Prelude.{◌≡◌, ◌++◌, [], IsTrue, None, OnOk, Some, if◌then◌else◌};
+ghost use Rattle.std.specs.List.{cons_option, flat_map};
+ghost use Rattle.std.specs.Option.{option_copied};
+ghost use Rattle.cap_changes.specs.Change as touched;
+ghost use Rattle.cap_changes.specs.Column.{by_column};
+ghost use Rattle.cap_codec.specs.Changeset.{change_bytes, header_bytes};
+ghost use Rattle.cap_codec.specs.Field.{record_bytes, field_bytes};
+ghost use Rattle.cap_codec.specs.Touched.{is_changed};
+
+use crate::KeyFlags;
+use crate::field::{UNDEFINED, push_value};
+use crate::operation::Operation;
+use crate::write::{CHANGESET, push_header, push_operation};
+use cap_row::{Row, Schema};
+use cap_value::{AllocHandle, Name, OutOfMemory, Value};
+
+/// Whether the change of a touched key is one: there is a row where there was none, none where there was one, or one
+/// with other values. `image` is its row when it was first touched, `now` its row now.
+pub fn is_changed<A: AllocHandle>(image: Option<&Row<A>>, now: Option<&Row<A>>) -> bool
+    ensures { result ≡ is_changed (option_copied image.entry) (option_copied now.entry) }
+{
+    match (image, now) {
+        (None, None) => false,
+        (Some(image), Some(now)) => image != now,
+        _ => true,
+    }
+}
+
+/// Puts the header of a group of a changeset last, with its key columns flagged so.
+///
+/// `OutOfMemory` leaves a beginning of its bytes behind the others.
+pub fn push_group_header<A: AllocHandle>(
+    out: &mut Vec<u8, A>,
+    key_flags: KeyFlags,
+    table: &Name<A>,
+    schema: &Schema<A>,
+) -> Result<(), OutOfMemory>
+    ensures { OnOk result (out.new.items
+        ≡ out.old.items ++ header_bytes key_flags 0x54 table.now schema.now) }
+{
+    push_header(out, key_flags, CHANGESET, table, schema)
+}
+
+/// Puts the change of a touched key last, as it stands in a changeset: the bytes of what `change_between` answers,
+/// which is not made.
+///
+/// `OutOfMemory` leaves a beginning of its bytes behind the others.
+pub fn push_change_between<A: AllocHandle>(
+    out: &mut Vec<u8, A>,
+    schema: &Schema<A>,
+    indirect: bool,
+    image: Option<&Row<A>>,
+    now: Option<&Row<A>>,
+) -> Result<(), OutOfMemory>
+    requires { IsTrue (is_changed (option_copied image) (option_copied now)) }
+    ensures { OnOk result (out.new.items ≡ out.old.items ++ flat_map change_bytes (cons_option
+        (touched.change_of schema.now indirect (option_copied image.entry) (option_copied now.entry)) [])) }
+{
+    match (image, now) {
+        (None, None) => Ok(()),
+        (None, Some(now)) => {
+            push_operation(out, Operation::Insert, indirect)?;
+            push_row(out, now.fields())
+        }
+        (Some(image), None) => {
+            push_operation(out, Operation::Delete, indirect)?;
+            push_row(out, image.fields())
+        }
+        (Some(image), Some(now)) => {
+            push_operation(out, Operation::Update, indirect)?;
+            push_old(out, schema.flags(), image.fields(), now.fields())?;
+            push_new(out, schema.flags(), image.fields(), now.fields())
+        }
+    }
+}
+
+// Puts a record last in which every field is defined.
+fn push_row<A: AllocHandle>(out: &mut Vec<u8, A>, row: &[Value<A>]) -> Result<(), OutOfMemory>
+    ensures { OnOk result (out.new.items ≡ out.old.items ++ record_bytes (touched.full_record row.now)) }
+{
+    for value in row {
+        push_value(out, value)?;
+    }
+    Ok(())
+}
+
+// Puts the old record of an update last: the key fields and the modified fields, as they were.
+fn push_old<A: AllocHandle>(
+    out: &mut Vec<u8, A>,
+    flags: &[bool],
+    image: &[Value<A>],
+    now: &[Value<A>],
+) -> Result<(), OutOfMemory>
+    ensures { OnOk result (out.new.items ≡ out.old.items
+        ++ record_bytes (by_column touched.old_field flags.now image.now now.now)) }
+{
+    for (key, (image, now)) in flags.iter().zip(image.iter().zip(now)) {
+        let modified = is_modified(*key, image, now);
+        push_if(out, *key || modified, image)?;
+    }
+    Ok(())
+}
+
+// Puts the new record of an update last: the modified fields, as they are now.
+fn push_new<A: AllocHandle>(
+    out: &mut Vec<u8, A>,
+    flags: &[bool],
+    image: &[Value<A>],
+    now: &[Value<A>],
+) -> Result<(), OutOfMemory>
+    ensures { OnOk result (out.new.items ≡ out.old.items
+        ++ record_bytes (by_column touched.new_field flags.now image.now now.now)) }
+{
+    for (key, (image, now)) in flags.iter().zip(image.iter().zip(now)) {
+        let modified = is_modified(*key, image, now);
+        push_if(out, modified, now)?;
+    }
+    Ok(())
+}
+
+fn is_modified<A: AllocHandle>(key: bool, image: &Value<A>, now: &Value<A>) -> bool
+    ensures { result ≡ touched.is_modified key image.now now.now }
+{
+    !key && image != now
+}
+
+// Puts a field last that has this value where it is defined.
+fn push_if<A: AllocHandle>(
+    out: &mut Vec<u8, A>,
+    defined: bool,
+    value: &Value<A>,
+) -> Result<(), OutOfMemory>
+    ensures { OnOk result (out.new.items ≡ out.old.items
+        ++ field_bytes (if defined then Some value.now else None)) }
+{
+    if defined {
+        push_value(out, value)
+    } else {
+        out.push(UNDEFINED)?;
+        Ok(())
+    }
+}
