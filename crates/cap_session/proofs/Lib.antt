@@ -1,3 +1,4 @@
+mod LatestLemmas
 mod ListLemmas
 mod NoteLemmas
 mod PlaceLemmas

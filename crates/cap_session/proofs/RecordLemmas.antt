@@ -17,7 +17,7 @@ use Rattle.cap_session.specs.Records.{AreTouched, Records, Touch, are_indirect, 
 
 module _ {K V : Type 0} (R : K → K → Ordering) (o : IsTotalOrder R) where
   -- a key below the first one is not found
-  get-below_first : (k e : K) → R k e ≡ Less → (es : List (K × V)) → AllByRecursion (λ y. R e y ≡ Less) (keys_of es) → get R es k ≡ None
+  pub get-below_first : (k e : K) → R k e ≡ Less → (es : List (K × V)) → AllByRecursion (λ y. R e y ≡ Less) (keys_of es) → get R es k ≡ None
   get-below_first k e less [] h = refl
   get-below_first k e less (x ∷ xs) h = ap (λ r. cond (is_eq r) (Some x.1) (get R xs k)) (o.trans k e x.0 less h.0) ∙ get-below_first k e less xs h.1
 
@@ -67,7 +67,7 @@ module _ {K X : Type 0} (R : K → K → Ordering) where
       ] refl
 
   -- what is found after a put
-  get-put_entry : IsTotalOrder R → IsAntisymmetric R → (es : List (K × X)) (k : K) (v : X) (q : K) → get R (put_entry R es k v) q ≡ cond (eq_by_cmp R q k) (Some v) (get R es q)
+  pub get-put_entry : IsTotalOrder R → IsAntisymmetric R → (es : List (K × X)) (k : K) (v : X) (q : K) → get R (put_entry R es k v) q ≡ cond (eq_by_cmp R q k) (Some v) (get R es q)
   get-put_entry o same es k v q =
       ap (λ list. get R list q) (put_entry-put same es k v) ∙ get-find (put R k v es) q ∙ find-put R o q k v es ∙ ap (cond (eq_by_cmp R q k) (Some v)) (sym (get-find es q))
 

@@ -1,4 +1,5 @@
 -- What the code keeps, for its own contracts. No rule is defined here.
 pub mod Attached
+pub mod Latest
 pub mod Numbered
 pub mod Parts

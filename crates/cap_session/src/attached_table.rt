@@ -10,7 +10,6 @@ ghost use Rattle.cap_value.specs.Bytes.{bytes_eq};
 use crate::touch::{records_after, records_after_diff};
 use crate::{AutomaticRule, Records};
 use cap_compare::Difference;
-use cap_tree::Tree;
 use cap_txn::{Change, Database};
 use cap_value::{AllocHandle, Name, OutOfMemory};
 
@@ -34,7 +33,7 @@ impl<A: AllocHandle> AttachedTable<A> {
     {
         AttachedTable {
             name,
-            records: Tree::empty(alloc),
+            records: Records::empty(alloc),
             waiting: None,
         }
     }
@@ -46,7 +45,7 @@ impl<A: AllocHandle> AttachedTable<A> {
     {
         Ok(AttachedTable {
             name: self.name.copy()?,
-            records: self.records.snapshot()?,
+            records: self.records.copy()?,
             waiting: None,
         })
     }
@@ -172,6 +171,7 @@ fn touch_tables<A: AllocHandle>(
         ≡ touch_tables before.now indirect changes.now (tables_of tables.old)) }
 {
     for table in tables.iter_mut() {
+        table.records.settle()?;
         table.waiting = records_after(&table.name, &table.records, before, indirect, changes)?;
     }
     Ok(())
@@ -221,6 +221,7 @@ fn touch_table<A: AllocHandle>(
         ≡ touch_table name.now (touches_found indirect differences.now) (tables_of tables.old)) }
 {
     for table in tables.iter_mut() {
+        table.records.settle()?;
         table.waiting = records_found(&table.name, &table.records, name, indirect, differences)?;
     }
     Ok(())
@@ -248,7 +249,7 @@ pub(crate) fn forget<A: AllocHandle>(alloc: A, tables: &mut [AttachedTable<A>])
     ensures { tables_of tables.new ≡ forget (tables_of tables.old) }
 {
     for table in tables.iter_mut() {
-        table.records = Tree::empty(alloc);
+        table.records = Records::empty(alloc);
     }
 }
 
@@ -273,7 +274,7 @@ pub(crate) fn stored<A: AllocHandle>(tables: &[AttachedTable<A>]) -> u128
 {
     let mut count = 0;
     for table in tables {
-        count += table.records.len() as u128;
+        count += table.records.count();
     }
     count
 }
@@ -283,7 +284,7 @@ pub(crate) fn is_empty<A: AllocHandle>(tables: &[AttachedTable<A>]) -> bool
     ensures { result ≡ nat_eq (stored (tables_of tables.now)) 0 }
 {
     for table in tables {
-        if table.records.len() != 0 {
+        if !table.records.is_empty() {
             return false;
         }
     }

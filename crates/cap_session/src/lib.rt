@@ -7,6 +7,8 @@ mod laws;
 mod numbered;
 mod parts;
 mod record;
+mod records;
+mod records_iter;
 mod rule;
 mod session;
 mod session_ref;
@@ -22,8 +24,9 @@ pub use laws::{
     touches_make_these_records,
 };
 pub use record::Record;
+pub use records::Records;
+pub use records_iter::RecordsIter;
 pub use rule::AutomaticRule;
 pub use session::Session;
 pub use session_ref::SessionRef;
 pub use sessions::Sessions;
-pub use touch::Records;

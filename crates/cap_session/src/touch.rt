@@ -6,15 +6,11 @@ ghost use Rattle.cap_txn.specs.Read.{row_at};
 ghost use Rattle.cap_session.specs.Note.{is_cascade, touch_of, touches_of, touches_found};
 ghost use Rattle.cap_session.specs.Records.{record_after, touch, touch_if, with_touches};
 
-use crate::Record;
+use crate::{Record, Records};
 use cap_compare::Difference;
 use cap_row::{Key, Row};
-use cap_tree::Tree;
 use cap_txn::{Cause, Change, Database};
 use cap_value::{AllocHandle, Name, OutOfMemory};
-
-/// The records of one table: its touched keys, each with what is kept of its row.
-pub type Records<A> = Tree<Key<A>, Record<A>, A>;
 
 /// The records of the table of this name after changes of rows of any table, or none where they stay the same.
 pub(crate) fn records_after<A: AllocHandle>(
@@ -88,7 +84,7 @@ fn touch_shared<A: AllocHandle>(
         return Ok(None);
     }
     let image = row_at(before, name, key);
-    Ok(Some(touch(records.snapshot()?, key, image, indirect)?))
+    Ok(Some(touch(records.copy()?, key, image, indirect)?))
 }
 
 // These records with a touch.
@@ -133,7 +129,7 @@ fn is_noted<A: AllocHandle>(records: &Records<A>, key: &Key<A>, indirect: bool) 
         → touch records.now (record { key = key.now; image = image; indirect = indirect }) ≡ records.now }
 {
     // The count shows that the keys are in order.
-    let _count = records.len();
+    let _count = records.count();
     match records.get(key) {
         Some(record) => !record.indirect || indirect,
         None => false,
@@ -155,7 +151,7 @@ pub(crate) fn touch<A: AllocHandle>(
 {
     let mut records = records;
     let record = record_after(records.get(key), image, indirect)?;
-    records.insert(key.copy()?, record)?;
+    records.put(key.copy()?, record)?;
     Ok(records)
 }
 
@@ -199,7 +195,7 @@ pub(crate) fn records_after_diff<A: AllocHandle>(
     ensures { IfOk result (λ after. after
         ≡ with_touches records.now (touches_found indirect differences.now)) }
 {
-    let mut after = records.snapshot()?;
+    let mut after = records.copy()?;
     for difference in differences {
         after = touch_difference(after, indirect, difference)?;
     }

@@ -5,4 +5,4 @@ use Rattle.cap_session.proofs.attached_table.stored.Given as goal
 
 abbrev pub invariant-loop-table : goal.invariant-loop-table
 invariant-loop-table g l =
-    (l.count + stored (tables_of (drop l.table-index l.tables)) ≡ stored (tables_of l.tables)) × (l.count ≤ l.table-index * 18446744073709551615)
+    (l.count + stored (tables_of (drop l.table-index l.tables)) ≡ stored (tables_of l.tables)) × (l.count ≤ l.table-index * 18446744073709551616)

@@ -17,6 +17,8 @@ loop-table-preserved g c =
     let old = get_or c.loop-table.tables c.loop-table.table-index c.table-item.result in
     let touches = touches_found c.args.indirect c.args.differences.now in
     loop-more (λ table. (table.name, table.records)) (λ table. (table.name, unwrap_or table.waiting table.records)) (λ attached. cond (bytes_eq c.args.name.now attached.0) (attached.0, with_touches attached.1 touches) attached)
-    c.loop-table.tables (tables_of c.args.tables.now) c.loop-table.table-index (record { name = old.name; records = old.records; waiting = c.in_ok-table.field-0 }) c.table-item.result
-    (omega (arith, c.loop-table-test.true, c.loop-table.auto.tables)) refl
-    (ap (λ records. (old.name, records)) c.in_ok-table.ensures ∙ named old.name (bytes_eq c.args.name.now old.name) (with_touches old.records touches) old.records) c.loop-table.invariant.0 c.loop-table.invariant.1
+    c.loop-table.tables (tables_of c.args.tables.now) c.loop-table.table-index (record { name = old.name; records = c.settle.new.self; waiting = c.in_ok-table.field-0 }) c.table-item.result
+    (omega (arith, c.loop-table-test.true, c.loop-table.auto.tables)) (ap (λ records. (old.name, records)) c.settle.ensures)
+    (ap (λ records. (old.name, records)) c.in_ok-table.ensures
+    ∙ ap (λ records. (old.name, cond (bytes_eq c.args.name.now old.name) (with_touches records touches) records)) c.settle.ensures
+    ∙ named old.name (bytes_eq c.args.name.now old.name) (with_touches old.records touches) old.records) c.loop-table.invariant.0 c.loop-table.invariant.1

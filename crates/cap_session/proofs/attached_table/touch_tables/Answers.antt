@@ -1,4 +1,4 @@
-use Rattle.std.proofs.Common.{get_or, arith, refl, ap}
+use Rattle.std.proofs.Common.{get_or, arith, ap, ◌∙◌}
 use Rattle.std.specs.Option.{unwrap_or}
 use Rattle.cap_session.specs.Code.Attached.{tables_of}
 use Rattle.cap_session.specs.Note.{touches_of}
@@ -9,6 +9,8 @@ use Rattle.cap_session.proofs.attached_table.touch_tables.Goals as goal
 pub loop-table-preserved : goal.loop-table-preserved
 loop-table-preserved g c =
     let old = get_or c.loop-table.tables c.loop-table.table-index c.table-item.result in
+    let touches = touches_of c.args.before.now c.args.indirect old.name c.args.changes.now in
     loop-more (λ table. (table.name, table.records)) (λ table. (table.name, unwrap_or table.waiting table.records)) (λ attached. (attached.0, with_touches attached.1 (touches_of c.args.before.now c.args.indirect attached.0 c.args.changes.now)))
-    c.loop-table.tables (tables_of c.args.tables.now) c.loop-table.table-index (record { name = old.name; records = old.records; waiting = c.in_ok-table.field-0 }) c.table-item.result
-    (omega (arith, c.loop-table-test.true, c.loop-table.auto.tables)) refl (ap (λ records. (old.name, records)) c.in_ok-table.ensures) c.loop-table.invariant.0 c.loop-table.invariant.1
+    c.loop-table.tables (tables_of c.args.tables.now) c.loop-table.table-index (record { name = old.name; records = c.settle.new.self; waiting = c.in_ok-table.field-0 }) c.table-item.result
+    (omega (arith, c.loop-table-test.true, c.loop-table.auto.tables)) (ap (λ records. (old.name, records)) c.settle.ensures)
+    (ap (λ records. (old.name, records)) c.in_ok-table.ensures ∙ ap (λ records. (old.name, with_touches records touches)) c.settle.ensures) c.loop-table.invariant.0 c.loop-table.invariant.1

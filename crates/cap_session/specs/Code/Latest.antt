@@ -1,0 +1,18 @@
+-- The records of a table as the code has them: those of a tree, and the one that was put last.
+use Rattle.std.specs.Prelude.{Option, Some, None, List}
+use Rattle.std.specs.Borrow.{Bor}
+use Rattle.cap_row.specs.Fields.{Fields}
+use Rattle.cap_row.specs.Key.{fields_cmp}
+use Rattle.cap_tree.specs.Tree.{put_entry}
+use Rattle.cap_session.specs.declared.record.Record.{Record}
+use Rattle.cap_session.specs.Records.{Records}
+
+module _ {A : Type 0} where
+  abbrev pub with_latest : Records A → Option (Fields A × Record A) → Records A
+  with_latest settled None = settled
+  with_latest settled (Some latest) = put_entry fields_cmp settled latest.0 latest.1
+
+  -- the same where the latest is lent
+  abbrev pub before_tree : Option (Bor (Fields A) × Bor (Record A)) → Records A → Records A
+  before_tree None settled = settled
+  before_tree (Some latest) settled = put_entry fields_cmp settled latest.0.now latest.1.now
