@@ -1,9 +1,8 @@
 -- What a diff finds are rows of the saved table, under their keys.
-use Rattle.std.proofs.Common.{◌≡◌, ℕ, Bool, true, false, cond, Option, Some, None, List, [], ◌∷◌, ◌&&◌, Result, Ok, Err, map, refl, sym, ap₂, subst, IsTrue}
+use Rattle.std.proofs.Common.{◌≡◌, ℕ, Bool, true, false, cond, Option, Some, None, List, [], ◌∷◌, Result, Ok, Err, refl, ap₂, subst}
 use Rattle.std.specs.Prelude.{fold, IfSome, filter_map}
 use Rattle.std.specs.List.{cons_option, list_all}
 use Rattle.std.specs.Bool.{beq}
-use Rattle.std.specs.Option.{option_map}
 use Rattle.cap_value.specs.declared.refusal.Refusal.{Refusal}
 use Rattle.cap_value.specs.declared.refusal.Refusal.TheVariants.{Incompatible}
 use Rattle.cap_row.specs.Fields.{Fields}
@@ -13,7 +12,7 @@ use Rattle.cap_tree.specs.Tree.{get}
 use Rattle.cap_tree.specs.Beside.{alone, beside, first_of, put_beside}
 use Rattle.cap_table.specs.Sound.{IsRising, keyed_stands}
 use Rattle.cap_table.specs.Table.{TableState}
-use Rattle.cap_txn.specs.Tables.{EachRises, Tables, schema_of, table_of}
+use Rattle.cap_txn.specs.Tables.{EachRises, Tables, table_of}
 use Rattle.cap_txn.proofs.KeptLemmas.{each-found}
 use Rattle.cap_compare.specs.Compare.{compare, difference_at, differences, image_at}
 use Rattle.cap_compare.specs.declared.difference.Difference.{Difference}

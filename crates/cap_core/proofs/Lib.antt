@@ -19,3 +19,4 @@ pub mod SoundLemmas
 pub mod StayLemmas
 pub mod ToldLemmas
 pub mod TouchedLemmas
+pub mod WrittenLemmas

@@ -1,6 +1,6 @@
 -- Images that stand under their own keys: after what changes sessions, and where one is found.
 use Rattle.std.proofs.Common.{◌≡◌, ℕ, ◌+◌, ◌<◌, Bool, true, false, cond, Option, Some, None, List, [], ◌∷◌, ◌&&◌, ◌||◌, ◌++◌, map, length, refl, sym, ap, ap₂, subst, ◌∙◌, arith, not, Ordering, Less, Equal, Greater, IsTrue, Bor, Result, Ok, Err, get_or, take, drop, drop-cons, add-one, nat_eq}
-use Rattle.std.specs.Prelude.{fold, IfSome, IfOk, nat_le, is_some, filter_map, option_and_then}
+use Rattle.std.specs.Prelude.{IfSome, IfOk, nat_le, is_some, filter_map, option_and_then}
 use Rattle.std.specs.Option.{option_copied, option_map}
 use Rattle.std.specs.List.{cons_option, list_all, list_any}
 use Rattle.std.specs.Ordering.{eq_by_cmp, is_eq, match_ordering}
@@ -30,7 +30,7 @@ use Rattle.cap_txn.specs.declared.op.Op.{Op}
 use Rattle.cap_txn.proofs.KeptLemmas.{each-found}
 use Rattle.cap_session.specs.declared.record.Record.{Record}
 use Rattle.cap_session.specs.declared.rule.AutomaticRule.{AutomaticRule}
-use Rattle.cap_session.specs.Note.{attach_by, attach_by_rule, is_cascade, note, note_diff, touch_of, touch_table, touch_tables, touches_found, touches_of}
+use Rattle.cap_session.specs.Note.{attach_by, attach_by_rule, is_cascade, note, note_diff, touch_of, touch_tables, touches_found, touches_of}
 use Rattle.cap_session.specs.Records.{Records, Touch, record_after, touch, with_touches}
 use Rattle.cap_session.specs.Session.{AttachedTables, SessionState, accepts_by, attach, forget, is_listed, new_session}
 use Rattle.cap_session.specs.Sessions.{NumberedSessions, note_each, session_numbered, with_session, without_session}

@@ -13,6 +13,7 @@ mod reply;
 mod server;
 mod session_commands;
 mod writes;
+mod written;
 
 pub use capture::Capture;
 pub use command::Command;

@@ -1,4 +1,4 @@
-use Rattle.std.proofs.Common.{◌≡◌, arith, ap, ◌∙◌}
+use Rattle.std.proofs.Common.{arith, ap, ◌∙◌}
 use Rattle.cap_core.specs.Code.Sound.{KeepsColumns, sessions_stand}
 use Rattle.cap_core.proofs.MakeLemmas.{one_columns}
 use Rattle.cap_core.proofs.SoundLemmas.{note_each-stand}

@@ -1,5 +1,3 @@
-use Rattle.std.proofs.Common.{subst}
-use Rattle.cap_core.specs.Answer.{answer}
 use Rattle.cap_core.proofs.SmallLemmas.{if_err, if_ok, on_ok}
 use Rattle.cap_core.proofs.server.Core.step.Goals as goal
 

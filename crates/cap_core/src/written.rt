@@ -1,0 +1,153 @@
+//! The changes of a session as bytes, straight from its records and the rows now: no list is made.
+ghost use Rattle.std.specs.Prelude.{◌≡◌, ◌++◌, [], IfOk, OnOk, Some, List};
+ghost use Rattle.std.specs.List.{cons_option};
+ghost use Rattle.std.specs.Option.{option_copied, option_map};
+ghost use Rattle.cap_row.specs.Key.{fields_cmp};
+ghost use Rattle.cap_tree.specs.Tree.{get};
+ghost use Rattle.cap_changes.specs.declared.change.Change.{Change};
+ghost use Rattle.cap_codec.specs.Changeset.{change_bytes, changes_under, header_bytes, list_bytes_with};
+ghost use Rattle.cap_changes.specs.Change.{change_of};
+ghost use Rattle.cap_session.specs.Sessions.{session_numbered};
+ghost use Rattle.cap_core.specs.Capture.{change_now, changes_of, session_changes, table_changes};
+ghost use Rattle.cap_core.specs.Code.Written.{behind, header_unless};
+
+use crate::Core;
+use cap_codec::{KeyFlags, is_changed, push_change_between, push_group_header};
+use cap_row::{Key, Row, Schema};
+use cap_session::{Attached, Record, Records};
+use cap_table::Table;
+use cap_txn::Database;
+use cap_value::{AllocHandle, Name, OutOfMemory};
+
+impl<A: AllocHandle> Core<A> {
+    /// The bytes of the changeset of the session with this number, as a capture at this moment would answer it
+    /// (The Session Extension, "sqlite3session_changeset"), or none where no live session has the number. The key
+    /// columns are flagged so.
+    ///
+    /// The bytes are written straight from what the session keeps and the rows now, without the list of a capture.
+    /// It is no event: nothing is changed, and no step outside is asked.
+    pub fn changeset(
+        &self,
+        alloc: A,
+        session: u64,
+        key_flags: KeyFlags,
+    ) -> Result<Option<Vec<u8, A>>, OutOfMemory>
+        ensures { IfOk result (λ made. option_map (λ bytes. bytes.items) made ≡ option_map
+            (λ kept. list_bytes_with key_flags (session_changes self.now.main kept))
+            (session_numbered self.now.sessions session)) }
+    {
+        let Some(session) = self.sessions.get(session) else {
+            return Ok(None);
+        };
+        let bytes = changeset_of(alloc, key_flags, session.attached(), &self.main)?;
+        Ok(Some(bytes))
+    }
+}
+
+// The bytes of the changes of the attached tables of a session, from the first images that it keeps to the rows now.
+fn changeset_of<A: AllocHandle>(
+    alloc: A,
+    key_flags: KeyFlags,
+    attached: Attached<'_, A>,
+    main: &Database<A>,
+) -> Result<Vec<u8, A>, OutOfMemory>
+    ensures { IfOk result (λ bytes. bytes.items
+        ≡ list_bytes_with key_flags (changes_of main.now attached.entry)) }
+{
+    let mut out = Vec::new(alloc);
+    for (name, records) in attached {
+        push_attached(&mut out, key_flags, name, records, main.table(name))?;
+    }
+    Ok(out)
+}
+
+// Puts the changes of an attached table last, with their header, or nothing where there is no change.
+fn push_attached<A: AllocHandle>(
+    out: &mut Vec<u8, A>,
+    key_flags: KeyFlags,
+    name: &Name<A>,
+    records: &Records<A>,
+    table: Option<&Table<A>>,
+) -> Result<(), OutOfMemory>
+    ensures { OnOk result (out.new.items ≡ out.old.items ++ list_bytes_with key_flags
+        (cons_option (table_changes (name.now, records.now) (option_copied table.entry)) [])) }
+{
+    match table {
+        Some(table) => push_table(out, key_flags, name, records, table),
+        None => Ok(()),
+    }
+}
+
+fn push_table<A: AllocHandle>(
+    out: &mut Vec<u8, A>,
+    key_flags: KeyFlags,
+    name: &Name<A>,
+    records: &Records<A>,
+    table: &Table<A>,
+) -> Result<(), OutOfMemory>
+    ensures { OnOk result (out.new.items ≡ out.old.items ++ list_bytes_with key_flags
+        (cons_option (table_changes (name.now, records.now) (Some table.now)) [])) }
+{
+    let mut begun = false;
+    for (key, kept) in records {
+        begun = push_touched(
+            out,
+            key_flags,
+            begun,
+            name,
+            table.schema(),
+            kept,
+            row_now(table, key),
+        )?;
+    }
+    Ok(())
+}
+
+// The row with this primary key, or its absence.
+fn row_now<'a, A: AllocHandle>(table: &'a Table<A>, key: &Key<A>) -> Option<&'a Row<A>>
+    ensures { option_copied result ≡ get fields_cmp table.now.keyed key.now }
+{
+    table.keyed().get(key)
+}
+
+// Puts the change of a touched key last, where there is one, behind the header of its table, unless changes of the table
+// stand there already. Answers whether there are some now.
+fn push_touched<A: AllocHandle>(
+    out: &mut Vec<u8, A>,
+    key_flags: KeyFlags,
+    begun: bool,
+    name: &Name<A>,
+    schema: &Schema<A>,
+    kept: &Record<A>,
+    now: Option<&Row<A>>,
+) -> Result<bool, OutOfMemory>
+    ensures { IfOk result (λ some. (others : List (Change A))
+        → out.new.items ++ behind some (header_bytes key_flags 0x54 name.now schema.now) others
+        ≡ out.old.items ++ behind begun (header_bytes key_flags 0x54 name.now schema.now)
+        (cons_option (change_of schema.now kept.now.indirect kept.now.image (option_copied now.entry)) others)) }
+{
+    let image = kept.image.as_ref();
+    if is_changed(image, now) {
+        push_header_unless(out, key_flags, begun, name, schema)?;
+        push_change_between(out, schema, kept.indirect, image, now)?;
+        Ok(true)
+    } else {
+        Ok(begun)
+    }
+}
+
+fn push_header_unless<A: AllocHandle>(
+    out: &mut Vec<u8, A>,
+    key_flags: KeyFlags,
+    begun: bool,
+    name: &Name<A>,
+    schema: &Schema<A>,
+) -> Result<(), OutOfMemory>
+    ensures { OnOk result (out.new.items
+        ≡ out.old.items ++ header_unless begun (header_bytes key_flags 0x54 name.now schema.now)) }
+{
+    if begun {
+        return Ok(());
+    }
+    push_group_header(out, key_flags, name, schema)
+}
