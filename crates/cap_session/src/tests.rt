@@ -226,9 +226,9 @@ fn filter_attaches_in_order(rt: HostRuntime) -> Result<(), Fail> {
     let mut tables = session.attached();
     let (a, b) = (Name::new(alloc, "a")?, Name::new(alloc, "b")?);
     let first = tables.next();
-    assert!(rt; matches!(first, Some((name, records)) if name.same(&b) && records.len() == 2));
+    assert!(rt; matches!(first, Some((name, records)) if name.same(&b) && records.count() == 2));
     let second = tables.next();
-    assert!(rt; matches!(second, Some((name, records)) if name.same(&a) && records.len() == 2));
+    assert!(rt; matches!(second, Some((name, records)) if name.same(&a) && records.count() == 2));
     assert!(rt; tables.next().is_none());
     Ok(())
 }
