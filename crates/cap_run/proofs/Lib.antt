@@ -1,1 +1,3 @@
+mod GatherLemmas
 mod RunLemmas
+mod WorkLemmas

@@ -3,3 +3,4 @@ pub mod Options
 pub mod Run
 pub mod RunFault
 pub mod Show
+pub mod Workload

@@ -3,6 +3,7 @@
 #![tactic(auto)]
 
 mod asked;
+mod block;
 mod command_line;
 mod fault;
 mod gate;
@@ -10,6 +11,8 @@ mod input;
 mod output;
 mod run;
 mod show;
+mod worker;
+mod workload;
 
 pub use asked::{Options, OptionsFault};
 pub use command_line::options;
@@ -17,3 +20,4 @@ pub use fault::RunFault;
 pub use gate::{Gate, NoGate};
 pub use run::run_core;
 pub use show::show_blob;
+pub use workload::{THREADS_MAX, run_workload};
