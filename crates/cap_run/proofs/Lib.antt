@@ -1,3 +1,1 @@
-mod GatherLemmas
 mod RunLemmas
-mod WorkLemmas

@@ -33,6 +33,11 @@ pub front_more : (a b c : Option (List ℕ)) (before bytes : List ℕ) → Appen
 front_more a b c before bytes wrote (front, rest, parts, more) =
     (before ++ front, rest, ap (λ (r : List ℕ). before ++ r) parts ∙ sym (append_assoc before front rest), Appends-trans a b c before front wrote more)
 
+-- a beginning of the bytes is one of longer bytes
+pub front_sooner : (a b : Option (List ℕ)) (bytes after : List ℕ) → AppendsFront a b bytes → AppendsFront a b (bytes ++ after)
+front_sooner a b bytes after (front, rest, parts, wrote) =
+    (front, rest ++ after, ap (λ (r : List ℕ). r ++ after) parts ∙ append_assoc front rest after, wrote)
+
 -- the line that has no reply
 pub ends_at : (fault : CallFault) (lines count events : ℕ) → events ≡ count → count < lines → count ≤ events_max → MatchFault fault (events < events_max) (events_max ≤ events)
     → EndsAt (Err fault) lines count

@@ -96,6 +96,7 @@ fn write_last_line<W: Write>(
 }
 
 /// Writes that a call was overtaken, and how many events the history has.
+#[tactic(auto, using(crate::proofs::RunLemmas::front_more, crate::proofs::RunLemmas::front_sooner))]
 fn write_overtaken<W: Write>(writer: &mut W, front: u64) -> Result<(), RunFault>
     ensures ok { OnOk result (Appends (W.contents writer.old) (W.contents writer.new)
         ((codes "overtaken " ++ decimal front) ++ 10 ∷ [])) }
@@ -104,16 +105,21 @@ fn write_overtaken<W: Write>(writer: &mut W, front: u64) -> Result<(), RunFault>
         ((codes "overtaken " ++ decimal front) ++ 10 ∷ [])) }
 {
     let mut digits = Buffer::new();
-    write_both(writer, b"overtaken ", digits.format(front).as_bytes())?;
-    write_whole(writer, b"\n")
+    match write_both(writer, b"overtaken ", digits.format(front).as_bytes()) {
+        Ok(()) => write_whole(writer, b"\n"),
+        Err(fault) => Err(fault),
+    }
 }
 
 /// Writes some bytes and then others.
+#[tactic(auto, using(crate::proofs::RunLemmas::front_more, crate::proofs::RunLemmas::front_sooner))]
 fn write_both<W: Write>(writer: &mut W, first: &[u8], second: &[u8]) -> Result<(), RunFault>
     ensures ok { OnOk result (Appends (W.contents writer.old) (W.contents writer.new) (first.now ++ second.now)) }
     ensures err { IfErr result (λ fault. (fault ≡ RunFault.Write)
         × AppendsFront (W.contents writer.old) (W.contents writer.new) (first.now ++ second.now)) }
 {
-    write_whole(writer, first)?;
-    write_whole(writer, second)
+    match write_whole(writer, first) {
+        Ok(()) => write_whole(writer, second),
+        Err(fault) => Err(fault),
+    }
 }

