@@ -5,14 +5,14 @@ use Rattle.std.proofs.KnownBytes.{Appends-trans, Keeps-refl}
 use Rattle.std.proofs.lemmas.List.{reverse-append, length-reverse}
 use Rattle.cap_core.specs.declared.command.Command.{Command}
 use Rattle.cap_core.specs.declared.event.Event.{Event}
-use Rattle.cap_server.specs.declared.fault.CallFault.{CallFault}
-use Rattle.cap_server.specs.declared.fault.CallFault.TheVariants as call
+use Rattle.cap_core.specs.declared.fault.CallFault.{CallFault}
+use Rattle.cap_core.specs.declared.fault.CallFault.TheVariants as call
 use Rattle.cap_core.specs.declared.reply.Reply.{Reply}
 use Rattle.cap_core.specs.Answer.{State, IsLegal, IsLegalPast, answer, event_by, history_of, reply_of, state}
 use Rattle.cap_core.specs.Transition.{next}
 use Rattle.cap_script.specs.declared.line.Line.{Line}
 use Rattle.cap_run.specs.declared.fault.RunFault.{RunFault}
-use Rattle.cap_run.specs.declared.fault.RunFault.TheVariants.{Script, NotUtf8, NotHex, Blob, Call, Read, Write, Memory, Close}
+use Rattle.cap_run.specs.declared.fault.RunFault.TheVariants.{Script, NotUtf8, NotHex, Blob, Call, Read, Write, Memory}
 use Rattle.cap_script.specs.ReplyText.{reply_text}
 use Rattle.cap_run.specs.Run.{AppendsFront, BeginsRun, Ended, EndsAt, IsRun, IsSpelled, MatchFault, Writes, WritesInput, WritesRun, commands_of, ending, events_max, on_a_line, reply_lines, run_outcome}
 use Rattle.cap_run.specs.RunFault.{RunsNothing}
@@ -33,16 +33,10 @@ pub front_more : (a b c : Option (List ℕ)) (before bytes : List ℕ) → Appen
 front_more a b c before bytes wrote (front, rest, parts, more) =
     (before ++ front, rest, ap (λ (r : List ℕ). before ++ r) parts ∙ sym (append_assoc before front rest), Appends-trans a b c before front wrote more)
 
--- a beginning of the bytes is one of longer bytes
-pub front_sooner : (a b : Option (List ℕ)) (bytes after : List ℕ) → AppendsFront a b bytes → AppendsFront a b (bytes ++ after)
-front_sooner a b bytes after (front, rest, parts, wrote) =
-    (front, rest ++ after, ap (λ (r : List ℕ). r ++ after) parts ∙ append_assoc front rest after, wrote)
-
 -- the line that has no reply
 pub ends_at : (fault : CallFault) (lines count events : ℕ) → events ≡ count → count < lines → count ≤ events_max → MatchFault fault (events < events_max) (events_max ≤ events)
     → EndsAt (Err fault) lines count
 ends_at call.OutOfMemory lines count events same less few met = (less, omega arith)
-ends_at (call.Overtaken front) lines count events same less few met = absurd met
 ends_at call.HistoryFull lines count events same less few met = (less, omega arith)
 
 -- a call's answer that was passed on
@@ -68,7 +62,6 @@ writes_nothing A input (Call fault) a early = absurd early
 writes_nothing A input Read a early = Keeps-refl a
 writes_nothing A input Write a early = absurd early
 writes_nothing A input Memory a early = Keeps-refl a
-writes_nothing A input Close a early = absurd early
 
 module _ {A : Type 0} where
   -- ---- histories
@@ -196,7 +189,6 @@ module _ {A : Type 0} where
   writes_input input lines (Err Read) a b spelled wrote = wrote
   writes_input input lines (Err Write) a b spelled wrote = (lines, spelled, wrote)
   writes_input input lines (Err Memory) a b spelled wrote = wrote
-  writes_input input lines (Err Close) a b spelled wrote = wrote
 
   -- a beginning, where the last replies were not all written
   pub begins_front : (lines : List (Line A)) (a b c : Option (List ℕ)) (count : ℕ) (written pending : List ℕ) → IsRun lines count (Ok tt) (written ++ pending)

@@ -3,4 +3,3 @@ pub mod Options
 pub mod Run
 pub mod RunFault
 pub mod Show
-pub mod Workload

@@ -3,10 +3,9 @@ use Rattle.std.specs.Prelude.{◌≡◌, ◌⊎◌, ℕ}
 use Rattle.cap_value.specs.declared.memory.Fault.{Fault}
 use Rattle.cap_value.specs.declared.memory.Fault.TheVariants.{Refused, OutOfMemory}
 use Rattle.cap_run.specs.declared.fault.RunFault.{RunFault}
-use Rattle.cap_run.specs.declared.fault.RunFault.TheVariants.{Script, NotUtf8, NotHex, Blob, Call, Read, Write, Memory, Close}
+use Rattle.cap_run.specs.declared.fault.RunFault.TheVariants.{Script, NotUtf8, NotHex, Blob, Call, Read, Write, Memory}
 
--- the exit status: 1 where the input is refused, and 3 where a call, a read, a write or the closing of the server failed, or
--- for want of memory
+-- the exit status: 1 where the input is refused, and 3 where a call, a read or a write failed, or for want of memory
 abbrev pub exit_status : RunFault → ℕ
 exit_status (Script fault) = 1
 exit_status NotUtf8 = 1
@@ -16,7 +15,6 @@ exit_status (Call fault) = 3
 exit_status Read = 3
 exit_status Write = 3
 exit_status Memory = 3
-exit_status Close = 3
 
 -- the input was not read to its end
 abbrev pub IsUnread : RunFault → Type 0
@@ -26,7 +24,6 @@ IsUnread fault = (fault ≡ Read) ⊎ (fault ≡ Memory)
 abbrev pub RunsNothing : RunFault → Type 0
 RunsNothing (Call fault) = ⊥
 RunsNothing Write = ⊥
-RunsNothing Close = ⊥
 RunsNothing fault = Unit {0}
 
 -- how a run ends whose input is refused, or for which there is no memory

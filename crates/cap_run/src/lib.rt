@@ -3,7 +3,6 @@
 #![tactic(auto)]
 
 mod asked;
-mod block;
 mod command_line;
 mod fault;
 mod gate;
@@ -11,8 +10,6 @@ mod input;
 mod output;
 mod run;
 mod show;
-mod worker;
-mod workload;
 
 pub use asked::{Options, OptionsFault};
 pub use command_line::options;
@@ -20,4 +17,3 @@ pub use fault::RunFault;
 pub use gate::{Gate, NoGate};
 pub use run::run_core;
 pub use show::show_blob;
-pub use workload::{THREADS_MAX, run_workload};

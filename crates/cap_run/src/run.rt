@@ -11,16 +11,17 @@ ghost use Rattle.cap_script.specs.declared.line.Line.{Line};
 
 use crate::RunFault;
 use crate::input::read_whole;
-use crate::output::{write_ending, write_long, write_pending};
-use crate::worker::reply_line;
-use cap_core::{Agree, Command, Core, Reply, legal_histories_grow};
-use cap_script::{Line, Workload, parse};
-use cap_server::CallFault;
-use cap_value::{AllocHandle, Fault};
+use crate::output::write_whole;
+use cap_core::{Agree, CallFault, Command, Core, Reply, legal_histories_grow};
+use cap_script::{Line, Workload, parse, print_reply};
+use cap_value::{AllocHandle, Fault, OutOfMemory};
 use std::io::{Read, Write};
 
 /// The most commands that a server answers.
 const EVENTS_MAX: u64 = (1 << 63) - 1;
+
+/// The bytes of output that wait to be written together.
+const PIECE_LEN: usize = 8192;
 
 /// Runs the workload that the reader gives on a new server, one command after the other, and writes a line a reply.
 ///
@@ -55,7 +56,7 @@ pub fn run_core<A: AllocHandle, R: Read, W: Write>(
 }
 
 /// The workload that the reader gives.
-pub(crate) fn read_workload<A: AllocHandle, R: Read>(alloc: A, reader: &mut R) -> Result<Workload<A>, RunFault>
+fn read_workload<A: AllocHandle, R: Read>(alloc: A, reader: &mut R) -> Result<Workload<A>, RunFault>
     ensures no_text { IfSome (R.remaining reader.old) (λ given. ¬ (IsUtf8 given)
         → IsErrAnd result (λ fault. (fault ≡ RunFault.NotUtf8) ⊎ IsUnread fault)) }
     ensures text { IfSome (R.remaining reader.old) (λ given.
@@ -99,7 +100,7 @@ fn run_lines<A: AllocHandle, W: Write>(
 }
 
 /// The outcome of a run whose lines ended so.
-pub(crate) fn run_outcome(outcome: Result<(), CallFault>) -> Result<(), RunFault>
+fn run_outcome(outcome: Result<(), CallFault>) -> Result<(), RunFault>
     ensures same { result ≡ run_outcome outcome }
     ensures status { IfErr result (λ fault. exit_status fault ≡ 3) }
 {
@@ -161,6 +162,19 @@ fn run_line<A: AllocHandle>(
     }
 }
 
+/// The text of a reply, with the line feed at its end.
+fn reply_line<A: AllocHandle>(
+    alloc: A,
+    line: &Line<A>,
+    reply: &Reply<A>,
+) -> Result<String<A>, OutOfMemory>
+    ensures { IfOk result (λ text. string_bytes text ≡ on_a_line (reply_text line.now reply.now)) }
+{
+    let mut text = print_reply(alloc, line, reply)?;
+    text.push_str("\n")?;
+    Ok(text)
+}
+
 /// Runs a command that no step outside belongs to.
 fn run_command<A: AllocHandle>(
     core: &mut Core<A>,
@@ -175,5 +189,59 @@ fn run_command<A: AllocHandle>(
         Ok(reply) => Ok(reply),
         Err(Fault::OutOfMemory) => Err(CallFault::OutOfMemory),
         Err(Fault::Refused(never)) => match never {},
+    }
+}
+
+/// Writes what waits to be written. Where a write fails it stays, though a beginning of it may be written.
+fn write_pending<A: AllocHandle, W: Write>(
+    writer: &mut W,
+    pending: &mut String<A>,
+) -> Result<(), RunFault>
+    ensures ok { OnOk result ((string_bytes pending.new ≡ [])
+        × Appends (W.contents writer.old) (W.contents writer.new) (string_bytes pending.old)) }
+    ensures err { IfErr result (λ fault. (fault ≡ RunFault.Write)
+        × AppendsFront (W.contents writer.old) (W.contents writer.new) (string_bytes pending.old)) }
+{
+    write_whole(writer, pending.as_str().as_bytes())?;
+    pending.clear();
+    Ok(())
+}
+
+/// Writes what waits to be written, once it is as long as a piece.
+fn write_long<A: AllocHandle, W: Write>(
+    writer: &mut W,
+    pending: &mut String<A>,
+) -> Result<(), RunFault>
+    ensures ok { OnOk result ((front : List ℕ)
+        × (string_bytes pending.old ≡ front ++ string_bytes pending.new)
+        × Appends (W.contents writer.old) (W.contents writer.new) front) }
+    ensures err { IfErr result (λ fault. (fault ≡ RunFault.Write)
+        × AppendsFront (W.contents writer.old) (W.contents writer.new) (string_bytes pending.old)) }
+{
+    if pending.len() < PIECE_LEN {
+        return Ok(());
+    }
+    write_pending(writer, pending)
+}
+
+/// Writes the line of the fault at which the run ended, if it did, and flushes the writer.
+fn write_ending<W: Write>(outcome: Result<(), CallFault>, writer: &mut W) -> Result<(), RunFault>
+    ensures ok { OnOk result (Appends (W.contents writer.old) (W.contents writer.new) (ending outcome)) }
+    ensures err { IfErr result (λ fault. (fault ≡ RunFault.Write)
+        × AppendsFront (W.contents writer.old) (W.contents writer.new) (ending outcome)) }
+{
+    write_whole(writer, last_line(outcome).as_bytes())?;
+    writer.flush().map_err(|_| RunFault::Write)
+}
+
+/// The line of the fault at which a run ended, or nothing.
+#[tactic(auto, unfolding(crate::specs::Run::call_fault_text))]
+fn last_line(outcome: Result<(), CallFault>) -> &'static str
+    ensures { result.now ≡ ending outcome }
+{
+    match outcome {
+        Ok(()) => "",
+        Err(CallFault::OutOfMemory) => "refused for memory\n",
+        Err(CallFault::HistoryFull) => "history full\n",
     }
 }

@@ -2,12 +2,10 @@
 //! `show` a blob as hex text, whose changes it prints.
 #![tactic(auto)]
 
-use cap_run::{NoGate, Options, OptionsFault, RunFault, options, run_workload, show_blob};
+use cap_run::{Options, OptionsFault, RunFault, options, run_core, show_blob};
 use std::alloc::AllocError;
 use std::process::ExitCode;
 use std::rt::Env;
-use std::sync::Wait;
-use std::thread::Threads;
 use std::{env, io};
 
 /// The exit statuses of the program: the input is refused, the command line is refused, or there was no memory, or a
@@ -54,9 +52,7 @@ fn without_words(rt: &impl Eprint, error: &io::Error) -> u8 {
 }
 
 /// Does what the command line asks for, and answers the exit status.
-fn obey<R: Input + Print + Eprint + Env + AllocGlobal + Threads + Wait + Sync>(
-    rt: &R,
-) -> Result<u8, AllocError> {
+fn obey(rt: &(impl Input + Print + Eprint + Env + AllocGlobal)) -> Result<u8, AllocError> {
     let alloc = rt.alloc();
     let arguments = match env::args(rt) {
         Ok(arguments) => arguments,
@@ -64,10 +60,9 @@ fn obey<R: Input + Print + Eprint + Env + AllocGlobal + Threads + Wait + Sync>(
     };
     let words: Vec<String> = arguments.skip(1).collect(alloc)?;
     match options(alloc, words.as_slice()) {
-        Ok(Options::Run { threads }) => {
-            let mut reader = rt.reader();
-            let mut writer = io::writer(rt);
-            let outcome = run_workload(rt, alloc, &NoGate, threads, &mut reader, &mut writer);
+        // Whatever their number, the threads' calls are made in the order of the lines.
+        Ok(Options::Run { threads: _ }) => {
+            let outcome = run_core(alloc, &mut rt.reader(), &mut io::writer(rt));
             Ok(report(rt, outcome))
         }
         Ok(Options::Show) => {
