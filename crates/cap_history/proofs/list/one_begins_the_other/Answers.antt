@@ -1,4 +1,4 @@
-use Rattle.std.proofs.Common.{ap, subst, List, ◌⊎◌}
+use Rattle.std.proofs.Common.{ap, subst, List}
 use mathlib.Core.List.{IsPrefix}
 use Rattle.cap_core.specs.declared.event.Event.{Event}
 use Rattle.cap_history.specs.Beginnings.{prefix-either}

@@ -1,4 +1,4 @@
-use Rattle.std.proofs.Common.{ap, sym, ◌∙◌, ◌≡◌, length, arith}
+use Rattle.std.proofs.Common.{ap, sym, ◌∙◌, length, arith}
 use Rattle.cap_history.specs.History.{own}
 use Rattle.cap_history.specs.Seat.{SeatState}
 use Rattle.cap_history.specs.Own.{own-few}

@@ -1,6 +1,4 @@
-use Rattle.std.proofs.Common.{sym, ap, subst, ◌∙◌, ◌≡◌, ◌+◌, ◌<◌, ◌^◌, length, arith, List}
-use mathlib.Core.List.{IsPrefix}
-use Rattle.cap_core.specs.declared.event.Event.{Event}
+use Rattle.std.proofs.Common.{sym, ap, ◌∙◌, ◌≡◌, ◌+◌, ◌<◌, ◌^◌, length, arith}
 use Rattle.cap_core.specs.Answer.{reply_of}
 use Rattle.cap_history.proofs.Adding.{adds_moves}
 use Rattle.cap_history.proofs.list.List.append.Goals as goal
