@@ -175,8 +175,8 @@ fn change_now<A: AllocHandle>(
     )
 }
 
-// The row with this primary key, or its absence.
-fn row_now<'a, A: AllocHandle>(table: &'a Table<A>, key: &Key<A>) -> Option<&'a Row<A>>
+/// The row with this primary key, or its absence.
+pub(crate) fn row_now<'a, A: AllocHandle>(table: &'a Table<A>, key: &Key<A>) -> Option<&'a Row<A>>
     ensures row { option_copied result ≡ get fields_cmp table.now.keyed key.now }
     ensures stands { IfSome result (λ row. IsTrue (keyed_stands table.now.schema key.now row.now)) }
 {

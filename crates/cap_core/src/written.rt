@@ -2,8 +2,6 @@
 ghost use Rattle.std.specs.Prelude.{◌≡◌, ◌++◌, [], IfOk, OnOk, Some, List};
 ghost use Rattle.std.specs.List.{cons_option};
 ghost use Rattle.std.specs.Option.{option_copied, option_map};
-ghost use Rattle.cap_row.specs.Key.{fields_cmp};
-ghost use Rattle.cap_tree.specs.Tree.{get};
 ghost use Rattle.cap_changes.specs.declared.change.Change.{Change};
 ghost use Rattle.cap_codec.specs.Changeset.{change_bytes, changes_under, header_bytes, list_bytes_with};
 ghost use Rattle.cap_changes.specs.Change.{change_of};
@@ -12,8 +10,9 @@ ghost use Rattle.cap_core.specs.Capture.{change_now, changes_of, session_changes
 ghost use Rattle.cap_core.specs.Code.Written.{behind, header_unless};
 
 use crate::Core;
+use crate::capture::row_now;
 use cap_codec::{KeyFlags, is_changed, push_change_between, push_group_header};
-use cap_row::{Key, Row, Schema};
+use cap_row::{Row, Schema};
 use cap_session::{Attached, Record, Records};
 use cap_table::Table;
 use cap_txn::Database;
@@ -101,13 +100,6 @@ fn push_table<A: AllocHandle>(
         )?;
     }
     Ok(())
-}
-
-// The row with this primary key, or its absence.
-fn row_now<'a, A: AllocHandle>(table: &'a Table<A>, key: &Key<A>) -> Option<&'a Row<A>>
-    ensures { option_copied result ≡ get fields_cmp table.now.keyed key.now }
-{
-    table.keyed().get(key)
 }
 
 // Puts the change of a touched key last, where there is one, behind the header of its table, unless changes of the table

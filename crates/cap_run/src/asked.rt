@@ -6,7 +6,7 @@ ghost use Rattle.cap_run.specs.Options.{options_status};
 pub enum Options {
     /// To run the workload on standard input.
     Run {
-        /// How many threads run the lines that name a worker: 1 to 63.
+        /// How many workers the lines that begin with `@K` belong to: 1 to 63.
         threads: u64,
     },
     /// To show the blob on standard input.

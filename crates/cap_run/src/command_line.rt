@@ -59,6 +59,7 @@ Sessions:
 Changes:
   changeset S         print a session's changes, with old values: changeset 1
   patchset S          print them without old values: patchset 1
+  .. S places         either, with key flags as SQLite's own applier wants them: changeset 1 places
   restart S           print them as changeset does, and forget them: restart 1
   apply x'..' D N C   apply a changeset or patchset; D, N and C say omit, replace or abort, for
                       rows that differ, are missing, or are there already:
