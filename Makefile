@@ -1,6 +1,6 @@
 PROGRAM = crates/changecap/out/changecap
 
-.PHONY: run build test clean
+.PHONY: run build test format clean
 
 # The first example, by the optimised program where `make build` or `make test` left one. Else the program runs before
 # any proof, with checks in place of the proofs.
@@ -24,6 +24,10 @@ test:
 	printf '%s\n%s\n' "$$proofs" "$$examples" | awk ' \
 	    /^[0-9]+ passed, [0-9]+ failed$$/ { parts++; passed += $$1; failed += $$3 } \
 	    END { if (parts != 2) failed++; print passed + 0 " passed, " failed + 0 " failed"; exit failed != 0 }'
+
+# Lays out every crate's sources as `make test` wants them: it proves no crate that is not laid out so.
+format:
+	@for crate in crates/*/; do (cd $$crate && rt fmt) || exit 1; done
 
 clean:
 	rm -rf crates/*/out

@@ -1,10 +1,10 @@
 -- A capture of several tables, one group after another.
-use Rattle.std.proofs.Common.{◌≡◌, ℕ, ◌+◌, Bool, true, cond, Option, Some, None, Result, Ok, List, [], ◌∷◌, length, map, refl, sym, ap, subst, ◌∙◌, arith}
+use Rattle.std.proofs.Common.{◌≡◌, ℕ, ◌+◌, Bool, true, cond, Some, None, Ok, List, [], ◌∷◌, length, map, refl, sym, ap, ◌∙◌, arith}
 use Rattle.std.specs.Prelude.{is_some}
 use Rattle.cap_table.specs.Table.{TableState}
 use Rattle.cap_txn.specs.Tables.{Tables, table_of}
 use Rattle.cap_changes.specs.Entries.{TableEntries}
-use Rattle.cap_changes.specs.Patch.{patch_list_of, patch_of, patches_of}
+use Rattle.cap_changes.specs.Patch.{patch_list_of, patch_of}
 use Rattle.cap_codec.specs.declared.read.Contents.TheVariants.{Changes, Patches}
 use Rattle.cap_apply.specs.Applied.{AppliedState}
 use Rattle.cap_apply.specs.Apply.{and_then, changes_applied, group_applied, groups_applied, nothing_applied, skipped_unless}
@@ -12,7 +12,7 @@ use Rattle.cap_apply.specs.Asked.{Asked, asked_by_change, asked_by_patch, asked_
 use Rattle.cap_apply.specs.Captured.{AllAfter, AllBefore, AreOthers, GivesAllRowsNow, TableRows, changes_of, total}
 use Rattle.cap_apply.specs.Difference.{Difference, RowsAfter, RowsBefore, asked_by_changes, asked_by_patches}
 use Rattle.cap_apply.specs.Report.{ReportState}
-use Rattle.cap_apply.specs.Target.{columns_fit, fitting, target}
+use Rattle.cap_apply.specs.Target.{fitting, target}
 use Rattle.cap_apply.specs.declared.policy.Policy.{Policy}
 use Rattle.cap_apply.proofs.CaptureLemmas.{fit_self}
 use Rattle.cap_apply.proofs.DifferenceLemmas.{Left, changes_give, patches_give}

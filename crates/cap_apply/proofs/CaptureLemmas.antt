@@ -1,28 +1,26 @@
 -- One captured change, where its key has the row that was there first.
-use Rattle.std.proofs.Common.{◌≡◌, ℕ, suc, ◌+◌, ◌-◌, Bool, true, false, cond, not, ◌&&◌, ◌||◌, Option, Some, None, Result, Ok, Err, List, [], ◌∷◌, ◌++◌, length, map, replicate, refl, sym, ap, subst, ◌∙◌, arith}
+use Rattle.std.proofs.Common.{◌≡◌, ℕ, ◌-◌, Bool, true, false, cond, not, ◌&&◌, ◌||◌, Option, Some, None, Ok, List, [], ◌∷◌, ◌++◌, length, map, replicate, refl, sym, ap, subst, ◌∙◌, arith}
 use Rattle.std.specs.Option.{unwrap_or}
-use Rattle.std.specs.List.{list_all, zip}
 use Rattle.std.proofs.lemmas.Bool.{and_from}
 use Rattle.std.proofs.lemmas.List.{append-nil, length-map}
 use Rattle.cap_value.specs.declared.value.Value.{Value}
 use Rattle.cap_value.specs.declared.value.Value.TheVariants.{Null}
 use Rattle.cap_value.specs.Value.{value_eq, value_eq_decides}
 use Rattle.cap_row.specs.Fields.{Fields}
-use Rattle.cap_row.specs.Key.{fields_cmp, fields_eq, fields_eq_decides, is_key, key_fields, key_from, key_of}
-use Rattle.cap_row.specs.Schema.{has_key}
+use Rattle.cap_row.specs.Key.{fields_cmp, fields_eq, fields_eq_decides, is_key, key_fields, key_of}
 use Rattle.cap_tree.specs.Tree.{get}
 use Rattle.cap_table.specs.Table.{TableState}
 use Rattle.cap_txn.specs.Tables.{table_of}
 use Rattle.cap_changes.specs.Change.{change_of, full_record, new_field, old_field}
 use Rattle.cap_changes.specs.Column.{by_column}
 use Rattle.cap_changes.specs.Invert.{inverse_of}
-use Rattle.cap_changes.specs.Patch.{key_record, patch_of, update_record}
+use Rattle.cap_changes.specs.Patch.{patch_of, update_record}
 use Rattle.cap_changes.specs.Record.{RecordFields}
 use Rattle.cap_changes.specs.declared.change.Change.{Change}
 use Rattle.cap_changes.specs.declared.change.Change.TheVariants.{Insert, Update, Delete}
 use Rattle.cap_apply.specs.Applied.{AppliedState}
 use Rattle.cap_apply.specs.Apply.{change_applied, counted, with_row_in}
-use Rattle.cap_apply.specs.Asked.{Asked, asked_by_change, asked_by_patch, old_record}
+use Rattle.cap_apply.specs.Asked.{Asked, asked_by_change, asked_by_patch}
 use Rattle.cap_apply.specs.Difference.{Difference, IsDifference, IsUnder, turned}
 use Rattle.cap_apply.specs.Row.{agrees, agrees_at, conflict_of, key_record_of, key_values, missed, new_row, row_after, set_fields}
 use Rattle.cap_apply.specs.Target.{columns_fit, fitting}

@@ -1,11 +1,11 @@
 -- All changes of a capture, one after another.
-use Rattle.std.proofs.Common.{◌≡◌, ℕ, suc, ◌+◌, Bool, true, false, cond, Option, Some, None, Result, Ok, List, [], ◌∷◌, length, map, refl, sym, ap, subst, ◌∙◌, arith}
+use Rattle.std.proofs.Common.{◌≡◌, ℕ, suc, ◌+◌, Bool, cond, Option, Some, None, Ok, List, [], ◌∷◌, length, map, refl, sym, ap, ◌∙◌, arith}
 use Rattle.std.specs.Cmp.{Equal-is, tied_itself}
 use Rattle.std.proofs.lemmas.Cmp.{nat_list_cmp_total}
 use Rattle.cap_value.specs.Bytes.{bytes_cmp, bytes_cmp-Equal}
 use Rattle.cap_row.specs.Fields.{Fields}
 use Rattle.cap_row.specs.Key.{fields_cmp, fields_cmp_total, fields_cmp-Equal}
-use Rattle.cap_tree.specs.Tree.{IsOrdered, get, put_entry, take_entry}
+use Rattle.cap_tree.specs.Tree.{IsOrdered, get, put_entry}
 use Rattle.cap_table.specs.Table.{TableState}
 use Rattle.cap_txn.specs.Tables.{Tables, table_of}
 use Rattle.cap_txn.proofs.PlaceLemmas.{ordered_put}

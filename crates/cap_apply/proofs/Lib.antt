@@ -5,6 +5,7 @@ pub mod ColumnLemmas
 pub mod DifferenceLemmas
 pub mod EntryLemmas
 pub mod GroupLemmas
+pub mod MadeLemmas
 pub mod OperationLemmas
 pub mod OrderLemmas
 pub mod RowLemmas

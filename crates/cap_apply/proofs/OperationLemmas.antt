@@ -1,5 +1,5 @@
 -- What an operation on a table that is there makes of what was applied.
-use Rattle.std.proofs.Common.{◌≡◌, ℕ, Bool, true, false, cond, Option, Some, None, Result, Ok, Err, List, [], ◌∷◌, ◌++◌, length, refl, sym, ap, ◌∙◌, arith, ◌==◌}
+use Rattle.std.proofs.Common.{◌≡◌, ℕ, true, cond, Option, Some, None, Ok, Err, List, [], ◌∷◌, ◌++◌, length, ap, ◌∙◌, arith, ◌==◌}
 use Rattle.std.specs.Prelude.{is_some}
 use Rattle.std.specs.Cmp.{Equal-is, tied_itself}
 use Rattle.std.proofs.lemmas.Bool.Decides.{nat_tests}
@@ -11,7 +11,7 @@ use Rattle.cap_row.specs.Key.{fields_cmp, fields_cmp_total, fields_eq, key_of}
 use Rattle.cap_row.specs.Row.{are_columns, columns_of, row_with}
 use Rattle.cap_tree.specs.Tree.{get, put_entry}
 use Rattle.cap_table.specs.Table.{TableState}
-use Rattle.cap_table.specs.Operation.{moved, placed, rekeyed, under_key, updated, with_key, without}
+use Rattle.cap_table.specs.Operation.{moved, placed, under_key, updated, with_key, without}
 use Rattle.cap_table.specs.declared.row_ref.RowRef.TheVariants.{Key}
 use Rattle.cap_txn.specs.Assigned.{Assigned}
 use Rattle.cap_txn.specs.Operation.{act, changed_keys, changes_in, changes_to, in_place, stepped, updated_keys}

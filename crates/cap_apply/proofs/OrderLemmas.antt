@@ -1,6 +1,6 @@
 -- Names, keys and ids still rise, and rows stand where they belong, whatever blob that can be written is applied.
-use Rattle.std.proofs.Common.{◌≡◌, ℕ, ◌+◌, ◌≤◌, Bool, true, false, cond, Option, Some, None, Result, Ok, Err, List, [], ◌∷◌, ◌++◌, ◌&&◌, map, length, refl, sym, ap, ◌∙◌, arith, subst, nat_eq}
-use Rattle.std.specs.Prelude.{All, IfOk, is_some}
+use Rattle.std.proofs.Common.{◌≡◌, ℕ, ◌+◌, ◌≤◌, Bool, true, false, cond, Option, Some, None, Result, Ok, Err, List, [], ◌∷◌, map, length, refl, sym, ap, ◌∙◌, arith, subst, nat_eq}
+use Rattle.std.specs.Prelude.{IfOk, is_some}
 use Rattle.std.specs.List.{AllByRecursion, list_all}
 use Rattle.std.specs.Ordering.{eq_by_cmp}
 use Rattle.std.proofs.lemmas.Bool.{and_parts}
@@ -13,17 +13,14 @@ use Rattle.cap_row.specs.Fields.{Fields}
 use Rattle.cap_row.specs.Key.{fields_cmp}
 use Rattle.cap_row.specs.Schema.{has_key}
 use Rattle.cap_tree.specs.Tree.{get}
-use Rattle.cap_table.specs.Sound.{IsRising, is_key_of, keyed_stands}
+use Rattle.cap_table.specs.Sound.{IsRising, keyed_stands}
 use Rattle.cap_table.specs.Table.{TableState}
 use Rattle.cap_table.specs.declared.row_ref.RowRef.TheVariants.{Key}
 use Rattle.cap_txn.specs.Operation.{changes, run, step}
 use Rattle.cap_txn.specs.Operation as operation
-use Rattle.cap_txn.specs.Outcome.{OutcomeState}
 use Rattle.cap_txn.specs.Tables.{AreRising, Tables, table_of}
-use Rattle.cap_txn.specs.declared.change.Change as txn
 use Rattle.cap_txn.specs.declared.op.Action.TheVariants.{Delete, Insert, Update}
 use Rattle.cap_txn.specs.declared.op.Op.{Op}
-use Rattle.cap_txn.specs.declared.refused_at.RefusedAt.{RefusedAt}
 use Rattle.cap_changes.specs.Demands.{demands, meet, new_demands}
 use Rattle.cap_changes.specs.Entries.{TableEntries}
 use Rattle.cap_changes.specs.Fits.{change_fits, patch_fits}

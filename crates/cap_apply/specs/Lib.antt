@@ -7,4 +7,5 @@ pub mod Operated
 pub mod Policy
 pub mod Report
 pub mod Row
+pub mod Steps
 pub mod Target

@@ -1,16 +1,18 @@
-ghost use Rattle.std.specs.Prelude.{◌≡◌, ◌≤◌, ◌+◌, ◌++◌, None, length, vec_len, vec_capacity, IfOk, OnOk, OnErr, is_some, if◌then◌else◌};
-ghost use Rattle.cap_value.specs.Memory.{AnswersUnlessMemory, LeavesUnlessMemory};
-ghost use Rattle.cap_txn.specs.Operation.{changes_told};
+ghost use Rattle.std.specs.Prelude.{◌≡◌, [], ◌∷◌, Some, None, IfOk, IfSome, IfNone, IsTrue, OnOk, is_some, if◌then◌else◌};
+ghost use Rattle.cap_value.specs.Memory.{AnswersUnlessMemory};
+ghost use Rattle.cap_txn.specs.Keyed.{GoesBack, IsOwnRow};
+ghost use Rattle.cap_txn.specs.Read.{row_at};
+ghost use Rattle.cap_txn.specs.Tables.{table_of};
 ghost use Rattle.cap_apply.specs.Apply.{counted, left_out, noted, nothing_applied, skipped};
-ghost use Rattle.cap_apply.specs.Operated.{operated};
 ghost use Rattle.cap_apply.specs.Policy.{is_made};
+ghost use Rattle.cap_apply.specs.Steps.{placed, told};
 ghost use Rattle.cap_apply.specs.Target.{target};
 
 use crate::target::has_target;
 use crate::turn::Turn;
 use crate::{ConflictKind, Report};
-use cap_row::Schema;
-use cap_txn::{Change, Database, Op, Step};
+use cap_row::{Key, Row, Schema};
+use cap_txn::{Cause, Change, Database};
 use cap_value::{AllocHandle, Fault, Name, OutOfMemory, Refusal};
 use std::marker::Model;
 
@@ -141,34 +143,56 @@ impl<A: AllocHandle> Applied<A> {
         Ok(made)
     }
 
-    // Makes an operation, and keeps its changes.
-    pub(crate) fn make(&mut self, op: &Op<A>) -> Result<(), Fault<Refusal>>
-        ensures state { LeavesUnlessMemory result (operated self.old op.now) self.new }
-        ensures kept { OnErr result (self.new ≡ self.old) }
+    // Puts a row under its key, and answers the row that was there, which may go back.
+    pub(crate) fn put(
+        &mut self,
+        table: &Name<A>,
+        key: Key<A>,
+        row: Row<A>,
+    ) -> Result<Option<Row<A>>, OutOfMemory>
+        requires there { IsTrue (is_some (table_of self.old.database table.now)) }
+        requires own { IsOwnRow self.old.database table.now key row }
+        ensures state { OnOk result (self.new ≡ placed table.now key (Some row) self.old) }
+        ensures before { IfOk result (λ before. before ≡ row_at self.old.database table.now key) }
+        ensures back { IfOk result (λ before.
+            IfSome before (GoesBack self.old.database self.new.database table.now key)) }
     {
-        self.changes.reserve(2)?;
-        let step = self.database.step(op)?;
-        tell(&mut self.changes, step);
+        self.database.put_row(table, key, row)
+    }
+
+    // Takes the row of a key out, and answers it; it may go back.
+    pub(crate) fn take(
+        &mut self,
+        table: &Name<A>,
+        key: &Key<A>,
+    ) -> Result<Option<Row<A>>, OutOfMemory>
+        requires there { IsTrue (is_some (table_of self.old.database table.now)) }
+        ensures state { OnOk result (self.new ≡ placed table.now key.now None self.old) }
+        ensures before { IfOk result (λ before. before ≡ row_at self.old.database table.now key.now) }
+        ensures none { IfOk result (λ before. IfNone before (self.new ≡ self.old)) }
+        ensures back { IfOk result (λ before.
+            IfSome before (GoesBack self.old.database self.new.database table.now key.now)) }
+    {
+        self.database.take_row(table, key)
+    }
+
+    // Tells that a row came under a key, or went.
+    pub(crate) fn tell(&mut self, table: &Name<A>, key: Key<A>) -> Result<(), OutOfMemory>
+        ensures { OnOk result (self.new ≡ told table.now (Some key ∷ []) self.old) }
+    {
+        self.changes.push(Change {
+            table: table.copy()?,
+            key: Some(key),
+            cause: Cause::Direct,
+        })?;
         Ok(())
     }
-}
 
-// Puts the changes that a step tells last.
-fn tell<A: AllocHandle>(changes: &mut Vec<Change<A>, A>, step: Step<A>)
-    requires { vec_len changes.old + 2 ≤ vec_capacity changes.old }
-    ensures { changes.new.items ≡ changes.old.items ++ changes_told step }
-{
-    let Step {
-        first,
-        second,
-        row: _,
-    } = step;
-    let Ok(()) = changes.push(first) else {
-        unreachable!()
-    };
-    if let Some(second) = second {
-        let Ok(()) = changes.push(second) else {
-            unreachable!()
-        };
+    // Tells that a row went, and another came under its key.
+    pub(crate) fn tell_both(&mut self, table: &Name<A>, key: Key<A>) -> Result<(), OutOfMemory>
+        ensures { OnOk result (self.new ≡ told table.now (Some key ∷ Some key ∷ []) self.old) }
+    {
+        self.tell(table, key.copy()?)?;
+        self.tell(table, key)
     }
 }

@@ -1,14 +1,12 @@
 //! Rows, keys and assignments from the fields of a change.
-ghost use Rattle.std.specs.Prelude.{◌≡◌, ◌≤◌, Some, length, map, IfOk, IsTrue};
-ghost use Rattle.std.specs.Option.{unwrap_or};
+ghost use Rattle.std.specs.Prelude.{◌≡◌, ◌++◌, IfOk, IsTrue, OnOk};
+ghost use Rattle.std.specs.Option.{option_copied, option_map, unwrap_or};
 ghost use Rattle.cap_value.specs.declared.value.Value.TheVariants.{Null};
 ghost use Rattle.cap_row.specs.Key.{is_key};
-ghost use Rattle.cap_row.specs.declared.schema.TheConstants.{COLUMNS_MAX};
 ghost use Rattle.cap_changes.specs.Patch.{update_record};
-ghost use Rattle.cap_apply.specs.Row.{agrees, agrees_at, assigned_from, key_values, new_row};
+ghost use Rattle.cap_apply.specs.Row.{agrees, agrees_at, key_values, new_row, set_fields};
 
-use cap_row::{COLUMNS_MAX, Key, Row};
-use cap_txn::Assignments;
+use cap_row::{Key, Row};
 use cap_value::{AllocHandle, OutOfMemory, Value};
 
 // The key that a change names.
@@ -71,39 +69,75 @@ fn value_or_null<A: AllocHandle>(field: &Option<Value<A>>) -> Result<Value<A>, O
     }
 }
 
-// What an update sets: the key fields as they were, and the others as they are now.
-pub(crate) fn assignments<A: AllocHandle>(
+// The row after an update, where there is a row: the key fields are as they are told, and of the others those that are
+// defined.
+pub(crate) fn updated<A: AllocHandle>(
     alloc: A,
     flags: &[bool],
     key: &[Option<Value<A>>],
     new: &[Option<Value<A>>],
-) -> Result<Assignments<A>, OutOfMemory>
-    requires { length flags.now ≤ COLUMNS_MAX }
-    ensures { IfOk result (λ fields. fields ≡ assigned_from 0 (update_record flags.now key.now new.now)) }
+    found: Option<&Row<A>>,
+) -> Result<Option<Row<A>>, OutOfMemory>
+    ensures { IfOk result (λ row. row ≡ option_map
+        (set_fields (update_record flags.now key.now new.now)) (option_copied found.entry)) }
 {
-    let mut fields = Vec::new(alloc);
-    let mut column = 0;
-    for (flag, (key, new)) in flags.iter().zip(key.iter().zip(new)) {
-        if let Some(value) = if *flag { key } else { new } {
-            fields.push((column, value.copy()?))?;
-        }
-        column += 1;
-    }
-    Ok(Assignments::new(fields))
+    let Some(row) = found else {
+        return Ok(None);
+    };
+    let mut values = Vec::with_capacity(alloc, row.width())?;
+    set_fields(&mut values, flags, key, new, row.fields())?;
+    Ok(Some(Row::new(values)?))
 }
 
-// What gives a row all these values.
-pub(crate) fn whole_row<A: AllocHandle>(
-    alloc: A,
-    row: &Row<A>,
-) -> Result<Assignments<A>, OutOfMemory>
-    ensures { IfOk result (λ fields. fields ≡ assigned_from 0 (map Some row.now)) }
+// Puts the values of the row last, with the fields set.
+fn set_fields<A: AllocHandle>(
+    values: &mut Vec<Value<A>, A>,
+    flags: &[bool],
+    key: &[Option<Value<A>>],
+    new: &[Option<Value<A>>],
+    row: &[Value<A>],
+) -> Result<(), OutOfMemory>
+    ensures { OnOk result (values.new.items
+        ≡ values.old.items ++ set_fields (update_record flags.now key.now new.now) row.now) }
 {
-    let mut fields = Vec::with_capacity(alloc, row.width())?;
-    for (column, value) in row.fields().iter().enumerate() {
-        fields.push((column, value.copy()?))?;
+    let Some((flag, flags)) = flags.split_first() else {
+        return copies(values, row);
+    };
+    let Some((told, key)) = key.split_first() else {
+        return copies(values, row);
+    };
+    let Some((set, new)) = new.split_first() else {
+        return copies(values, row);
+    };
+    let Some((value, row)) = row.split_first() else {
+        return Ok(());
+    };
+    values.push(value_or(if *flag { told } else { set }, value)?)?;
+    set_fields(values, flags, key, new, row)
+}
+
+fn copies<A: AllocHandle>(
+    values: &mut Vec<Value<A>, A>,
+    row: &[Value<A>],
+) -> Result<(), OutOfMemory>
+    ensures { OnOk result (values.new.items ≡ values.old.items ++ row.now) }
+{
+    for value in row {
+        values.push(value.copy()?)?;
     }
-    Ok(Assignments::new(fields))
+    Ok(())
+}
+
+fn value_or<A: AllocHandle>(
+    field: &Option<Value<A>>,
+    value: &Value<A>,
+) -> Result<Value<A>, OutOfMemory>
+    ensures { IfOk result (λ value_now. value_now ≡ unwrap_or field.now value.now) }
+{
+    match field {
+        Some(set) => set.copy(),
+        None => value.copy(),
+    }
 }
 
 // Whether the row has each value outside the key that the change tells.

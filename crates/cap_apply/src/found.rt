@@ -1,15 +1,15 @@
 //! What stands under a change's key.
 ghost use Rattle.std.specs.Prelude.{◌≡◌, Some, length, IfSome};
 ghost use Rattle.std.specs.Option.{option_copied};
-ghost use Rattle.cap_table.specs.Operation.{row_of};
+ghost use Rattle.cap_row.specs.Key.{fields_cmp};
+ghost use Rattle.cap_tree.specs.Tree.{get};
 ghost use Rattle.cap_table.specs.Table.{TableState};
 ghost use Rattle.cap_txn.specs.Tables.{table_of};
 ghost use Rattle.cap_apply.specs.Row.{missed};
 
 use crate::ConflictKind;
 use crate::fields::agrees;
-use cap_row::Row;
-use cap_table::RowRef;
+use cap_row::{Key, Row};
 use cap_txn::Database;
 use cap_value::{AllocHandle, Name, Value};
 
@@ -24,19 +24,19 @@ pub(crate) fn width_of<A: AllocHandle>(database: &Database<A>, table: &Name<A>) 
     }
 }
 
-// The row of this name in the table.
+// The row of this key in the table.
 pub(crate) fn row_under<'a, A: AllocHandle>(
     database: &'a Database<A>,
     table: &Name<A>,
-    name: &RowRef<A>,
+    key: &Key<A>,
 ) -> Option<&'a Row<A>>
     ensures row { (found : TableState A) → table_of database.now table.now ≡ Some found
-        → option_copied result ≡ row_of found name.now }
+        → option_copied result ≡ get fields_cmp found.keyed key.now }
     ensures width { (found : TableState A) → table_of database.now table.now ≡ Some found
         → IfSome result (λ row. length row.now ≡ length found.schema) }
 {
     match database.table(table) {
-        Some(table) => table.get(name),
+        Some(table) => table.get_keyed(key),
         None => None,
     }
 }

@@ -4,8 +4,6 @@
 mod comparison;
 mod difference;
 mod laws;
-#[cfg(test)]
-mod tests;
 
 pub use comparison::compare;
 pub use difference::Difference;

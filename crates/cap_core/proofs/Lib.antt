@@ -1,3 +1,4 @@
+pub mod Crossing
 pub mod AgreeLemmas
 pub mod DiffLemmas
 pub mod DiffedLemmas

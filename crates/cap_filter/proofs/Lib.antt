@@ -1,3 +1,4 @@
+pub mod Crossing
 pub mod FaultLemmas
 pub mod FirstLemmas
 pub mod LevelLemmas

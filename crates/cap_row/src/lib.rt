@@ -4,8 +4,6 @@
 mod key;
 mod row;
 mod schema;
-#[cfg(test)]
-mod tests;
 
 pub use key::{Key, key_of};
 pub use row::{Row, are_columns};

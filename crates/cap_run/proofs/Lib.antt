@@ -1,1 +1,3 @@
+mod Crossing
+mod PieceLemmas
 mod RunLemmas

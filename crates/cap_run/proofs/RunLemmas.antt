@@ -1,18 +1,19 @@
 -- What one more reply makes of a run, and what was written of it.
-use Rattle.std.proofs.Common.{◌≡◌, ℕ, suc, ◌+◌, ◌<◌, ◌≤◌, List, [], ◌∷◌, ◌++◌, Option, Result, Ok, Err, IfOk, MatchResult, Bool, true, cond, length, get_or, take, drop, take-append-drop, refl, sym, ap, ap₂, subst, ◌∙◌, append_assoc, append-nil, length-append, arith}
+use Rattle.std.proofs.Common.{◌≡◌, ℕ, suc, ◌+◌, ◌<◌, ◌≤◌, List, [], ◌∷◌, ◌++◌, Option, None, Some, Result, Ok, Err, IfOk, MatchResult, Bool, true, cond, length, get_or, take, drop, take-append-drop, refl, sym, ap, ap₂, subst, ◌∙◌, append_assoc, append-nil, length-append, arith}
 use Rattle.std.specs.Io.KnownBytes.{Appends}
-use Rattle.std.proofs.KnownBytes.{Appends-trans, Keeps-refl}
+use Rattle.std.proofs.KnownBytes.{Appends-nil, Appends-trans, Keeps-refl}
 use Rattle.std.proofs.lemmas.List.{reverse-append, length-reverse}
 use Rattle.cap_core.specs.declared.command.Command.{Command}
 use Rattle.cap_core.specs.declared.event.Event.{Event}
-use Rattle.cap_core.specs.declared.fault.CallFault.{CallFault}
-use Rattle.cap_core.specs.declared.fault.CallFault.TheVariants as call
+use Rattle.cap_server.specs.declared.fault.CallFault.{CallFault}
+use Rattle.cap_server.specs.declared.fault.CallFault.TheVariants as call
 use Rattle.cap_core.specs.declared.reply.Reply.{Reply}
 use Rattle.cap_core.specs.Answer.{State, IsLegal, IsLegalPast, answer, event_by, history_of, reply_of, state}
 use Rattle.cap_core.specs.Transition.{next}
 use Rattle.cap_script.specs.declared.line.Line.{Line}
+use Rattle.cap_script.specs.Script.{SpellsScript, TakesFirst}
 use Rattle.cap_run.specs.declared.fault.RunFault.{RunFault}
-use Rattle.cap_run.specs.declared.fault.RunFault.TheVariants.{Script, NotUtf8, NotHex, Blob, Call, Read, Write, Memory}
+use Rattle.cap_run.specs.declared.fault.RunFault.TheVariants.{Script, NotUtf8, NotHex, Blob, Call, Read, Write, Memory, Close}
 use Rattle.cap_script.specs.ReplyText.{reply_text}
 use Rattle.cap_run.specs.Run.{AppendsFront, BeginsRun, Ended, EndsAt, IsRun, IsSpelled, MatchFault, Writes, WritesInput, WritesRun, commands_of, ending, events_max, on_a_line, reply_lines, run_outcome}
 use Rattle.cap_run.specs.RunFault.{RunsNothing}
@@ -33,10 +34,16 @@ pub front_more : (a b c : Option (List ℕ)) (before bytes : List ℕ) → Appen
 front_more a b c before bytes wrote (front, rest, parts, more) =
     (before ++ front, rest, ap (λ (r : List ℕ). before ++ r) parts ∙ sym (append_assoc before front rest), Appends-trans a b c before front wrote more)
 
+-- a beginning of the bytes is one of longer bytes
+pub front_sooner : (a b : Option (List ℕ)) (bytes after : List ℕ) → AppendsFront a b bytes → AppendsFront a b (bytes ++ after)
+front_sooner a b bytes after (front, rest, parts, wrote) =
+    (front, rest ++ after, ap (λ (r : List ℕ). r ++ after) parts ∙ append_assoc front rest after, wrote)
+
 -- the line that has no reply
 pub ends_at : (fault : CallFault) (lines count events : ℕ) → events ≡ count → count < lines → count ≤ events_max → MatchFault fault (events < events_max) (events_max ≤ events)
     → EndsAt (Err fault) lines count
 ends_at call.OutOfMemory lines count events same less few met = (less, omega arith)
+ends_at (call.Overtaken front) lines count events same less few met = absurd met
 ends_at call.HistoryFull lines count events same less few met = (less, omega arith)
 
 -- a call's answer that was passed on
@@ -62,6 +69,7 @@ writes_nothing A input (Call fault) a early = absurd early
 writes_nothing A input Read a early = Keeps-refl a
 writes_nothing A input Write a early = absurd early
 writes_nothing A input Memory a early = Keeps-refl a
+writes_nothing A input Close a early = absurd early
 
 module _ {A : Type 0} where
   -- ---- histories
@@ -189,6 +197,7 @@ module _ {A : Type 0} where
   writes_input input lines (Err Read) a b spelled wrote = wrote
   writes_input input lines (Err Write) a b spelled wrote = (lines, spelled, wrote)
   writes_input input lines (Err Memory) a b spelled wrote = wrote
+  writes_input input lines (Err Close) a b spelled wrote = wrote
 
   -- a beginning, where the last replies were not all written
   pub begins_front : (lines : List (Line A)) (a b c : Option (List ℕ)) (count : ℕ) (written pending : List ℕ) → IsRun lines count (Ok tt) (written ++ pending)
@@ -230,6 +239,113 @@ module _ {A : Type 0} where
       → IsReached lines core count ((written ++ front) ++ new)
   reached_regroup lines core count written old front new parts so =
       subst (λ (t : List ℕ). IsReached lines core count t) (ap (λ (t : List ℕ). written ++ t) parts ∙ sym (append_assoc written front new)) so
+
+  -- ---- the lines that a text spells
+
+  -- The first of the lines have replies, which left this server. Their text was written, but for what is pending. The
+  -- rest of the text spells the others.
+  pub record IsAt (lines : List (Line A)) (rest : List ℕ) (core : State A) (pending : List ℕ) (old new : Option (List ℕ)) : Type 0 where
+    pub done : List (Line A)
+    pub others : List (Line A)
+    pub parts : lines ≡ done ++ others
+    pub spelled : SpellsScript others rest
+    pub written : List ℕ
+    pub reached : IsReached lines core (length done) (written ++ pending)
+    pub wrote : Appends old new written
+    pub few : length done ≤ events_max
+
+  pub at_none : (lines : List (Line A)) (rest : List ℕ) (core : State A) (pending : List ℕ) (known : Option (List ℕ)) → core ≡ state [] → pending ≡ [] → SpellsScript lines rest
+      → IsAt lines rest core pending known known
+  at_none lines rest core pending known is none spelled = record {
+    done = [];
+    others = lines;
+    parts = refl;
+    spelled = spelled;
+    written = [];
+    reached = reached-none lines core is pending none;
+    wrote = Appends-nil known;
+    few = omega arith;
+  }
+
+  at_within : (lines done others : List (Line A)) → lines ≡ done ++ others → length lines ≡ length done + length others
+  at_within lines done others parts = ap length parts ∙ length-append done others
+
+  pub at_events : (lines : List (Line A)) (rest : List ℕ) (core : State A) (pending : List ℕ) (a b : Option (List ℕ)) (so : IsAt lines rest core pending a b) → core.events ≡ length so.done
+  at_events lines rest core pending a b so =
+      let within : length so.done ≤ length lines = omega (arith, at_within lines so.done so.others so.parts) in
+      reached-events lines core (length so.done) (so.written ++ pending) so.reached within
+
+  -- how a run of the lines ended, and what of its text was written
+  abbrev pub EndsSo : List (Line A) → Ended → List ℕ → Option (List ℕ) → Option (List ℕ) → Type 0
+  EndsSo lines ended pending old new =
+      (count : ℕ) × (written : List ℕ) × EndsAt ended (length lines) count × IsRun lines count (Ok tt) (written ++ pending) × Appends old new written
+
+  -- behind the last line
+  pub at_end : (lines : List (Line A)) (rest left : List ℕ) (core : State A) (pending : List ℕ) (a b : Option (List ℕ)) → IsAt lines rest core pending a b
+      → ((others : List (Line A)) → SpellsScript others rest → TakesFirst None others left) → EndsSo lines (Ok tt) pending a b
+  at_end lines rest left core pending a b so last =
+      let none : length so.others ≡ 0 = ap length (last so.others so.spelled) in (
+        length so.done,
+        so.written,
+        omega (arith, at_within lines so.done so.others so.parts, none),
+        reached-run lines core (length so.done) (so.written ++ pending) so.reached,
+        so.wrote,
+      )
+
+  -- at a line that has no reply
+  pub at_fault : (lines : List (Line A)) (rest : List ℕ) (core : State A) (pending left : List ℕ) (a b : Option (List ℕ)) (fault : CallFault) (so : IsAt lines rest core pending a b) → 0 < length so.others
+      → MatchFault fault (core.events < events_max) (events_max ≤ core.events) → left ≡ pending → EndsSo lines (Err fault) left a b
+  at_fault lines rest core pending left a b fault so more met same =
+      let less : length so.done < length lines = omega (arith, at_within lines so.done so.others so.parts, more) in (
+        length so.done,
+        so.written,
+        ends_at fault (length lines) (length so.done) core.events (at_events lines rest core pending a b so) less so.few met,
+        run_same lines (length so.done) (so.written ++ pending) (so.written ++ left) (ap (λ (t : List ℕ). so.written ++ t) (sym same)) (reached-run lines core (length so.done) (so.written ++ pending) so.reached),
+        so.wrote,
+      )
+
+  get_or-here : (done : List (Line A)) (line : Line A) (others : List (Line A)) → line ≡ get_or (done ++ line ∷ others) (length done) line
+  get_or-here [] line others = refl
+  get_or-here (x ∷ done) line others = get_or-here done line others
+
+  -- the line has its reply
+  pub at_next : (lines : List (Line A)) (rest left : List ℕ) (core next : State A) (pending more : List ℕ) (a b : Option (List ℕ)) (line : Line A) (so : IsAt lines rest core pending a b)
+      → TakesFirst (Some line) so.others left → IsStep core line pending next more → core.events < events_max → IsAt lines left next more a b
+  at_next lines rest left core next pending more a b line so (others, is, spelled) step room =
+      let parts : lines ≡ so.done ++ line ∷ others = so.parts ∙ ap (λ (ls : List (Line A)). so.done ++ ls) is in
+      let here : line ≡ get_or lines (length so.done) line = get_or-here so.done line others ∙ ap (λ (ls : List (Line A)). get_or ls (length so.done) line) (sym parts) in
+      let one : length (so.done ++ line ∷ []) ≡ length so.done + 1 = length-append so.done (line ∷ []) in
+      let less : length so.done < length lines = omega (arith, at_within lines so.done (line ∷ others) parts) in
+      let events = at_events lines rest core pending a b so in
+      record {
+        done = so.done ++ line ∷ [];
+        others = others;
+        parts = parts ∙ sym (append_assoc so.done (line ∷ []) others);
+        spelled = spelled;
+        written = so.written;
+        reached = subst (λ (n : ℕ). IsReached lines next n (so.written ++ more)) (sym one) (reached-push lines core next (length so.done) so.written pending more line so.reached less here step);
+        wrote = so.wrote;
+        few = omega (arith, one, events, room);
+      }
+
+  -- a front of what was pending is written
+  pub at_written : (lines : List (Line A)) (rest : List ℕ) (core : State A) (pending left : List ℕ) (a b c : Option (List ℕ)) → IsAt lines rest core pending a b
+      → ((front : List ℕ) × (pending ≡ front ++ left) × Appends b c front) → IsAt lines rest core left a c
+  at_written lines rest core pending left a b c so (front, parts, wrote) = record {
+    done = so.done;
+    others = so.others;
+    parts = so.parts;
+    spelled = so.spelled;
+    written = so.written ++ front;
+    reached = reached_regroup lines core (length so.done) so.written pending front left parts so.reached;
+    wrote = Appends-trans a b c so.written front so.wrote wrote;
+    few = so.few;
+  }
+
+  -- a beginning, where what was pending was not all written
+  pub at_begun : (lines : List (Line A)) (rest : List ℕ) (core : State A) (pending : List ℕ) (a b c : Option (List ℕ)) → IsAt lines rest core pending a b → AppendsFront b c pending → BeginsRun lines a c
+  at_begun lines rest core pending a b c so front =
+      begins_front lines a b c (length so.done) so.written pending (reached-run lines core (length so.done) (so.written ++ pending) so.reached) so.wrote front
 
   -- the server and the reply after a command
   abbrev pub IsPrepared : List (Event A) → Command A → State A × Reply A → Type 0

@@ -1,9 +1,9 @@
 -- What a run writes: the text of each reply on a line, and then that of the fault at which it ended.
-use Rattle.std.specs.Prelude.{◌≡◌, ℕ, ◌-◌, ◌^◌, ◌<◌, List, [], ◌∷◌, ◌++◌, Option, Result, Ok, Err, IfSome, map, length, codes}
+use Rattle.std.specs.Prelude.{◌≡◌, ℕ, ◌-◌, ◌^◌, ◌<◌, List, [], ◌∷◌, ◌++◌, Option, Result, Ok, Err, IfSome, map, length, codes, decimal}
 use Rattle.std.specs.Io.KnownBytes.{Appends, Keeps}
 use Rattle.cap_core.specs.declared.command.Command.{Command}
-use Rattle.cap_core.specs.declared.fault.CallFault.{CallFault}
-use Rattle.cap_core.specs.declared.fault.CallFault.TheVariants as call
+use Rattle.cap_server.specs.declared.fault.CallFault.{CallFault}
+use Rattle.cap_server.specs.declared.fault.CallFault.TheVariants as call
 use Rattle.cap_core.specs.declared.reply.Reply.{Reply}
 use Rattle.cap_core.specs.Answer.{IsLegal, history_of}
 use Rattle.cap_run.specs.declared.fault.RunFault.{RunFault}
@@ -31,6 +31,7 @@ on_a_line text = text ++ 10 ∷ []
 
 unfoldable pub call_fault_text : CallFault → List ℕ
 call_fault_text call.OutOfMemory = codes "refused for memory"
+call_fault_text (call.Overtaken front) = codes "overtaken " ++ decimal front
 call_fault_text call.HistoryFull = codes "history full"
 
 -- the most events of a history
@@ -52,11 +53,13 @@ run_outcome (Err fault) = Err (Call fault)
 abbrev pub EndsAt : Ended → ℕ → ℕ → Type 0
 EndsAt (Ok done) lines count = count ≡ lines
 EndsAt (Err call.OutOfMemory) lines count = (count < lines) × (count < events_max)
+EndsAt (Err (call.Overtaken front)) lines count = ⊥
 EndsAt (Err call.HistoryFull) lines count = (count < lines) × (count ≡ events_max)
 
--- the one where memory was refused, and the other where the history is full
+-- the one where memory was refused, and the other where the history is full; on one thread nobody is overtaken
 abbrev pub MatchFault : CallFault → Type 0 → Type 0 → Type 0
 MatchFault call.OutOfMemory refused full = refused
+MatchFault (call.Overtaken front) refused full = ⊥
 MatchFault call.HistoryFull refused full = full
 
 module _ {A : Type 0} where

@@ -3,9 +3,10 @@ use Rattle.std.specs.Prelude.{◌≡◌, ◌⊎◌, ℕ}
 use Rattle.cap_value.specs.declared.memory.Fault.{Fault}
 use Rattle.cap_value.specs.declared.memory.Fault.TheVariants.{Refused, OutOfMemory}
 use Rattle.cap_run.specs.declared.fault.RunFault.{RunFault}
-use Rattle.cap_run.specs.declared.fault.RunFault.TheVariants.{Script, NotUtf8, NotHex, Blob, Call, Read, Write, Memory}
+use Rattle.cap_run.specs.declared.fault.RunFault.TheVariants.{Script, NotUtf8, NotHex, Blob, Call, Read, Write, Memory, Close}
 
--- the exit status: 1 where the input is refused, and 3 where a call, a read or a write failed, or for want of memory
+-- the exit status: 1 where the input is refused, and 3 where a call, a read, a write or the closing of the server failed, or
+-- for want of memory
 abbrev pub exit_status : RunFault → ℕ
 exit_status (Script fault) = 1
 exit_status NotUtf8 = 1
@@ -15,6 +16,7 @@ exit_status (Call fault) = 3
 exit_status Read = 3
 exit_status Write = 3
 exit_status Memory = 3
+exit_status Close = 3
 
 -- the input was not read to its end
 abbrev pub IsUnread : RunFault → Type 0
@@ -24,7 +26,14 @@ IsUnread fault = (fault ≡ Read) ⊎ (fault ≡ Memory)
 abbrev pub RunsNothing : RunFault → Type 0
 RunsNothing (Call fault) = ⊥
 RunsNothing Write = ⊥
+RunsNothing Close = ⊥
 RunsNothing fault = Unit {0}
+
+-- the text spells no workload, or there was no memory to read it
+abbrev pub IsUnspelled : RunFault → Type 0
+IsUnspelled (Script fault) = Unit {0}
+IsUnspelled Memory = Unit {0}
+IsUnspelled fault = ⊥
 
 -- how a run ends whose input is refused, or for which there is no memory
 abbrev pub input_fault : Fault RunFault → RunFault

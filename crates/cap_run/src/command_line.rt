@@ -2,6 +2,7 @@
 ghost use Rattle.std.specs.Prelude.{IfOk};
 ghost use Rattle.cap_run.specs.Options.{IsInRange};
 
+use crate::workload::THREADS_MAX;
 use crate::{Options, OptionsFault};
 use clap::error::ErrorKind;
 use clap::{Arg, ArgMatches, Command, Error, value_parser};
@@ -86,7 +87,7 @@ fn command_line<'a>(alloc: Global) -> Result<Command<'a>, AllocError> {
         .long("threads")
         .value_name("N")
         .help(THREADS_HELP)
-        .value_parser(value_parser!(u64).range(1..=63))
+        .value_parser(value_parser!(u64).range(1..=THREADS_MAX as i64))
         .default_value("1");
     let run = Command::new(alloc, "run")
         .about(RUN_ABOUT)
@@ -130,7 +131,7 @@ fn asked_for(matches: &ArgMatches) -> Options
             let threads = run.get_one::<u64>("threads").unwrap_or(1);
             // The parser has refused all others.
             Options::Run {
-                threads: threads.clamp(1, 63),
+                threads: threads.clamp(1, THREADS_MAX),
             }
         }
         _ => Options::Show,

@@ -1,6 +1,6 @@
 use cap_codec::BlobFault;
-use cap_core::CallFault;
 use cap_script::ScriptFault;
+use cap_server::CallFault;
 use cap_value::Fault;
 use thiserror::Error;
 
@@ -31,6 +31,9 @@ pub enum RunFault {
     /// There was no memory for the text or what it stands for. Nothing was run or shown.
     #[error("no memory for the input")]
     Memory,
+    /// The server that workers shared was not closed. All lines were run and their replies printed.
+    #[error("the server was not closed")]
+    Close,
 }
 
 impl RunFault {
@@ -43,7 +46,11 @@ impl RunFault {
     {
         match self {
             RunFault::Script(_) | RunFault::NotUtf8 | RunFault::NotHex | RunFault::Blob(_) => 1,
-            RunFault::Call(_) | RunFault::Read | RunFault::Write | RunFault::Memory => 3,
+            RunFault::Call(_)
+            | RunFault::Read
+            | RunFault::Write
+            | RunFault::Memory
+            | RunFault::Close => 3,
         }
     }
 }

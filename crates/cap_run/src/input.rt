@@ -2,6 +2,7 @@ ghost use Rattle.std.specs.Prelude.{◌≡◌, IfOk, IfSome, IfErr};
 ghost use Rattle.cap_run.specs.RunFault.{IsUnread};
 
 use crate::RunFault;
+use crate::pieces::Pieces;
 use cap_value::AllocHandle;
 use std::io::{ErrorKind, Read};
 
@@ -9,7 +10,7 @@ use std::io::{ErrorKind, Read};
 pub const READS_MAX: u64 = 1 << 40;
 
 /// The most bytes of one read.
-const PIECE_LEN: usize = 8192;
+const READ_LEN: usize = 8192;
 
 /// All that a reader gives. A reader that has not ended after `READS_MAX` reads has failed.
 pub fn read_whole<A: AllocHandle, R: Read>(alloc: A, reader: &mut R) -> Result<Vec<u8, A>, RunFault>
@@ -17,19 +18,29 @@ pub fn read_whole<A: AllocHandle, R: Read>(alloc: A, reader: &mut R) -> Result<V
         IfSome (R.remaining reader.old) (λ given. bytes.items ≡ given)) }
     ensures unread { IfErr result IsUnread }
 {
-    let mut piece = [0u8; PIECE_LEN];
-    let mut bytes = Vec::new(alloc);
+    let pieces = read_pieces(alloc, reader)?;
+    pieces.join(alloc).map_err(|_| RunFault::Memory)
+}
+
+/// All that a reader gives, in pieces.
+fn read_pieces<A: AllocHandle, R: Read>(alloc: A, reader: &mut R) -> Result<Pieces<A>, RunFault>
+    ensures whole { IfOk result (λ pieces.
+        IfSome (R.remaining reader.old) (λ given. pieces ≡ given)) }
+    ensures unread { IfErr result IsUnread }
+{
+    let mut bytes = [0u8; READ_LEN];
+    let mut pieces = Pieces::new(alloc);
     for _ in 0..READS_MAX {
-        let count = match reader.read(&mut piece) {
+        let count = match reader.read(&mut bytes) {
             Ok(count) => count,
             Err(error) if error.kind() == ErrorKind::Interrupted => continue,
             Err(_) => return Err(RunFault::Read),
         };
         if count == 0 {
-            return Ok(bytes);
+            return Ok(pieces);
         }
-        bytes
-            .extend_from_slice(&piece[..count])
+        pieces
+            .push(alloc, &bytes[..count])
             .map_err(|_| RunFault::Memory)?;
     }
     Err(RunFault::Read)

@@ -1,12 +1,18 @@
-ghost use Rattle.std.specs.Prelude.{◌≡◌, OnOk, IfErr};
+ghost use Rattle.std.specs.Prelude.{◌≡◌, ◌++◌, ◌∷◌, ℕ, List, [], OnOk, IfErr, codes, decimal, string_bytes};
 ghost use Rattle.std.specs.Io.KnownBytes.{Appends};
-ghost use Rattle.cap_run.specs.Run.{AppendsFront};
+ghost use Rattle.cap_run.specs.Run.{AppendsFront, ending};
 
 use crate::RunFault;
+use cap_server::CallFault;
+use cap_value::AllocHandle;
+use itoa::Buffer;
 use std::io::{ErrorKind, Write};
 
 /// The most writes that are made for some bytes.
 const WRITES_MAX: u64 = 1 << 40;
+
+/// The bytes of output that wait to be written together.
+const PIECE_LEN: usize = 8192;
 
 /// Writes the bytes, all of them, as often as the writer takes some. A write that was interrupted is tried again.
 pub fn write_whole<W: Write>(writer: &mut W, bytes: &[u8]) -> Result<(), RunFault>
@@ -27,4 +33,99 @@ pub fn write_whole<W: Write>(writer: &mut W, bytes: &[u8]) -> Result<(), RunFaul
         }
     }
     Err(RunFault::Write)
+}
+
+/// Writes what waits to be written. Where a write fails it stays, though a beginning of it may be written.
+pub(crate) fn write_pending<A: AllocHandle, W: Write>(
+    writer: &mut W,
+    pending: &mut String<A>,
+) -> Result<(), RunFault>
+    ensures ok { OnOk result ((string_bytes pending.new ≡ [])
+        × Appends (W.contents writer.old) (W.contents writer.new) (string_bytes pending.old)) }
+    ensures err { IfErr result (λ fault. (fault ≡ RunFault.Write)
+        × AppendsFront (W.contents writer.old) (W.contents writer.new) (string_bytes pending.old)) }
+{
+    write_whole(writer, pending.as_str().as_bytes())?;
+    pending.clear();
+    Ok(())
+}
+
+/// Writes what waits to be written, once it is as long as a piece.
+pub(crate) fn write_long<A: AllocHandle, W: Write>(
+    writer: &mut W,
+    pending: &mut String<A>,
+) -> Result<(), RunFault>
+    ensures ok { OnOk result ((front : List ℕ)
+        × (string_bytes pending.old ≡ front ++ string_bytes pending.new)
+        × Appends (W.contents writer.old) (W.contents writer.new) front) }
+    ensures err { IfErr result (λ fault. (fault ≡ RunFault.Write)
+        × AppendsFront (W.contents writer.old) (W.contents writer.new) (string_bytes pending.old)) }
+{
+    if pending.len() < PIECE_LEN {
+        return Ok(());
+    }
+    write_pending(writer, pending)
+}
+
+/// Writes the line of the fault at which the run ended, if it did, and flushes the writer.
+pub(crate) fn write_ending<W: Write>(
+    outcome: Result<(), CallFault>,
+    writer: &mut W,
+) -> Result<(), RunFault>
+    ensures ok { OnOk result (Appends (W.contents writer.old) (W.contents writer.new) (ending outcome)) }
+    ensures err { IfErr result (λ fault. (fault ≡ RunFault.Write)
+        × AppendsFront (W.contents writer.old) (W.contents writer.new) (ending outcome)) }
+{
+    write_last_line(outcome, writer)?;
+    writer.flush().map_err(|_| RunFault::Write)
+}
+
+/// Writes the line of the fault at which the run ended, if it did. It takes no memory.
+#[tactic(auto, unfolding(crate::specs::Run::call_fault_text))]
+fn write_last_line<W: Write>(outcome: Result<(), CallFault>, writer: &mut W) -> Result<(), RunFault>
+    ensures ok { OnOk result (Appends (W.contents writer.old) (W.contents writer.new) (ending outcome)) }
+    ensures err { IfErr result (λ fault. (fault ≡ RunFault.Write)
+        × AppendsFront (W.contents writer.old) (W.contents writer.new) (ending outcome)) }
+{
+    match outcome {
+        Ok(()) => write_whole(writer, b""),
+        Err(CallFault::OutOfMemory) => write_whole(writer, b"refused for memory\n"),
+        Err(CallFault::HistoryFull) => write_whole(writer, b"history full\n"),
+        Err(CallFault::Overtaken { front }) => write_overtaken(writer, front),
+    }
+}
+
+/// Writes that a call was overtaken, and how many events the history has.
+#[tactic(auto, using(crate::proofs::RunLemmas::front_more, crate::proofs::RunLemmas::front_sooner))]
+fn write_overtaken<W: Write>(writer: &mut W, front: u64) -> Result<(), RunFault>
+    ensures ok { OnOk result (Appends (W.contents writer.old) (W.contents writer.new)
+        ((codes "overtaken " ++ decimal front) ++ 10 ∷ [])) }
+    ensures err { IfErr result (λ fault. (fault ≡ RunFault.Write)
+        × AppendsFront (W.contents writer.old) (W.contents writer.new)
+        ((codes "overtaken " ++ decimal front) ++ 10 ∷ [])) }
+{
+    let mut digits = Buffer::new();
+    if let Err(_) = write_both(writer, b"overtaken ", digits.format(front).as_bytes()) {
+        return Err(RunFault::Write);
+    }
+    if let Err(_) = write_whole(writer, b"\n") {
+        return Err(RunFault::Write);
+    }
+    Ok(())
+}
+
+/// Writes some bytes and then others.
+#[tactic(auto, using(crate::proofs::RunLemmas::front_more, crate::proofs::RunLemmas::front_sooner))]
+fn write_both<W: Write>(writer: &mut W, first: &[u8], second: &[u8]) -> Result<(), RunFault>
+    ensures ok { OnOk result (Appends (W.contents writer.old) (W.contents writer.new) (first.now ++ second.now)) }
+    ensures err { IfErr result (λ fault. (fault ≡ RunFault.Write)
+        × AppendsFront (W.contents writer.old) (W.contents writer.new) (first.now ++ second.now)) }
+{
+    if let Err(_) = write_whole(writer, first) {
+        return Err(RunFault::Write);
+    }
+    if let Err(_) = write_whole(writer, second) {
+        return Err(RunFault::Write);
+    }
+    Ok(())
 }

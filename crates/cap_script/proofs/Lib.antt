@@ -1,3 +1,5 @@
+pub mod Crossing
+mod LineLemmas
 mod OneCommands
 mod OneForms
 mod OneTokens

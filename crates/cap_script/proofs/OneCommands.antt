@@ -111,7 +111,7 @@ fed : (c : ℕ) (front : List ℕ) → c ≡ 10 → has_line_feed (c ∷ front) 
 fed c front is none = let bad : true ≡ false = subst (λ (x : ℕ). has_line_feed (x ∷ front) ≡ false) is none in absurd cc
 
 -- the line before the first line feed
-same_cut : (v w a b : List ℕ) → v ++ 10 ∷ a ≡ w ++ 10 ∷ b → has_line_feed v ≡ false → has_line_feed w ≡ false → (v ≡ w) × (a ≡ b)
+pub same_cut : (v w a b : List ℕ) → v ++ 10 ∷ a ≡ w ++ 10 ∷ b → has_line_feed v ≡ false → has_line_feed w ≡ false → (v ≡ w) × (a ≡ b)
 same_cut [] [] a b e none none_too = (refl, cc)
 same_cut [] (y ∷ w) a b e none none_too = absurd (fed y w (cc) none_too)
 same_cut (x ∷ v) [] a b e none none_too = absurd (fed x v (cc) none)
@@ -121,7 +121,7 @@ same_cut (x ∷ v) (y ∷ w) a b e none none_too =
     let more = same_cut v w a b behind (or_parts (eqb x 10) (has_line_feed v) none).1 (or_parts (eqb y 10) (has_line_feed w) none_too).1 in
     (ap₂ (λ (c : ℕ) (l : List ℕ). c ∷ l) (cc) more.0, more.1)
 
-no_cut : (v w b : List ℕ) → v ≡ w ++ 10 ∷ b → has_line_feed v ≡ false → ⊥
+pub no_cut : (v w b : List ℕ) → v ≡ w ++ 10 ∷ b → has_line_feed v ≡ false → ⊥
 no_cut [] [] b e none = absurd cc
 no_cut [] (y ∷ w) b e none = absurd cc
 no_cut (x ∷ v) [] b e none = fed x v (cc) none

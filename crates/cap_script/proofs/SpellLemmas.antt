@@ -1,5 +1,5 @@
 -- How forms are put together.
-use Rattle.std.proofs.Common.{◌≡◌, ◌≤◌, ◌-◌, ℕ, List, [], ◌∷◌, ◌++◌, length, false, true, Option, None, Some, Result, Ok, Err, IfErr, IfOk, refl, sym, ap, subst, ◌∙◌, arith, append_assoc, append-nil, inl, inr}
+use Rattle.std.proofs.Common.{◌≡◌, ◌≤◌, ◌-◌, ℕ, List, [], ◌∷◌, ◌++◌, length, Option, None, Some, Result, Ok, Err, IfErr, IfOk, sym, ap, subst, ◌∙◌, arith, append_assoc, append-nil}
 use Rattle.cap_value.specs.declared.memory.Fault.{Fault}
 use Rattle.cap_value.specs.declared.memory.Fault.TheVariants.{Refused, OutOfMemory}
 use Rattle.cap_value.specs.declared.refusal.Refusal.{Refusal}
@@ -11,9 +11,7 @@ use Rattle.cap_txn.specs.Batch.{BatchState, push, pushed, refused_push}
 use Rattle.cap_txn.specs.declared.cause.Cause.{Cause}
 use Rattle.cap_txn.specs.declared.op.Op.{Op}
 use Rattle.cap_script.specs.Operations.{SpelledAction, SpelledCause, SpelledOperation}
-use Rattle.cap_script.specs.Script.{AreLines, IsRead, SpellsLines, SpellsScript, has_line_feed, is_ignored}
 use Rattle.cap_script.specs.Tokens.{Begins, Next, Token, behind_blanks}
-use Rattle.cap_script.specs.declared.line.Line.{Line}
 use Rattle.cap_script.proofs.TokenLemmas.{blanks_twice}
 
 -- spaces in front of a token do not matter
@@ -48,12 +46,6 @@ pub refusals_are : (view : Result Rule Refusal) (r : Result Rule (Fault Refusal)
 refusals_are view (Ok x) answer = tt
 refusals_are view (Err fault) answer = refused_is view fault answer
 
--- ---- lines
-
-are_more : (texts : List (List ℕ)) (text line behind : List ℕ) → text ≡ line ++ 10 ∷ behind → has_line_feed line ≡ false → AreLines texts behind → AreLines (line ∷ texts) text
-are_more [] text line behind e none are = absurd are
-are_more (t ∷ texts) text line behind e none are = (behind, e, none, are)
-
 module _ {A : Type 0} where
   -- ---- batches
 
@@ -75,24 +67,3 @@ module _ {A : Type 0} where
       → IfOk r (λ made. SpelledOperation made line rest)
   caused cause (Ok made) line between rest spelled same action = (between, subst (λ (k : Cause). SpelledCause k line between) (sym same) spelled, action)
   caused cause (Err e) line between rest spelled same action = tt
-
-  -- ---- lines
-
-  ignored_more : (lines : List (Line A)) (text : List ℕ) (texts : List (List ℕ)) → is_ignored text ≡ true → SpellsLines lines texts → SpellsLines lines (text ∷ texts)
-  ignored_more [] text texts ignored rest = (ignored, rest)
-  ignored_more (line ∷ lines) text texts ignored rest = inl (ignored, rest)
-
-  -- a line in front of a text
-  pub line_in_front : (old new more : List (Line A)) (text line behind : List ℕ) → IsRead line old new → text ≡ line ++ 10 ∷ behind → has_line_feed line ≡ false → SpellsScript more behind
-      → (taken : List (Line A)) × (new ≡ old ++ taken) × SpellsScript (taken ++ more) text
-  unfolding SpellsScript
-  line_in_front old new more text line behind (inl (ignored, same)) e none (texts, are, spelled) =
-      ([], same ∙ sym (append-nil old), (line ∷ texts, are_more texts text line behind e none are, ignored_more more line texts ignored spelled))
-  line_in_front old new more text line behind (inr (made, spells, same)) e none (texts, are, spelled) =
-      (made ∷ [], same, (line ∷ texts, are_more texts text line behind e none are, inr (spells, spelled)))
-
-  -- the last line
-  pub last_line : (old new : List (Line A)) (text : List ℕ) → IsRead text old new → has_line_feed text ≡ false → (taken : List (Line A)) × (new ≡ old ++ taken) × SpellsScript taken text
-  unfolding SpellsScript
-  last_line old new text (inl (ignored, same)) none = ([], same ∙ sym (append-nil old), (text ∷ [], (refl, none), (ignored, tt)))
-  last_line old new text (inr (made, spells, same)) none = (made ∷ [], same, (text ∷ [], (refl, none), inr (spells, tt)))

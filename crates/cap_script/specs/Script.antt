@@ -1,5 +1,5 @@
 -- How lines and workloads are spelled.
-use Rattle.std.specs.Prelude.{◌≡◌, ◌⊎◌, ◌≤◌, ℕ, Bool, true, false, ◌==◌, ◌||◌, length, List, [], ◌∷◌, ◌++◌, Option, Some, None}
+use Rattle.std.specs.Prelude.{◌≡◌, ◌⊎◌, ◌≤◌, ℕ, Bool, true, false, ◌==◌, ◌||◌, length, List, [], ◌∷◌, ◌++◌, Option, Some, None, is_some, ◌<◌}
 use Rattle.std.specs.List.{list_any}
 use Rattle.cap_script.specs.Forms.{Form, ◌▸◌, Without}
 use Rattle.cap_script.specs.Commands.{SpelledCommand}
@@ -26,16 +26,15 @@ AreLines [] text = ⊥
 AreLines (line ∷ []) text = (text ≡ line) × (has_line_feed line ≡ false)
 AreLines (line ∷ lines) text = (rest : List ℕ) × (text ≡ line ++ 10 ∷ rest) × (has_line_feed line ≡ false) × AreLines lines rest
 
+-- the first line of a text, and what stands behind its line feed, or nothing where it has none
+abbrev pub IsCut : List ℕ → List ℕ → List ℕ → Type 0
+IsCut text line rest = (has_line_feed line ≡ false) × ((text ≡ line ++ 10 ∷ rest) ⊎ ((text ≡ line) × (rest ≡ [])))
+
 module _ {A : Type 0} where
   -- who gives the command, the command, and spaces to the end of the line
   abbrev pub SpellsLine : Line A → List ℕ → Type 0
   SpellsLine line text =
       (rest : List ℕ) × (SpelledWorker line.worker ▸ SpelledCommand line.command line.show) text rest × (behind_blanks rest ≡ [])
-
-  -- these are the lines with one more, or with none where the text says nothing
-  abbrev pub IsRead : List ℕ → List (Line A) → List (Line A) → Type 0
-  IsRead text old new =
-      ((is_ignored text ≡ true) × (new ≡ old)) ⊎ ((line : Line A) × SpellsLine line text × (new ≡ old ++ line ∷ []))
 
   -- each line of the text says nothing, or spells the next command
   abbrev pub SpellsLines : List (Line A) → List (List ℕ) → Type 0
@@ -48,3 +47,22 @@ module _ {A : Type 0} where
   -- the text spells these lines
   unfoldable pub SpellsScript : List (Line A) → List ℕ → Type 0
   SpellsScript lines text = (texts : List (List ℕ)) × AreLines texts text × SpellsLines lines texts
+
+  -- the text spells this line and behind it what the rest spells, or no line where there is none
+  abbrev pub IsRead : Option (Line A) → List ℕ → List ℕ → Type 0
+  IsRead None text rest = SpellsScript [] text
+  IsRead (Some line) text rest = (lines : List (Line A)) → SpellsScript lines rest → SpellsScript (line ∷ lines) text
+
+  -- the first of the lines, with a rest that spells the others, or none where there is none
+  abbrev pub TakesFirst : Option (Line A) → List (Line A) → List ℕ → Type 0
+  TakesFirst None lines rest = lines ≡ []
+  TakesFirst (Some line) lines rest = (others : List (Line A)) × (lines ≡ line ∷ others) × SpellsScript others rest
+
+  -- there is a line, and the rest spells it and the others
+  abbrev pub IsLeft : List (Line A) → List ℕ → Type 0
+  IsLeft lines rest = (0 < length lines) × SpellsScript lines rest
+
+  -- whether the first line begins with `@`
+  abbrev pub begins_at : List (Line A) → Bool
+  begins_at [] = false
+  begins_at (line ∷ lines) = is_some line.worker

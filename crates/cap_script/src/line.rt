@@ -1,4 +1,4 @@
-ghost use Rattle.std.specs.Prelude.{◌≡◌, ◌++◌, true, length, IfOk, MatchOption};
+ghost use Rattle.std.specs.Prelude.{◌≡◌, IfOk};
 ghost use Rattle.cap_script.specs.Script.{SpellsLine, is_ignored};
 
 use crate::command::command;
@@ -37,19 +37,8 @@ pub struct Line<A: AllocHandle> {
 }
 
 impl<A: AllocHandle> Line<A> {
-    /// The line with this text, or none where it is empty, of spaces alone, or begins with `#`.
-    pub(crate) fn parse(alloc: A, text: &str) -> Result<Option<Self>, LineFault>
-        ensures { IfOk result (λ made. MatchOption made (is_ignored text.now ≡ true)
-            (λ line. SpellsLine line text.now)) }
-    {
-        if is_ignored(text) {
-            return Ok(None);
-        }
-        Ok(Some(Self::read(alloc, text)?))
-    }
-
-    // The line with this text.
-    fn read(alloc: A, text: &str) -> Result<Self, LineFault>
+    /// The line with this text, which says something.
+    pub(crate) fn parse(alloc: A, text: &str) -> Result<Self, LineFault>
         ensures { IfOk result (λ line. SpellsLine line text.now) }
     {
         let mut cursor = Cursor::new(text);
@@ -64,8 +53,8 @@ impl<A: AllocHandle> Line<A> {
     }
 }
 
-// Whether the line says nothing.
-fn is_ignored(text: &str) -> bool
+/// Whether the line says nothing: it is empty, of spaces alone, or begins with `#`.
+pub(crate) fn is_ignored(text: &str) -> bool
     ensures { result ≡ is_ignored text.now }
 {
     text.as_bytes().first() == Some(&b'#') || after_blanks(text).is_empty()

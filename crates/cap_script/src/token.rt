@@ -1,5 +1,5 @@
 //! What a text begins with.
-ghost use Rattle.std.specs.Prelude.{◌≡◌, ◌≢◌, ◌≤◌, ◌<◌, ◌++◌, ◌∷◌, ◌^◌, ℕ, List, Bool, true, false, length, take_while, IfOk, IfSome, MatchOption, string_bytes, FitsSigned};
+ghost use Rattle.std.specs.Prelude.{◌≡◌, ◌≢◌, ◌≤◌, ◌<◌, ◌++◌, ◌∷◌, ◌^◌, ℕ, List, Bool, true, false, ◌==◌, length, take_while, IfOk, IfSome, MatchOption, string_bytes, FitsSigned};
 ghost use Rattle.std.specs.Char.{is_ascii_digit};
 ghost use Rattle.std.specs.Int.{w64};
 ghost use Rattle.std.specs.List.{list_all};
@@ -103,6 +103,13 @@ pub(crate) fn begins_blank(text: &str) -> bool
     ensures { result ≡ begins is_blank text.now }
 {
     text.as_bytes().first() == Some(&b' ')
+}
+
+/// Whether the text begins with `@`.
+pub(crate) fn begins_worker(text: &str) -> bool
+    ensures { result ≡ begins (λ byte. byte == 64) text.now }
+{
+    text.as_bytes().first() == Some(&b'@')
 }
 
 /// The text behind the `x` and the quote that begin a blob, where the text begins with them.

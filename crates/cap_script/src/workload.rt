@@ -1,8 +1,8 @@
-ghost use Rattle.std.specs.Prelude.{◌≡◌, ◌++◌, ◌∷◌, [], ◌≤◌, ◌<◌, ◌+◌, List, ℕ, false, length, IfOk, MatchOption, OnOk};
-ghost use Rattle.cap_script.specs.Script.{IsRead, SpellsScript, has_line_feed};
+ghost use Rattle.std.specs.Prelude.{◌≡◌, ◌++◌, ◌∷◌, [], IfOk, OnOk};
+ghost use Rattle.cap_script.specs.Script.{SpellsScript};
 ghost use Rattle.cap_script.specs.declared.line.Line.{Line};
 
-use crate::{Line, ScriptFault};
+use crate::{Line, Lines, ScriptFault};
 use cap_value::{AllocHandle, Fault, OutOfMemory};
 
 /// The commands of a workload.
@@ -20,38 +20,20 @@ pub fn parse<A: AllocHandle>(alloc: A, text: &str) -> Result<Workload<A>, Fault<
     // What is read is spelled by the text, all of it.
     ensures { IfOk result (λ workload. SpellsScript workload.lines.items text.now) }
 {
+    let mut rest = Lines::over(alloc, text);
     let mut lines = Vec::new(alloc);
-    let mut rest = text;
-    let mut number = 1;
-    while let Some((line, behind)) = split_line(rest) {
-        push_line(alloc, &mut lines, line, number)?;
-        rest = behind;
-        number += 1;
+    while let Some(line) = rest.read()? {
+        push_line(&mut lines, line)?;
     }
-    push_line(alloc, &mut lines, rest, number)?;
     Ok(Workload { lines })
 }
 
-// Puts the command of a line with this text and number last, if it has one.
+// Puts the line last.
 fn push_line<A: AllocHandle>(
-    alloc: A,
     lines: &mut Vec<Line<A>, A>,
-    text: &str,
-    number: u64,
+    line: Line<A>,
 ) -> Result<(), Fault<ScriptFault>>
-    ensures { OnOk result (IsRead text.now lines.old.items lines.new.items) }
+    ensures { OnOk result (lines.new.items ≡ lines.old.items ++ line ∷ []) }
 {
-    match Line::parse(alloc, text) {
-        Ok(Some(line)) => Ok(lines.push(line).map_err(OutOfMemory::from)?),
-        Ok(None) => Ok(()),
-        Err(fault) => Err(fault.in_line(number)),
-    }
-}
-
-// What stands before the first line feed of the text, and behind it.
-fn split_line(text: &str) -> Option<(&str, &str)>
-    ensures { MatchOption result (has_line_feed text.now ≡ false)
-        (λ parts. (text.now ≡ parts.0.now ++ 10 ∷ parts.1.now) × (has_line_feed parts.0.now ≡ false)) }
-{
-    text.split_once('\n')
+    Ok(lines.push(line).map_err(OutOfMemory::from)?)
 }

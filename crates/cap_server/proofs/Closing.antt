@@ -1,5 +1,5 @@
 -- A history that all seats agree on is the one that a closed server leaves.
-use Rattle.std.proofs.Common.{◌≡◌, ◌≢◌, ◌<◌, Any, slice_index, inl, inr, ℕ, ◌≤◌, List, [], length, refl, ap, sym, subst, ◌∙◌, arith, All, slice_index_or}
+use Rattle.std.proofs.Common.{◌≡◌, ◌≢◌, ◌<◌, Any, slice_index, inl, inr, ℕ, ◌≤◌, List, [], length, ap, sym, subst, ◌∙◌, arith, All, slice_index_or}
 use Rattle.std.proofs.lemmas.Bool.{cases_lt}
 use mathlib.Core.List.{IsPrefix}
 use Rattle.cap_core.specs.declared.event.Event.{Event}
@@ -8,7 +8,7 @@ use Rattle.cap_history.specs.Beginnings.{prefix-of-none, prefix-trans, prefix-wh
 use Rattle.cap_history.specs.History.{own}
 use Rattle.cap_history.specs.Own.{own-same}
 use Rattle.cap_history.specs.Seat.{SeatState, calls}
-use Rattle.cap_server.specs.Close.{FirstHasSeen, HasAll, IsClosed, IsMissing}
+use Rattle.cap_server.specs.Close.{FirstHasSeen, HasAll, IsClosed}
 use Rattle.cap_server.specs.Code.Counts.{Agrees, IsCounted}
 use Rattle.cap_server.specs.Fault.{MatchCloseFault}
 use Rattle.cap_server.specs.declared.fault.CloseFault.{CloseFault}

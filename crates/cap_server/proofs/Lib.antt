@@ -1,3 +1,4 @@
+pub mod Crossing
 pub mod Closing
 pub mod Counting
 pub mod Places

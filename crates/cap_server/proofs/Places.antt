@@ -1,5 +1,5 @@
 -- Where seats stand, and where they do not.
-use Rattle.std.proofs.Common.{◌≡◌, ◌≢◌, inl, inr, ℕ, ◌+◌, ◌<◌, ◌≤◌, Some, List, length, refl, ap, sym, subst, ◌∙◌, arith, slice_index_or, slice_get}
+use Rattle.std.proofs.Common.{◌≡◌, ◌≢◌, inl, inr, ℕ, ◌+◌, ◌<◌, ◌≤◌, Some, List, length, refl, ap, sym, subst, ◌∙◌, arith, slice_index_or}
 use Rattle.std.proofs.lemmas.Bool.{cases_lt}
 use Rattle.std.proofs.lemmas.Option.{slice_get_read, slice_get_within}
 use Rattle.cap_history.specs.Seat.{SeatState}

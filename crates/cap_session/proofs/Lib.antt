@@ -1,3 +1,4 @@
+pub mod Crossing
 mod LatestLemmas
 mod ListLemmas
 mod NoteLemmas

@@ -1,19 +1,17 @@
 -- What the changes of a commit make of the attached tables.
-use Rattle.std.proofs.Common.{◌≡◌, ℕ, Bool, true, false, cond, Option, Some, None, List, [], ◌∷◌, ◌++◌, ◌&&◌, ◌||◌, map, refl, sym, ap, subst, ◌∙◌}
-use Rattle.std.specs.Prelude.{fold, is_some, filter_map}
+use Rattle.std.proofs.Common.{◌≡◌, ℕ, Bool, true, false, cond, Option, Some, None, List, [], ◌∷◌, ◌++◌, ◌&&◌, ◌||◌, refl, sym, ap, ◌∙◌}
+use Rattle.std.specs.Prelude.{is_some}
 use Rattle.std.specs.List.{AllByRecursion, cons_option, list_any}
 use Rattle.std.specs.Option.{option_map}
 use Rattle.std.specs.Cmp.Lexicographic.{bytes_decides}
 use Rattle.cap_value.specs.Bytes.{bytes_eq}
-use Rattle.cap_row.specs.Fields.{Fields}
 use Rattle.cap_txn.specs.Read.{row_at}
 use Rattle.cap_txn.specs.Tables.{Tables}
 use Rattle.cap_txn.specs.declared.change.Change.{Change}
 use Rattle.cap_session.specs.declared.rule.AutomaticRule.{AutomaticRule}
-use Rattle.cap_session.specs.declared.rule.AutomaticRule.TheVariants.{Nothing, All, Filter}
-use Rattle.cap_session.specs.Note.{attach_by, attach_by_rule, is_cascade, note, touch_of, touch_tables, touches_of}
+use Rattle.cap_session.specs.Note.{attach_by, attach_by_rule, is_cascade, note, touch_tables, touches_of}
 use Rattle.cap_session.specs.Records.{Records, Touch, with_touches}
-use Rattle.cap_session.specs.Session.{AttachedTables, SessionState, accepts_by, all_unless_filter, attach, is_listed, records_of}
+use Rattle.cap_session.specs.Session.{AttachedTables, SessionState, accepts_by, attach, is_listed, records_of}
 
 and_true : (a : Bool) → (a && true) ≡ a
 and_true true = refl

@@ -1,6 +1,6 @@
 -- The records of a table after touches.
 use Rattle.std.proofs.Common.{◌≡◌, Bool, true, false, cond, Option, Some, None, List, [], ◌∷◌, ◌&&◌, ◌||◌, not, refl, sym, ap, ap₂, ◌∙◌, Ordering, Less, Equal, Greater}
-use Rattle.std.specs.Prelude.{fold, filter}
+use Rattle.std.specs.Prelude.{fold}
 use Rattle.std.proofs.Math.Bool.{and-true}
 use Rattle.std.specs.FinMap.Entries.{find, put, by_order, find-put}
 use Rattle.std.specs.List.{AllByRecursion, cons_option}
@@ -31,6 +31,19 @@ module _ {K V : Type 0} (R : K → K → Ordering) (o : IsTotalOrder R) where
         | Equal ↦ λ p found. let value : v ≡ e.1 = cc in ap₂ (λ a b. (a, b) ∷ es) (same k e.0 p) value
         | Greater ↦ λ p found. ap (λ x. e ∷ x) (put_entry-there same es k v s.1 found)
       ] refl is
+
+  again : (k : K) (v : V) (es : List (K × V)) → put_entry R ((k, v) ∷ es) k v ≡ (k, v) ∷ es
+  again k v es = ap (λ r. match_ordering r ((k, v) ∷ (k, v) ∷ es) ((k, v) ∷ es) ((k, v) ∷ put_entry R es k v)) (tied_itself o k)
+
+  -- an entry that is put once more
+  put_entry-twice : (es : List (K × V)) (k : K) (v : V) → put_entry R (put_entry R es k v) k v ≡ put_entry R es k v
+  put_entry-twice [] k v = again k v []
+  put_entry-twice (e ∷ es) k v =
+      elim (R k e.0) as (λ r. R k e.0 ≡ r → put_entry R (match_ordering r ((k, v) ∷ e ∷ es) ((k, v) ∷ es) (e ∷ put_entry R es k v)) k v ≡ match_ordering r ((k, v) ∷ e ∷ es) ((k, v) ∷ es) (e ∷ put_entry R es k v)) [
+        | Less ↦ λ p. again k v (e ∷ es)
+        | Equal ↦ λ p. again k v es
+        | Greater ↦ λ p. ap (λ r. match_ordering r ((k, v) ∷ e ∷ put_entry R es k v) ((k, v) ∷ put_entry R es k v) (e ∷ put_entry R (put_entry R es k v) k v)) p ∙ ap (λ x. e ∷ x) (put_entry-twice es k v)
+      ] refl
 
 noted_mark : (a b : Bool) → (not a || b) ≡ true → (a && b) ≡ a
 noted_mark true b is = is
@@ -79,11 +92,39 @@ false_second : (a b : Bool) → b ≡ false → (a && b) ≡ false
 false_second true b is = is
 false_second false b is = refl
 
+and_self : (a : Bool) → (a && a) ≡ a
+and_self true = refl
+and_self false = refl
+
 and_twice : (a b c : Bool) → ((a && b) && c) ≡ (a && (b && c))
 and_twice true b c = refl
 and_twice false b c = refl
 
 module _ {A : Type 0} where
+  -- what is found at a key that was touched
+  found-touched : (records : Records A) (t : Touch A) → get fields_cmp (touch records t) t.key ≡ Some (record_after (get fields_cmp records t.key) t.image t.indirect)
+  found-touched records t =
+      let found = get fields_cmp records t.key in
+      let made = record_after found t.image t.indirect in
+      get-put_entry fields_cmp fields_cmp_total fields_same records t.key made t.key
+      ∙ ap (λ b. cond b (Some made) found) ((Equal-is (fields_cmp t.key t.key)).1 (tied_itself fields_cmp_total t.key))
+
+  marked-twice : (found : Option (Record A)) (image : Option (Fields A)) (indirect : Bool) → record_after (Some (record_after found image indirect)) image indirect ≡ record_after found image indirect
+  marked-twice None image indirect = ap (λ b. record { image = image; indirect = b }) (and_self indirect)
+  marked-twice (Some r) image indirect = ap (λ b. record { image = r.image; indirect = b }) (and_twice r.indirect indirect indirect ∙ ap (λ b. r.indirect && b) (and_self indirect))
+
+  touch-twice : (records : Records A) (t : Touch A) → touch (touch records t) t ≡ touch records t
+  touch-twice records t =
+      let found = get fields_cmp records t.key in
+      ap (λ r. put_entry fields_cmp (touch records t) t.key (record_after r t.image t.indirect)) (found-touched records t)
+      ∙ ap (put_entry fields_cmp (touch records t) t.key) (marked-twice found t.image t.indirect)
+      ∙ put_entry-twice fields_cmp fields_cmp_total records t.key (record_after found t.image t.indirect)
+
+  -- the same touch, or none, once more
+  pub touch_if-twice : (records : Records A) (t : Option (Touch A)) → touch_if (touch_if records t) t ≡ touch_if records t
+  touch_if-twice records None = refl
+  touch_if-twice records (Some t) = touch-twice records t
+
   -- a record, or none, after touches of its own key
   record_from : Option (Record A) → List (Touch A) → Option (Record A)
   record_from found [] = found
@@ -130,8 +171,7 @@ module _ {A : Type 0} where
   direct_stays before t more r direct is =
       let made : Record A = record_after (get fields_cmp before t.key) t.image t.indirect in
       let after : Option (Record A) = get fields_cmp (with_touches before (t ∷ more)) t.key in
-      let own : eq_by_cmp fields_cmp t.key t.key ≡ true = (Equal-is (fields_cmp t.key t.key)).1 (tied_itself fields_cmp_total t.key) in
-      let first : get fields_cmp (touch before t) t.key ≡ Some made = get-put_entry fields_cmp fields_cmp_total fields_same before t.key made t.key ∙ ap (λ b. cond b (Some made) (get fields_cmp before t.key)) own in
+      let first : get fields_cmp (touch before t) t.key ≡ Some made = found-touched before t in
       let found : after ≡ Some (record { image = made.image; indirect = made.indirect && are_indirect (touches_at t.key more) }) =
       get-with_touches more (touch before t) t.key ∙ ap (λ f. record_from f (touches_at t.key more)) first ∙ record_from-some made (touches_at t.key more) in
       let mark : made.indirect ≡ false = made_direct (get fields_cmp before t.key) t.image t.indirect direct in

@@ -13,8 +13,6 @@ mod rule;
 mod session;
 mod session_ref;
 mod sessions;
-#[cfg(test)]
-mod tests;
 mod touch;
 
 pub use attached::Attached;

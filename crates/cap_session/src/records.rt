@@ -74,6 +74,14 @@ impl<A: AllocHandle> Records<A> {
         }
     }
 
+    /// The keys are in order. This does nothing: the type keeps them so.
+    #[inline]
+    pub(crate) fn in_order(&self)
+        ensures { IsOrdered fields_cmp self.now }
+    {
+        let _settled = &self.settled;
+    }
+
     /// Whether there is no record.
     pub fn is_empty(&self) -> bool
         ensures { IsTrue result ↔ (self.now ≡ []) }

@@ -1,10 +1,11 @@
 //! One touch of a key, and the touches by changes.
-ghost use Rattle.std.specs.Prelude.{◌≡◌, IsTrue, Option, IfOk, map};
+ghost use Rattle.std.specs.Prelude.{◌≡◌, IsTrue, IfOk, Some, map};
 ghost use Rattle.std.specs.Option.{option_copied, unwrap_or};
-ghost use Rattle.cap_row.specs.Fields.{Fields};
+ghost use Rattle.cap_row.specs.Key.{fields_cmp};
+ghost use Rattle.cap_tree.specs.Tree.{IsOrdered, get};
 ghost use Rattle.cap_txn.specs.Read.{row_at};
 ghost use Rattle.cap_session.specs.Note.{is_cascade, touch_of, touches_of, touches_found};
-ghost use Rattle.cap_session.specs.Records.{record_after, touch, touch_if, with_touches};
+ghost use Rattle.cap_session.specs.Records.{Records, Touch, record_after, touch, touch_if, with_touches};
 
 use crate::{Record, Records};
 use cap_compare::Difference;
@@ -24,10 +25,48 @@ pub(crate) fn records_after<A: AllocHandle>(
         ≡ with_touches records.now (touches_of before.now indirect name.now changes.now)) }
 {
     let mut after = None;
+    let mut last = None;
     for change in changes {
+        if is_again(last, change) {
+            continue;
+        }
         after = after_change(name, records, after, before, indirect, change)?;
+        last = Some(change);
     }
     Ok(after)
+}
+
+// Whether a change is the last one once more, which touches nothing anew. An update tells the key of the old row and
+// that of the new one, which are mostly the same.
+fn is_again<A: AllocHandle>(last: Option<&Change<A>>, change: &Change<A>) -> bool
+    ensures { IsTrue result → option_copied last.entry ≡ Some change.now }
+{
+    match last {
+        Some(last) => is_same(last, change),
+        None => false,
+    }
+}
+
+fn is_same<A: AllocHandle>(one: &Change<A>, other: &Change<A>) -> bool
+    ensures { IsTrue result → one.now ≡ other.now }
+{
+    if !have_same_key(&one.key, &other.key) {
+        return false;
+    }
+    if is_cascade(one.cause) != is_cascade(other.cause) {
+        return false;
+    }
+    one.table == other.table
+}
+
+fn have_same_key<A: AllocHandle>(one: &Option<Key<A>>, other: &Option<Key<A>>) -> bool
+    ensures { IsTrue result → one.now ≡ other.now }
+{
+    match (one, other) {
+        (Some(one), Some(other)) => one == other,
+        (None, None) => true,
+        _ => false,
+    }
 }
 
 // The records that come after these, or none, with one change more.
@@ -49,10 +88,7 @@ fn after_change<A: AllocHandle>(
         None => Ok(after),
         Some(key) => {
             let indirect = indirect || is_cascade(change.cause);
-            match after {
-                None => touch_shared(records, before, name, key, indirect),
-                Some(after) => Ok(Some(touch_own(after, before, name, key, indirect)?)),
-            }
+            after_touch(name, records, after, before, indirect, key)
         }
     }
 }
@@ -66,46 +102,58 @@ fn is_cascade(cause: Cause) -> bool
     }
 }
 
-// The records that come after these with a touch, or none where they stay the same. These stay as they are.
-fn touch_shared<A: AllocHandle>(
-    records: &Records<A>,
-    before: &Database<A>,
+// The records that come after these, or none, with a touch more. Its key is looked up once.
+fn after_touch<A: AllocHandle>(
     name: &Name<A>,
-    key: &Key<A>,
+    records: &Records<A>,
+    after: Option<Records<A>>,
+    before: &Database<A>,
     indirect: bool,
+    key: &Key<A>,
 ) -> Result<Option<Records<A>>, OutOfMemory>
-    ensures { IfOk result (λ after. unwrap_or after records.now ≡ touch records.now (record {
-      key = key.now;
-      image = row_at before.now name.now key.now;
-      indirect = indirect;
-    })) }
+    ensures { IfOk result (λ then. unwrap_or then records.now
+        ≡ touch (unwrap_or after records.now) (record {
+          key = key.now;
+          image = row_at before.now name.now key.now;
+          indirect = indirect;
+        })) }
 {
-    if is_noted(records, key, indirect) {
-        return Ok(None);
+    let now = current(records, &after);
+    now.in_order();
+    let found = now.get(key);
+    if is_noted(found, indirect) {
+        return Ok(after);
     }
-    let image = row_at(before, name, key);
-    Ok(Some(touch(records.copy()?, key, image, indirect)?))
+    let record = record_after(found, row_at(before, name, key), indirect)?;
+    let mut after = after_or_copy(records, after)?;
+    after.put(key.copy()?, record)?;
+    Ok(Some(after))
 }
 
-// These records with a touch.
-fn touch_own<A: AllocHandle>(
-    records: Records<A>,
-    before: &Database<A>,
-    name: &Name<A>,
-    key: &Key<A>,
-    indirect: bool,
-) -> Result<Records<A>, OutOfMemory>
-    ensures { IfOk result (λ after. after ≡ touch records (record {
-      key = key.now;
-      image = row_at before.now name.now key.now;
-      indirect = indirect;
-    })) }
+// The records that come after these, or these.
+fn current<'a, A: AllocHandle>(
+    records: &'a Records<A>,
+    after: &'a Option<Records<A>>,
+) -> &'a Records<A>
+    ensures { result.now ≡ unwrap_or after.now records.now }
 {
-    if is_noted(&records, key, indirect) {
-        return Ok(records);
+    match after {
+        Some(after) => after,
+        None => records,
     }
-    let image = row_at(before, name, key);
-    touch(records, key, image, indirect)
+}
+
+// The records that come after these, or a copy of these.
+fn after_or_copy<A: AllocHandle>(
+    records: &Records<A>,
+    after: Option<Records<A>>,
+) -> Result<Records<A>, OutOfMemory>
+    ensures { IfOk result (λ then. then ≡ unwrap_or after records.now) }
+{
+    match after {
+        Some(after) => Ok(after),
+        None => records.copy(),
+    }
 }
 
 // The row with this primary key, or its absence.
@@ -122,37 +170,17 @@ fn row_at<'a, A: AllocHandle>(
     }
 }
 
-// Whether a touch leaves the records as they are, whatever its image: its key was touched directly, or indirectly as
-// now.
-fn is_noted<A: AllocHandle>(records: &Records<A>, key: &Key<A>, indirect: bool) -> bool
-    ensures { IsTrue result → (image : Option (Fields A))
-        → touch records.now (record { key = key.now; image = image; indirect = indirect }) ≡ records.now }
+// Whether a touch of a key with this record leaves the records as they are, whatever its image: the key was touched
+// directly, or indirectly as now.
+fn is_noted<A: AllocHandle>(found: Option<&Record<A>>, indirect: bool) -> bool
+    ensures { IsTrue result → (records : Records A) (t : Touch A) → IsOrdered fields_cmp records
+        → get fields_cmp records t.key ≡ option_copied found.entry → t.indirect ≡ indirect
+        → touch records t ≡ records }
 {
-    // The count shows that the keys are in order.
-    let _count = records.count();
-    match records.get(key) {
+    match found {
         Some(record) => !record.indirect || indirect,
         None => false,
     }
-}
-
-/// These records with a touch of a key, whose row was this or its absence.
-pub(crate) fn touch<A: AllocHandle>(
-    records: Records<A>,
-    key: &Key<A>,
-    image: Option<&Row<A>>,
-    indirect: bool,
-) -> Result<Records<A>, OutOfMemory>
-    ensures { IfOk result (λ after. after ≡ touch records (record {
-      key = key.now;
-      image = option_copied image.entry;
-      indirect = indirect;
-    })) }
-{
-    let mut records = records;
-    let record = record_after(records.get(key), image, indirect)?;
-    records.put(key.copy()?, record)?;
-    Ok(records)
 }
 
 // What is kept of a row after a touch: a record keeps its image.
@@ -213,10 +241,9 @@ fn touch_difference<A: AllocHandle>(
       indirect = indirect;
     })) }
 {
-    touch(
-        records,
-        &difference.key,
-        difference.image.as_ref(),
-        indirect,
-    )
+    let mut records = records;
+    let found = records.get(&difference.key);
+    let record = record_after(found, difference.image.as_ref(), indirect)?;
+    records.put(difference.key.copy()?, record)?;
+    Ok(records)
 }

@@ -72,7 +72,7 @@ module _ {K X : Type 0} (R : K → K → Ordering) where
 module _ {A : Type 0} where
   -- ---- one row more, or less
 
-  with_key-rises : (t : TableState A) (key row : Fields A) → IsRising t → length row ≡ length t.schema → key_of t.schema row ≡ Some key → IsRising (with_key t key row)
+  pub with_key-rises : (t : TableState A) (key row : Fields A) → IsRising t → length row ≡ length t.schema → key_of t.schema row ≡ Some key → IsRising (with_key t key row)
   with_key-rises t key row h wide own = record {
     stand = put_keyed t key row h.stand wide own;
     keys = sorted-put fields_cmp fields_cmp_total fields_same t.keyed key row h.keys;
@@ -86,7 +86,7 @@ module _ {A : Type 0} where
     ids = sorted-put nat_cmp nat_cmp_total nat_cmp-IsAntisymmetric t.loose id row h.ids;
   }
 
-  without-rises : (t : TableState A) (name : RowRef A) → IsRising t → IsRising (without t name)
+  pub without-rises : (t : TableState A) (name : RowRef A) → IsRising t → IsRising (without t name)
   without-rises t (Key key) h = record {
     stand = take_keyed t key h.stand;
     keys = sorted-remove fields_cmp (is_at (fields_cmp key)) t.keyed h.keys;

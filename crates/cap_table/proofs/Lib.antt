@@ -1,4 +1,6 @@
+pub mod Crossing
 pub mod AfterLemmas
+pub mod BackLemmas
 pub mod IdLemmas
 pub mod KeptLemmas
 pub mod LawLemmas

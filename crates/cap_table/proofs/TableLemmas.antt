@@ -27,7 +27,7 @@ pub second : (a b : Bool) → (a && b) ≡ true → b ≡ true
 second true b p = p
 second false b p = cc
 
-tied : {K : Type 0} (R : K → K → Ordering) (x y : K) → IsAntisymmetric R → eq_by_cmp R x y ≡ true → x ≡ y
+pub tied : {K : Type 0} (R : K → K → Ordering) (x y : K) → IsAntisymmetric R → eq_by_cmp R x y ≡ true → x ≡ y
 tied R x y same t = same x y ((Equal-is (R x y)).0 t)
 
 module _ {K X : Type 0} (R : K → K → Ordering) (test : K × X → Bool) where
@@ -75,7 +75,7 @@ take-absent R k (e ∷ es) h =
 same_length : (m n : ℕ) → m ≡ n → (m == n) ≡ true
 same_length m n e = grind (arith, nat_tests)
 
-is_same_length : (m n : ℕ) → (m == n) ≡ true → m ≡ n
+pub is_same_length : (m n : ℕ) → (m == n) ≡ true → m ≡ n
 is_same_length m n e = grind (arith, nat_tests)
 
 below : (m n : ℕ) → m < n → nat_lt m n ≡ true

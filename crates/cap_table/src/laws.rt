@@ -1,12 +1,12 @@
 //! Laws of operations on a table, over the definitions alone. The functions do nothing.
-ghost use Rattle.std.specs.Prelude.{◌≡◌, ◌+◌, ◌≤◌, ℕ, Bool, List, Some, None, Ok, IfOk};
+ghost use Rattle.std.specs.Prelude.{◌≡◌, ◌+◌, ◌≤◌, ℕ, Bool, List, length, Some, None, Ok, IfOk};
 ghost use Rattle.std.specs.Ordering.{nat_cmp};
 ghost use Rattle.cap_row.specs.Fields.{Fields};
-ghost use Rattle.cap_row.specs.Key.{key_of};
+ghost use Rattle.cap_row.specs.Key.{fields_cmp, key_of};
 ghost use Rattle.cap_value.specs.declared.value.Value.{Value};
 ghost use Rattle.cap_tree.specs.Tree.{get};
 ghost use Rattle.cap_table.specs.Ids.{GivesIdsOnce};
-ghost use Rattle.cap_table.specs.Operation.{delete_row, empty_table, insert_row, update_row};
+ghost use Rattle.cap_table.specs.Operation.{delete_row, empty_table, insert_row, update_row, with_key, without};
 ghost use Rattle.cap_table.specs.Sound.{IsRising};
 ghost use Rattle.cap_table.specs.Table.{TableState};
 ghost use Rattle.cap_table.specs.declared.row_ref.RowRef.{RowRef};
@@ -62,4 +62,29 @@ pub fn operations_keep_tables<A: AllocHandle>()
         → IfOk (update_row table name fields) IsRising }
     ensures delete { (table : TableState A) (name : RowRef A) → IsRising table
         → IfOk (delete_row table name) IsRising }
+{}
+
+/// A row that is put under its own key, or taken out from under it, leaves such a table too, and a row that is found
+/// under a key has the table's width and that key.
+pub fn keyed_rows_keep_tables<A: AllocHandle>()
+    ensures put { (table : TableState A) (key row : Fields A) → IsRising table
+        → length row ≡ length table.schema → key_of table.schema row ≡ Some key
+        → IsRising (with_key table key row) }
+    ensures take { (table : TableState A) (key : Fields A) → IsRising table
+        → IsRising (without table (RowRef.Key key)) }
+    ensures found { (table : TableState A) (key row : Fields A) → IsRising table
+        → get fields_cmp table.keyed key ≡ Some row
+        → (length row ≡ length table.schema) × (key_of table.schema row ≡ Some key) }
+{}
+
+/// A row that goes back under its key, after another was put there or after it was taken out, leaves the table as it
+/// was; and nothing is taken out where no row has the key.
+pub fn keyed_rows_go_back<A: AllocHandle>()
+    ensures put { (table : TableState A) (key row other : Fields A) → IsRising table
+        → get fields_cmp table.keyed key ≡ Some row → with_key (with_key table key other) key row ≡ table }
+    ensures take { (table : TableState A) (key row : Fields A) → IsRising table
+        → get fields_cmp table.keyed key ≡ Some row
+        → with_key (without table (RowRef.Key key)) key row ≡ table }
+    ensures none { (table : TableState A) (key : Fields A) → get fields_cmp table.keyed key ≡ None
+        → without table (RowRef.Key key) ≡ table }
 {}

@@ -5,17 +5,16 @@ mod after;
 mod change;
 mod laws;
 mod not_made;
+mod put;
 mod replaced;
 mod row_name;
 mod row_ref;
 mod scan;
 mod table;
-#[cfg(test)]
-mod tests;
 
 pub use laws::{
-    delete_undoes_insert, ids_are_given_once, insert_takes_next_id, operations_keep_columns,
-    operations_keep_tables,
+    delete_undoes_insert, ids_are_given_once, insert_takes_next_id, keyed_rows_go_back,
+    keyed_rows_keep_tables, operations_keep_columns, operations_keep_tables,
 };
 pub use not_made::NotMade;
 pub use replaced::Replaced;

@@ -70,9 +70,8 @@ impl<A: AllocHandle> Table<A> {
         }
     }
 
-    // An empty table that has given all ids below one.
-    #[cfg(test)]
-    pub(crate) fn with_next_id(alloc: A, schema: Schema<A>, next_id: u64) -> Self
+    /// An empty table that gives ids from `next_id` on: for a copy that goes on where the ids of another ended.
+    pub fn with_next_id(alloc: A, schema: Schema<A>, next_id: u64) -> Self
         requires first { 1 ≤ next_id }
         requires last { next_id ≤ 2 ^ 63 }
         ensures { result ≡ record (empty_table schema) { next_id = next_id } }

@@ -13,6 +13,16 @@ mod codec_sqlite;
 #[cfg(test)]
 mod codec_stream;
 #[cfg(test)]
+mod compare;
+#[cfg(test)]
 mod filter;
 #[cfg(test)]
+mod row;
+#[cfg(test)]
+mod session;
+#[cfg(test)]
+mod table;
+#[cfg(test)]
 mod txn;
+#[cfg(test)]
+mod value;

@@ -15,7 +15,7 @@ use std::time::CpuClock;
 pub(crate) const COMMITS: u32 = 100_000;
 
 /// The most events of a history.
-const EVENTS_MAX: u64 = (1 << 63) - 1;
+pub(crate) const EVENTS_MAX: u64 = (1 << 63) - 1;
 
 /// The table, a key and a value, and the number of the session that it is attached to.
 const TABLE: &str = "t";
@@ -27,7 +27,7 @@ pub(crate) fn table(alloc: Global) -> Option<Name<Global>> {
 }
 
 /// The command that makes the table.
-fn create_table(alloc: Global) -> Option<Vec<Command<Global>>> {
+pub(crate) fn create_table(alloc: Global) -> Option<Vec<Command<Global>>> {
     let schema = Schema::new(alloc, &[true, false]).ok()?;
     let mut commands = Vec::new(alloc);
     let command = Command::CreateTable {
@@ -99,7 +99,7 @@ fn signed(key: u64) -> i64 {
 }
 
 /// A commit for each key, which inserts its row.
-fn inserts(alloc: Global, order: Order, count: u32) -> Option<Vec<Command<Global>>> {
+pub(crate) fn inserts(alloc: Global, order: Order, count: u32) -> Option<Vec<Command<Global>>> {
     let mut commands = Vec::new(alloc);
     for key in keys(alloc, order, count).ok()? {
         commands.push(commit(alloc, insert(alloc, key)?)?).ok()?;
@@ -107,11 +107,16 @@ fn inserts(alloc: Global, order: Order, count: u32) -> Option<Vec<Command<Global
     Some(commands)
 }
 
-/// Commits that update so many rows in turn.
-fn updates(alloc: Global, rows: u32) -> Option<Vec<Command<Global>>> {
+/// So many commits that update rows in turn: each `step`th of the table's, so many of them.
+pub(crate) fn updates(
+    alloc: Global,
+    count: u32,
+    rows: u32,
+    step: u32,
+) -> Option<Vec<Command<Global>>> {
     let mut commands = Vec::new(alloc);
-    for number in 0..COMMITS {
-        let key = u64::from(number % rows.max(1));
+    for number in 0..count {
+        let key = u64::from((number % rows.max(1)).wrapping_mul(step));
         let op = update(alloc, key, i64::from(number))?;
         commands.push(commit(alloc, op)?).ok()?;
     }
@@ -119,7 +124,7 @@ fn updates(alloc: Global, rows: u32) -> Option<Vec<Command<Global>>> {
 }
 
 /// The server after the commands, all of which have to be accepted.
-fn after(core: Core<Global>, commands: &[Command<Global>]) -> Result<Core<Global>> {
+pub(crate) fn after(core: Core<Global>, commands: &[Command<Global>]) -> Result<Core<Global>> {
     let mut core = core;
     for command in commands {
         if core.events() >= EVENTS_MAX {
@@ -192,7 +197,7 @@ pub(crate) fn report(rt: &(impl Print + Eprint + CpuClock + AllocGlobal)) -> Res
         try_capture(rt, &core)?;
     }
     for rows in [1000, 1] {
-        let commands = updates(alloc, rows).context("no commands")?;
+        let commands = updates(alloc, COMMITS, rows, 1).context("no commands")?;
         let load = format!(in alloc; "{COMMITS} updates of {rows} rows")?;
         let core = timed(rt, load.as_str(), server(alloc, rows)?, commands.as_slice())?;
         try_capture(rt, &core)?;

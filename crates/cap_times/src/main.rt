@@ -1,7 +1,7 @@
 //! How long the calls of the libraries take, by the processor's time of one thread: `cap_times tree [N..]` tries trees
 //! of N keys beside std's map, `cap_times codec` a changeset, `cap_times txn` operations on tables, `cap_times apply`
-//! changesets that are applied, `cap_times core` commits under a session. Standard output says what was checked, and
-//! standard error how long it took.
+//! changesets that are applied, `cap_times core` commits under a session, `cap_times sessions` commits under one and
+//! under 64 sessions, captures and a diff. Standard output says what was checked, and standard error how long it took.
 #![tactic(auto)]
 
 mod apply;
@@ -9,6 +9,7 @@ mod clock;
 mod codec;
 mod commits;
 mod keys;
+mod sessions;
 mod tables;
 mod tree;
 
@@ -27,9 +28,10 @@ fn run(rt: &(impl Print + Eprint + Env + CpuClock + AllocGlobal)) -> Result<()> 
             "txn" => tables::report(rt),
             "apply" => apply::report(rt),
             "core" => commits::report(rt),
-            _ => bail!("{load} is no load: tree [N..], codec, txn, apply or core"),
+            "sessions" => sessions::report(rt),
+            _ => bail!("{load} is no load: tree [N..], codec, txn, apply, core or sessions"),
         },
-        _ => bail!("which load: tree [N..], codec, txn, apply or core"),
+        _ => bail!("which load: tree [N..], codec, txn, apply, core or sessions"),
     }
 }
 

@@ -1,5 +1,6 @@
 mod BesideLemmas
 mod BuildLemmas
+pub mod Crossing
 mod EntryLemmas
 mod HeightLemmas
 mod JoinLemmas

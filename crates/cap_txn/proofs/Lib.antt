@@ -1,3 +1,5 @@
+pub mod Crossing
+pub mod BackLemmas
 pub mod BatchesLemmas
 pub mod CommuteLemmas
 pub mod FrontLemmas

@@ -4,6 +4,7 @@ pub mod Batch
 pub mod Batches
 pub mod Front
 pub mod Ids
+pub mod Keyed
 pub mod Operation
 pub mod Outcome
 pub mod Read

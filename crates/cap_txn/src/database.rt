@@ -1,4 +1,4 @@
-ghost use Rattle.std.specs.Prelude.{◌≡◌, ◌≤◌, [], length, Ok, IfOk, OnErr};
+ghost use Rattle.std.specs.Prelude.{◌≡◌, ◌≤◌, [], length, Ok, Some, None, IfOk, IfSome, IfNone, IsTrue, OnOk, OnErr, is_some};
 ghost use Rattle.std.specs.Option.{option_copied};
 ghost use Rattle.cap_value.specs.Bytes.{bytes_cmp};
 ghost use Rattle.cap_tree.specs.Tree.{IsOrdered};
@@ -6,12 +6,14 @@ ghost use Rattle.cap_table.specs.After.{LeavesOnceAgreed};
 ghost use Rattle.cap_value.specs.Memory.{LeavesUnlessMemory, RefusesFirst};
 ghost use Rattle.cap_txn.specs.Tables.{EachRises, Tables, create, refused_create, table_of};
 ghost use Rattle.cap_txn.specs.Operation.{step, changes_told, changes, row_before};
-ghost use Rattle.cap_txn.specs.Read.{read, rows_of, Lends};
+ghost use Rattle.cap_txn.specs.Keyed.{GoesBack, IsOwnRow, row_set};
+ghost use Rattle.cap_txn.specs.Read.{read, row_at, rows_of, Lends};
 
+use crate::keyed::{put_under, take_under};
 use crate::place::{copies, place_of, put_at, step_at, step_at_after};
 use crate::told::changes_in;
 use crate::{Change, Op, Step};
-use cap_row::{Row, Schema};
+use cap_row::{Key, Row, Schema};
 use cap_table::{NotMade, RowRef, Scan, Table, operations_keep_tables};
 use cap_tree::Confirm;
 use cap_value::{AllocHandle, Exact, Fault, Name, OutOfMemory, Refusal};
@@ -135,6 +137,39 @@ impl<A: AllocHandle> Database<A> {
             Ok(place) => step_at_after(&mut self.tables, place, op, confirm),
             Err(_) => Err(NotMade::Refused(Refusal::NoTable)),
         }
+    }
+
+    /// Puts a row under its own key in the table of this name, and answers the row that was there, if any, which may go
+    /// back. The table is searched once. On an error the database is as before.
+    pub fn put_row(
+        &mut self,
+        table: &Name<A>,
+        key: Key<A>,
+        row: Row<A>,
+    ) -> Result<Option<Row<A>>, OutOfMemory>
+        requires there { IsTrue (is_some (table_of self.old table.now)) }
+        requires own { IsOwnRow self.old table.now key row }
+        ensures set { OnOk result (self.new ≡ row_set self.old table.now key (Some row)) }
+        ensures kept { OnErr result (self.new ≡ self.old) }
+        ensures before { IfOk result (λ before. before ≡ row_at self.old table.now key) }
+        ensures back { IfOk result (λ before.
+            IfSome before (GoesBack self.old self.new table.now key)) }
+    {
+        put_under(&mut self.tables, table, key, row)
+    }
+
+    /// Takes the row of a key out of the table of this name, and answers it, if any; it may go back. The table is
+    /// searched once. On an error the database is as before.
+    pub fn take_row(&mut self, table: &Name<A>, key: &Key<A>) -> Result<Option<Row<A>>, OutOfMemory>
+        requires there { IsTrue (is_some (table_of self.old table.now)) }
+        ensures set { OnOk result (self.new ≡ row_set self.old table.now key.now None) }
+        ensures kept { OnErr result (self.new ≡ self.old) }
+        ensures before { IfOk result (λ before. before ≡ row_at self.old table.now key.now) }
+        ensures none { IfOk result (λ before. IfNone before (self.new ≡ self.old)) }
+        ensures back { IfOk result (λ before.
+            IfSome before (GoesBack self.old self.new table.now key.now)) }
+    {
+        take_under(&mut self.tables, table, key)
     }
 
     /// The changes that an operation makes if it is accepted, in order.

@@ -6,6 +6,7 @@ mod batch;
 mod cause;
 mod change;
 mod database;
+mod keyed;
 mod laws;
 mod op;
 mod outcome;

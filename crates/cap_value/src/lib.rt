@@ -6,8 +6,6 @@ mod exact;
 mod memory;
 mod name;
 mod refusal;
-#[cfg(test)]
-mod tests;
 mod text;
 mod value;
 

@@ -2,10 +2,16 @@
 //! `show` a blob as hex text, whose changes it prints.
 #![tactic(auto)]
 
-use cap_run::{Options, OptionsFault, RunFault, options, run_core, show_blob};
+ghost use Rattle.std.specs.Prelude.{◌≤◌};
+
+use cap_run::{
+    NoGate, Options, OptionsFault, RunFault, options, run_core, run_workload, show_blob,
+};
 use std::alloc::AllocError;
 use std::process::ExitCode;
 use std::rt::Env;
+use std::sync::Wait;
+use std::thread::Threads;
 use std::{env, io};
 
 /// The exit statuses of the program: the input is refused, the command line is refused, or there was no memory, or a
@@ -51,8 +57,25 @@ fn without_words(rt: &impl Eprint, error: &io::Error) -> u8 {
     }
 }
 
+/// Runs the workload on standard input, and answers the exit status. One thread alone is the one that runs already.
+fn run<R: Input + Print + Eprint + AllocGlobal + Threads + Wait + Sync>(rt: &R, threads: u64) -> u8
+    requires threads { (1 ≤ threads) × (threads ≤ 63) }
+{
+    let alloc = rt.alloc();
+    let mut reader = rt.reader();
+    let mut writer = io::writer(rt);
+    let outcome = if threads == 1 {
+        run_core(alloc, &mut reader, &mut writer)
+    } else {
+        run_workload(rt, alloc, &NoGate, threads, &mut reader, &mut writer)
+    };
+    report(rt, outcome)
+}
+
 /// Does what the command line asks for, and answers the exit status.
-fn obey(rt: &(impl Input + Print + Eprint + Env + AllocGlobal)) -> Result<u8, AllocError> {
+fn obey<R: Input + Print + Eprint + Env + AllocGlobal + Threads + Wait + Sync>(
+    rt: &R,
+) -> Result<u8, AllocError> {
     let alloc = rt.alloc();
     let arguments = match env::args(rt) {
         Ok(arguments) => arguments,
@@ -60,11 +83,7 @@ fn obey(rt: &(impl Input + Print + Eprint + Env + AllocGlobal)) -> Result<u8, Al
     };
     let words: Vec<String> = arguments.skip(1).collect(alloc)?;
     match options(alloc, words.as_slice()) {
-        // Whatever their number, the threads' calls are made in the order of the lines.
-        Ok(Options::Run { threads: _ }) => {
-            let outcome = run_core(alloc, &mut rt.reader(), &mut io::writer(rt));
-            Ok(report(rt, outcome))
-        }
+        Ok(Options::Run { threads }) => Ok(run(rt, threads)),
         Ok(Options::Show) => {
             let outcome = show_blob(alloc, &mut rt.reader(), &mut io::writer(rt));
             Ok(report(rt, outcome))

@@ -1,5 +1,5 @@
 -- The records of a table as the code has them: those of a tree, and the one that was put last.
-use Rattle.std.specs.Prelude.{Option, Some, None, List}
+use Rattle.std.specs.Prelude.{Option, Some, None}
 use Rattle.std.specs.Borrow.{Bor}
 use Rattle.cap_row.specs.Fields.{Fields}
 use Rattle.cap_row.specs.Key.{fields_cmp}

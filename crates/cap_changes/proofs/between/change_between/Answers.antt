@@ -1,5 +1,4 @@
 use Rattle.std.proofs.Common.{sym, ◌∙◌, true≢false}
-use Rattle.cap_changes.specs.Change as touched
 use Rattle.cap_changes.proofs.ChangeLemmas.{full_fits, update_fits, update_modifies, change_of-same, change_of-other}
 use Rattle.cap_changes.proofs.between.change_between.Goals as goal
 

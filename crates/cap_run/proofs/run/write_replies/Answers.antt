@@ -1,52 +1,64 @@
-use Rattle.std.proofs.Common.{◌+◌, ◌<◌, ◌≤◌, ℕ, List, [], ◌++◌, length, sym, ap, arith, string_bytes}
-use Rattle.std.proofs.KnownBytes.{Appends-nil, Appends-trans}
+use Rattle.std.proofs.Common.{◌<◌, List, Option, length, ap, arith, refl, string_bytes, subst}
 use Rattle.std.proofs.lemmas.Result.{err_from_is_err_and}
-use Rattle.cap_run.proofs.RunLemmas.{begins_front, ends_at, reached-events, reached-none, reached-push, reached-run, reached_regroup, run_same}
+use Rattle.cap_script.specs.Script.{TakesFirst}
+use Rattle.cap_script.specs.declared.line.Line.{Line}
+use Rattle.cap_run.proofs.RunLemmas.{at_begun, at_fault, at_next, at_none, at_written}
 use Rattle.cap_run.proofs.run.write_replies.Goals as goal
 
 pub loop-line-init : goal.loop-line-init
-loop-line-init g c = ([], reached-none c.args.lines.now c.new-core.result c.new-core.ensures (string_bytes c.args.pending.now) c.requires, Appends-nil _, omega arith)
+loop-line-init g c = λ spelled is.
+    at_none spelled c.args.lines.now c.new-core.result (string_bytes c.args.pending.now) (g.W.Write.contents c.args.writer.now) c.new-core.ensures c.requires is
 
 -- the line has its reply, and what is long enough was written
 pub loop-line-preserved : goal.loop-line-preserved
-loop-line-preserved g c =
-    let inv = c.loop-line.invariant in
-    let index = c.loop-line.line-index in
-    let less : index < length c.args.lines.now = c.loop-line-test.true in
-    let within : index ≤ length c.args.lines.now = omega (arith, less) in
-    let events = reached-events c.args.lines.now c.loop-line.core index _ inv.1 within in
-    let pushed = reached-push c.args.lines.now c.loop-line.core c.run_line.new.core index inv.0 (string_bytes c.loop-line.pending) (string_bytes c.run_line.new.pending) c.line-item.result inv.1 less c.line-item.is c.in-Ok.ensures.history in
-    let front = c.in_ok-write_long.ensures.ok in (
-      inv.0 ++ front.0,
-      reached_regroup c.args.lines.now c.run_line.new.core (index + 1) inv.0 (string_bytes c.run_line.new.pending) front.0 (string_bytes c.write_long.new.pending) front.1 pushed,
-      Appends-trans _ _ _ inv.0 front.0 inv.2 front.2,
-      omega (arith, events, c.in-Ok.ensures.room),
-    )
+loop-line-preserved g c = λ spelled is.
+    let so = c.loop-line.invariant spelled is in
+    let taken = subst (λ (o : Option (Line g.row.A.Denot)). TakesFirst o so.others c.next_line.new.self) c.in-Ok-Some.field-0-is (c.in-Ok-Some.ensures.next so.others so.spelled) in
+    let next = at_next spelled c.loop-line.lines c.next_line.new.self c.loop-line.core c.run_line.new.core (string_bytes c.loop-line.pending) (string_bytes c.run_line.new.pending) _ _ c.in-Ok-Some.line so taken c.in-Ok.ensures.history c.in-Ok.ensures.room in
+    at_written spelled c.next_line.new.self c.run_line.new.core (string_bytes c.run_line.new.pending) (string_bytes c.write_long.new.pending) _ _ _ next c.in_ok-write_long.ensures.ok
+
+pub loop-line-preserved-in_ok-write_long : goal.loop-line-preserved-in_ok-write_long
+loop-line-preserved-in_ok-write_long g c = λ spelled is.
+    let so = c.loop-line.invariant spelled is in
+    let taken = subst (λ (o : Option (Line g.row.A.Denot)). TakesFirst o so.others c.next_line.new.self) c.in-Ok-Some.field-0-is (c.in-Ok-Some.ensures.next so.others so.spelled) in
+    let next = at_next spelled c.loop-line.lines c.next_line.new.self c.loop-line.core c.run_line.new.core (string_bytes c.loop-line.pending) (string_bytes c.run_line.new.pending) _ _ c.in-Ok-Some.line so taken c.in-Ok.ensures.history c.in-Ok.ensures.room in
+    at_written spelled c.next_line.new.self c.run_line.new.core (string_bytes c.run_line.new.pending) (string_bytes c.write_long.new.pending) _ _ _ next c.in_ok-write_long.ensures.ok
+
+pub loop-line-preserved-in_ok-write_long-2 : goal.loop-line-preserved-in_ok-write_long-2
+loop-line-preserved-in_ok-write_long-2 g c = λ spelled is.
+    let so = c.loop-line.invariant spelled is in
+    let taken = subst (λ (o : Option (Line g.row.A.Denot)). TakesFirst o so.others c.next_line.new.self) c.in-Ok-Some.field-0-is (c.in-Ok-Some.ensures.next so.others so.spelled) in
+    let next = at_next spelled c.loop-line.lines c.next_line.new.self c.loop-line.core c.run_line.new.core (string_bytes c.loop-line.pending) (string_bytes c.run_line.new.pending) _ _ c.in-Ok-Some.line so taken c.in-Ok.ensures.history c.in-Ok.ensures.room in
+    at_written spelled c.next_line.new.self c.run_line.new.core (string_bytes c.run_line.new.pending) (string_bytes c.write_long.new.pending) _ _ _ next c.in_ok-write_long.ensures.ok
+
+pub loop-line-preserved-in_ok-write_long-3 : goal.loop-line-preserved-in_ok-write_long-3
+loop-line-preserved-in_ok-write_long-3 g c = λ spelled is.
+    let so = c.loop-line.invariant spelled is in
+    let taken = subst (λ (o : Option (Line g.row.A.Denot)). TakesFirst o so.others c.next_line.new.self) c.in-Ok-Some.field-0-is (c.in-Ok-Some.ensures.next so.others so.spelled) in
+    let next = at_next spelled c.loop-line.lines c.next_line.new.self c.loop-line.core c.run_line.new.core (string_bytes c.loop-line.pending) (string_bytes c.run_line.new.pending) _ _ c.in-Ok-Some.line so taken c.in-Ok.ensures.history c.in-Ok.ensures.room in
+    at_written spelled c.next_line.new.self c.run_line.new.core (string_bytes c.run_line.new.pending) (string_bytes c.write_long.new.pending) _ _ _ next c.in_ok-write_long.ensures.ok
+
+-- there is no memory for the line
+pub returns-in-Err-clause-ok : goal.returns-in-Err-clause-ok
+returns-in-Err-clause-ok g c = λ spelled is.
+    let so = c.loop-line.invariant spelled is in
+    let left = c.in-Err.ensures.next so.others so.spelled in
+    at_fault spelled c.loop-line.lines c.loop-line.core (string_bytes c.loop-line.pending) (string_bytes c.loop-line.pending) _ _ c.line_fault.result so left.0 c.line_fault.ensures refl
 
 -- the line has no reply
-pub returns-in-Err-clause-ok : goal.returns-in-Err-clause-ok
-returns-in-Err-clause-ok g c =
-    let inv = c.loop-line.invariant in
-    let index = c.loop-line.line-index in
-    let less : index < length c.args.lines.now = c.loop-line-test.true in
-    let within : index ≤ length c.args.lines.now = omega (arith, less) in
-    let events = reached-events c.args.lines.now c.loop-line.core index _ inv.1 within in
-    let same = ap (λ (t : List ℕ). inv.0 ++ t) (sym c.in-Err.ensures.same) in (
-      index,
-      inv.0,
-      ends_at c.in-Err.fault (length c.args.lines.now) index c.loop-line.core.events events less inv.3 c.in-Err.ensures.full,
-      run_same c.args.lines.now index (inv.0 ++ string_bytes c.loop-line.pending) (inv.0 ++ string_bytes c.run_line.new.pending) same (reached-run c.args.lines.now c.loop-line.core index _ inv.1),
-      inv.2,
-    )
+pub returns-in-Err-run_line-clause-ok : goal.returns-in-Err-run_line-clause-ok
+returns-in-Err-run_line-clause-ok g c = λ spelled is.
+    let so = c.loop-line.invariant spelled is in
+    let taken = subst (λ (o : Option (Line g.row.A.Denot)). TakesFirst o so.others c.next_line.new.self) c.in-Ok-Some.field-0-is (c.in-Ok-Some.ensures.next so.others so.spelled) in
+    let long = ap (λ (ls : List (Line g.row.A.Denot)). length ls) taken.1 in
+    let more : 0 < length so.others = omega (arith, long) in
+    at_fault spelled c.loop-line.lines c.loop-line.core (string_bytes c.loop-line.pending) (string_bytes c.run_line.new.pending) _ _ c.in-Err-run_line.fault so more c.in-Err-run_line.ensures.full c.in-Err-run_line.ensures.same
 
 -- the reply was not written, or not all of it
 pub returns-in_err-write_long-clause-err : goal.returns-in_err-write_long-clause-err
-returns-in_err-write_long-clause-err g c =
-    let inv = c.loop-line.invariant in
-    let index = c.loop-line.line-index in
-    let pushed = reached-push c.args.lines.now c.loop-line.core c.run_line.new.core index inv.0 (string_bytes c.loop-line.pending) (string_bytes c.run_line.new.pending) c.line-item.result inv.1 c.loop-line-test.true c.line-item.is c.in-Ok.ensures.history in
+returns-in_err-write_long-clause-err g c = λ spelled is.
+    let so = c.loop-line.invariant spelled is in
+    let taken = subst (λ (o : Option (Line g.row.A.Denot)). TakesFirst o so.others c.next_line.new.self) c.in-Ok-Some.field-0-is (c.in-Ok-Some.ensures.next so.others so.spelled) in
+    let next = at_next spelled c.loop-line.lines c.next_line.new.self c.loop-line.core c.run_line.new.core (string_bytes c.loop-line.pending) (string_bytes c.run_line.new.pending) _ _ c.in-Ok-Some.line so taken c.in-Ok.ensures.history c.in-Ok.ensures.room in
     let p = err_from_is_err_and c.from_residual.result c.from_residual.ensures.1 in
-    rw (p.1, p.2) (
-      c.in_err-write_long.ensures.err.0,
-      begins_front c.args.lines.now _ _ _ (index + 1) inv.0 (string_bytes c.run_line.new.pending) (reached-run c.args.lines.now c.run_line.new.core (index + 1) _ pushed) inv.2 c.in_err-write_long.ensures.err.1,
-    )
+    rw p.1 (at_begun spelled c.next_line.new.self c.run_line.new.core (string_bytes c.run_line.new.pending) _ _ _ next c.in_err-write_long.ensures.err.1)

@@ -1,10 +1,13 @@
-use Rattle.std.proofs.Common.{◌++◌, ◌≤◌, List, ℕ, string_bytes}
-use Rattle.std.specs.Io.KnownBytes.{Appends}
-use Rattle.cap_run.specs.Run.{events_max}
-use Rattle.cap_run.proofs.RunLemmas.{IsReached}
+use Rattle.std.proofs.Common.{List, length, string_bytes}
+use Rattle.cap_script.specs.Script.{SpellsScript}
+use Rattle.cap_script.specs.declared.line.Line.{Line}
+use Rattle.cap_run.proofs.RunLemmas.{IsAt}
 use Rattle.cap_run.proofs.run.write_replies.Given as goal
 
 abbrev pub invariant-loop-line : goal.invariant-loop-line
 invariant-loop-line g l =
-    (written : List ℕ) × IsReached l.lines l.core l.line-index (written ++ string_bytes l.pending)
-    × Appends (g.W.Write.contents l.initial.writer) (g.W.Write.contents l.writer) written × (l.line-index ≤ events_max)
+    (spelled : List (Line g.row.A.Denot)) → SpellsScript spelled l.initial.lines
+    → IsAt spelled l.lines l.core (string_bytes l.pending) (g.W.Write.contents l.initial.writer) (g.W.Write.contents l.writer)
+
+abbrev pub decreases-loop-line : goal.decreases-loop-line
+decreases-loop-line g l = length l.lines

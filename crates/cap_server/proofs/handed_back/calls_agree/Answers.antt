@@ -1,4 +1,4 @@
-use Rattle.std.proofs.Common.{◌≡◌, sym, ap, subst, ◌∙◌, arith, slice_index, take, All, List}
+use Rattle.std.proofs.Common.{sym, ap, subst, ◌∙◌, arith, slice_index, All, List}
 use Rattle.std.proofs.lemmas.List.{take_all}
 use Rattle.std.proofs.lemmas.List.Elements.{All-more}
 use Rattle.cap_history.specs.Seat.{SeatState}

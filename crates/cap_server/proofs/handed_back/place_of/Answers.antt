@@ -1,4 +1,4 @@
-use Rattle.std.proofs.Common.{◌≡◌, sym, ◌∙◌}
+use Rattle.std.proofs.Common.{◌∙◌}
 use Rattle.cap_server.proofs.Places.{not-among-all, not-among-more, not-there}
 use Rattle.cap_server.proofs.handed_back.place_of.Goals as goal
 

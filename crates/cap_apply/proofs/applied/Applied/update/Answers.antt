@@ -1,21 +1,20 @@
-use Rattle.std.proofs.Common.{◌≡◌, Bool, Some, Ok, length, ap, sym, ◌∙◌}
+use Rattle.std.proofs.Common.{◌≡◌, Bool, true, Some, length, ap, sym, ◌∙◌}
+use Rattle.std.specs.Prelude.{is_some}
 use Rattle.std.proofs.lemmas.Result.{err_from_is_err_and}
-use Rattle.std.specs.Option.{option_copied}
+use Rattle.std.specs.Option.{option_copied, option_map}
 use Rattle.cap_row.specs.Fields.{Fields}
 use Rattle.cap_row.specs.Key.{fields_cmp, is_key}
 use Rattle.cap_tree.specs.Tree.{get}
-use Rattle.cap_table.specs.declared.row_ref.RowRef.TheVariants.{Key}
 use Rattle.cap_txn.specs.Tables.{Tables, table_of}
-use Rattle.cap_txn.specs.declared.op.Action.TheVariants.{Update}
 use Rattle.cap_changes.specs.Patch.{update_record}
 use Rattle.cap_changes.specs.declared.patch.Patch.TheVariants as patched
-use Rattle.cap_apply.specs.Applied.{AppliedState}
-use Rattle.cap_apply.specs.Apply.{change_applied, counted}
-use Rattle.cap_apply.specs.Operated.{operated}
+use Rattle.cap_apply.specs.Apply.{change_applied}
+use Rattle.cap_apply.specs.Asked.{Asked}
 use Rattle.cap_apply.specs.Policy.{is_made}
-use Rattle.cap_apply.specs.Row.{assigned_from, key_values, missed}
-use Rattle.cap_apply.proofs.ChangeLemmas.{change_omitted, change_refused, has_target, judged_err, made_err, same_ok, update_made, wide_row}
-use Rattle.cap_apply.proofs.OperationLemmas.{directly}
+use Rattle.cap_apply.specs.Row.{key_values, missed, set_fields}
+use Rattle.cap_apply.specs.Steps.{placed}
+use Rattle.cap_apply.proofs.ChangeLemmas.{change_omitted, change_refused, has_target, judged_err, wide_row}
+use Rattle.cap_apply.proofs.MadeLemmas.{judged_there, some_row, update_own, update_put}
 use Rattle.cap_apply.proofs.RowLemmas.{is_key-key_values, update_key}
 use Rattle.cap_apply.proofs.applied.Applied.update.Goals as goal
 
@@ -33,19 +32,21 @@ returns-in_err-judge g c =
     let policy = c.args.turn.policy in
     let number = c.args.turn.number in
     let old = c.args.old.now in
-    let key = c.args.key.now in
-    let new = update_record flags key c.args.new.now in
+    let fields = c.args.key.now in
+    let new = update_record flags fields c.args.new.now in
     let h = has_target state.database name flags c.requires.target in
     let there : table_of c.database.result.now name ≡ Some h.table = ap (λ (d : Tables g.row.A.Denot). table_of d name) c.database.ensures ∙ h.there in
-    let key_is = c.in_ok-key_of_fields.ensures ∙ ap (λ f. key_values f key) c.flags.ensures.flags ∙ sym (update_key flags key c.args.new.now c.requires.fits) in
-    let before = option_copied c.row_under.result in
-    let found : get fields_cmp h.table.keyed (key_values flags new) ≡ before = ap (get fields_cmp h.table.keyed) (sym key_is) ∙ sym (c.row_under.ensures.row h.table there) in
-    let met : missed flags old before ≡ c.missed-conflict.result = sym (c.missed-conflict.ensures ∙ ap (λ f. missed f old before) c.flags-2.ensures.flags) in
+    let key = c.in_ok-under.under in
+    let key_is : key ≡ key_values flags new = c.in_ok-under.ensures ∙ ap (λ f. key_values f fields) c.flags.ensures.flags ∙ sym (update_key flags fields c.args.new.now c.requires.fits) in
+    let before = option_copied c.row_under-found.result in
+    let found : get fields_cmp h.table.keyed (key_values flags new) ≡ before = ap (get fields_cmp h.table.keyed) (sym key_is) ∙ sym (c.row_under-found.ensures.row h.table there) in
+    let conflict = c.missed-conflict.result in
+    let met : missed flags old before ≡ conflict = sym (c.missed-conflict.ensures ∙ ap (λ f. missed f old before) c.flags-2.ensures.flags) in
     let p = err_from_is_err_and c.from_residual-in_err-judge.result c.from_residual-in_err-judge.ensures.1 in
     λ indirect.
-    rw (p.1, p.2) (judged_err (Unit {0}) Bool c.in_err-judge.field-0.0 (is_made policy number c.missed-conflict.result)
-    (change_applied policy number name flags (record { old = old; patch = patched.Update indirect new }) state) c.judge.new.self
-    (λ why e. change_refused policy number name flags state h (record { old = old; patch = patched.Update indirect new }) before c.missed-conflict.result found met why e)
+    let asked : Asked g.row.A.Denot = record { old = old; patch = patched.Update indirect new } in
+    rw (p.1, p.2) (judged_err (Unit {0}) Bool c.in_err-judge.field-0.0 (is_made policy number conflict) (change_applied policy number name flags asked state) c.judge.new.self
+    (λ why e. change_refused policy number name flags state h asked before conflict found met why e)
     c.in_err-judge.ensures.made)
 
 pub returns-then-not-branch : goal.returns-then-not-branch
@@ -53,61 +54,111 @@ returns-then-not-branch g c =
     let state = c.args.self.now in
     let name = c.args.table.now in
     let flags = c.args.columns.now in
+    let policy = c.args.turn.policy in
+    let number = c.args.turn.number in
     let old = c.args.old.now in
-    let key = c.args.key.now in
-    let new = update_record flags key c.args.new.now in
+    let fields = c.args.key.now in
+    let new = update_record flags fields c.args.new.now in
     let h = has_target state.database name flags c.requires.target in
     let there : table_of c.database.result.now name ≡ Some h.table = ap (λ (d : Tables g.row.A.Denot). table_of d name) c.database.ensures ∙ h.there in
-    let key_is = c.in_ok-key_of_fields.ensures ∙ ap (λ f. key_values f key) c.flags.ensures.flags ∙ sym (update_key flags key c.args.new.now c.requires.fits) in
-    let before = option_copied c.row_under.result in
-    let found : get fields_cmp h.table.keyed (key_values flags new) ≡ before = ap (get fields_cmp h.table.keyed) (sym key_is) ∙ sym (c.row_under.ensures.row h.table there) in
-    let met : missed flags old before ≡ c.missed-conflict.result = sym (c.missed-conflict.ensures ∙ ap (λ f. missed f old before) c.flags-2.ensures.flags) in
+    let key = c.in_ok-under.under in
+    let key_is : key ≡ key_values flags new = c.in_ok-under.ensures ∙ ap (λ f. key_values f fields) c.flags.ensures.flags ∙ sym (update_key flags fields c.args.new.now c.requires.fits) in
+    let before = option_copied c.row_under-found.result in
+    let found : get fields_cmp h.table.keyed (key_values flags new) ≡ before = ap (get fields_cmp h.table.keyed) (sym key_is) ∙ sym (c.row_under-found.ensures.row h.table there) in
+    let conflict = c.missed-conflict.result in
+    let met : missed flags old before ≡ conflict = sym (c.missed-conflict.ensures ∙ ap (λ f. missed f old before) c.flags-2.ensures.flags) in
     λ indirect.
-    change_omitted c.args.turn.policy c.args.turn.number name flags state h (record { old = old; patch = patched.Update indirect new }) before c.missed-conflict.result found met
+    change_omitted policy number name flags state h (record { old = old; patch = patched.Update indirect new }) before conflict found met
     c.in_ok-judge.field-0 c.judge.new.self c.if-not-branch.true c.in_ok-judge.ensures.made c.in_ok-judge.ensures.noted
 
-pub returns-in_err-make : goal.returns-in_err-make
-returns-in_err-make g c =
+pub unreachable-requires : goal.unreachable-requires
+unreachable-requires g c =
     let state = c.args.self.now in
     let name = c.args.table.now in
     let flags = c.args.columns.now in
+    let policy = c.args.turn.policy in
+    let number = c.args.turn.number in
     let old = c.args.old.now in
-    let key = c.args.key.now in
-    let new = update_record flags key c.args.new.now in
+    let fields = c.args.key.now in
+    let new = update_record flags fields c.args.new.now in
     let h = has_target state.database name flags c.requires.target in
     let there : table_of c.database.result.now name ≡ Some h.table = ap (λ (d : Tables g.row.A.Denot). table_of d name) c.database.ensures ∙ h.there in
-    let key_is = c.in_ok-key_of_fields.ensures ∙ ap (λ f. key_values f key) c.flags.ensures.flags ∙ sym (update_key flags key c.args.new.now c.requires.fits) in
-    let before = option_copied c.row_under.result in
-    let found : get fields_cmp h.table.keyed (key_values flags new) ≡ before = ap (get fields_cmp h.table.keyed) (sym key_is) ∙ sym (c.row_under.ensures.row h.table there) in
-    let met : missed flags old before ≡ c.missed-conflict.result = sym (c.missed-conflict.ensures ∙ ap (λ f. missed f old before) c.flags-2.ensures.flags) in
-    let wide = wide_row c.row_under.result (length h.table.schema) (c.row_under.ensures.width h.table there) in
-    let fields_is = c.in_ok-fields.ensures ∙ ap (λ f. assigned_from 0 (update_record f key c.args.new.now)) c.flags-3.ensures.flags in
-    let op_is = c.in_ok-operation.ensures ∙ (λ i. directly name (Update (Key (key_is i)) (fields_is i))) in
-    let p = err_from_is_err_and c.from_residual-in_err-make.result c.from_residual-in_err-make.ensures.1 in
-    λ indirect.
-    let m = update_made c.args.turn.policy c.args.turn.number name flags state h c.requires.keyed indirect old new before c.missed-conflict.result c.in_ok-judge.field-0 c.judge.new.self c.in_ok-operation.field-0
-    c.requires.fits found wide met c.if-not-branch.false c.in_ok-judge.ensures.made c.in_ok-judge.ensures.noted op_is in
-    rw (p.1, p.2) (made_err (Unit {0}) (Unit {0}) c.in_err-make.field-0.0 (operated c.judge.new.self c.in_ok-operation.field-0) m.0 c.make.new.self
-    (change_applied c.args.turn.policy c.args.turn.number name flags (record { old = old; patch = patched.Update indirect new }) state) c.make.new.self m.1 c.in_err-make.ensures.state)
+    let key = c.in_ok-under.under in
+    let key_is : key ≡ key_values flags new = c.in_ok-under.ensures ∙ ap (λ f. key_values f fields) c.flags.ensures.flags ∙ sym (update_key flags fields c.args.new.now c.requires.fits) in
+    let before = option_copied c.row_under-found.result in
+    let found : get fields_cmp h.table.keyed (key_values flags new) ≡ before = ap (get fields_cmp h.table.keyed) (sym key_is) ∙ sym (c.row_under-found.ensures.row h.table there) in
+    let conflict = c.missed-conflict.result in
+    let met : missed flags old before ≡ conflict = sym (c.missed-conflict.ensures ∙ ap (λ f. missed f old before) c.flags-2.ensures.flags) in
+    let row_is = c.in_ok-row.ensures ∙ ap (λ f. option_map (set_fields (update_record f fields c.args.new.now)) before) c.flags-3.ensures.flags in
+    let agreed = c.if-not-branch.false in
+    let nothing = some_row policy number flags old new before conflict c.in_ok-judge.field-0 met c.in_ok-judge.ensures.made agreed (sym row_is ∙ c.in_default.is) in
+    cc
+
+pub put-requires-clause-there : goal.put-requires-clause-there
+put-requires-clause-there g c =
+    let state = c.args.self.now in
+    let name = c.args.table.now in
+    let flags = c.args.columns.now in
+    let policy = c.args.turn.policy in
+    let number = c.args.turn.number in
+    let old = c.args.old.now in
+    let fields = c.args.key.now in
+    let new = update_record flags fields c.args.new.now in
+    let h = has_target state.database name flags c.requires.target in
+    let there : table_of c.database.result.now name ≡ Some h.table = ap (λ (d : Tables g.row.A.Denot). table_of d name) c.database.ensures ∙ h.there in
+    let key = c.in_ok-under.under in
+    let key_is : key ≡ key_values flags new = c.in_ok-under.ensures ∙ ap (λ f. key_values f fields) c.flags.ensures.flags ∙ sym (update_key flags fields c.args.new.now c.requires.fits) in
+    let before = option_copied c.row_under-found.result in
+    let found : get fields_cmp h.table.keyed (key_values flags new) ≡ before = ap (get fields_cmp h.table.keyed) (sym key_is) ∙ sym (c.row_under-found.ensures.row h.table there) in
+    let conflict = c.missed-conflict.result in
+    let met : missed flags old before ≡ conflict = sym (c.missed-conflict.ensures ∙ ap (λ f. missed f old before) c.flags-2.ensures.flags) in
+    ap is_some (judged_there policy number name flags state h c.judge.new.self conflict c.in_ok-judge.field-0 c.in_ok-judge.ensures.noted)
+
+pub put-requires-clause-own : goal.put-requires-clause-own
+put-requires-clause-own g c =
+    let state = c.args.self.now in
+    let name = c.args.table.now in
+    let flags = c.args.columns.now in
+    let policy = c.args.turn.policy in
+    let number = c.args.turn.number in
+    let old = c.args.old.now in
+    let fields = c.args.key.now in
+    let new = update_record flags fields c.args.new.now in
+    let h = has_target state.database name flags c.requires.target in
+    let there : table_of c.database.result.now name ≡ Some h.table = ap (λ (d : Tables g.row.A.Denot). table_of d name) c.database.ensures ∙ h.there in
+    let key = c.in_ok-under.under in
+    let key_is : key ≡ key_values flags new = c.in_ok-under.ensures ∙ ap (λ f. key_values f fields) c.flags.ensures.flags ∙ sym (update_key flags fields c.args.new.now c.requires.fits) in
+    let before = option_copied c.row_under-found.result in
+    let found : get fields_cmp h.table.keyed (key_values flags new) ≡ before = ap (get fields_cmp h.table.keyed) (sym key_is) ∙ sym (c.row_under-found.ensures.row h.table there) in
+    let conflict = c.missed-conflict.result in
+    let met : missed flags old before ≡ conflict = sym (c.missed-conflict.ensures ∙ ap (λ f. missed f old before) c.flags-2.ensures.flags) in
+    let row_is = c.in_ok-row.ensures ∙ ap (λ f. option_map (set_fields (update_record f fields c.args.new.now)) before) c.flags-3.ensures.flags in
+    let agreed = c.if-not-branch.false in
+    update_own policy number name flags state h c.requires.keyed true old new c.requires.fits c.in_ok-copy.field-0 c.in-Some.row (c.in_ok-copy.ensures ∙ key_is) before found conflict met (sym c.in-Some.is ∙ row_is)
+    c.in_ok-judge.field-0 c.in_ok-judge.ensures.made agreed c.judge.new.self c.in_ok-judge.ensures.noted
+    (wide_row c.row_under-found.result (length h.table.schema) (c.row_under-found.ensures.width h.table there))
 
 pub returns : goal.returns
 returns g c =
     let state = c.args.self.now in
     let name = c.args.table.now in
     let flags = c.args.columns.now in
+    let policy = c.args.turn.policy in
+    let number = c.args.turn.number in
     let old = c.args.old.now in
-    let key = c.args.key.now in
-    let new = update_record flags key c.args.new.now in
+    let fields = c.args.key.now in
+    let new = update_record flags fields c.args.new.now in
     let h = has_target state.database name flags c.requires.target in
     let there : table_of c.database.result.now name ≡ Some h.table = ap (λ (d : Tables g.row.A.Denot). table_of d name) c.database.ensures ∙ h.there in
-    let key_is = c.in_ok-key_of_fields.ensures ∙ ap (λ f. key_values f key) c.flags.ensures.flags ∙ sym (update_key flags key c.args.new.now c.requires.fits) in
-    let before = option_copied c.row_under.result in
-    let found : get fields_cmp h.table.keyed (key_values flags new) ≡ before = ap (get fields_cmp h.table.keyed) (sym key_is) ∙ sym (c.row_under.ensures.row h.table there) in
-    let met : missed flags old before ≡ c.missed-conflict.result = sym (c.missed-conflict.ensures ∙ ap (λ f. missed f old before) c.flags-2.ensures.flags) in
-    let wide = wide_row c.row_under.result (length h.table.schema) (c.row_under.ensures.width h.table there) in
-    let fields_is = c.in_ok-fields.ensures ∙ ap (λ f. assigned_from 0 (update_record f key c.args.new.now)) c.flags-3.ensures.flags in
-    let op_is = c.in_ok-operation.ensures ∙ (λ i. directly name (Update (Key (key_is i)) (fields_is i))) in
+    let key = c.in_ok-under.under in
+    let key_is : key ≡ key_values flags new = c.in_ok-under.ensures ∙ ap (λ f. key_values f fields) c.flags.ensures.flags ∙ sym (update_key flags fields c.args.new.now c.requires.fits) in
+    let before = option_copied c.row_under-found.result in
+    let found : get fields_cmp h.table.keyed (key_values flags new) ≡ before = ap (get fields_cmp h.table.keyed) (sym key_is) ∙ sym (c.row_under-found.ensures.row h.table there) in
+    let conflict = c.missed-conflict.result in
+    let met : missed flags old before ≡ conflict = sym (c.missed-conflict.ensures ∙ ap (λ f. missed f old before) c.flags-2.ensures.flags) in
+    let row_is = c.in_ok-row.ensures ∙ ap (λ f. option_map (set_fields (update_record f fields c.args.new.now)) before) c.flags-3.ensures.flags in
+    let agreed = c.if-not-branch.false in
+    let put_is = c.in_ok-put.ensures.state ∙ ap (λ (k : Fields g.row.A.Denot). placed name k (Some c.in-Some.row) c.judge.new.self) c.in_ok-copy.ensures in
     λ indirect.
-    let m = update_made c.args.turn.policy c.args.turn.number name flags state h c.requires.keyed indirect old new before c.missed-conflict.result c.in_ok-judge.field-0 c.judge.new.self c.in_ok-operation.field-0
-    c.requires.fits found wide met c.if-not-branch.false c.in_ok-judge.ensures.made c.in_ok-judge.ensures.noted op_is in
-    m.2 ∙ ap (λ (s : AppliedState g.row.A.Denot). Ok (counted s)) (same_ok (operated c.judge.new.self c.in_ok-operation.field-0) m.1 c.in_ok-make.ensures.state) ∙ ap Ok (sym c.in_ok-count.ensures)
+    update_put policy number name flags state h c.requires.keyed indirect old new c.requires.fits key c.in-Some.row key_is before found conflict met (sym c.in-Some.is ∙ row_is)
+    c.in_ok-judge.field-0 c.in_ok-judge.ensures.made agreed c.judge.new.self c.in_ok-judge.ensures.noted c.put.new.self c.tell_both.new.self c.count.new.self put_is c.in_ok-tell_both.ensures c.in_ok-count.ensures

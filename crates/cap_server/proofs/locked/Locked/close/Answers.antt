@@ -1,7 +1,6 @@
-use Rattle.std.proofs.Common.{◌≡◌, inr, Any, ◌≤◌, ℕ, refl, sym, ap, subst, ◌∙◌, arith, All, List, length}
-use mathlib.Core.List.{IsPrefix}
+use Rattle.std.proofs.Common.{◌≡◌, inr, Any, ◌≤◌, ℕ, refl, subst, arith, All, List, length}
 use Rattle.cap_history.specs.Seat.{SeatState}
-use Rattle.cap_server.specs.Close.{FirstHasSeen, HasAll, IsMissing}
+use Rattle.cap_server.specs.Close.{HasAll, IsMissing}
 use Rattle.cap_server.specs.Code.Counts.{Agrees}
 use Rattle.cap_server.proofs.Closing.{IsOff, closed, differs}
 use Rattle.cap_server.proofs.Places.{has-first}

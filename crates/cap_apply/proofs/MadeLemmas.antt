@@ -1,0 +1,234 @@
+-- A change as the code makes it: what its steps leave is what the change asks for.
+use Rattle.std.proofs.Common.{◌≡◌, ℕ, Bool, true, false, cond, Option, Some, None, Ok, List, [], ◌∷◌, ◌++◌, length, refl, sym, ap, subst, ◌∙◌}
+use Rattle.std.specs.Prelude.{option_and_then}
+use Rattle.std.specs.Option.{option_map}
+use Rattle.cap_value.specs.Bytes.{bytes_cmp}
+use Rattle.cap_row.specs.Fields.{Fields}
+use Rattle.cap_row.specs.Key.{fields_cmp, key_of}
+use Rattle.cap_row.specs.Schema.{has_key}
+use Rattle.cap_tree.specs.Tree.{get, put_entry}
+use Rattle.cap_table.specs.Table.{TableState}
+use Rattle.cap_txn.specs.Keyed.{GoesBack, IsOwnRow, row_set, set_in}
+use Rattle.cap_txn.specs.Keyed as keyed_in
+use Rattle.cap_txn.specs.Operation.{changes_to}
+use Rattle.cap_txn.specs.Read.{row_at}
+use Rattle.cap_txn.specs.Tables.{Tables, table_of}
+use Rattle.cap_txn.specs.declared.cause.Cause.TheVariants.{Direct}
+use Rattle.cap_changes.specs.Demands.{demands, meet}
+use Rattle.cap_changes.specs.Record.{RecordFields}
+use Rattle.cap_changes.specs.declared.patch.Patch.TheVariants as patched
+use Rattle.cap_changes.specs.declared.rule.Rule.TheVariants as rules
+use Rattle.cap_apply.specs.Applied.{AppliedState}
+use Rattle.cap_apply.specs.Apply.{change_applied, concluded, counted, keys_with, left_out, noted, with_row, with_row_in}
+use Rattle.cap_apply.specs.Asked.{Asked}
+use Rattle.cap_apply.specs.Policy.{is_made}
+use Rattle.cap_apply.specs.Row.{conflict_of, key_record_of, key_values, missed, new_row, row_after, set_fields}
+use Rattle.cap_apply.specs.Steps.{placed, told}
+use Rattle.cap_apply.specs.declared.conflict.ConflictKind.{ConflictKind}
+use Rattle.cap_apply.specs.declared.conflict.ConflictKind.TheVariants.{Conflict}
+use Rattle.cap_apply.specs.declared.policy.Policy.{Policy}
+use Rattle.cap_apply.proofs.ChangeLemmas.{HasTarget, applied_at, missed_made, noted_there}
+use Rattle.cap_apply.proofs.RowLemmas.{key_of-new_row, key_of-set_fields, length-new_row, length-set_fields}
+
+one_table : {X : Type 0} (found : Option X) (x y : X) → found ≡ Some x → found ≡ Some y → x ≡ y
+one_table found x y first second = cc
+
+same_some : {X : Type 0} (x y : X) → Some x ≡ Some y → x ≡ y
+same_some x y e = cc
+
+module _ {A : Type 0} where
+  same_row : (table : TableState A) (key : Fields A) (row : Option (Fields A)) → keyed_in.with_row table key row ≡ with_row table key row
+  same_row table key None = refl
+  same_row table key (Some row) = refl
+
+  -- a row is there where an update is made
+  pub some_row : (policy : Policy) (number : ℕ) (flags : List Bool) (old new : RecordFields A) (before : Option (Fields A)) (conflict : Option ConflictKind) (made : Bool) →
+      missed flags old before ≡ conflict → is_made policy number conflict ≡ Ok made → made ≡ true → option_map (set_fields new) before ≡ None → true ≡ false
+  some_row policy number flags old new before conflict made met e agreed none =
+      let present = missed_made policy number flags old before (ap (is_made policy number) met ∙ e ∙ ap Ok agreed) in
+      let nothing : Some (set_fields new present.0) ≡ None = ap (option_map (set_fields new)) (sym present.1) ∙ none in
+      cc
+
+  module _ (policy : Policy) (number : ℕ) where
+    -- who notes a conflict leaves the database
+    noted_placed : (conflict : Option ConflictKind) (name : List ℕ) (key : Fields A) (row : Option (Fields A)) (state : AppliedState A) →
+        noted policy number conflict (placed name key row state) ≡ placed name key row (noted policy number conflict state)
+    noted_placed None name key row state = refl
+    noted_placed (Some kind) name key row state = refl
+
+    restored : (conflict : Option ConflictKind) (tables : Tables A) (state : AppliedState A) → tables ≡ state.database →
+        left_out number (noted policy number conflict (record state { database = tables })) ≡ left_out number (noted policy number conflict state)
+    restored None tables state is = ap (λ (d : Tables A). left_out number (record state { database = d })) is
+    restored (Some kind) tables state is = ap (λ (d : Tables A). left_out number (noted policy number (Some kind) (record state { database = d }))) is
+
+  module _ (policy : Policy) (number : ℕ) (name : List ℕ) (flags : List Bool) (state : AppliedState A) (h : HasTarget state.database name flags) where
+    -- what was judged
+    abbrev pub judged_on : AppliedState A → Option ConflictKind → Bool → AppliedState A
+    judged_on s conflict made = cond made (noted policy number conflict s) (left_out number (noted policy number conflict s))
+
+    pub judged_database : (s judged : AppliedState A) (conflict : Option ConflictKind) (made : Bool) → judged ≡ judged_on s conflict made → judged.database ≡ s.database
+    judged_database s judged None true is = ap (λ (x : AppliedState A). x.database) is
+    judged_database s judged None false is = ap (λ (x : AppliedState A). x.database) is
+    judged_database s judged (Some kind) true is = ap (λ (x : AppliedState A). x.database) is
+    judged_database s judged (Some kind) false is = ap (λ (x : AppliedState A). x.database) is
+
+    pub judged_there : (judged : AppliedState A) (conflict : Option ConflictKind) (made : Bool) → judged ≡ judged_on state conflict made → table_of judged.database name ≡ Some h.table
+    judged_there judged conflict made is = ap (λ (d : Tables A). table_of d name) (judged_database state judged conflict made is) ∙ h.there
+
+    pub at_is : (key : Fields A) → row_at state.database name key ≡ get fields_cmp h.table.keyed key
+    at_is key = ap (option_and_then (λ table. get fields_cmp table.keyed key)) h.there
+
+    pub own_row : (tables : Tables A) (key row : Fields A) → table_of tables name ≡ Some h.table → length row ≡ length h.table.schema → key_of h.table.schema row ≡ Some key →
+        IsOwnRow tables name key row
+    own_row tables key row there wide own =
+        λ table is.
+        subst (λ (t : TableState A). (length row ≡ length t.schema) × (key_of t.schema row ≡ Some key)) (one_table (table_of tables name) h.table table there is) (wide, own)
+
+    -- the steps of a change that is made
+    made_is : (s : AppliedState A) → table_of s.database name ≡ Some h.table → (key : Fields A) (before after : Option (Fields A)) →
+        told name (keys_with key before ++ keys_with key after) (placed name key after s) ≡ with_row_in name h.table key before after s
+    made_is s there key before after =
+        ap (λ (d : Tables A). record s { database = d; changes = s.changes ++ changes_to name Direct (keys_with key before ++ keys_with key after) })
+        (ap (set_in s.database name key after) there ∙ ap (put_entry bytes_cmp s.database name) (same_row h.table key after))
+
+    module _ (asked : Asked A) (before : Option (Fields A)) (conflict : Option ConflictKind)
+        (found : get fields_cmp h.table.keyed (key_values flags (key_record_of asked.patch)) ≡ before) (met : conflict_of flags asked.old asked.patch before ≡ conflict) where
+      abbrev key_is : Fields A
+      key_is = key_values flags (key_record_of asked.patch)
+
+      abbrev after_is : Option (Fields A)
+      after_is = row_after (length h.table.schema) asked.patch before
+
+      concludes : (made : Bool) → is_made policy number conflict ≡ Ok made → change_applied policy number name flags asked state
+          ≡ concluded (Ok made) (counted (with_row_in name h.table key_is before after_is (noted policy number conflict state))) (left_out number (noted policy number conflict state))
+      concludes made e =
+          applied_at policy number name flags asked state h before conflict found met
+          ∙ ap (λ m. concluded m (counted (with_row_in name h.table key_is before after_is (noted policy number conflict state))) (left_out number (noted policy number conflict state))) e
+
+      -- it is made by its steps
+      makes : is_made policy number conflict ≡ Ok true → (keys : List (Option (Fields A))) (after : Option (Fields A)) (next : AppliedState A) → keys ≡ keys_with key_is before ++ keys_with key_is after_is →
+          after ≡ after_is → next ≡ counted (told name keys (placed name key_is after (noted policy number conflict state))) → change_applied policy number name flags asked state ≡ Ok next
+      makes e keys after next keys_are after_are is =
+          concludes true e
+          ∙ ap (λ (s : AppliedState A). Ok (counted s)) (sym (made_is (noted policy number conflict state) (noted_there policy number conflict state name h.table h.there) key_is before after_is))
+          ∙ (λ i. Ok (counted (told name (sym keys_are i) (placed name key_is (sym after_are i) (noted policy number conflict state)))))
+          ∙ ap Ok (sym is)
+
+      -- it is left out, and what was under its key is back
+      leaves : is_made policy number conflict ≡ Ok false → (next : AppliedState A) → next ≡ left_out number (noted policy number conflict state) →
+          change_applied policy number name flags asked state ≡ Ok next
+      leaves e next is = concludes false e ∙ ap Ok (sym is)
+
+    -- ---- an insert
+
+    module _ (keyed : has_key flags ≡ true) (indirect : Bool) (new : RecordFields A) (fits : meet (demands rules.Keyed flags) new ≡ true) (key row : Fields A)
+        (key_is : key ≡ key_values flags new) (row_is : row ≡ new_row (length h.table.schema) new) where
+      abbrev inserts : Asked A
+      inserts = record { old = []; patch = patched.Insert indirect new }
+
+      pub insert_own : IsOwnRow state.database name key row
+      insert_own =
+          own_row state.database key row h.there (ap length row_is ∙ length-new_row flags h.table.schema new h.fit keyed fits)
+          (ap (key_of h.table.schema) row_is ∙ key_of-new_row flags h.table.schema new h.fit keyed fits ∙ ap Some (sym key_is))
+
+      pub insert_found : (before : Option (Fields A)) → before ≡ row_at state.database name key → get fields_cmp h.table.keyed (key_values flags new) ≡ before
+      insert_found before is = ap (get fields_cmp h.table.keyed) (sym key_is) ∙ sym (at_is key) ∙ sym is
+
+      pub insert_free : (put told_it next : AppliedState A) → None ≡ row_at state.database name key → put ≡ placed name key (Some row) state → told_it ≡ told name (Some key ∷ []) put → next ≡ counted told_it →
+          change_applied policy number name flags inserts state ≡ Ok next
+      insert_free put told_it next none put_is told_is is =
+          makes inserts None None (insert_found None none) refl refl (Some (key_values flags new) ∷ []) (Some (new_row (length h.table.schema) new)) next refl refl
+          (is ∙ ap counted (told_is ∙ ap (told name (Some key ∷ [])) put_is ∙ (λ i. told name (Some (key_is i) ∷ []) (placed name (key_is i) (Some (row_is i)) state))))
+
+      module _ (taken : Fields A) (at : Some taken ≡ row_at state.database name key) (put judged : AppliedState A) (made : Bool) (put_is : put ≡ placed name key (Some row) state)
+          (judged_is : judged ≡ judged_on put (Some Conflict) made) (e : is_made policy number (Some Conflict) ≡ Ok made) where
+        pub insert_over : (told_it next : AppliedState A) → made ≡ true → told_it ≡ told name (Some key ∷ Some key ∷ []) judged → next ≡ counted told_it →
+            change_applied policy number name flags inserts state ≡ Ok next
+        insert_over told_it next agreed told_is is =
+            makes inserts (Some taken) (Some Conflict) (insert_found (Some taken) at) refl (e ∙ ap Ok agreed) (Some (key_values flags new) ∷ Some (key_values flags new) ∷ []) (Some (new_row (length h.table.schema) new)) next refl refl
+            (is ∙ ap counted (told_is
+            ∙ ap (told name (Some key ∷ Some key ∷ [])) (judged_is ∙ ap (judged_on put (Some Conflict)) agreed ∙ ap (noted policy number (Some Conflict)) put_is)
+            ∙ (λ i. told name (Some (key_is i) ∷ Some (key_is i) ∷ []) (noted policy number (Some Conflict) (placed name (key_is i) (Some (row_is i)) state)))))
+
+        pub insert_left : (next : AppliedState A) → made ≡ false → GoesBack state.database put.database name key taken → next ≡ placed name key (Some taken) judged →
+            change_applied policy number name flags inserts state ≡ Ok next
+        insert_left next agreed back is =
+            leaves inserts (Some taken) (Some Conflict) (insert_found (Some taken) at) refl (e ∙ ap Ok agreed) next
+            (is ∙ ap (placed name key (Some taken)) (judged_is ∙ ap (judged_on put (Some Conflict)) agreed)
+            ∙ ap (λ (s : AppliedState A). placed name key (Some taken) (left_out number (noted policy number (Some Conflict) s))) put_is
+            ∙ restored policy number (Some Conflict) (row_set (row_set state.database name key (Some row)) name key (Some taken)) state
+            (ap (λ (s : AppliedState A). row_set s.database name key (Some taken)) (sym put_is) ∙ back.back))
+
+    -- ---- an update
+
+    module _ (keyed : has_key flags ≡ true) (indirect : Bool) (old new : RecordFields A) (fits : meet (demands rules.Keyed flags) new ≡ true) (key row : Fields A)
+        (key_is : key ≡ key_values flags new) (before : Option (Fields A)) (found : get fields_cmp h.table.keyed (key_values flags new) ≡ before) (conflict : Option ConflictKind)
+        (met : missed flags old before ≡ conflict) (row_is : Some row ≡ option_map (set_fields new) before) (made : Bool) (e : is_made policy number conflict ≡ Ok made) (agreed : made ≡ true)
+        (judged : AppliedState A) (judged_is : judged ≡ judged_on state conflict made) where
+      abbrev updates : Asked A
+      updates = record { old = old; patch = patched.Update indirect new }
+
+      present : (r : Fields A) × (before ≡ Some r)
+      present = missed_made policy number flags old before (ap (is_made policy number) met ∙ e ∙ ap Ok agreed)
+
+      set_is : row ≡ set_fields new present.0
+      set_is = same_some row (set_fields new present.0) (row_is ∙ ap (option_map (set_fields new)) present.1)
+
+      pub update_own : ((r : Fields A) → before ≡ Some r → length r ≡ length h.table.schema) → IsOwnRow judged.database name key row
+      update_own wide =
+          own_row judged.database key row (judged_there judged conflict made judged_is) (ap length set_is ∙ length-set_fields new present.0 ∙ wide present.0 present.1)
+          (ap (key_of h.table.schema) set_is ∙ key_of-set_fields flags h.table.schema new h.fit keyed fits present.0 (wide present.0 present.1) ∙ ap Some (sym key_is))
+
+      pub update_put : (put told_it next : AppliedState A) → put ≡ placed name key (Some row) judged → told_it ≡ told name (Some key ∷ Some key ∷ []) put → next ≡ counted told_it →
+          change_applied policy number name flags updates state ≡ Ok next
+      update_put put told_it next put_is told_is is =
+          makes updates (Some present.0) conflict (found ∙ present.1) (ap (missed flags old) (sym present.1) ∙ met) (e ∙ ap Ok agreed) (Some (key_values flags new) ∷ Some (key_values flags new) ∷ []) (Some (set_fields new present.0)) next refl refl
+          (is ∙ ap counted (told_is
+          ∙ ap (told name (Some key ∷ Some key ∷ [])) (put_is ∙ ap (placed name key (Some row)) (judged_is ∙ ap (judged_on state conflict) agreed))
+          ∙ (λ i. told name (Some (key_is i) ∷ Some (key_is i) ∷ []) (placed name (key_is i) (Some (set_is i)) (noted policy number conflict state)))))
+
+    -- ---- a delete
+
+    module _ (indirect : Bool) (old fields : RecordFields A) (key : Fields A) (key_is : key ≡ key_values flags fields) (before : Option (Fields A)) (at : before ≡ row_at state.database name key)
+        (conflict : Option ConflictKind) (met : missed flags old before ≡ conflict) where
+      abbrev deletes : Asked A
+      deletes = record { old = old; patch = patched.Delete indirect fields }
+
+      pub delete_found : get fields_cmp h.table.keyed (key_values flags fields) ≡ before
+      delete_found = ap (get fields_cmp h.table.keyed) (sym key_is) ∙ sym (at_is key) ∙ sym at
+
+      module _ (taken judged : AppliedState A) (made : Bool) (taken_is : taken ≡ placed name key None state) (judged_is : judged ≡ judged_on taken conflict made)
+          (e : is_made policy number conflict ≡ Ok made) where
+        pub delete_gone : (told_it next : AppliedState A) → made ≡ true → told_it ≡ told name (Some key ∷ []) judged → next ≡ counted told_it →
+            change_applied policy number name flags deletes state ≡ Ok next
+        delete_gone told_it next agreed told_is is =
+            let present = missed_made policy number flags old before (ap (is_made policy number) met ∙ e ∙ ap Ok agreed) in
+            makes deletes (Some present.0) conflict (delete_found ∙ present.1) (ap (missed flags old) (sym present.1) ∙ met) (e ∙ ap Ok agreed) (Some (key_values flags fields) ∷ []) None next refl refl
+            (is ∙ ap counted (told_is
+            ∙ ap (told name (Some key ∷ [])) (judged_is ∙ ap (judged_on taken conflict) agreed ∙ ap (noted policy number conflict) taken_is ∙ noted_placed policy number conflict name key None state)
+            ∙ (λ i. told name (Some (key_is i) ∷ []) (placed name (key_is i) None (noted policy number conflict state)))))
+
+        judged_left : made ≡ false → judged ≡ left_out number (noted policy number conflict (placed name key None state))
+        judged_left agreed = judged_is ∙ ap (judged_on taken conflict) agreed ∙ ap (λ (s : AppliedState A). left_out number (noted policy number conflict s)) taken_is
+
+        pub delete_back : (row : Fields A) (next : AppliedState A) → made ≡ false → GoesBack state.database taken.database name key row → next ≡ placed name key (Some row) judged →
+            change_applied policy number name flags deletes state ≡ Ok next
+        delete_back row next agreed back is =
+            let tables = row_set taken.database name key (Some row) in
+            leaves deletes before conflict delete_found met (e ∙ ap Ok agreed) next
+            (is ∙ ap (placed name key (Some row)) (judged_is ∙ ap (judged_on taken conflict) agreed)
+            ∙ placed_left taken
+            ∙ ap (λ (s : AppliedState A). left_out number (noted policy number conflict (record s { database = tables }))) taken_is
+            ∙ restored policy number conflict tables state back.back)
+          where
+            placed_left : (s : AppliedState A) → placed name key (Some row) (left_out number (noted policy number conflict s)) ≡ left_out number (noted policy number conflict (record s { database = row_set s.database name key (Some row) }))
+            placed_left s = inner conflict
+              where
+                inner : (c : Option ConflictKind) → placed name key (Some row) (left_out number (noted policy number c s)) ≡ left_out number (noted policy number c (record s { database = row_set s.database name key (Some row) }))
+                inner None = refl
+                inner (Some kind) = refl
+
+        pub delete_none : made ≡ false → taken ≡ state → change_applied policy number name flags deletes state ≡ Ok judged
+        delete_none agreed same =
+            leaves deletes before conflict delete_found met (e ∙ ap Ok agreed) judged
+            (judged_is ∙ ap (judged_on taken conflict) agreed ∙ ap (λ (s : AppliedState A). left_out number (noted policy number conflict s)) same)

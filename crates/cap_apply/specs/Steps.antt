@@ -1,0 +1,16 @@
+-- The steps by which a change is made of what was applied before it: a row comes under a key or goes, and is told.
+use Rattle.std.specs.Prelude.{ℕ, ◌++◌, Option, List}
+use Rattle.cap_row.specs.Fields.{Fields}
+use Rattle.cap_txn.specs.Keyed.{row_set}
+use Rattle.cap_txn.specs.Operation.{changes_to}
+use Rattle.cap_txn.specs.declared.cause.Cause.TheVariants.{Direct}
+use Rattle.cap_apply.specs.Applied.{AppliedState}
+
+module _ {A : Type 0} where
+  -- the table of the name has this row under the key, or none
+  abbrev pub placed : List ℕ → Fields A → Option (Fields A) → AppliedState A → AppliedState A
+  placed name key row state = record state { database = row_set state.database name key row }
+
+  -- these keys are told to have changed
+  abbrev pub told : List ℕ → List (Option (Fields A)) → AppliedState A → AppliedState A
+  told name keys state = record state { changes = state.changes ++ changes_to name Direct keys }

@@ -1,0 +1,150 @@
+-- The sequential server, its commands and its replies go from one thread to another where their allocator does.
+use denote.RattleType.{RattleType}
+use denote.Enum.Enum.{Enum}
+use denote.Enum.Declared.{shape, variants}
+use denote.Param.Send.{EachSend, EachSync, IsSend, IsSync, Frees, enum_send, enum_sync, recorded_send, recorded_sync, sendable}
+use Rattle.std.specs.declared.alloc.Allocator as allocator
+use Rattle.std.specs.declared.clone.Clone as clone
+use Rattle.cap_value.specs.declared.memory.AllocHandle as handle
+use Rattle.cap_value.proofs.name.Name.TheSendSync as name
+use Rattle.cap_value.proofs.refusal.Refusal.TheSendSync as refusal
+use Rattle.cap_row.proofs.schema.Schema.TheSendSync as schema
+use Rattle.cap_tree.proofs.Crossing.{tree_send, tree_sync}
+use Rattle.cap_txn.proofs.Crossing.{database_send, database_sync, snapshot_send, snapshot_sync}
+use Rattle.cap_txn.proofs.batch.Batch.TheSendSync as batch
+use Rattle.cap_filter.proofs.Crossing.{filter_send, filter_sync}
+use Rattle.cap_session.proofs.Crossing.{sessions_send, sessions_sync}
+use Rattle.cap_codec.proofs.read.Contents.TheSendSync as contents
+use Rattle.cap_apply.proofs.policy.Policy.TheSendSync as policy
+use Rattle.cap_apply.proofs.report.Report.TheSendSync as report
+use Rattle.cap_core.proofs.capture.Capture.TheSendSync as capture
+use Rattle.cap_core.specs.contracts.server.Core as Core
+use Rattle.cap_core.specs.contracts.command.Command as Command
+use Rattle.cap_core.specs.contracts.reply.Reply as Reply
+
+ruleset sends = (name.the_send, schema.the_send, batch.the_send, contents.the_field_send, policy.the_field_send, filter_send, sendable)
+
+ruleset syncs = (name.the_sync, schema.the_sync, batch.the_sync, contents.the_field_sync, policy.the_field_sync, filter_sync, sendable)
+
+module _ (A : RattleType) (h : handle.Ghosts A.Denot) (a : allocator.Ghosts A.Denot) (c : clone.Ghosts A.Denot)
+    (al : IsSend A) (ay : IsSync A) (frees : Frees a a.dealloc_token) where
+  pub core_send : IsSend (Core.the_row A h a c)
+  core_send = search (database_send, database_sync, tree_send, name.the_send, name.the_sync, sessions_send, sendable) depth 40 fits 100000
+
+  pub core_sync : IsSync (Core.the_row A h a c)
+  core_sync = search (database_send, database_sync, tree_sync, name.the_send, name.the_sync, sessions_sync, sendable) depth 40 fits 100000
+
+  variants_send : EachSend (variants (Command.the_type A h a c))
+  variants_send = (
+    search sends depth 20,
+    (
+      search sends depth 20,
+      (
+        search sends depth 20,
+        (
+          search sends depth 20,
+          (
+            search sends depth 20,
+            (
+              search sends depth 20,
+              (
+                search sends depth 20,
+                (
+                  search sends depth 20,
+                  (
+                    search sends depth 20,
+                    (
+                      search sends depth 20,
+                      (
+                        search sends depth 20,
+                        (
+                          search sends depth 20,
+                          (
+                            search sends depth 20,
+                            (
+                              search sends depth 20,
+                              (
+                                search sends depth 20,
+                                (search sends depth 20, tt),
+                              ),
+                            ),
+                          ),
+                        ),
+                      ),
+                    ),
+                  ),
+                ),
+              ),
+            ),
+          ),
+        ),
+      ),
+    ),
+  )
+
+  pub command_send : IsSend (Command.the_row A h a c)
+  command_send = let O = Command.the_type A h a c in recorded_send (Enum (shape O)) O.D O.to O.to_one (enum_send (shape O) variants_send)
+
+  variants_sync : EachSync (variants (Command.the_type A h a c))
+  variants_sync = (
+    search syncs depth 20,
+    (
+      search syncs depth 20,
+      (
+        search syncs depth 20,
+        (
+          search syncs depth 20,
+          (
+            search syncs depth 20,
+            (
+              search syncs depth 20,
+              (
+                search syncs depth 20,
+                (
+                  search syncs depth 20,
+                  (
+                    search syncs depth 20,
+                    (
+                      search syncs depth 20,
+                      (
+                        search syncs depth 20,
+                        (
+                          search syncs depth 20,
+                          (
+                            search syncs depth 20,
+                            (
+                              search syncs depth 20,
+                              (
+                                search syncs depth 20,
+                                (search syncs depth 20, tt),
+                              ),
+                            ),
+                          ),
+                        ),
+                      ),
+                    ),
+                  ),
+                ),
+              ),
+            ),
+          ),
+        ),
+      ),
+    ),
+  )
+
+  pub command_sync : IsSync (Command.the_row A h a c)
+  command_sync = let O = Command.the_type A h a c in recorded_sync (Enum (shape O)) O.D O.to O.to_one (enum_sync (shape O) variants_sync)
+
+  -- the same where commands are a field of another type
+  pub command_field_send : IsSend (Command.the_field A h a c).row
+  command_field_send = enum_send (shape (Command.the_type A h a c)) variants_send
+
+  pub command_field_sync : IsSync (Command.the_field A h a c).row
+  command_field_sync = enum_sync (shape (Command.the_type A h a c)) variants_sync
+
+  pub reply_send : IsSend (Reply.the_row A h a c)
+  reply_send = search (report.the_send, snapshot_send, capture.the_send, refusal.the_field_send, sendable) depth 40 fits 100000
+
+  pub reply_sync : IsSync (Reply.the_row A h a c)
+  reply_sync = search (report.the_sync, snapshot_sync, capture.the_sync, refusal.the_field_sync, sendable) depth 40 fits 100000

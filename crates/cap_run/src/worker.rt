@@ -1,0 +1,162 @@
+ghost use Rattle.std.specs.Prelude.{◌≡◌, ◌++◌, ◌∷◌, ◌≤◌, [], IfOk, OnOk, OnErr, List, ℕ, map, string_bytes};
+ghost use Rattle.cap_run.specs.Run.{on_a_line};
+ghost use Rattle.cap_run.specs.Workload.{HasAnswered, KeepsCalls, seat_of};
+ghost use Rattle.cap_script.specs.ReplyText.{reply_text};
+
+use crate::Gate;
+use cap_core::Reply;
+use cap_history::{Naming, Seat};
+use cap_script::{Line, print_reply};
+use cap_server::{CallFault, Server};
+use cap_value::{AllocHandle, OutOfMemory};
+use std::sync::Wait;
+use std::sync::atomic::{AtomicU64, Ordering};
+use std::thread::yield_now;
+
+/// The turns for which a worker lets the lines before its own be called first, in a whole block: some milliseconds.
+const TURNS_MAX: u32 = 5_000;
+
+/// What all workers of a run share.
+#[derive(Drop)]
+pub(crate) struct Shared<'r, J: Naming, A: AllocHandle, T: Wait, G: Gate> {
+    pub(crate) rt: &'r T,
+    pub(crate) alloc: A,
+    pub(crate) server: &'r Server<J, A>,
+    pub(crate) gate: &'r G,
+    // How many workers there are beside seat 0.
+    pub(crate) threads: u64,
+}
+
+/// A worker: the seat from which it calls, and what it made of its lines of a block.
+#[derive(Drop)]
+pub(crate) struct Worker<J: Naming, A: AllocHandle> {
+    pub(crate) seat: Seat<J, A>,
+    // How many lines it was given before.
+    pub(crate) given: u64,
+    // The texts of its replies in order, each with a line feed at its end.
+    pub(crate) texts: Vec<String<A>, A>,
+    // The fault of its line behind those, if there is one.
+    pub(crate) ended: Result<(), CallFault>,
+}
+
+/// The number of the seat from which a line is called, by the number behind its `@`.
+pub(crate) fn seat_of(threads: u64, worker: Option<u64>) -> u64
+    requires { (1 ≤ threads) × (threads ≤ 63) }
+    ensures seat { result ≡ seat_of threads worker }
+    ensures most { result ≤ threads }
+{
+    match worker {
+        None => 0,
+        Some(number) => number % threads + 1,
+    }
+}
+
+/// Whether a line of the block is called from the seat.
+pub(crate) fn is_given<A: AllocHandle>(threads: u64, seat: u64, block: &[Line<A>]) -> bool
+    requires { (1 ≤ threads) × (threads ≤ 63) }
+{
+    for line in block {
+        if seat_of(threads, line.worker) == seat {
+            return true;
+        }
+    }
+    false
+}
+
+/// Lets a worker call its lines of a block, one after the other, until one has a fault.
+pub(crate) fn answer_lines<J: Naming, A: AllocHandle, T: Wait, G: Gate>(
+    shared: &Shared<'_, J, A, T, G>,
+    called: &AtomicU64,
+    block: &[Line<A>],
+    worker: &mut Worker<J, A>,
+) -> Result<(), CallFault>
+    requires threads { (1 ≤ shared.now.threads) × (shared.now.threads ≤ 63) }
+{
+    let number = worker.seat.number();
+    let mut before = 0u64;
+    let mut turns = TURNS_MAX;
+    for line in block {
+        if seat_of(shared.threads, line.worker) == number {
+            turns = let_others_first(called, before, turns);
+            answer_own(shared, called, worker, line)?;
+        }
+        before = before.saturating_add(1);
+    }
+    Ok(())
+}
+
+/// Waits until so many lines of the block were called, for at most these turns, and answers how many turns are left. So a
+/// short block whose calls hold up nobody prints the same in each run, mostly; no order is promised.
+fn let_others_first(called: &AtomicU64, before: u64, turns: u32) -> u32 {
+    for spent in 0..turns {
+        if called.load(Ordering::SeqCst) >= before {
+            return turns - spent;
+        }
+        yield_now();
+    }
+    0
+}
+
+/// Lets a worker call a line, between the two sides of the gate.
+fn answer_own<J: Naming, A: AllocHandle, T: Wait, G: Gate>(
+    shared: &Shared<'_, J, A, T, G>,
+    called: &AtomicU64,
+    worker: &mut Worker<J, A>,
+    line: &Line<A>,
+) -> Result<(), CallFault>
+    ensures ok { OnOk result ((text : List ℕ) × HasAnswered line.now text worker.old.seat worker.new.seat
+        × (map string_bytes worker.new.texts.items ≡ map string_bytes worker.old.texts.items ++ text ∷ [])) }
+    ensures err { OnErr result (KeepsCalls worker.old.seat worker.new.seat
+        × (worker.new.texts.items ≡ worker.old.texts.items)) }
+{
+    // Seat 0 is no worker's.
+    let number = worker.seat.number().saturating_sub(1);
+    let call = worker.given;
+    worker.given = call.saturating_add(1);
+    shared.gate.before(number, call);
+    let answer = answer_line(
+        shared.rt,
+        shared.alloc,
+        shared.server,
+        &mut worker.seat,
+        line,
+    );
+    called.fetch_add(1, Ordering::SeqCst);
+    shared.gate.after(number, call);
+    let text = answer?;
+    match worker.texts.push(text) {
+        Ok(()) => Ok(()),
+        Err(_) => Err(CallFault::OutOfMemory),
+    }
+}
+
+/// Calls a line's command from a seat, and makes the text of the reply, with a line feed at its end.
+pub(crate) fn answer_line<J: Naming, A: AllocHandle, T: Wait>(
+    rt: &T,
+    alloc: A,
+    server: &Server<J, A>,
+    seat: &mut Seat<J, A>,
+    line: &Line<A>,
+) -> Result<String<A>, CallFault>
+    ensures ok { IfOk result (λ text. HasAnswered line.now (string_bytes text) seat.old seat.new) }
+    ensures err { OnErr result (KeepsCalls seat.old seat.new) }
+{
+    let reply = server.call(rt, seat, &line.command)?;
+    match reply_line(alloc, line, &reply) {
+        Ok(text) => Ok(text),
+        Err(_) => Err(CallFault::OutOfMemory),
+    }
+}
+
+/// The text of a reply, with the line feed at its end.
+pub(crate) fn reply_line<A: AllocHandle>(
+    alloc: A,
+    line: &Line<A>,
+    reply: &Reply<A>,
+) -> Result<String<A>, OutOfMemory>
+    ensures { IfOk result (λ text. string_bytes text ≡ on_a_line (reply_text line.now reply.now)) }
+{
+    let mut text = print_reply(alloc, line, reply)?;
+    text.push_str("\n")?;
+    Ok(text)
+}

@@ -1,0 +1,310 @@
+//! A workload, run on the server that threads share.
+ghost use Rattle.std.specs.Prelude.{◌≡◌, ◌⊎◌, ◌+◌, ◌<◌, ◌≤◌, length, Err, IfOk, IfSome, IfErr, IsErrAnd, IsUtf8};
+ghost use denote.Param.Send.{Frees};
+ghost use Rattle.cap_run.specs.RunFault.{IsUnread, exit_status};
+
+use crate::block::run_block;
+use crate::output::{write_ending, write_long, write_pending};
+use crate::run::{lines_of, read_text, run_outcome};
+use crate::worker::{Shared, Worker, answer_line, seat_of};
+use crate::{Gate, RunFault};
+use cap_history::{Naming, Opened, Seat};
+use cap_script::{Line, Lines};
+use cap_server::{CallFault, Server};
+use cap_value::{AllocHandle, OutOfMemory};
+use std::io::{Read, Write};
+use std::marker::Brand;
+use std::sync::Wait;
+use std::thread::Threads;
+
+/// The most threads that run the lines of a workload.
+pub const THREADS_MAX: u64 = 63;
+
+/// Runs the workload that the reader gives on a new server, and writes a line a reply, in the order of the lines.
+///
+/// A line without `@` is called here, from seat 0. The lines `@K` that stand together are a block: line `@K` belongs to
+/// worker K mod `threads`, each worker calls its lines in their order from a seat of its own, worker 0 from seat 1, and
+/// each on a thread of its own, so that calls of different workers may meet. The block ends when all have ended.
+///
+/// The whole text is read before anything runs. Where a call has no reply its worker calls no further line, and at the
+/// end of the block, or at once for seat 0, the replies to the lines before the first line without one are written, then
+/// that line's fault, and the run ends. A worker for which no thread can be made calls nothing: its first line is refused
+/// for memory. In the end all seats are handed back to the server; that it does not close is told where nothing else went
+/// wrong.
+///
+/// `threads` is 1 to 63. Any thread may give a block of memory back to the allocator. `gate` stands round each worker's
+/// calls; `NoGate` lets all pass.
+pub fn run_workload<
+    A: AllocHandle + Send + Sync,
+    T: Threads + Wait + Sync,
+    G: Gate,
+    R: Read,
+    W: Write,
+>(rt: &T, alloc: A, gate: &G, threads: u64, reader: &mut R, writer: &mut W) -> Result<(), RunFault>
+    requires threads { (1 ≤ threads) × (threads ≤ 63) }
+    requires frees { Frees A.Allocator A.dealloc_token }
+    // Bytes that are no text are refused, and no text is refused as such, where it is known what the reader gives.
+    ensures no_text { IfSome (R.remaining reader.old) (λ given. ¬ (IsUtf8 given)
+        → IsErrAnd result (λ fault. (fault ≡ RunFault.NotUtf8) ⊎ IsUnread fault)) }
+    ensures text { IfSome (R.remaining reader.old) (λ given.
+        result ≡ Err RunFault.NotUtf8 → ¬ (IsUtf8 given)) }
+
+    // Nothing is written where the input is refused.
+    ensures silent { IfErr result (λ fault. exit_status fault ≡ 1 → writer.new ≡ writer.old) }
+{
+    let text = read_text(alloc, reader)?;
+    let mut lines = lines_of(alloc, text.as_str())?;
+    let opened = Opened::new();
+    serve_lines::<Brand, A, T, G, W>(rt, alloc, gate, threads, opened, &mut lines, writer)
+}
+
+/// Runs the lines on a new server, and writes their replies.
+fn serve_lines<
+    J: Naming + Send + Sync,
+    A: AllocHandle + Send + Sync,
+    T: Threads + Wait + Sync,
+    G: Gate,
+    W: Write,
+>(
+    rt: &T,
+    alloc: A,
+    gate: &G,
+    threads: u64,
+    opened: Opened<A>,
+    lines: &mut Lines<'_, A>,
+    writer: &mut W,
+) -> Result<(), RunFault>
+    requires threads { (1 ≤ threads) × (threads ≤ 63) }
+    requires frees { Frees A.Allocator A.dealloc_token }
+    requires history { opened.seen.book ≡ J.book }
+    requires seats { threads + 1 ≡ J.seats }
+    ensures status { IfErr result (λ fault. exit_status fault ≡ 3) }
+{
+    let (server, seats) = Server::<J, A>::open(opened, alloc, threads + 1).map_err(
+        |_| RunFault::Memory,
+    )?;
+    let mut back = Vec::with_capacity(alloc, seats.len()).map_err(|_| RunFault::Memory)?;
+    let workers = employ(alloc, seats).map_err(|_| RunFault::Memory)?;
+    let shared = Shared {
+        rt,
+        alloc,
+        server: &server,
+        gate,
+        threads,
+    };
+    let (workers, outcome) = run_lines(&shared, lines, workers, writer);
+    hand_back(workers, &mut back);
+    let closed = server.close(back);
+    match closed {
+        Ok(_closed) => outcome,
+        Err(_unclosed) => outcome_unclosed(outcome),
+    }
+}
+
+/// The outcome of a run whose server was not closed.
+fn outcome_unclosed(outcome: Result<(), RunFault>) -> Result<(), RunFault>
+    ensures status { IfErr outcome (λ fault. exit_status fault ≡ 3) → IfErr result (λ fault. exit_status fault ≡ 3) }
+{
+    match outcome {
+        Ok(()) => Err(RunFault::Close),
+        Err(fault) => Err(fault),
+    }
+}
+
+/// A worker for each seat.
+fn employ<J: Naming, A: AllocHandle>(
+    alloc: A,
+    seats: Vec<Seat<J, A>, A>,
+) -> Result<Vec<Worker<J, A>, A>, OutOfMemory> {
+    let mut workers = Vec::with_capacity(alloc, seats.len())?;
+    for seat in seats {
+        workers.push(Worker {
+            seat,
+            given: 0,
+            texts: Vec::new(alloc),
+            ended: Ok(()),
+        })?;
+    }
+    Ok(workers)
+}
+
+/// Takes the seats from the workers.
+fn hand_back<J: Naming, A: AllocHandle>(
+    workers: Vec<Worker<J, A>, A>,
+    seats: &mut Vec<Seat<J, A>, A>,
+) {
+    for worker in workers {
+        let Worker {
+            seat,
+            given: _,
+            texts: _,
+            ended: _,
+        } = worker;
+        if let Err(_lost) = seats.push(seat) {
+            return;
+        }
+    }
+}
+
+/// Runs the lines, and writes their replies and the fault at which they ended.
+fn run_lines<
+    J: Naming + Send + Sync,
+    A: AllocHandle + Send + Sync,
+    T: Threads + Wait + Sync,
+    G: Gate,
+    W: Write,
+>(
+    shared: &Shared<'_, J, A, T, G>,
+    lines: &mut Lines<'_, A>,
+    workers: Vec<Worker<J, A>, A>,
+    writer: &mut W,
+) -> (Vec<Worker<J, A>, A>, Result<(), RunFault>)
+    requires threads { (1 ≤ shared.now.threads) × (shared.now.threads ≤ 63) }
+    requires frees { Frees A.Allocator A.dealloc_token }
+    ensures status { IfErr result.1 (λ fault. exit_status fault ≡ 3) }
+{
+    let mut pending = String::new(shared.alloc);
+    let (workers, outcome) = answer_all(shared, lines, workers, writer, &mut pending);
+    let outcome = match outcome {
+        Ok(outcome) => write_rest(writer, &mut pending, outcome),
+        Err(fault) => Err(fault),
+    };
+    (workers, outcome)
+}
+
+/// Writes what waits to be written, and the fault at which the lines ended.
+fn write_rest<A: AllocHandle, W: Write>(
+    writer: &mut W,
+    pending: &mut String<A>,
+    outcome: Result<(), CallFault>,
+) -> Result<(), RunFault>
+    ensures status { IfErr result (λ fault. exit_status fault ≡ 3) }
+{
+    write_pending(writer, pending)?;
+    write_ending(outcome, writer)?;
+    run_outcome(outcome)
+}
+
+/// Calls the lines, and writes the replies, but for the last ones, which are left in `pending`. The inner fault is that
+/// of the first line without a reply.
+fn answer_all<
+    J: Naming + Send + Sync,
+    A: AllocHandle + Send + Sync,
+    T: Threads + Wait + Sync,
+    G: Gate,
+    W: Write,
+>(
+    shared: &Shared<'_, J, A, T, G>,
+    lines: &mut Lines<'_, A>,
+    workers: Vec<Worker<J, A>, A>,
+    writer: &mut W,
+    pending: &mut String<A>,
+) -> (
+    Vec<Worker<J, A>, A>,
+    Result<Result<(), CallFault>, RunFault>,
+)
+    requires threads { (1 ≤ shared.now.threads) × (shared.now.threads ≤ 63) }
+    requires frees { Frees A.Allocator A.dealloc_token }
+    ensures status { IfErr result.1 (λ fault. fault ≡ RunFault.Write) }
+{
+    let mut workers = workers;
+    loop {
+        let line = match lines.next_line() {
+            Ok(Some(line)) => line,
+            Ok(None) => return (workers, Ok(Ok(()))),
+            Err(_) => return (workers, Ok(Err(CallFault::OutOfMemory))),
+        };
+        if line.worker.is_some() {
+            let Ok(block) = block_from(shared.alloc, line, lines) else {
+                return (workers, Ok(Err(CallFault::OutOfMemory)));
+            };
+            let block = block.as_slice();
+            workers = run_block(shared, block, workers);
+            if let Err(fault) = gather(shared.threads, block, workers.as_slice(), pending) {
+                return (workers, Ok(Err(fault)));
+            }
+        } else if let Err(fault) = answer_here(shared, workers.as_mut_slice(), &line, pending) {
+            return (workers, Ok(Err(fault)));
+        }
+        if let Err(fault) = write_long(writer, pending) {
+            return (workers, Err(fault));
+        }
+    }
+}
+
+/// A line with `@` and those behind it, up to the next without.
+fn block_from<A: AllocHandle>(
+    alloc: A,
+    first: Line<A>,
+    lines: &mut Lines<'_, A>,
+) -> Result<Vec<Line<A>, A>, OutOfMemory>
+    ensures left { IfOk result (λ block. length lines.new ≤ length lines.old) }
+{
+    let mut block = Vec::new(alloc);
+    block.push(first)?;
+    while lines.begins_at() {
+        // There is a next line, since one begins here.
+        let line = lines.next_line()?.ok_or(OutOfMemory)?;
+        block.push(line)?;
+    }
+    Ok(block)
+}
+
+/// Calls a line from seat 0. The text of the reply goes to the end of `pending`.
+fn answer_here<J: Naming, A: AllocHandle, T: Wait, G: Gate>(
+    shared: &Shared<'_, J, A, T, G>,
+    workers: &mut [Worker<J, A>],
+    line: &Line<A>,
+    pending: &mut String<A>,
+) -> Result<(), CallFault> {
+    let Some(first) = workers.first_mut() else {
+        return Err(CallFault::OutOfMemory);
+    };
+    let text = answer_line(
+        shared.rt,
+        shared.alloc,
+        shared.server,
+        &mut first.seat,
+        line,
+    )?;
+    match pending.push_str(text.as_str()) {
+        Ok(()) => Ok(()),
+        Err(_) => Err(CallFault::OutOfMemory),
+    }
+}
+
+/// Puts the texts of the replies to a block's lines at the end of `pending`, in the order of the lines, up to the first
+/// line without a reply.
+fn gather<J: Naming, A: AllocHandle>(
+    threads: u64,
+    block: &[Line<A>],
+    workers: &[Worker<J, A>],
+    pending: &mut String<A>,
+) -> Result<(), CallFault>
+    requires { (1 ≤ threads) × (threads ≤ 63) }
+{
+    // How many texts of each seat's worker were taken.
+    let mut taken = [0usize; 64];
+    for line in block {
+        let seat = seat_of(threads, line.worker) as usize;
+        let Some(worker) = workers.get(seat) else {
+            return Err(CallFault::OutOfMemory);
+        };
+        let Some(text) = worker.texts.get(taken[seat]) else {
+            return Err(fault_of(worker));
+        };
+        taken[seat] = taken[seat].saturating_add(1);
+        if let Err(_) = pending.push_str(text.as_str()) {
+            return Err(CallFault::OutOfMemory);
+        }
+    }
+    Ok(())
+}
+
+/// The fault of a worker that has no text for its next line.
+fn fault_of<J: Naming, A: AllocHandle>(worker: &Worker<J, A>) -> CallFault {
+    match worker.ended {
+        Ok(()) => CallFault::OutOfMemory,
+        Err(fault) => fault,
+    }
+}

@@ -1,0 +1,20 @@
+use Rattle.std.proofs.Common.{◌≡◌, ◌<◌, length, rules, true, arith}
+use Rattle.cap_script.specs.Script.{is_ignored}
+use Rattle.cap_script.proofs.LineLemmas.{behind_ignored, cut_shorter, ignored_first}
+use Rattle.cap_script.proofs.lines.Lines.next_text.Goals as goal
+
+-- a line that says nothing is passed over
+pub loop-self-preserved : goal.loop-self-preserved
+loop-self-preserved g c =
+    let inv = c.loop-self.invariant in
+    let text = c.loop-self.self-inside.rest.now in
+    let line = c.first_line.result.0.now in
+    let behind = c.first_line.result.1.now in
+    let ignored : is_ignored line ≡ true = search rules in
+    let some : 0 < length text = search rules in
+    let less = cut_shorter text line behind c.first_line.ensures some in (
+      omega (arith, inv.0, less),
+      omega (arith, inv.1, less),
+      λ lines spelled. behind_ignored lines text line behind c.first_line.ensures ignored (inv.2 lines spelled),
+      λ lines spelled. inv.3 lines (ignored_first lines text line behind c.first_line.ensures ignored spelled),
+    )

@@ -1,0 +1,117 @@
+use cap_row::{COLUMNS_MAX, Key, Row, Schema, key_of};
+use cap_value::{AllocHandle, Fault, OutOfMemory, Refusal, Value};
+use linked_list_allocator::LocalHeap;
+use std::alloc::Global;
+use std::test::Fail;
+
+fn numbers<A: AllocHandle>(alloc: A, numbers: &[i64]) -> Result<Vec<Value<A>, A>, OutOfMemory> {
+    let mut values = Vec::new(alloc);
+    for number in numbers {
+        values.push(Value::Int(*number))?;
+    }
+    Ok(values)
+}
+
+#[test]
+fn schemas_have_1_to_2000_columns(rt: HostRuntime) -> Result<(), Fail> {
+    let alloc = rt.alloc();
+    let flags = vec![in alloc; true; COLUMNS_MAX + 1]?;
+    let widest = Schema::new(alloc, &flags[1..])?;
+    assert_eq!(rt; (widest.width(), widest.has_key()), (2_000, true));
+    assert!(rt; widest.copy()?.same(&widest));
+    for refused in [&flags[..], &flags[..0]] {
+        match Schema::new(alloc, refused) {
+            Ok(schema) => assert!(rt; false, "{schema:?} is no schema"),
+            Err(fault) => assert_eq!(rt; fault, Fault::Refused(Refusal::BadSchema)),
+        }
+    }
+    let narrow = Schema::new(alloc, &[false, true])?;
+    assert_eq!(rt;
+        (narrow.is_key(0), narrow.is_key(1), narrow.is_key(2)),
+        (false, true, false)
+    );
+    Ok(())
+}
+
+#[test]
+fn keys_are_the_values_of_key_columns(rt: HostRuntime) -> Result<(), Fail> {
+    let alloc = rt.alloc();
+    let schema = Schema::new(alloc, &[true, false, true, true])?;
+    let row = Row::new(numbers(alloc, &[1, 2, 3, 4])?)?;
+    assert_eq!(rt; row.width(), schema.width());
+    let key = key_of(alloc, &schema, &row)?;
+    assert_eq!(rt; key, Key::new(alloc, numbers(alloc, &[1, 3, 4])?)?);
+    let unset = row.with_fields(alloc, &schema, &[(2, Value::Null)])?;
+    assert_eq!(rt; key_of(alloc, &schema, &unset)?, None);
+    assert_eq!(rt; Key::new(alloc, Vec::<Value<Global>>::new(alloc))?, None);
+    let keyless = Schema::new(alloc, &[false; 4])?;
+    assert_eq!(rt; row.width(), keyless.width());
+    assert_eq!(rt; key_of(alloc, &keyless, &row)?, None);
+
+    let short = Key::new(alloc, numbers(alloc, &[1, 3])?)?;
+    assert!(rt; short < key);
+    for key in [key, short] {
+        let key = key.expect(&rt, "no value is NULL");
+        assert!(rt; key.same(&key.copy()?) && key.get(key.width()).is_none());
+    }
+    Ok(())
+}
+
+#[test]
+fn updates_set_just_their_fields(rt: HostRuntime) -> Result<(), Fail> {
+    let alloc = rt.alloc();
+    let schema = Schema::new(alloc, &[true, false, false])?;
+    let row = Row::new(numbers(alloc, &[1, 2, 3])?)?;
+    assert_eq!(rt; row.width(), schema.width());
+    let set = row.with_fields(alloc, &schema, &[(2, Value::Int(9)), (0, Value::Null)])?;
+    assert_eq!(rt;
+        format!(in alloc; "{set:?}")?.as_str(),
+        "Row([Null, Int(2), Int(9)])"
+    );
+    assert!(rt; row.with_fields(alloc, &schema, &[])?.same(&row) && row.copy()?.same(&row));
+    assert!(rt; row.width() == 3 && row.get(3).is_none());
+    for refused in [&[3][..], &[1, 0, 1]] {
+        let mut fields = Vec::new(alloc);
+        for column in refused {
+            fields.push((*column, Value::Int(0)))?;
+        }
+        match row.with_fields(alloc, &schema, &fields) {
+            Ok(row) => assert!(rt; false, "{row:?}"),
+            Err(fault) => assert_eq!(rt; fault, Fault::Refused(Refusal::BadColumn)),
+        }
+    }
+    Ok(())
+}
+
+// A schema, a row, its key and an update of it, in as much memory as the heap has.
+fn make(heap: &LocalHeap) -> Result<(), Fault<Refusal>> {
+    let schema = Schema::new(heap, &[true, true, false, true])?;
+    let row = Row::new(numbers(heap, &[1, 2, 3, 4])?)?;
+    if row.width() == schema.width() {
+        let text = Value::text(heap, "a text that is stored")?;
+        let set = row.with_fields(heap, &schema, &[(2, text)])?;
+        let _keys = (
+            key_of(heap, &schema, &set)?,
+            Key::new(heap, numbers(heap, &[1, 2, 3])?)?,
+        );
+    }
+    Ok(())
+}
+
+#[test]
+fn each_allocation_may_be_refused(rt: HostRuntime) -> Result<(), Fail> {
+    let mut enough = 0;
+    for size in 0..99usize {
+        let heap = LocalHeap::new(rt.alloc(), 16 * size)?;
+        match make(&heap) {
+            Ok(()) => {
+                enough = size;
+                break;
+            }
+            Err(fault) => assert_eq!(rt; fault, Fault::OutOfMemory),
+        }
+        assert_eq!(rt; heap.used(), 0);
+    }
+    assert!(rt; enough > 20, "{enough} blocks of 16 bytes were enough");
+    Ok(())
+}

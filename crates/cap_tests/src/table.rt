@@ -1,0 +1,279 @@
+use cap_row::{Key, Row, Schema};
+use cap_table::{IDS_END, NotMade, RowName, RowRef, Table};
+use cap_tree::Confirm;
+use cap_value::{AllocHandle, Fault, Refusal, Value};
+use linked_list_allocator::LocalHeap;
+use std::alloc::Global;
+use std::test::Fail;
+
+fn row<A: AllocHandle>(alloc: A, key: Option<i64>, text: &str) -> Result<Row<A>, Fault<Refusal>> {
+    let mut fields = Vec::new(alloc);
+    let key = match key {
+        None => Value::Null,
+        Some(key) => Value::Int(key),
+    };
+    let pushed = fields.push(key).is_ok() && fields.push(Value::text(alloc, text)?).is_ok();
+    if !pushed {
+        return Err(Fault::OutOfMemory);
+    }
+    Ok(Row::new(fields)?)
+}
+
+fn named<A: AllocHandle>(alloc: A, key: i64) -> Result<RowRef<A>, Fault<Refusal>> {
+    let mut fields = Vec::new(alloc);
+    if fields.push(Value::Int(key)).is_err() {
+        return Err(Fault::OutOfMemory);
+    }
+    match Key::new(alloc, fields)? {
+        Some(key) => Ok(RowRef::Key(key)),
+        None => Err(Fault::OutOfMemory),
+    }
+}
+
+fn kv<A: AllocHandle>(alloc: A) -> Result<Table<A>, Fault<Refusal>> {
+    Ok(Table::empty(alloc, Schema::new(alloc, &[true, false])?))
+}
+
+// Whether the row of this name has the text.
+fn has<A: AllocHandle>(table: &Table<A>, name: &RowRef<A>, text: &str) -> bool {
+    match table.get(name) {
+        None => false,
+        Some(row) => match row.get(1) {
+            Some(Value::Text(found)) => found.as_str() == text,
+            _ => false,
+        },
+    }
+}
+
+#[test]
+fn rows_move_between_keys_and_ids(rt: HostRuntime) -> Result<(), Fail> {
+    let alloc = rt.alloc();
+    let mut table = kv(alloc)?;
+    let seven = named(alloc, 7)?;
+    assert!(rt; table.insert(row(alloc, None, "a")?)?.is_none());
+    assert!(rt; has(&table, &RowRef::Loose(1), "a"));
+    assert!(rt; table.insert(row(alloc, None, "b")?)?.is_none());
+    assert!(rt; has(&table, &RowRef::Loose(2), "b"));
+    let to_seven = [(0, Value::Int(7))];
+    let replaced = table.update(&RowRef::Loose(1), &to_seven)?;
+    assert!(rt; replaced.key.is_some() && replaced.row.same(&row(alloc, None, "a")?));
+    assert!(rt; has(&table, &seven, "a") && table.get(&RowRef::Loose(1)).is_none());
+    table.insert(row(alloc, None, "c")?)?;
+    assert!(rt; has(&table, &RowRef::Loose(3), "c"));
+    let before = table.snapshot()?;
+    let replaced = table.update(&seven, &[(0, Value::Null)])?;
+    assert!(rt; replaced.key.is_none());
+    assert!(rt; has(&table, &RowRef::Loose(4), "a") && table.get(&seven).is_none());
+    let mut ids = Vec::new(alloc);
+    for (name, _) in table.scan() {
+        if let RowName::Loose(id) = name {
+            ids.push(id)?;
+        }
+    }
+    assert_eq!(rt; ids.as_slice(), [2, 3, 4].as_slice());
+    assert_eq!(rt; (table.scan().left(), table.next_id()), (3, 5));
+    assert!(rt; has(&before, &seven, "a"));
+    assert!(rt;
+        has(
+            &before.after_update(&seven, &[(1, Value::text(alloc, "z")?)])?,
+            &seven,
+            "z"
+        )
+    );
+    assert!(rt; before.after_delete(&seven)?.get(&seven).is_none());
+    assert!(rt;
+        has(
+            &before.after_insert(row(alloc, Some(8), "y")?)?,
+            &named(alloc, 8)?,
+            "y"
+        )
+    );
+    assert!(rt;
+        table
+            .delete(&RowRef::Loose(3))?
+            .same(&row(alloc, None, "c")?)
+    );
+    Ok(())
+}
+
+#[test]
+fn keyed_rows_come_first(rt: HostRuntime) -> Result<(), Fail> {
+    let alloc = rt.alloc();
+    let mut table = kv(alloc)?;
+    table.insert(row(alloc, None, "n")?)?;
+    table.insert(row(alloc, Some(9), "x")?)?;
+    table.insert(row(alloc, Some(-9), "y")?)?;
+    let mut scan = table.scan();
+    let first = match scan.next() {
+        Some((RowName::Key(key), _)) => key.get(0) == Some(&Value::Int(-9)),
+        _ => false,
+    };
+    assert!(rt; first);
+    assert_eq!(rt; scan.left(), 2);
+    assert_eq!(rt; (table.keyed().len(), table.loose().len()), (2, 1));
+    Ok(())
+}
+
+fn refusal<T: Drop>(answer: Result<T, Fault<Refusal>>) -> Option<Refusal> {
+    match answer {
+        Err(Fault::Refused(why)) => Some(why),
+        _ => None,
+    }
+}
+
+#[test]
+fn the_last_id_is_given_once(rt: HostRuntime) -> Result<(), Fail> {
+    let alloc = rt.alloc();
+    let schema = Schema::new(alloc, &[true, false])?;
+    let mut table = Table::with_next_id(alloc, schema, IDS_END - 1);
+    let one = named(alloc, 1)?;
+    table.insert(row(alloc, Some(1), "x")?)?;
+    table.insert(row(alloc, None, "a")?)?;
+    assert!(rt; has(&table, &RowRef::Loose(IDS_END - 1), "a"));
+    assert_eq!(rt;
+        refusal(table.insert(row(alloc, None, "b")?)),
+        Some(Refusal::IdsSpent)
+    );
+    assert_eq!(rt;
+        refusal(table.update(&one, &[(0, Value::Null)])),
+        Some(Refusal::IdsSpent)
+    );
+    table.update(&RowRef::Loose(IDS_END - 1), &[(1, Value::Int(5))])?;
+    assert_eq!(rt; table.next_id(), IDS_END);
+    Ok(())
+}
+
+#[test]
+fn refusals_in_their_order(rt: HostRuntime) -> Result<(), Fail> {
+    let alloc = rt.alloc();
+    let mut table = kv(alloc)?;
+    table.insert(row(alloc, Some(1), "x")?)?;
+    table.insert(row(alloc, Some(2), "y")?)?;
+    let (two, three) = (named(alloc, 2)?, named(alloc, 3)?);
+    assert_eq!(rt;
+        refusal(table.insert(row(alloc, Some(1), "z")?)),
+        Some(Refusal::Duplicate)
+    );
+    assert_eq!(rt;
+        refusal(table.update(&three, &[(2, Value::Null)])),
+        Some(Refusal::BadColumn)
+    );
+    assert_eq!(rt;
+        refusal(table.update(&three, &[(0, Value::Int(1))])),
+        Some(Refusal::NoRow)
+    );
+    assert_eq!(rt;
+        refusal(table.update(&two, &[(0, Value::Int(1))])),
+        Some(Refusal::Duplicate)
+    );
+    table.update(&two, &[(0, Value::Int(2))])?;
+    assert_eq!(rt; refusal(table.delete(&three)), Some(Refusal::NoRow));
+    Ok(())
+}
+
+// A row that is inserted, changed and removed, in as much memory as the heap has.
+fn change(heap: &LocalHeap) -> Result<(), Fault<Refusal>> {
+    let mut table = kv(heap)?;
+    let one = named(heap, 1)?;
+    table.insert(row(heap, Some(1), "a text that is stored")?)?;
+    table.update(&one, &[(0, Value::Null)])?;
+    table.update(&RowRef::Loose(1), &[(0, Value::Int(1))])?;
+    table.delete(&one)?;
+    Ok(())
+}
+
+#[test]
+fn each_allocation_may_be_refused(rt: HostRuntime) -> Result<(), Fail> {
+    let mut enough = 0;
+    for size in 0..400usize {
+        let heap = LocalHeap::new(rt.alloc(), 16 * size)?;
+        match change(&heap) {
+            Ok(()) => {
+                enough = size;
+                break;
+            }
+            Err(fault) => assert_eq!(rt; fault, Fault::OutOfMemory),
+        }
+        assert_eq!(rt; heap.used(), 0);
+    }
+    assert!(rt; enough > 20, "{enough} blocks of 16 bytes were enough");
+    Ok(())
+}
+
+// A step outside that counts how often it is asked, and agrees or does not.
+#[derive(Drop)]
+struct Counted {
+    agrees: bool,
+    asked: u8,
+}
+
+impl Confirm for Counted {
+    type Refusal = ();
+
+    ghost can_confirm = { λ confirm. Unit {0} };
+
+    ghost gives = { λ old answer new. Unit {0} };
+
+    fn confirm(&mut self) -> Result<(), ()> {
+        self.asked = self.asked.saturating_add(1);
+        if self.agrees { Ok(()) } else { Err(()) }
+    }
+}
+
+// Each change is tried with a step that does not agree, and then with one that does.
+#[test]
+fn changes_wait_for_a_step_outside(rt: HostRuntime) -> Result<(), Fail> {
+    let alloc = rt.alloc();
+    let mut table = kv(alloc)?;
+    let (one, two) = (named(alloc, 1)?, named(alloc, 2)?);
+    let text = [(1, Value::text(alloc, "b")?)];
+    let key = [(0, Value::Int(2))];
+    let mut no = Counted {
+        agrees: false,
+        asked: 0,
+    };
+    let mut yes = Counted {
+        agrees: true,
+        asked: 0,
+    };
+    let disagreed = Err(NotMade::Disagreed(()));
+    let duplicate = Err(NotMade::Refused(Refusal::Duplicate));
+    let no_row = Err(NotMade::Refused(Refusal::NoRow));
+    assert_eq!(rt;
+        table.insert_after(row(alloc, Some(1), "a")?, &mut no),
+        disagreed
+    );
+    assert!(rt; table.get(&one).is_none());
+    assert_eq!(rt;
+        table.insert_after(row(alloc, Some(1), "a")?, &mut yes),
+        Ok(())
+    );
+    assert_eq!(rt;
+        table.insert_after(row(alloc, Some(1), "c")?, &mut no),
+        duplicate
+    );
+    assert_eq!(rt;
+        table.insert_after(row(alloc, None, "l")?, &mut no),
+        disagreed
+    );
+    assert_eq!(rt;
+        table.insert_after(row(alloc, None, "l")?, &mut yes),
+        Ok(())
+    );
+    assert_eq!(rt; table.update_after(&one, &text, &mut no), disagreed);
+    assert!(rt; has(&table, &one, "a") && has(&table, &RowRef::Loose(1), "l"));
+    assert_eq!(rt; table.update_after(&one, &text, &mut yes), Ok(()));
+    assert_eq!(rt; table.update_after(&one, &key, &mut no), disagreed);
+    assert!(rt; has(&table, &one, "b") && table.get(&two).is_none());
+    assert_eq!(rt; table.update_after(&one, &key, &mut yes), Ok(()));
+    assert!(rt; has(&table, &two, "b") && table.get(&one).is_none());
+    assert_eq!(rt; table.update_after(&one, &text, &mut no), no_row);
+    assert_eq!(rt; table.delete_after(&one, &mut no), no_row);
+    assert_eq!(rt; table.delete_after(&two, &mut no), disagreed);
+    assert!(rt; has(&table, &two, "b"));
+    assert_eq!(rt; table.delete_after(&two, &mut yes), Ok(()));
+    assert_eq!(rt; table.delete_after(&RowRef::Loose(1), &mut yes), Ok(()));
+    assert_eq!(rt; table.scan().left(), 0);
+    assert_eq!(rt; (no.asked, yes.asked), (5, 6));
+    Ok(())
+}
