@@ -1,0 +1,160 @@
+-- A run's lines, one after the other, and how they end.
+use Rattle.std.proofs.Common.{◌≡◌, ℕ, ◌+◌, ◌<◌, List, [], ◌∷◌, ◌++◌, Option, None, Some, Ok, Err, length, refl, sym, ap, subst, ◌∙◌, append_assoc, append-nil}
+use Rattle.std.specs.Io.KnownBytes.{Appends}
+use Rattle.std.proofs.KnownBytes.{Appends-nil, Appends-trans}
+use Rattle.std.specs.Prelude.{OnOk}
+use Rattle.cap_history.specs.Seat.{SeatState}
+use Rattle.cap_run.proofs.RunLemmas.{front_more, front_sooner}
+use Rattle.cap_run.proofs.SeatLemmas.{called_longer, called_more, called_none, called_refused}
+use Rattle.cap_run.specs.Run.{AppendsFront, Ended, ending, run_outcome}
+use Rattle.cap_run.specs.Code.Calls.{AreUnder, EndSo, HaveCalled, IsNext, RunsLines}
+use Rattle.cap_run.specs.declared.fault.RunFault.TheVariants.{Write}
+use Rattle.cap_script.specs.Script.{SpellsScript, TakesFirst}
+use Rattle.cap_script.specs.declared.line.Line.{Line}
+use Rattle.cap_server.specs.declared.fault.CallFault.{CallFault}
+
+module _ {A : Type 0} where
+  -- ---- lines of a run, one after the other
+
+  pub under_none : (threads : ℕ) (lines : List (Line A)) (rest pending : List ℕ) (seats : List (SeatState A)) (known : Option (List ℕ)) → SpellsScript lines rest → pending ≡ []
+      → AreUnder threads lines rest pending seats seats known known
+  under_none threads lines rest pending seats known spelled none = record {
+    called = [];
+    others = lines;
+    parts = refl;
+    spelled = spelled;
+    written = [];
+    made = subst (λ (text : List ℕ). HaveCalled threads [] (Ok tt) text seats seats) (sym none) (called_none threads seats);
+    wrote = Appends-nil known;
+  }
+
+  -- no line but these replies stand behind the others
+  pub called_stuck : (threads : ℕ) (fault : CallFault) (lines others : List (Line A)) (text : List ℕ) (a b : List (SeatState A)) → HaveCalled threads lines (Ok tt) text a b → 0 < length others
+      → HaveCalled threads (lines ++ others) (Err fault) text a b
+  called_stuck threads fault lines others text a b so some =
+      subst (λ (t : List ℕ). HaveCalled threads (lines ++ others) (Err fault) t a b) (append-nil text) (called_more threads (Err fault) lines others text [] a b b so (called_refused threads fault others b some))
+
+  pub next-parts : (lines called others : List (Line A)) (line : Line A) (rest taken left : List (Line A)) → lines ≡ called ++ others → others ≡ line ∷ rest → rest ≡ taken ++ left
+      → lines ≡ (called ++ line ∷ taken) ++ left
+  next-parts lines called others line rest taken left parts first more =
+      parts ∙ ap (λ (l : List (Line A)). called ++ l) first ∙ ap (λ (l : List (Line A)). called ++ line ∷ l) more ∙ sym (append_assoc called (line ∷ taken) left)
+
+  pub next-called : (threads : ℕ) (line : Line A) (ended : Ended) (called taken : List (Line A)) (written pending more text : List ℕ) (a b c : List (SeatState A)) → HaveCalled threads called (Ok tt) (written ++ pending) a b
+      → HaveCalled threads (line ∷ taken) ended text b c → more ≡ pending ++ text → HaveCalled threads (called ++ line ∷ taken) ended (written ++ more) a c
+  next-called threads line ended called taken written pending more text a b c so made is =
+      subst (λ (t : List ℕ). HaveCalled threads (called ++ line ∷ taken) ended t a c) (append_assoc written pending text ∙ ap (λ (t : List ℕ). written ++ t) (sym is))
+      (called_more threads ended called (line ∷ taken) (written ++ pending) text a b c so made)
+
+  pub under_next : (threads : ℕ) (lines : List (Line A)) (rest before behind pending more : List ℕ) (line : Line A) (a b c : List (SeatState A)) (old new : Option (List ℕ))
+      (so : AreUnder threads lines rest pending a b old new) → TakesFirst (Some line) so.others before
+      → ((others : List (Line A)) → SpellsScript others before → IsNext threads line others (Ok tt) behind pending more b c) → AreUnder threads lines behind more a c old new
+  under_next threads lines rest before behind pending more line a b c old new so (others, first, spelled) step =
+      let next = step others spelled in
+      record {
+        called = so.called ++ line ∷ next.taken;
+        others = next.left;
+        parts = next-parts lines so.called so.others line others next.taken next.left so.parts first next.parts;
+        spelled = next.spelled;
+        written = so.written;
+        made = next-called threads line (Ok tt) so.called next.taken so.written pending more next.text a b c so.made next.made next.text_is;
+        wrote = so.wrote;
+      }
+
+  pub under_refused : (threads : ℕ) (fault : CallFault) (lines : List (Line A)) (rest before behind pending more : List ℕ) (line : Line A) (a b c : List (SeatState A)) (old new : Option (List ℕ))
+      (so : AreUnder threads lines rest pending a b old new) → TakesFirst (Some line) so.others before
+      → ((others : List (Line A)) → SpellsScript others before → IsNext threads line others (Err fault) behind pending more b c) → EndSo threads lines (Err fault) more a c old new
+  under_refused threads fault lines rest before behind pending more line a b c old new so (others, first, spelled) step =
+      let next = step others spelled in
+      let parts = next-parts lines so.called so.others line others next.taken next.left so.parts first next.parts in
+      let made = next-called threads line (Err fault) so.called next.taken so.written pending more next.text a b c so.made next.made next.text_is in (
+        so.written,
+        subst (λ (l : List (Line A)). HaveCalled threads l (Err fault) (so.written ++ more) a c) (sym parts)
+            (called_longer threads fault (so.called ++ line ∷ next.taken) next.left (so.written ++ more) a c made),
+        so.wrote,
+      )
+
+  pub under_end : (threads : ℕ) (lines : List (Line A)) (rest left pending : List ℕ) (a b : List (SeatState A)) (old new : Option (List ℕ)) (so : AreUnder threads lines rest pending a b old new)
+      → TakesFirst None so.others left → EndSo threads lines (Ok tt) pending a b old new
+  under_end threads lines rest left pending a b old new so none = (
+    so.written,
+    subst (λ (l : List (Line A)). HaveCalled threads l (Ok tt) (so.written ++ pending) a b)
+        (sym (so.parts ∙ ap (λ (l : List (Line A)). so.called ++ l) none ∙ append-nil so.called)) so.made,
+    so.wrote,
+  )
+
+  pub under_stuck : (threads : ℕ) (fault : CallFault) (lines : List (Line A)) (rest pending : List ℕ) (a b : List (SeatState A)) (old new : Option (List ℕ)) (so : AreUnder threads lines rest pending a b old new)
+      → 0 < length so.others → EndSo threads lines (Err fault) pending a b old new
+  under_stuck threads fault lines rest pending a b old new so some = (
+    so.written,
+    subst (λ (l : List (Line A)). HaveCalled threads l (Err fault) (so.written ++ pending) a b) (sym so.parts)
+        (called_stuck threads fault so.called so.others (so.written ++ pending) a b so.made some),
+    so.wrote,
+  )
+
+  -- a front of what was pending is written
+  pub under_written : (threads : ℕ) (lines : List (Line A)) (rest pending left : List ℕ) (a b : List (SeatState A)) (old new newer : Option (List ℕ)) → AreUnder threads lines rest pending a b old new
+      → ((front : List ℕ) × (pending ≡ front ++ left) × Appends new newer front) → AreUnder threads lines rest left a b old newer
+  under_written threads lines rest pending left a b old new newer so (front, parts, wrote) = record {
+    called = so.called;
+    others = so.others;
+    parts = so.parts;
+    spelled = so.spelled;
+    written = so.written ++ front;
+    made = subst (λ (t : List ℕ). HaveCalled threads so.called (Ok tt) t a b) (ap (λ (t : List ℕ). so.written ++ t) parts ∙ sym (append_assoc so.written front left)) so.made;
+    wrote = Appends-trans old new newer so.written front so.wrote wrote;
+  }
+
+  -- the run of the lines ended at a write that failed
+  pub under_begun : (threads : ℕ) (lines : List (Line A)) (rest pending : List ℕ) (a b : List (SeatState A)) (old new newer : Option (List ℕ)) → AreUnder threads lines rest pending a b old new
+      → AppendsFront new newer pending → RunsLines threads lines (Err Write) a b old newer
+  under_begun threads lines rest pending a b old new newer so wrote = (
+    so.called,
+    so.others,
+    Ok tt,
+    so.written ++ pending,
+    so.parts,
+    so.made,
+    subst (λ (t : List ℕ). AppendsFront old newer t) (sym (append-nil (so.written ++ pending))) (front_more old new newer so.written pending so.wrote wrote),
+  )
+
+  -- the outcome of a run whose lines ended so
+  pub runs_all : (threads : ℕ) (lines : List (Line A)) (ended : Ended) (pending : List ℕ) (a b : List (SeatState A)) (k l m n : Option (List ℕ)) → EndSo threads lines ended pending a b k l
+      → Appends l m pending → Appends m n (ending ended) → RunsLines threads lines (run_outcome ended) a b k n
+  runs_all threads lines (Ok done) pending a b k l m n (written, made, wrote) more last =
+      let all = Appends-trans k l m written pending wrote more in
+      (written ++ pending, made, subst (λ (t : List ℕ). Appends k n t) (append-nil (written ++ pending)) (Appends-trans k m n (written ++ pending) [] all last))
+  runs_all threads lines (Err fault) pending a b k l m n (written, made, wrote) more last =
+      let all = Appends-trans k l m written pending wrote more in
+      (written ++ pending, made, Appends-trans k m n (written ++ pending) (ending (Err fault)) all last)
+
+  pub runs_front : (threads : ℕ) (lines : List (Line A)) (ended : Ended) (text : List ℕ) (a b : List (SeatState A)) (k n : Option (List ℕ)) → HaveCalled threads lines ended text a b
+      → AppendsFront k n (text ++ ending ended) → RunsLines threads lines (Err Write) a b k n
+  runs_front threads lines ended text a b k n made wrote = (lines, [], ended, text, sym (append-nil lines), made, wrote)
+
+  -- a write failed at what was pending
+  pub runs_some : (threads : ℕ) (lines : List (Line A)) (ended : Ended) (pending : List ℕ) (a b : List (SeatState A)) (k l m : Option (List ℕ)) → EndSo threads lines ended pending a b k l
+      → AppendsFront l m pending → RunsLines threads lines (Err Write) a b k m
+  runs_some threads lines ended pending a b k l m (written, made, wrote) more =
+      runs_front threads lines ended (written ++ pending) a b k m made
+      (front_sooner k m (written ++ pending) (ending ended) (front_more k l m written pending wrote more))
+
+  -- or at the fault behind it
+  pub runs_most : (threads : ℕ) (lines : List (Line A)) (ended : Ended) (pending : List ℕ) (a b : List (SeatState A)) (k l m n : Option (List ℕ)) → EndSo threads lines ended pending a b k l
+      → Appends l m pending → AppendsFront m n (ending ended) → RunsLines threads lines (Err Write) a b k n
+  runs_most threads lines ended pending a b k l m n (written, made, wrote) more last =
+      runs_front threads lines ended (written ++ pending) a b k n made
+      (front_more k m n (written ++ pending) (ending ended) (Appends-trans k l m written pending wrote more) last)
+
+  -- ---- the lines of a block
+
+  pub block_none : (rest : List (Line A)) (text : List ℕ) (first : Line A) → SpellsScript rest text → (left : List (Line A)) × (first ∷ rest ≡ (first ∷ []) ++ left) × SpellsScript left text
+  block_none rest text first spelled = (rest, refl, spelled)
+
+  pub block_more : (lines : List (Line A)) (block more : List (Line A)) (line : Line A) (text behind : List ℕ) → ((left : List (Line A)) × (lines ≡ block ++ left) × SpellsScript left text)
+      → ((left : List (Line A)) → SpellsScript left text → TakesFirst (Some line) left behind) → more ≡ block ++ line ∷ [] → (left : List (Line A)) × (lines ≡ more ++ left) × SpellsScript left behind
+  block_more lines block more line text behind (left, parts, spelled) takes is =
+      let taken = takes left spelled in (
+        taken.0,
+        parts ∙ ap (λ (l : List (Line A)). block ++ l) taken.1 ∙ sym (append_assoc block (line ∷ []) taken.0) ∙ ap (λ (l : List (Line A)). l ++ taken.0) (sym is),
+        taken.2,
+      )
