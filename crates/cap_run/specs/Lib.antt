@@ -1,4 +1,3 @@
-pub mod Code
 pub mod Hex
 pub mod Options
 pub mod Pieces
