@@ -1,3 +1,9 @@
 mod Crossing
+mod GatherLemmas
+mod HistoryLemmas
+mod InputLemmas
+mod NextLemmas
 mod PieceLemmas
 mod RunLemmas
+mod SeatLemmas
+mod WorkerLemmas

@@ -1,3 +1,4 @@
+pub mod Code
 pub mod Hex
 pub mod Options
 pub mod Pieces

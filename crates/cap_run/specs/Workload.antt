@@ -1,27 +1,74 @@
--- What becomes of a seat from which the lines of a workload are called.
-use Rattle.std.specs.Prelude.{◌≡◌, ℕ, ◌+◌, ◌%◌, List, [], ◌∷◌, ◌++◌, Option, Some, None}
+-- What a run of a workload on threads writes.
+use Rattle.std.specs.Prelude.{◌≡◌, ℕ, ◌+◌, ◌%◌, ◌<◌, ◌≤◌, List, [], ◌∷◌, ◌++◌, Option, Some, None, Result, Ok, Err, length}
+use Rattle.std.specs.Io.KnownBytes.{Appends, Keeps}
 use mathlib.Core.List.{IsPrefix}
+use Rattle.cap_core.specs.Answer.{IsLegal, event_by}
+use Rattle.cap_core.specs.declared.event.Event.{Event}
 use Rattle.cap_core.specs.declared.reply.Reply.{Reply}
-use Rattle.cap_core.specs.Answer.{event_by}
-use Rattle.cap_history.specs.Seat.{SeatState, calls}
-use Rattle.cap_run.specs.Run.{on_a_line}
+use Rattle.cap_history.specs.History.{own}
+use Rattle.cap_run.specs.Run.{AppendsFront, Ended, IsSpelled, Known, ending, reply_lines}
+use Rattle.cap_run.specs.declared.fault.RunFault.{RunFault}
+use Rattle.cap_run.specs.declared.fault.RunFault.TheVariants.{Call, Close, Write}
 use Rattle.cap_script.specs.declared.line.Line.{Line}
-use Rattle.cap_script.specs.ReplyText.{reply_text}
 
--- The seat from which a line is called: the first, or for `@K` that of one of so many workers.
+-- the seat from which a line is called: the first, or for `@K` that of one of so many workers
 abbrev pub seat_of : ℕ → Option ℕ → ℕ
 seat_of threads None = 0
 seat_of threads (Some number) = number % threads + 1
 
-module _ {A : Type 0} where
-  -- the seat has made this line's call, and no other, and the text is the reply's
-  pub record HasAnswered (line : Line A) (text : List ℕ) (old new : SeatState A) : Type 0 where
-    pub reply : Reply A
-    pub text_is : text ≡ on_a_line (reply_text line reply)
-    pub number : new.number ≡ old.number
-    pub calls_are : calls new ≡ calls old ++ event_by old.number line.command reply ∷ []
+-- by how lines ended: each has a reply, or a beginning of them has
+abbrev pub HasCount : Ended → ℕ → ℕ → Type 0
+HasCount (Ok done) count lines = count ≡ lines
+HasCount (Err fault) count lines = count < lines
 
-  -- the seat keeps the calls that it has made, and may have made more
-  pub record KeepsCalls (old new : SeatState A) : Type 0 where
-    pub number : new.number ≡ old.number
-    pub begins : IsPrefix (calls old) (calls new)
+module _ {A : Type 0} where
+  -- the calls of the lines that have replies, in the order of the lines, each by its line's seat
+  abbrev pub calls_of : ℕ → List (Line A) → List (Reply A) → List (Event A)
+  calls_of threads [] replies = []
+  calls_of threads (line ∷ lines) [] = []
+  calls_of threads (line ∷ lines) (reply ∷ replies) =
+      event_by (seat_of threads line.worker) line.command reply ∷ calls_of threads lines replies
+
+  -- by how lines ended: the calls are these, or begin with them
+  abbrev pub AreCalls : Ended → List (Event A) → List (Event A) → Type 0
+  AreCalls (Ok done) some all = all ≡ some
+  AreCalls (Err fault) some all = IsPrefix some all
+
+  -- One legal history has the calls of the lines that have replies, each seat's in the order of its lines: its own calls in
+  -- that history are these, or begin with them.
+  pub record AreOfOneHistory (Are : List (Event A) → List (Event A) → Type 0) (threads : ℕ) (lines : List (Line A)) (replies : List (Reply A)) : Type 0 where
+    pub history : List (Event A)
+    pub legal : IsLegal history
+    pub calls_are : (number : ℕ) → Are (own number (calls_of threads lines replies)) (own number history)
+
+  -- A run of the lines that ended so has this text: the replies in the order of the lines, up to the first line that has
+  -- none, and then its fault.
+  pub record IsWorkload (threads : ℕ) (lines : List (Line A)) (ended : Ended) (text : List ℕ) : Type 0 where
+    pub replies : List (Reply A)
+    pub count : HasCount ended (length replies) (length lines)
+    pub text_is : text ≡ reply_lines lines replies ++ ending ended
+    pub history : AreOfOneHistory (AreCalls ended) threads lines replies
+
+  -- A run that came so far has this text.
+  pub record IsBegun (threads : ℕ) (lines : List (Line A)) (ended : Ended) (text : List ℕ) : Type 0 where
+    pub replies : List (Reply A)
+    pub few : length replies ≤ length lines
+    pub text_is : text ≡ reply_lines lines replies ++ ending ended
+    pub history : AreOfOneHistory IsPrefix threads lines replies
+
+  -- all of a run's text was written
+  abbrev pub WritesAll : ℕ → List (Line A) → Ended → Known → Known → Type 0
+  WritesAll threads lines ended old new = (text : List ℕ) × IsWorkload threads lines ended text × Appends old new text
+
+  -- a beginning of it was
+  abbrev pub WritesSome : ℕ → List (Line A) → Known → Known → Type 0
+  WritesSome threads lines old new = (ended : Ended) × (text : List ℕ) × IsBegun threads lines ended text × AppendsFront old new text
+
+-- What a run of the lines that the input spells wrote: all of its text, or where a write failed or the server was not closed
+-- a beginning, or nothing where it did not begin.
+abbrev pub WritesWorkload : (A : Type 0) → ℕ → Known → Result (Unit {0}) RunFault → Known → Known → Type 0
+WritesWorkload A threads input (Ok done) old new = (lines : List (Line A)) × IsSpelled input lines × WritesAll threads lines (Ok done) old new
+WritesWorkload A threads input (Err (Call fault)) old new = (lines : List (Line A)) × IsSpelled input lines × WritesAll threads lines (Err fault) old new
+WritesWorkload A threads input (Err Write) old new = (lines : List (Line A)) × IsSpelled input lines × WritesSome threads lines old new
+WritesWorkload A threads input (Err Close) old new = (lines : List (Line A)) × IsSpelled input lines × WritesSome threads lines old new
+WritesWorkload A threads input (Err fault) old new = Keeps old new

@@ -1,5 +1,7 @@
-ghost use Rattle.std.specs.Prelude.{◌≤◌};
+ghost use Rattle.std.specs.Prelude.{◌≡◌, ◌++◌, ◌∷◌, ◌+◌, ◌<◌, ◌≤◌, [], IfErr, IfOk, length, map, string_bytes, vec_capacity, vec_len};
+ghost use Rattle.std.specs.List.{AllZip};
 ghost use denote.Param.Send.{Frees, IsSend, IsSync};
+ghost use Rattle.cap_run.specs.Code.Calls.{HasWorked, lines_of, work};
 
 use crate::Gate;
 use crate::worker::{Shared, Worker, answer_lines, is_given};
@@ -7,9 +9,10 @@ use cap_history::Naming;
 use cap_script::Line;
 use cap_server::CallFault;
 use cap_value::AllocHandle;
+use std::snapshot::Snapshot;
 use std::sync::Wait;
 use std::sync::atomic::{AtomicU64, Ordering};
-use std::thread::{self, Scope, Threads};
+use std::thread::{self, Promise, PromisedHandle, Scope, Threads};
 
 /// What the threads of a block tell one another.
 #[derive(Drop)]
@@ -29,11 +32,30 @@ struct Task<'b, J: Naming, A: AllocHandle, T: Wait, G: Gate> {
     worker: Worker<J, A>,
 }
 
+/// What is known of the worker that a thread gives back: it has called its lines of the block.
+#[derive(Drop)]
+struct Called<'b, J: Naming, A: AllocHandle> {
+    threads: u64,
+    block: &'b [Line<A>],
+    worker: Snapshot<Worker<J, A>>,
+}
+
+impl<'b, J: Naming, A: AllocHandle> Promise<Worker<J, A>> for Called<'b, J, A> {
+    ghost use Rattle.std.specs.Prelude.{map, string_bytes};
+    ghost use Rattle.cap_run.specs.Code.Calls.{HasWorked, work};
+
+    ghost kept_by = { λ called worker. HasWorked called.threads called.block.now called.worker.value.seat
+        (work worker.seat (map string_bytes worker.texts.items) worker.ended) };
+}
+
 /// The worker with its lines of the block called, or, where it has no thread, with its first line refused for memory.
 fn carry_out<J: Naming, A: AllocHandle, T: Wait, G: Gate>(
     task: Task<'_, J, A, T, G>,
 ) -> Worker<J, A>
     requires threads { (1 ≤ task.shared.now.threads) × (task.shared.now.threads ≤ 63) }
+    requires given { 0 < length (lines_of task.shared.now.threads task.worker.seat.number task.block.now) }
+    ensures worked { HasWorked task.entry.shared.now.threads task.entry.block.now task.entry.worker.seat
+        (work result.seat (map string_bytes result.texts.items) result.ended) }
 {
     let Task {
         shared,
@@ -62,6 +84,8 @@ pub(crate) fn run_block<
 ) -> Vec<Worker<J, A>, A>
     requires frees { Frees A.Allocator A.dealloc_token }
     requires threads { (1 ≤ shared.now.threads) × (shared.now.threads ≤ 63) }
+    ensures worked { AllZip (HasWorked shared.now.threads block.now) (map (λ w. w.seat) workers.items)
+        (map (λ w. work w.seat (map string_bytes w.texts.items) w.ended) result.items) }
 {
     let block_state = BlockState {
         called: AtomicU64::new(0),
@@ -75,6 +99,8 @@ pub(crate) fn run_block<
             requires { IsSend J.row × IsSync J.row × IsSend A.row × IsSync A.row × IsSync T.row × IsSync G.row
                 × Frees A.Allocator A.dealloc_token
                 × (1 ≤ shared.now.threads) × (shared.now.threads ≤ 63) }
+            ensures { AllZip (HasWorked shared.entry.now.threads block.entry.now) (map (λ w. w.seat) workers.items)
+                (map (λ w. work w.seat (map string_bytes w.texts.items) w.ended) result.items) }
         {
             let mut workers = workers;
             run_workers(scope, shared, state, block, &mut workers);
@@ -83,7 +109,8 @@ pub(crate) fn run_block<
     )
 }
 
-/// Starts the thread of the last worker and then those of the others, and joins it when these have ended.
+/// Starts the thread of the last worker and then those of the others, and joins it when these have ended. There is room for
+/// each worker that comes back, since it was taken from there.
 fn run_workers<
     's,
     'e: 's,
@@ -100,14 +127,17 @@ fn run_workers<
 )
     requires frees { Frees A.Allocator A.dealloc_token }
     requires threads { (1 ≤ shared.now.threads) × (shared.now.threads ≤ 63) }
+    ensures worked { AllZip (HasWorked shared.now.threads block.now) (map (λ w. w.seat) workers.old.items)
+        (map (λ w. work w.seat (map string_bytes w.texts.items) w.ended) workers.new.items) }
+    ensures same { vec_len workers.new ≡ vec_len workers.old }
+    ensures room { vec_capacity workers.old ≤ vec_capacity workers.new }
 {
     let Some(worker) = workers.pop() else {
         return;
     };
-    let number = worker.seat.number();
-    if !is_given(shared.threads, number, block) {
+    if !is_given(shared.threads, worker.seat.number(), block) {
         run_workers(scope, shared, state, block, workers);
-        put_back(workers, ended(worker, Ok(())));
+        workers.push_reserved(ended(worker, Ok(())));
         return;
     }
     let task = Task {
@@ -116,21 +146,59 @@ fn run_workers<
         block,
         worker,
     };
+    match start(scope, task) {
+        Ok(handle) => {
+            run_workers(scope, shared, state, block, workers);
+            workers.push_reserved(handle.join(shared.rt));
+        }
+        Err(worker) => {
+            run_workers(scope, shared, state, block, workers);
+            workers.push_reserved(worker);
+        }
+    }
+}
+
+/// Starts a worker's thread. Where there is none the worker comes back at once, with its first line refused for memory.
+fn start<
+    's,
+    'e: 's,
+    J: Naming + Send + Sync,
+    A: AllocHandle + Send + Sync,
+    T: Threads + Wait + Sync,
+    G: Gate,
+>(
+    scope: &Scope<'s, &'e ()>,
+    task: Task<'e, J, A, T, G>,
+) -> Result<PromisedHandle<Worker<J, A>, Called<'e, J, A>>, Worker<J, A>>
+    requires frees { Frees A.Allocator A.dealloc_token }
+    requires threads { (1 ≤ task.shared.now.threads) × (task.shared.now.threads ≤ 63) }
+    requires given { 0 < length (lines_of task.shared.now.threads task.worker.seat.number task.block.now) }
+    ensures threads { IfOk result (λ handle. handle.promise.threads ≡ task.entry.shared.now.threads) }
+    ensures block { IfOk result (λ handle. handle.promise.block.now ≡ task.entry.block.now) }
+    ensures worker { IfOk result (λ handle. handle.promise.worker.value.seat ≡ task.entry.worker.seat) }
+    ensures here { IfErr result (λ worker. HasWorked task.entry.shared.now.threads task.entry.block.now
+        task.entry.worker.seat (work worker.seat (map string_bytes worker.texts.items) worker.ended)) }
+{
+    let called = Called {
+        threads: task.shared.threads,
+        block: task.block,
+        worker: Snapshot::of(&task.worker),
+    };
+    let state = task.state;
+    let number = task.worker.seat.number();
     let work = move || -> Worker<J, A>
         requires { IsSend J.row × IsSync J.row × IsSend A.row × IsSync A.row × IsSync T.row × IsSync G.row
             × Frees A.Allocator A.dealloc_token
-            × (1 ≤ task.shared.now.threads) × (task.shared.now.threads ≤ 63) }
+            × (1 ≤ task.shared.now.threads) × (task.shared.now.threads ≤ 63)
+            × (0 < length (lines_of task.shared.now.threads task.worker.seat.number task.block.now)) }
+        ensures { HasWorked task.entry.shared.now.threads task.entry.block.now task.entry.worker.seat
+            (work result.seat (map string_bytes result.texts.items) result.ended) }
     { carry_out(task) };
-    match scope.spawn(work) {
-        Ok(handle) => {
-            run_workers(scope, shared, state, block, workers);
-            put_back(workers, handle.join(shared.rt));
-        }
+    match scope.spawn_with(called, work) {
+        Ok(handle) => Ok(handle),
         Err(unstarted) => {
             state.without_thread.store(number, Ordering::SeqCst);
-            let worker = (unstarted.value)();
-            run_workers(scope, shared, state, block, workers);
-            put_back(workers, worker);
+            Err((unstarted.value)())
         }
     }
 }
@@ -139,16 +207,13 @@ fn run_workers<
 fn ended<J: Naming, A: AllocHandle>(
     worker: Worker<J, A>,
     outcome: Result<(), CallFault>,
-) -> Worker<J, A> {
+) -> Worker<J, A>
+    ensures seat { result.seat ≡ worker.seat }
+    ensures texts { result.texts.items ≡ [] }
+    ensures ended { result.ended ≡ outcome }
+{
     let mut worker = worker;
     worker.texts.clear();
     worker.ended = outcome;
     worker
-}
-
-/// Puts a worker last. There is room for it, since it was taken from there.
-fn put_back<J: Naming, A: AllocHandle>(workers: &mut Vec<Worker<J, A>, A>, worker: Worker<J, A>) {
-    if let Err(_unpushed) = workers.push(worker) {
-        return;
-    }
 }

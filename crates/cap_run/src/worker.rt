@@ -1,6 +1,7 @@
-ghost use Rattle.std.specs.Prelude.{◌≡◌, ◌++◌, ◌∷◌, ◌≤◌, [], IfOk, OnOk, OnErr, List, ℕ, map, string_bytes};
+ghost use Rattle.std.specs.Prelude.{◌≡◌, ◌++◌, ◌∷◌, ◌<◌, ◌≤◌, [], IfOk, MatchBool, OnOk, OnErr, List, ℕ, length, map, string_bytes};
+ghost use Rattle.cap_run.specs.Code.Calls.{HasAnswered, HasCalledLines, KeepsCalls, lines_of};
 ghost use Rattle.cap_run.specs.Run.{on_a_line};
-ghost use Rattle.cap_run.specs.Workload.{HasAnswered, KeepsCalls, seat_of};
+ghost use Rattle.cap_run.specs.Workload.{seat_of};
 ghost use Rattle.cap_script.specs.ReplyText.{reply_text};
 
 use crate::Gate;
@@ -54,6 +55,7 @@ pub(crate) fn seat_of(threads: u64, worker: Option<u64>) -> u64
 /// Whether a line of the block is called from the seat.
 pub(crate) fn is_given<A: AllocHandle>(threads: u64, seat: u64, block: &[Line<A>]) -> bool
     requires { (1 ≤ threads) × (threads ≤ 63) }
+    ensures { MatchBool result (0 < length (lines_of threads seat block.now)) (lines_of threads seat block.now ≡ []) }
 {
     for line in block {
         if seat_of(threads, line.worker) == seat {
@@ -71,6 +73,9 @@ pub(crate) fn answer_lines<J: Naming, A: AllocHandle, T: Wait, G: Gate>(
     worker: &mut Worker<J, A>,
 ) -> Result<(), CallFault>
     requires threads { (1 ≤ shared.now.threads) × (shared.now.threads ≤ 63) }
+    requires none { worker.old.texts.items ≡ [] }
+    ensures called { HasCalledLines shared.now.threads (lines_of shared.now.threads worker.old.seat.number block.now)
+        result (map string_bytes worker.new.texts.items) worker.old.seat worker.new.seat }
 {
     let number = worker.seat.number();
     let mut before = 0u64;

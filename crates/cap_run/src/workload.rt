@@ -1,7 +1,13 @@
 //! A workload, run on the server that threads share.
-ghost use Rattle.std.specs.Prelude.{◌≡◌, ◌⊎◌, ◌+◌, ◌<◌, ◌≤◌, length, Err, IfOk, IfSome, IfErr, IsErrAnd, IsUtf8};
+ghost use Rattle.std.specs.Prelude.{◌≡◌, ◌⊎◌, ◌+◌, ◌++◌, ◌∷◌, ◌<◌, ◌≤◌, ℕ, List, [], length, map, Err, IfOk, IfSome, IfErr, IsErrAnd, IsUtf8, MatchResult, None, OnErr, OnOk, string_bytes, vec_capacity, vec_len};
 ghost use denote.Param.Send.{Frees};
+ghost use Rattle.cap_history.specs.Seat.{SeatState};
+ghost use Rattle.cap_run.specs.Code.Calls.{AreSeats, EndSo, Gathers, HasAnswered, HaveCalled, IsNext, IsWholeBlock, KeepsCalls, RunsLines, unclosed_outcome};
+ghost use Rattle.cap_run.specs.Run.{IsSpelled, Known};
 ghost use Rattle.cap_run.specs.RunFault.{IsUnread, exit_status};
+ghost use Rattle.cap_run.specs.Workload.{WritesWorkload};
+ghost use Rattle.cap_script.specs.Script.{SpellsScript};
+ghost use Rattle.cap_script.specs.declared.line.Line.{Line};
 
 use crate::block::run_block;
 use crate::output::{write_ending, write_long, write_pending};
@@ -51,6 +57,12 @@ pub fn run_workload<
 
     // Nothing is written where the input is refused.
     ensures silent { IfErr result (λ fault. exit_status fault ≡ 1 → writer.new ≡ writer.old) }
+
+    // What is written is the text of the replies, in the order of the lines that the input spells. They are those of one
+    // legal history that has each line's call once, each seat's in the order of its lines, and no other call. Where the run
+    // ends at a fault it is the text of the first replies, and such a history begins with the calls of each seat.
+    ensures written { WritesWorkload A threads (R.remaining reader.old) result
+        (W.contents writer.old) (W.contents writer.new) }
 {
     let text = read_text(alloc, reader)?;
     let mut lines = lines_of(alloc, text.as_str())?;
@@ -79,12 +91,18 @@ fn serve_lines<
     requires history { opened.seen.book ≡ J.book }
     requires seats { threads + 1 ≡ J.seats }
     ensures status { IfErr result (λ fault. exit_status fault ≡ 3) }
+    ensures written { (input : Known) → (spelled : List (Line A)) → IsSpelled input spelled → SpellsScript spelled lines.old
+        → WritesWorkload A threads input result (W.contents writer.old) (W.contents writer.new) }
 {
-    let (server, seats) = Server::<J, A>::open(opened, alloc, threads + 1).map_err(
-        |_| RunFault::Memory,
-    )?;
-    let mut back = Vec::with_capacity(alloc, seats.len()).map_err(|_| RunFault::Memory)?;
-    let workers = employ(alloc, seats).map_err(|_| RunFault::Memory)?;
+    let Ok((server, seats)) = Server::<J, A>::open(opened, alloc, threads + 1) else {
+        return Err(RunFault::Memory);
+    };
+    let Ok(mut back) = Vec::with_capacity(alloc, seats.len()) else {
+        return Err(RunFault::Memory);
+    };
+    let Ok(workers) = employ(alloc, seats) else {
+        return Err(RunFault::Memory);
+    };
     let shared = Shared {
         rt,
         alloc,
@@ -103,6 +121,7 @@ fn serve_lines<
 
 /// The outcome of a run whose server was not closed.
 fn outcome_unclosed(outcome: Result<(), RunFault>) -> Result<(), RunFault>
+    ensures same { result ≡ unclosed_outcome outcome }
     ensures status { IfErr outcome (λ fault. exit_status fault ≡ 3) → IfErr result (λ fault. exit_status fault ≡ 3) }
 {
     match outcome {
@@ -115,7 +134,9 @@ fn outcome_unclosed(outcome: Result<(), RunFault>) -> Result<(), RunFault>
 fn employ<J: Naming, A: AllocHandle>(
     alloc: A,
     seats: Vec<Seat<J, A>, A>,
-) -> Result<Vec<Worker<J, A>, A>, OutOfMemory> {
+) -> Result<Vec<Worker<J, A>, A>, OutOfMemory>
+    ensures seats { IfOk result (λ workers. map (λ w. w.seat) workers.items ≡ seats.items) }
+{
     let mut workers = Vec::with_capacity(alloc, seats.len())?;
     for seat in seats {
         workers.push(Worker {
@@ -132,7 +153,10 @@ fn employ<J: Naming, A: AllocHandle>(
 fn hand_back<J: Naming, A: AllocHandle>(
     workers: Vec<Worker<J, A>, A>,
     seats: &mut Vec<Seat<J, A>, A>,
-) {
+)
+    requires room { vec_len seats.old + vec_len workers ≤ vec_capacity seats.old }
+    ensures seats { seats.new.items ≡ seats.old.items ++ map (λ w. w.seat) workers.items }
+{
     for worker in workers {
         let Worker {
             seat,
@@ -140,9 +164,7 @@ fn hand_back<J: Naming, A: AllocHandle>(
             texts: _,
             ended: _,
         } = worker;
-        if let Err(_lost) = seats.push(seat) {
-            return;
-        }
+        seats.push_reserved(seat);
     }
 }
 
@@ -161,7 +183,12 @@ fn run_lines<
 ) -> (Vec<Worker<J, A>, A>, Result<(), RunFault>)
     requires threads { (1 ≤ shared.now.threads) × (shared.now.threads ≤ 63) }
     requires frees { Frees A.Allocator A.dealloc_token }
+    requires seats { AreSeats shared.now.threads (map (λ w. w.seat) workers.items) }
     ensures status { IfErr result.1 (λ fault. exit_status fault ≡ 3) }
+    ensures len { vec_len result.0 ≡ vec_len workers }
+    ensures runs { (spelled : List (Line A)) → SpellsScript spelled lines.old
+        → RunsLines shared.now.threads spelled result.1 (map (λ w. w.seat) workers.items) (map (λ w. w.seat) result.0.items)
+        (W.contents writer.old) (W.contents writer.new) }
 {
     let mut pending = String::new(shared.alloc);
     let (workers, outcome) = answer_all(shared, lines, workers, writer, &mut pending);
@@ -179,6 +206,9 @@ fn write_rest<A: AllocHandle, W: Write>(
     outcome: Result<(), CallFault>,
 ) -> Result<(), RunFault>
     ensures status { IfErr result (λ fault. exit_status fault ≡ 3) }
+    ensures runs { (threads : ℕ) → (lines : List (Line A)) → (a : List (SeatState A)) → (b : List (SeatState A)) → (known : Known)
+        → EndSo threads lines outcome (string_bytes pending.old) a b known (W.contents writer.old)
+        → RunsLines threads lines result a b known (W.contents writer.new) }
 {
     write_pending(writer, pending)?;
     write_ending(outcome, writer)?;
@@ -205,7 +235,15 @@ fn answer_all<
 )
     requires threads { (1 ≤ shared.now.threads) × (shared.now.threads ≤ 63) }
     requires frees { Frees A.Allocator A.dealloc_token }
+    requires seats { AreSeats shared.now.threads (map (λ w. w.seat) workers.items) }
+    requires none { string_bytes pending.old ≡ [] }
+    ensures len { vec_len result.0 ≡ vec_len workers }
     ensures status { IfErr result.1 (λ fault. fault ≡ RunFault.Write) }
+    ensures called { (spelled : List (Line A)) → SpellsScript spelled lines.old → MatchResult result.1
+        (λ ended. EndSo shared.now.threads spelled ended (string_bytes pending.new) (map (λ w. w.seat) workers.items)
+        (map (λ w. w.seat) result.0.items) (W.contents writer.old) (W.contents writer.new))
+        (λ fault. RunsLines shared.now.threads spelled (Err RunFault.Write) (map (λ w. w.seat) workers.items)
+        (map (λ w. w.seat) result.0.items) (W.contents writer.old) (W.contents writer.new)) }
 {
     let mut workers = workers;
     loop {
@@ -214,22 +252,79 @@ fn answer_all<
             Ok(None) => return (workers, Ok(Ok(()))),
             Err(_) => return (workers, Ok(Err(CallFault::OutOfMemory))),
         };
-        if line.worker.is_some() {
-            let Ok(block) = block_from(shared.alloc, line, lines) else {
-                return (workers, Ok(Err(CallFault::OutOfMemory)));
-            };
-            let block = block.as_slice();
-            workers = run_block(shared, block, workers);
-            if let Err(fault) = gather(shared.threads, block, workers.as_slice(), pending) {
-                return (workers, Ok(Err(fault)));
-            }
-        } else if let Err(fault) = answer_here(shared, workers.as_mut_slice(), &line, pending) {
+        let (called, outcome) = answer_next(shared, line, lines, workers, pending);
+        workers = called;
+        if let Err(fault) = outcome {
             return (workers, Ok(Err(fault)));
         }
         if let Err(fault) = write_long(writer, pending) {
             return (workers, Err(fault));
         }
     }
+}
+
+/// Calls a line, and where it has `@` the others of its block. The texts of the replies go to the end of `pending`.
+fn answer_next<
+    J: Naming + Send + Sync,
+    A: AllocHandle + Send + Sync,
+    T: Threads + Wait + Sync,
+    G: Gate,
+>(
+    shared: &Shared<'_, J, A, T, G>,
+    line: Line<A>,
+    lines: &mut Lines<'_, A>,
+    workers: Vec<Worker<J, A>, A>,
+    pending: &mut String<A>,
+) -> (Vec<Worker<J, A>, A>, Result<(), CallFault>)
+    requires threads { (1 ≤ shared.now.threads) × (shared.now.threads ≤ 63) }
+    requires frees { Frees A.Allocator A.dealloc_token }
+    requires seats { AreSeats shared.now.threads (map (λ w. w.seat) workers.items) }
+    ensures seats { AreSeats shared.now.threads (map (λ w. w.seat) result.0.items) }
+    ensures len { vec_len result.0 ≡ vec_len workers }
+    ensures left { OnOk result.1 (length lines.new ≤ length lines.old) }
+    ensures called { (rest : List (Line A)) → SpellsScript rest lines.old
+        → IsNext shared.now.threads line rest result.1 lines.new (string_bytes pending.old) (string_bytes pending.new)
+        (map (λ w. w.seat) workers.items) (map (λ w. w.seat) result.0.items) }
+{
+    if line.worker.is_some() {
+        return answer_block(shared, line, lines, workers, pending);
+    }
+    let mut workers = workers;
+    let outcome = answer_alone(shared, &line, &mut workers, pending);
+    (workers, outcome)
+}
+
+/// Calls a line with `@` and those behind it, up to the next without. The texts of the replies go to the end of
+/// `pending`.
+fn answer_block<
+    J: Naming + Send + Sync,
+    A: AllocHandle + Send + Sync,
+    T: Threads + Wait + Sync,
+    G: Gate,
+>(
+    shared: &Shared<'_, J, A, T, G>,
+    first: Line<A>,
+    lines: &mut Lines<'_, A>,
+    workers: Vec<Worker<J, A>, A>,
+    pending: &mut String<A>,
+) -> (Vec<Worker<J, A>, A>, Result<(), CallFault>)
+    requires threads { (1 ≤ shared.now.threads) × (shared.now.threads ≤ 63) }
+    requires frees { Frees A.Allocator A.dealloc_token }
+    requires seats { AreSeats shared.now.threads (map (λ w. w.seat) workers.items) }
+    ensures seats { AreSeats shared.now.threads (map (λ w. w.seat) result.0.items) }
+    ensures len { vec_len result.0 ≡ vec_len workers }
+    ensures left { OnOk result.1 (length lines.new ≤ length lines.old) }
+    ensures called { (rest : List (Line A)) → SpellsScript rest lines.old
+        → IsNext shared.now.threads first rest result.1 lines.new (string_bytes pending.old) (string_bytes pending.new)
+        (map (λ w. w.seat) workers.items) (map (λ w. w.seat) result.0.items) }
+{
+    let Ok(block) = block_from(shared.alloc, first, lines) else {
+        return (workers, Err(CallFault::OutOfMemory));
+    };
+    let block = block.as_slice();
+    let workers = run_block(shared, block, workers);
+    let outcome = gather(shared.threads, block, workers.as_slice(), pending);
+    (workers, outcome)
 }
 
 /// A line with `@` and those behind it, up to the next without.
@@ -239,6 +334,8 @@ fn block_from<A: AllocHandle>(
     lines: &mut Lines<'_, A>,
 ) -> Result<Vec<Line<A>, A>, OutOfMemory>
     ensures left { IfOk result (λ block. length lines.new ≤ length lines.old) }
+    ensures block { (rest : List (Line A)) → SpellsScript rest lines.old
+        → IfOk result (λ block. IsWholeBlock first rest block.items lines.new) }
 {
     let mut block = Vec::new(alloc);
     block.push(first)?;
@@ -250,23 +347,37 @@ fn block_from<A: AllocHandle>(
     Ok(block)
 }
 
-/// Calls a line from seat 0. The text of the reply goes to the end of `pending`.
+/// Calls a line without `@` from seat 0. The text of the reply goes to the end of `pending`.
+fn answer_alone<J: Naming, A: AllocHandle, T: Wait, G: Gate>(
+    shared: &Shared<'_, J, A, T, G>,
+    line: &Line<A>,
+    workers: &mut Vec<Worker<J, A>, A>,
+    pending: &mut String<A>,
+) -> Result<(), CallFault>
+    requires seats { AreSeats shared.now.threads (map (λ w. w.seat) workers.old.items) }
+    requires alone { line.now.worker ≡ None }
+    ensures len { vec_len workers.new ≡ vec_len workers.old }
+    ensures called { (text : List ℕ) × (string_bytes pending.new ≡ string_bytes pending.old ++ text)
+        × HaveCalled shared.now.threads (line.now ∷ []) result text (map (λ w. w.seat) workers.old.items)
+        (map (λ w. w.seat) workers.new.items) }
+{
+    let first = &mut workers[0];
+    answer_here(shared, &mut first.seat, line, pending)
+}
+
+/// Calls a line from a seat. The text of the reply goes to the end of `pending`.
 fn answer_here<J: Naming, A: AllocHandle, T: Wait, G: Gate>(
     shared: &Shared<'_, J, A, T, G>,
-    workers: &mut [Worker<J, A>],
+    seat: &mut Seat<J, A>,
     line: &Line<A>,
     pending: &mut String<A>,
-) -> Result<(), CallFault> {
-    let Some(first) = workers.first_mut() else {
-        return Err(CallFault::OutOfMemory);
-    };
-    let text = answer_line(
-        shared.rt,
-        shared.alloc,
-        shared.server,
-        &mut first.seat,
-        line,
-    )?;
+) -> Result<(), CallFault>
+    ensures ok { OnOk result ((text : List ℕ) × (string_bytes pending.new ≡ string_bytes pending.old ++ text)
+        × HasAnswered line.now text seat.old seat.new) }
+    ensures err { OnErr result ((string_bytes pending.new ≡ string_bytes pending.old)
+        × KeepsCalls seat.old seat.new) }
+{
+    let text = answer_line(shared.rt, shared.alloc, shared.server, seat, line)?;
     match pending.push_str(text.as_str()) {
         Ok(()) => Ok(()),
         Err(_) => Err(CallFault::OutOfMemory),
@@ -281,7 +392,9 @@ fn gather<J: Naming, A: AllocHandle>(
     workers: &[Worker<J, A>],
     pending: &mut String<A>,
 ) -> Result<(), CallFault>
-    requires { (1 ≤ threads) × (threads ≤ 63) }
+    requires threads { (1 ≤ threads) × (threads ≤ 63) }
+    ensures gathered { (text : List ℕ) × (string_bytes pending.new ≡ string_bytes pending.old ++ text)
+        × Gathers threads block.now (map (λ w. map string_bytes w.texts.items) workers.now) result text }
 {
     // How many texts of each seat's worker were taken.
     let mut taken = [0usize; 64];

@@ -1,0 +1,514 @@
+-- The texts of all workers' replies, put together in the order of the lines.
+use Rattle.std.proofs.Common.{◌≡◌, ℕ, zero, suc, ◌+◌, ◌<◌, ◌≤◌, List, [], ◌∷◌, ◌++◌, Ok, Err, true, false, length, map, nat_eq, drop, get_or, take, take-append-drop, take_all, if◌then◌else◌, inl, inr, refl, replicate, set, sym, ap, ap₂, subst, ◌∙◌, append_assoc, append-nil, length-append, arith}
+use Rattle.std.proofs.lemmas.Bool.{cases_Bool, cases_eq, cases_lt}
+use Rattle.std.proofs.lemmas.List.{drop_more, get_or-map, map_push, take_more, get_or-replicate, get_or-set_other, get_or-set_same, length-replicate, length-set}
+use Rattle.std.proofs.lemmas.List.Folds.{concat-append}
+use Rattle.std.proofs.lemmas.Simd.{map-map}
+use Rattle.std.specs.List.{AllZip, concat}
+use Rattle.std.proofs.lemmas.List.{length-map}
+use mathlib.Core.List.{IsPrefix}
+use Rattle.cap_core.specs.Answer.{event_by}
+use Rattle.cap_core.specs.declared.event.Event.{Event}
+use Rattle.cap_core.specs.declared.reply.Reply.{Reply}
+use Rattle.cap_history.specs.Beginnings.{prefix-length, prefix-of-none, prefix-trans}
+use Rattle.cap_history.specs.History.{own}
+use Rattle.cap_history.specs.Seat.{SeatState, calls}
+use Rattle.cap_run.proofs.SeatLemmas.{calls-begin, count_few, is_of, lines-other, lines-own, nat_eq-other, nat_eq-same, own-one, own-other, reply_texts-none, same-nat_eq, same_length, seat_of-most, texts-other, texts-own}
+use Rattle.cap_run.specs.Run.{Ended, on_a_line, reply_lines}
+use Rattle.cap_run.specs.Code.Calls.{AreNumbered, AreSeats, Gathers, HasCalledLines, HasCalledOwn, HasWorked, HaveCalled, Work, lines_of, reply_texts, texts_of, work}
+use Rattle.cap_run.specs.Workload.{HasCount, calls_of, seat_of}
+use Rattle.cap_script.specs.ReplyText.{reply_text}
+use Rattle.cap_script.specs.declared.line.Line.{Line}
+use Rattle.cap_server.specs.declared.fault.CallFault.{CallFault}
+
+pub take-begins : {X : Type 0} (n : ℕ) (xs : List X) → IsPrefix (take n xs) xs
+take-begins n xs = (drop n xs, take-append-drop n xs)
+
+module _ {A : Type 0} where
+  -- ---- the texts of all workers, in the order of the lines
+
+  pub replies_of : (threads : ℕ) (lines : List (Line A)) (old : List (SeatState A)) (new : List (Work A)) → AllZip (HasWorked threads lines) old new → ℕ → List (Reply A)
+  replies_of threads lines [] [] each place = []
+  replies_of threads lines [] (y ∷ new) each place = []
+  replies_of threads lines (x ∷ old) [] each place = []
+  replies_of threads lines (x ∷ old) (y ∷ new) each zero = each.0.replies
+  replies_of threads lines (x ∷ old) (y ∷ new) each (suc place) = replies_of threads lines old new each.1 place
+
+  abbrev pub seats_of : List (Work A) → List (SeatState A)
+  seats_of works = map (λ work. work.seat) works
+
+  abbrev pub all_texts : List (Work A) → List (List (List ℕ))
+  all_texts works = map (λ work. work.texts) works
+
+  pub texts_at : (threads : ℕ) (lines : List (Line A)) (number : ℕ → ℕ) (old : List (SeatState A)) (new : List (Work A)) (each : AllZip (HasWorked threads lines) old new) → AreNumbered number old → (place : ℕ)
+      → get_or (all_texts new) place [] ≡ reply_texts (lines_of threads (number place) lines) (replies_of threads lines old new each place)
+  unfolding replies_of
+  texts_at threads lines number [] [] each so place = sym (reply_texts-none (lines_of threads (number place) lines))
+  texts_at threads lines number [] (y ∷ new) each so place = absurd each
+  texts_at threads lines number (x ∷ old) [] each so place = absurd each
+  texts_at threads lines number (x ∷ old) (y ∷ new) each so zero =
+      each.0.texts_are ∙ ap (λ (n : ℕ). reply_texts (lines_of threads n lines) each.0.replies) so.0
+  texts_at threads lines number (x ∷ old) (y ∷ new) each so (suc place) = texts_at threads lines (λ p. number (suc p)) old new each.1 so.1 place
+
+  worked-numbers : (threads : ℕ) (lines : List (Line A)) (number : ℕ → ℕ) (old : List (SeatState A)) (new : List (Work A)) → AllZip (HasWorked threads lines) old new → AreNumbered number old
+      → AreNumbered number (seats_of new)
+  worked-numbers threads lines number [] [] each so = tt
+  worked-numbers threads lines number [] (y ∷ new) each so = absurd each
+  worked-numbers threads lines number (x ∷ old) [] each so = absurd each
+  worked-numbers threads lines number (x ∷ old) (y ∷ new) each so = (each.0.number ∙ so.0, worked-numbers threads lines (λ place. number (suc place)) old new each.1 so.1)
+
+  -- after a block the seats are still numbered by their places
+  pub worked_seats : (threads : ℕ) (lines : List (Line A)) (old : List (SeatState A)) (new : List (Work A)) → AllZip (HasWorked threads lines) old new → AreSeats threads old → AreSeats threads (seats_of new)
+  worked_seats threads lines old new each so =
+      (length-map new (λ work. work.seat) ∙ same_length (HasWorked threads lines) old new each ∙ so.0, worked-numbers threads lines (λ place. place) old new each so.1)
+
+  -- one worker more
+  pub worked_push : (threads : ℕ) (lines : List (Line A)) (old : List (SeatState A)) (new : List (Work A)) (seat : SeatState A) (done : Work A) → AllZip (HasWorked threads lines) old new
+      → HasWorked threads lines seat done → AllZip (HasWorked threads lines) (old ++ seat ∷ []) (new ++ done ∷ [])
+  worked_push threads lines [] [] seat done each so = (so, tt)
+  worked_push threads lines [] (y ∷ new) seat done each so = absurd each
+  worked_push threads lines (x ∷ old) [] seat done each so = absurd each
+  worked_push threads lines (x ∷ old) (y ∷ new) seat done each so = (each.0, worked_push threads lines old new seat done each.1 so)
+
+  -- a worker is put back behind those that have ended
+  pub worked_back : {W : Type 0} (seat : W → SeatState A) (made : W → Work A) (threads : ℕ) (block : List (Line A)) (before rest done all : List W) (worker back : W) → before ≡ rest ++ worker ∷ []
+      → all ≡ done ++ back ∷ [] → AllZip (HasWorked threads block) (map seat rest) (map made done) → HasWorked threads block (seat worker) (made back)
+      → AllZip (HasWorked threads block) (map seat before) (map made all)
+  worked_back {W} seat made threads block before rest done all worker back before_is all_is each so =
+      subst (λ (l : List W). AllZip (HasWorked threads block) (map seat l) (map made all)) (sym before_is)
+      (subst (λ (l : List W). AllZip (HasWorked threads block) (map seat (rest ++ worker ∷ [])) (map made l)) (sym all_is)
+      (subst (λ (l : List (SeatState A)). AllZip (HasWorked threads block) l (map made (done ++ back ∷ []))) (sym (map_push seat rest worker))
+      (subst (λ (l : List (Work A)). AllZip (HasWorked threads block) (map seat rest ++ seat worker ∷ []) l) (sym (map_push made done back))
+      (worked_push threads block (map seat rest) (map made done) (seat worker) (made back) each so))))
+
+  -- The replies to the lines that have texts, put together of those of each seat.
+  pub record Merged (threads : ℕ) (lines : List (Line A)) (parts : List (List ℕ)) (replies_by : ℕ → List (Reply A)) : Type 0 where
+    pub replies : List (Reply A)
+    pub counted : length replies ≡ length parts
+    pub parts_are : parts ≡ reply_texts lines replies
+    pub begins : (number : ℕ) → IsPrefix (own number (calls_of threads lines replies)) (calls_of threads (lines_of threads number lines) (replies_by number))
+    pub whole : length parts ≡ length lines → (number : ℕ) → own number (calls_of threads lines replies) ≡ calls_of threads (lines_of threads number lines) (replies_by number)
+
+  -- the replies of a seat without its first
+  abbrev pub without : ℕ → List (Reply A) → (ℕ → List (Reply A)) → ℕ → List (Reply A)
+  without seat rest replies_by number = if nat_eq seat number then rest else replies_by number
+
+  pub without-own : (seat number : ℕ) (rest : List (Reply A)) (replies_by : ℕ → List (Reply A)) → nat_eq seat number ≡ true → without seat rest replies_by number ≡ rest
+  without-own seat number rest replies_by is = rw is
+
+  pub without-other : (seat number : ℕ) (rest : List (Reply A)) (replies_by : ℕ → List (Reply A)) → nat_eq seat number ≡ false → without seat rest replies_by number ≡ replies_by number
+  without-other seat number rest replies_by is = rw is
+
+  -- what the texts of each seat have to be
+  abbrev pub Has : ℕ → List (Line A) → List (List ℕ) → (ℕ → List (Reply A)) → Type 0
+  Has threads lines parts replies_by = (number : ℕ) → IsPrefix (texts_of threads number lines parts) (reply_texts (lines_of threads number lines) (replies_by number))
+
+  -- a first text, and the reply of which it is
+  pub record First (threads : ℕ) (line : Line A) (lines : List (Line A)) (text : List ℕ) (parts : List (List ℕ)) (replies : List (Reply A)) : Type 0 where
+    pub reply : Reply A
+    pub rest : List (Reply A)
+    pub is : replies ≡ reply ∷ rest
+    pub text_is : text ≡ on_a_line (reply_text line reply)
+    pub others : IsPrefix (texts_of threads (seat_of threads line.worker) lines parts) (reply_texts (lines_of threads (seat_of threads line.worker) lines) rest)
+
+  pub first_of : (threads : ℕ) (line : Line A) (lines : List (Line A)) (text : List ℕ) (parts : List (List ℕ)) (replies : List (Reply A))
+      → IsPrefix (text ∷ texts_of threads (seat_of threads line.worker) lines parts) (reply_texts (line ∷ lines_of threads (seat_of threads line.worker) lines) replies)
+      → First threads line lines text parts replies
+  first_of threads line lines text parts [] begins = absurd (cc (begins.1))
+  first_of threads line lines text parts (reply ∷ rest) begins = record {
+    reply = reply;
+    rest = rest;
+    is = refl;
+    text_is = cc (begins.1);
+    others = (begins.0, cc (begins.1));
+  }
+
+  pub first-has : (threads : ℕ) (line : Line A) (lines : List (Line A)) (text : List ℕ) (parts : List (List ℕ)) (replies_by : ℕ → List (Reply A)) → Has threads (line ∷ lines) (text ∷ parts) replies_by
+      → First threads line lines text parts (replies_by (seat_of threads line.worker))
+  first-has threads line lines text parts replies_by has =
+      let seat = seat_of threads line.worker in
+      let same = nat_eq-same seat in
+      first_of threads line lines text parts (replies_by seat)
+      (subst (λ (l : List (Line A)). IsPrefix (text ∷ texts_of threads seat lines parts) (reply_texts l (replies_by seat))) (lines-own threads seat line lines same)
+      (subst (λ (l : List (List ℕ)). IsPrefix l (reply_texts (lines_of threads seat (line ∷ lines)) (replies_by seat))) (texts-own threads seat line lines text parts same) (has seat)))
+
+  pub rest-has : (threads : ℕ) (line : Line A) (lines : List (Line A)) (text : List ℕ) (parts : List (List ℕ)) (replies_by : ℕ → List (Reply A)) (has : Has threads (line ∷ lines) (text ∷ parts) replies_by)
+      (first : First threads line lines text parts (replies_by (seat_of threads line.worker))) → Has threads lines parts (without (seat_of threads line.worker) first.rest replies_by)
+  rest-has threads line lines text parts replies_by has first number =
+      let seat = seat_of threads line.worker in
+      elim (cases_Bool (nat_eq seat number)) [
+        | inl same ↦
+            let at : seat ≡ number = same-nat_eq seat number same in
+            subst (λ (l : List (Reply A)). IsPrefix (texts_of threads number lines parts) (reply_texts (lines_of threads number lines) l)) (sym (without-own seat number first.rest replies_by same))
+            (subst (λ (n : ℕ). IsPrefix (texts_of threads n lines parts) (reply_texts (lines_of threads n lines) first.rest)) at first.others)
+        | inr other ↦
+            subst (λ (l : List (Reply A)). IsPrefix (texts_of threads number lines parts) (reply_texts (lines_of threads number lines) l)) (sym (without-other seat number first.rest replies_by other))
+            (subst (λ (l : List (Line A)). IsPrefix (texts_of threads number lines parts) (reply_texts l (replies_by number))) (lines-other threads number line lines other)
+            (subst (λ (l : List (List ℕ)). IsPrefix l (reply_texts (lines_of threads number (line ∷ lines)) (replies_by number))) (texts-other threads number line lines text parts other) (has number)))
+      ]
+
+  -- how the first call stands among those of a seat
+  abbrev pub IsCallsOf : (List (Event A) → List (Event A) → Type 0) → ℕ → ℕ → List (Line A) → List (Reply A) → List (Reply A) → Type 0
+  IsCallsOf R threads number lines all replies = R (own number (calls_of threads lines all)) (calls_of threads (lines_of threads number lines) replies)
+
+  pub calls-first : (R : List (Event A) → List (Event A) → Type 0) → ((e : Event A) (xs ys : List (Event A)) → R xs ys → R (e ∷ xs) (e ∷ ys)) → (threads number : ℕ) (line : Line A) (lines : List (Line A))
+      (text : List ℕ) (parts : List (List ℕ)) (replies_by : ℕ → List (Reply A)) (first : First threads line lines text parts (replies_by (seat_of threads line.worker))) (all : List (Reply A))
+      → IsCallsOf R threads number lines all (without (seat_of threads line.worker) first.rest replies_by number)
+      → IsCallsOf R threads number (line ∷ lines) (first.reply ∷ all) (replies_by number)
+  calls-first R push threads number line lines text parts replies_by first all so =
+      let seat = seat_of threads line.worker in
+      let event = event_by seat line.command first.reply in
+      elim (cases_Bool (nat_eq seat number)) [
+        | inl same ↦
+            let at : seat ≡ number = same-nat_eq seat number same in
+            let replies_are : replies_by number ≡ first.reply ∷ first.rest = ap replies_by (sym at) ∙ first.is in
+            let rest : IsCallsOf R threads number lines all first.rest = subst (λ (l : List (Reply A)). IsCallsOf R threads number lines all l) (without-own seat number first.rest replies_by same) so in
+            let pushed = push event (own number (calls_of threads lines all)) (calls_of threads (lines_of threads number lines) first.rest) rest in
+            subst (λ (l : List (Reply A)). IsCallsOf R threads number (line ∷ lines) (first.reply ∷ all) l) (sym replies_are)
+            (subst (λ (l : List (Line A)). R (own number (calls_of threads (line ∷ lines) (first.reply ∷ all))) (calls_of threads l (first.reply ∷ first.rest))) (sym (lines-own threads number line lines same))
+            (subst (λ (l : List (Event A)). R l (calls_of threads (line ∷ lines_of threads number lines) (first.reply ∷ first.rest))) (sym (own-one number seat event (calls_of threads lines all) refl same)) pushed))
+        | inr other ↦
+            let rest : IsCallsOf R threads number lines all (replies_by number) = subst (λ (l : List (Reply A)). IsCallsOf R threads number lines all l) (without-other seat number first.rest replies_by other) so in
+            subst (λ (l : List (Line A)). R (own number (calls_of threads (line ∷ lines) (first.reply ∷ all))) (calls_of threads l (replies_by number))) (sym (lines-other threads number line lines other))
+            (subst (λ (l : List (Event A)). R l (calls_of threads (lines_of threads number lines) (replies_by number))) (sym (own-other number seat event (calls_of threads lines all) refl other)) rest)
+      ]
+
+  pub push-prefix : (e : Event A) (xs ys : List (Event A)) → IsPrefix xs ys → IsPrefix (e ∷ xs) (e ∷ ys)
+  push-prefix e xs ys so = (so.0, ap (λ (l : List (Event A)). e ∷ l) so.1)
+
+  pub merged : (threads : ℕ) (lines : List (Line A)) (parts : List (List ℕ)) (replies_by : ℕ → List (Reply A)) → length parts ≤ length lines → Has threads lines parts replies_by → Merged threads lines parts replies_by
+  merged threads [] [] replies_by few has = record { replies = []; counted = refl; parts_are = refl; begins = λ number. prefix-of-none []; whole = λ all number. refl }
+  merged threads [] (text ∷ parts) replies_by few has = absurd (omega (arith, few))
+  merged threads (line ∷ lines) [] replies_by few has = record {
+    replies = [];
+    counted = refl;
+    parts_are = refl;
+    begins = λ number. prefix-of-none (calls_of threads (lines_of threads number (line ∷ lines)) (replies_by number));
+    whole = λ all number. absurd (omega (arith, all));
+  }
+  merged threads (line ∷ lines) (text ∷ parts) replies_by few has =
+      let seat = seat_of threads line.worker in
+      let first = first-has threads line lines text parts replies_by has in
+      let rest = merged threads lines parts (without seat first.rest replies_by) (omega (arith, few)) (rest-has threads line lines text parts replies_by has first) in
+      record {
+        replies = first.reply ∷ rest.replies;
+        counted = ap suc rest.counted;
+        parts_are = ap₂ (λ (t : List ℕ) (l : List (List ℕ)). t ∷ l) first.text_is rest.parts_are;
+        begins = λ number. calls-first IsPrefix push-prefix threads number line lines text parts replies_by first rest.replies (rest.begins number);
+        whole = λ all number. calls-first (λ xs ys. xs ≡ ys) (λ e xs ys so. ap (λ (l : List (Event A)). e ∷ l) so) threads number line lines text parts replies_by first rest.replies
+            (rest.whole (omega (arith, all)) number);
+      }
+
+  pub concat-texts : (lines : List (Line A)) (replies : List (Reply A)) → concat (reply_texts lines replies) ≡ reply_lines lines replies
+  concat-texts [] replies = refl
+  concat-texts (line ∷ lines) [] = refl
+  concat-texts (line ∷ lines) (reply ∷ replies) = ap (λ (text : List ℕ). on_a_line (reply_text line reply) ++ text) (concat-texts lines replies)
+
+  pub length-texts : (lines : List (Line A)) (replies : List (Reply A)) → length replies ≤ length lines → length (reply_texts lines replies) ≡ length replies
+  length-texts [] [] few = refl
+  length-texts [] (reply ∷ replies) few = absurd (omega (arith, few))
+  length-texts (line ∷ lines) [] few = refl
+  length-texts (line ∷ lines) (reply ∷ replies) few = ap suc (length-texts lines replies (omega (arith, few)))
+
+  -- where each line has a text each line of a seat has one
+  pub length-texts_of : (threads number : ℕ) (lines : List (Line A)) (parts : List (List ℕ)) → length parts ≡ length lines → length (texts_of threads number lines parts) ≡ length (lines_of threads number lines)
+  length-texts_of threads number [] parts all = refl
+  length-texts_of threads number (line ∷ lines) [] all = absurd (omega (arith, all))
+  length-texts_of threads number (line ∷ lines) (text ∷ parts) all =
+      let rest = length-texts_of threads number lines parts (omega (arith, all)) in
+      elim (cases_Bool (is_of threads number line)) [
+        | inl same ↦ ap length (texts-own threads number line lines text parts same) ∙ ap suc rest ∙ sym (ap length (lines-own threads number line lines same))
+        | inr other ↦ ap length (texts-other threads number line lines text parts other) ∙ rest ∙ sym (ap length (lines-other threads number line lines other))
+      ]
+
+  -- a worker whose lines all have texts has ended without a fault
+  pub calls-all : (threads : ℕ) (lines : List (Line A)) (ended : Ended) (texts : List (List ℕ)) (old new : SeatState A) (so : HasCalledLines threads lines ended texts old new) → length lines ≤ length texts
+      → calls new ≡ calls old ++ calls_of threads lines so.replies
+  calls-all threads lines (Ok done) texts old new so all = so.calls_are
+  calls-all threads lines (Err fault) texts old new so all =
+      absurd (omega (arith, so.count, all, ap length so.texts_are, length-texts lines so.replies (omega (arith, so.count))))
+
+  pub prefix-behind : (xs ys zs : List (Event A)) → IsPrefix ys zs → IsPrefix (xs ++ ys) (xs ++ zs)
+  prefix-behind xs ys zs so = (so.0, append_assoc xs ys so.0 ∙ ap (λ (l : List (Event A)). xs ++ l) so.1)
+
+  pub worker-all : (threads : ℕ) (lines : List (Line A)) (made : List (Event A)) (number : ℕ) (old : SeatState A) (new : Work A) (so : HasWorked threads lines old new) → old.number ≡ number
+      → length (lines_of threads number lines) ≤ length new.texts → own number made ≡ calls_of threads (lines_of threads number lines) so.replies → HasCalledOwn (Ok tt) made old new.seat
+  worker-all threads lines made number old new so is all whole =
+      let mine = lines_of threads old.number lines in
+      let few : length mine ≤ length new.texts = subst (λ (n : ℕ). length (lines_of threads n lines) ≤ length new.texts) (sym is) all in
+      let same : own old.number made ≡ calls_of threads mine so.replies =
+      subst (λ (n : ℕ). own n made ≡ calls_of threads (lines_of threads n lines) so.replies) (sym is) whole in
+      record {
+        number = so.number;
+        calls_are = calls-all threads mine new.ended new.texts old new.seat so few ∙ ap (λ (l : List (Event A)). calls old ++ l) (sym same);
+        seen = so.seen;
+      }
+
+  pub worker-some : (threads : ℕ) (fault : CallFault) (lines : List (Line A)) (made : List (Event A)) (number : ℕ) (old : SeatState A) (new : Work A) (so : HasWorked threads lines old new) → old.number ≡ number
+      → IsPrefix (own number made) (calls_of threads (lines_of threads number lines) so.replies) → HasCalledOwn (Err fault) made old new.seat
+  worker-some threads fault lines made number old new so is begins =
+      let mine = lines_of threads old.number lines in
+      let some : IsPrefix (own old.number made) (calls_of threads mine so.replies) =
+      subst (λ (n : ℕ). IsPrefix (own n made) (calls_of threads (lines_of threads n lines) so.replies)) (sym is) begins in
+      let made_all = calls old ++ calls_of threads mine so.replies in
+      record {
+        number = so.number;
+        calls_are = prefix-trans (calls old ++ own old.number made) made_all (calls new.seat) (prefix-behind (calls old) (own old.number made) (calls_of threads mine so.replies) some)
+            (calls-begin new.ended made_all (calls new.seat) so.calls_are);
+        seen = so.seen;
+      }
+
+  pub each-all : (threads : ℕ) (lines : List (Line A)) (made : List (Event A)) (number : ℕ → ℕ) (old : List (SeatState A)) (new : List (Work A)) (each : AllZip (HasWorked threads lines) old new) → AreNumbered number old
+      → ((place : ℕ) → length (lines_of threads (number place) lines) ≤ length (get_or (all_texts new) place []))
+      → ((place : ℕ) → own (number place) made ≡ calls_of threads (lines_of threads (number place) lines) (replies_of threads lines old new each place))
+      → AllZip (HasCalledOwn (Ok tt) made) old (seats_of new)
+  unfolding replies_of
+  each-all threads lines made number [] [] each so all whole = tt
+  each-all threads lines made number [] (y ∷ new) each so all whole = absurd each
+  each-all threads lines made number (x ∷ old) [] each so all whole = absurd each
+  each-all threads lines made number (x ∷ old) (y ∷ new) each so all whole = (
+    worker-all threads lines made (number 0) x y each.0 so.0 (all 0) (whole 0),
+    each-all threads lines made (λ place. number (suc place)) old new each.1 so.1 (λ place. all (suc place)) (λ place. whole (suc place)),
+  )
+
+  pub each-some : (threads : ℕ) (fault : CallFault) (lines : List (Line A)) (made : List (Event A)) (number : ℕ → ℕ) (old : List (SeatState A)) (new : List (Work A)) (each : AllZip (HasWorked threads lines) old new)
+      → AreNumbered number old
+      → ((place : ℕ) → IsPrefix (own (number place) made) (calls_of threads (lines_of threads (number place) lines) (replies_of threads lines old new each place)))
+      → AllZip (HasCalledOwn (Err fault) made) old (seats_of new)
+  unfolding replies_of
+  each-some threads fault lines made number [] [] each so begins = tt
+  each-some threads fault lines made number [] (y ∷ new) each so begins = absurd each
+  each-some threads fault lines made number (x ∷ old) [] each so begins = absurd each
+  each-some threads fault lines made number (x ∷ old) (y ∷ new) each so begins = (
+    worker-some threads fault lines made (number 0) x y each.0 so.0 (begins 0),
+    each-some threads fault lines made (λ place. number (suc place)) old new each.1 so.1 (λ place. begins (suc place)),
+  )
+
+  -- each of the lines has a text, so each of a seat's lines has one
+  pub texts-all : (threads : ℕ) (lines : List (Line A)) (parts texts : List (List ℕ)) (number : ℕ) → length parts ≡ length lines → IsPrefix (texts_of threads number lines parts) texts
+      → length (lines_of threads number lines) ≤ length texts
+  texts-all threads lines parts texts number all begins =
+      omega (arith, prefix-length (texts_of threads number lines parts) texts begins, length-texts_of threads number lines parts all)
+
+  pub each-ended : (threads : ℕ) (lines : List (Line A)) (ended : Ended) (old : List (SeatState A)) (new : List (Work A)) (each : AllZip (HasWorked threads lines) old new) → AreNumbered (λ place. place) old
+      → (parts : List (List ℕ)) → HasCount ended (length parts) (length lines) → ((number : ℕ) → IsPrefix (texts_of threads number lines parts) (get_or (all_texts new) number []))
+      → (all : Merged threads lines parts (replies_of threads lines old new each)) → AllZip (HasCalledOwn ended (calls_of threads lines all.replies)) old (seats_of new)
+  each-ended threads lines (Ok done) old new each so parts count texts all =
+      each-all threads lines (calls_of threads lines all.replies) (λ place. place) old new each so (λ place. texts-all threads lines parts (get_or (all_texts new) place []) place count (texts place)) (all.whole count)
+  each-ended threads lines (Err fault) old new each so parts count texts all = each-some threads fault lines (calls_of threads lines all.replies) (λ place. place) old new each so all.begins
+
+  -- the workers have called the lines of a block, and the texts were gathered
+  pub block_called : (threads : ℕ) (lines : List (Line A)) (ended : Ended) (text : List ℕ) (old : List (SeatState A)) (new : List (Work A)) → AllZip (HasWorked threads lines) old new → AreSeats threads old
+      → Gathers threads lines (all_texts new) ended text → HaveCalled threads lines ended text old (seats_of new)
+  block_called threads lines ended text old new each seats gathers =
+      let replies_by = replies_of threads lines old new each in
+      let has : Has threads lines gathers.parts replies_by = λ number.
+      subst (λ (l : List (List ℕ)). IsPrefix (texts_of threads number lines gathers.parts) l) (texts_at threads lines (λ place. place) old new each seats.1 number) (gathers.of_seats number) in
+      let all = merged threads lines gathers.parts replies_by (count_few ended (length gathers.parts) (length lines) gathers.count) has in
+      record {
+        replies = all.replies;
+        count = subst (λ (n : ℕ). HasCount ended n (length lines)) (sym all.counted) gathers.count;
+        text_is = gathers.text_is ∙ ap concat all.parts_are ∙ concat-texts lines all.replies;
+        seats = each-ended threads lines ended old new each seats.1 gathers.parts gathers.count gathers.of_seats all;
+      }
+
+  -- ---- the same of whatever has a seat, texts and an end
+
+  module _ {W : Type 0} (seat : W → SeatState A) (texts : W → List (List ℕ)) (ended : W → Ended) where
+    abbrev pub made_of : W → Work A
+    made_of w = work (seat w) (texts w) (ended w)
+
+    seats-made : (new : List W) → seats_of (map made_of new) ≡ map seat new
+    seats-made new = map-map (λ (w : Work A). w.seat) made_of new
+
+    texts-made : (new : List W) → all_texts (map made_of new) ≡ map texts new
+    texts-made new = map-map (λ (w : Work A). w.texts) made_of new
+
+    pub worked_called : (threads : ℕ) (block : List (Line A)) (out : Ended) (text : List ℕ) (old new : List W) → AllZip (HasWorked threads block) (map seat old) (map made_of new) → AreSeats threads (map seat old)
+        → Gathers threads block (map texts new) out text → HaveCalled threads block out text (map seat old) (map seat new)
+    worked_called threads block out text old new each seats gathers =
+        subst (λ (l : List (SeatState A)). HaveCalled threads block out text (map seat old) l) (seats-made new)
+        (block_called threads block out text (map seat old) (map made_of new) each seats (subst (λ (l : List (List (List ℕ))). Gathers threads block l out text) (sym (texts-made new)) gathers))
+
+    pub worked_still : (threads : ℕ) (block : List (Line A)) (old new : List W) → AllZip (HasWorked threads block) (map seat old) (map made_of new) → AreSeats threads (map seat old) → AreSeats threads (map seat new)
+    worked_still threads block old new each seats =
+        subst (λ (l : List (SeatState A)). AreSeats threads l) (seats-made new) (worked_seats threads block (map seat old) (map made_of new) each seats)
+
+    pub worked_length : (threads : ℕ) (block : List (Line A)) (old new : List W) → AllZip (HasWorked threads block) (map seat old) (map made_of new) → length new ≡ length old
+    worked_length threads block old new each =
+        omega (arith, same_length (HasWorked threads block) (map seat old) (map made_of new) each, length-map old seat, length-map new made_of)
+
+  -- ---- texts taken from the workers, line by line
+
+  pub texts_of-none : (threads number : ℕ) (lines : List (Line A)) → texts_of threads number lines [] ≡ []
+  texts_of-none threads number [] = refl
+  texts_of-none threads number (line ∷ lines) = refl
+
+  pub texts_of-append : (threads number : ℕ) (lines : List (Line A)) (line : Line A) (others : List (Line A)) (parts : List (List ℕ)) (text : List ℕ) → length parts ≡ length lines
+      → texts_of threads number (lines ++ line ∷ others) (parts ++ text ∷ []) ≡ texts_of threads number lines parts ++ texts_of threads number (line ∷ others) (text ∷ [])
+  texts_of-append threads number [] line others [] text same = refl
+  texts_of-append threads number [] line others (x ∷ parts) text same = absurd (omega (arith, same))
+  texts_of-append threads number (x ∷ lines) line others [] text same = absurd (omega (arith, same))
+  texts_of-append threads number (x ∷ lines) line others (t ∷ parts) text same =
+      let rest = texts_of-append threads number lines line others parts text (omega (arith, same)) in
+      let tail = texts_of threads number (line ∷ others) (text ∷ []) in
+      elim (cases_Bool (is_of threads number x)) [
+        | inl its ↦ texts-own threads number x (lines ++ line ∷ others) t (parts ++ text ∷ []) its ∙ ap (λ (l : List (List ℕ)). t ∷ l) rest
+            ∙ ap (λ (l : List (List ℕ)). l ++ tail) (sym (texts-own threads number x lines t parts its))
+        | inr other ↦ texts-other threads number x (lines ++ line ∷ others) t (parts ++ text ∷ []) other ∙ rest
+            ∙ ap (λ (l : List (List ℕ)). l ++ tail) (sym (texts-other threads number x lines t parts other))
+      ]
+
+  pub texts_of-longer : (threads number : ℕ) (lines others : List (Line A)) (parts : List (List ℕ)) → length parts ≤ length lines → texts_of threads number (lines ++ others) parts ≡ texts_of threads number lines parts
+  texts_of-longer threads number [] others [] few = texts_of-none threads number others
+  texts_of-longer threads number [] others (t ∷ parts) few = absurd (omega (arith, few))
+  texts_of-longer threads number (x ∷ lines) others [] few = refl
+  texts_of-longer threads number (x ∷ lines) others (t ∷ parts) few =
+      let rest = texts_of-longer threads number lines others parts (omega (arith, few)) in
+      elim (cases_Bool (is_of threads number x)) [
+        | inl its ↦ texts-own threads number x (lines ++ others) t parts its ∙ ap (λ (l : List (List ℕ)). t ∷ l) rest ∙ sym (texts-own threads number x lines t parts its)
+        | inr other ↦ texts-other threads number x (lines ++ others) t parts other ∙ rest ∙ sym (texts-other threads number x lines t parts other)
+      ]
+
+  -- no line is of a seat beyond the workers'
+  pub not_beyond : (threads number : ℕ) (line : Line A) → 1 ≤ threads → threads < number → is_of threads number line ≡ false
+  not_beyond threads number line some beyond =
+      nat_eq-other (seat_of threads line.worker) number (λ same. absurd (omega (arith, same, seat_of-most threads line.worker some, beyond)))
+
+  pub texts-beyond : (threads number : ℕ) (lines : List (Line A)) (parts : List (List ℕ)) → 1 ≤ threads → threads < number → texts_of threads number lines parts ≡ []
+  texts-beyond threads number [] parts some beyond = refl
+  texts-beyond threads number (line ∷ lines) [] some beyond = refl
+  texts-beyond threads number (line ∷ lines) (t ∷ parts) some beyond =
+      texts-other threads number line lines t parts (not_beyond threads number line some beyond) ∙ texts-beyond threads number lines parts some beyond
+
+  pub calls-beyond : (threads number : ℕ) (lines : List (Line A)) (replies : List (Reply A)) → 1 ≤ threads → threads < number → own number (calls_of threads lines replies) ≡ []
+  calls-beyond threads number [] replies some beyond = refl
+  calls-beyond threads number (line ∷ lines) [] some beyond = refl
+  calls-beyond threads number (line ∷ lines) (reply ∷ replies) some beyond =
+      own-other number (seat_of threads line.worker) (event_by (seat_of threads line.worker) line.command reply) (calls_of threads lines replies) refl (not_beyond threads number line some beyond)
+      ∙ calls-beyond threads number lines replies some beyond
+
+  -- So many texts of each seat were taken, for these lines.
+  pub record IsGathered (threads : ℕ) (lines : List (Line A)) (texts : List (List (List ℕ))) (taken : List ℕ) (text : List ℕ) : Type 0 where
+    pub parts : List (List ℕ)
+    pub counted : length parts ≡ length lines
+    pub text_is : text ≡ concat parts
+    pub of_seats : (number : ℕ) → number < 64 → texts_of threads number lines parts ≡ take (get_or taken number 0) (get_or texts number [])
+    pub known : length taken ≡ 64
+
+  pub gathered_none : (threads : ℕ) (texts : List (List (List ℕ))) → IsGathered threads [] texts (replicate 64 0) []
+  gathered_none threads texts = record {
+    parts = [];
+    counted = refl;
+    text_is = refl;
+    of_seats = λ number within. ap (λ (n : ℕ). take n (get_or texts number [])) (sym (get_or-replicate 64 number 0 0 within));
+    known = length-replicate {A = ℕ} 64 0;
+  }
+
+  pub gathered_more : (threads : ℕ) (lines : List (Line A)) (line : Line A) (texts : List (List (List ℕ))) (taken more : List ℕ) (text new : List ℕ) (next : List ℕ) (seat : ℕ) → IsGathered threads lines texts taken text
+      → seat ≡ seat_of threads line.worker → seat < 64 → get_or taken seat 0 < length (get_or texts seat []) → next ≡ get_or (get_or texts seat []) (get_or taken seat 0) next
+      → more ≡ set taken seat (get_or taken seat 0 + 1) → new ≡ text ++ next → IsGathered threads (lines ++ line ∷ []) texts more new
+  gathered_more threads lines line texts taken more text new next seat so at within less read set_is new_is =
+      record {
+        parts = so.parts ++ next ∷ [];
+        counted = omega (arith, so.counted, length-append so.parts (next ∷ []), length-append lines (line ∷ []));
+        text_is = new_is ∙ ap (λ (t : List ℕ). t ++ next) so.text_is ∙ sym (concat-append so.parts (next ∷ []) ∙ ap (λ (t : List ℕ). concat so.parts ++ t) (append-nil next));
+        known = ap length set_is ∙ length-set taken seat (get_or taken seat 0 + 1) ∙ so.known;
+        of_seats = λ number few.
+            let first = texts_of-append threads number lines line [] so.parts next so.counted ∙ ap (λ (l : List (List ℕ)). l ++ texts_of threads number (line ∷ []) (next ∷ [])) (so.of_seats number few) in
+            elim (cases_eq number seat) [
+              | inl same ↦
+                  let its : is_of threads number line ≡ true = ap (λ n. nat_eq n number) (sym at ∙ sym same) ∙ nat_eq-same number in
+                  let count : get_or more number 0 ≡ get_or taken number 0 + 1 =
+                  ap (λ (l : List ℕ). get_or l number 0) set_is ∙ ap (λ (n : ℕ). get_or (set taken seat (get_or taken seat 0 + 1)) n 0) same
+                  ∙ get_or-set_same taken seat (get_or taken seat 0 + 1) 0 (omega (arith, so.known, within)) ∙ ap (λ (n : ℕ). get_or taken n 0 + 1) (sym same) in
+                  let here : next ≡ get_or (get_or texts number []) (get_or taken number 0) next =
+                  subst (λ (n : ℕ). next ≡ get_or (get_or texts n []) (get_or taken n 0) next) (sym same) read in
+                  let lower : get_or taken number 0 < length (get_or texts number []) = subst (λ (n : ℕ). get_or taken n 0 < length (get_or texts n [])) (sym same) less in
+                  first ∙ ap (λ (l : List (List ℕ)). take (get_or taken number 0) (get_or texts number []) ++ l) (texts-own threads number line [] next [] its)
+                  ∙ ap (λ (t : List ℕ). take (get_or taken number 0) (get_or texts number []) ++ t ∷ []) here
+                  ∙ sym (take_more (get_or texts number []) (get_or taken number 0) next lower) ∙ ap (λ (n : ℕ). take n (get_or texts number [])) (sym count)
+              | inr other ↦
+                  let not_its : is_of threads number line ≡ false = nat_eq-other (seat_of threads line.worker) number (λ same. other (sym same ∙ sym at)) in
+                  let count : get_or more number 0 ≡ get_or taken number 0 =
+                  ap (λ (l : List ℕ). get_or l number 0) set_is ∙ get_or-set_other taken seat number (get_or taken seat 0 + 1) 0 other in
+                  first ∙ ap (λ (l : List (List ℕ)). take (get_or taken number 0) (get_or texts number []) ++ l) (texts-other threads number line [] next [] not_its)
+                  ∙ append-nil (take (get_or taken number 0) (get_or texts number [])) ∙ ap (λ (n : ℕ). take n (get_or texts number [])) (sym count)
+            ];
+      }
+
+  pub gathered-seats : (threads : ℕ) (lines : List (Line A)) (texts : List (List (List ℕ))) (taken text : List ℕ) (so : IsGathered threads lines texts taken text) → 1 ≤ threads → threads ≤ 63 → (number : ℕ)
+      → IsPrefix (texts_of threads number lines so.parts) (get_or texts number [])
+  gathered-seats threads lines texts taken text so some most number =
+      elim (cases_lt threads number) [
+        | inl beyond ↦ subst (λ (l : List (List ℕ)). IsPrefix l (get_or texts number [])) (sym (texts-beyond threads number lines so.parts some beyond)) (prefix-of-none (get_or texts number []))
+        | inr within ↦
+            subst (λ (l : List (List ℕ)). IsPrefix l (get_or texts number [])) (sym (so.of_seats number (omega (arith, within, most)))) (take-begins (get_or taken number 0) (get_or texts number []))
+      ]
+
+  pub gathered_all : (threads : ℕ) (lines : List (Line A)) (texts : List (List (List ℕ))) (taken text : List ℕ) → 1 ≤ threads → threads ≤ 63 → IsGathered threads lines texts taken text
+      → Gathers threads lines texts (Ok tt) text
+  gathered_all threads lines texts taken text some most so = record {
+    parts = so.parts;
+    count = so.counted;
+    text_is = so.text_is;
+    of_seats = gathered-seats threads lines texts taken text so some most;
+  }
+
+  pub gathered_some : (threads : ℕ) (fault : CallFault) (lines others : List (Line A)) (texts : List (List (List ℕ))) (taken text : List ℕ) → 1 ≤ threads → threads ≤ 63 → 0 < length others
+      → IsGathered threads lines texts taken text → Gathers threads (lines ++ others) texts (Err fault) text
+  gathered_some threads fault lines others texts taken text some most more so = record {
+    parts = so.parts;
+    count = omega (arith, so.counted, more, length-append lines others);
+    text_is = so.text_is;
+    of_seats = λ number.
+        subst (λ (l : List (List ℕ)). IsPrefix l (get_or texts number [])) (sym (texts_of-longer threads number lines others so.parts (omega (arith, so.counted))))
+        (gathered-seats threads lines texts taken text so some most number);
+  }
+
+  -- so much is pending behind what was
+  abbrev pub IsGatheredSo : ℕ → List (Line A) → List (List (List ℕ)) → List ℕ → List ℕ → List ℕ → Type 0
+  IsGatheredSo threads lines texts taken old pending = (text : List ℕ) × (pending ≡ old ++ text) × IsGathered threads lines texts taken text
+
+  pub gathered_begun : (threads : ℕ) (texts : List (List (List ℕ))) (old : List ℕ) → IsGatheredSo threads [] texts (replicate 64 0) old old
+  gathered_begun threads texts old = ([], sym (append-nil old), gathered_none threads texts)
+
+  -- one line's text is taken
+  pub gathered_line : {W S : Type 0} (made : W → List S) (bytes : S → List ℕ) (threads index : ℕ) (block : List (Line A)) (line : Line A) (workers : List W) (worker : W) (item : S) (taken more old pending now : List ℕ)
+      (seat : ℕ) → index < length block → line ≡ get_or block index line → seat ≡ seat_of threads line.worker → seat < 64 → seat < length workers → worker ≡ get_or workers seat worker
+      → get_or taken seat 0 < length (made worker) → item ≡ get_or (made worker) (get_or taken seat 0) item → more ≡ set taken seat (get_or taken seat 0 + 1) → now ≡ pending ++ bytes item
+      → IsGatheredSo threads (take index block) (map (λ w. map bytes (made w)) workers) taken old pending
+      → IsGatheredSo threads (take (index + 1) block) (map (λ w. map bytes (made w)) workers) more old now
+  gathered_line {W} {S} made bytes threads index block line workers worker item taken more old pending now seat within is at few there found less read set_is now_is (text, pending_is, so) =
+      let texts = map (λ w. map bytes (made w)) workers in
+      let next = bytes item in
+      let mine : get_or texts seat [] ≡ map bytes (made worker) = get_or-map (λ (w : W). map bytes (made w)) workers seat worker [] there ∙ ap (λ (w : W). map bytes (made w)) (sym found) in
+      let lower : get_or taken seat 0 < length (get_or texts seat []) = omega (arith, less, ap length mine, length-map (made worker) bytes) in
+      let here : next ≡ get_or (get_or texts seat []) (get_or taken seat 0) next =
+      sym (ap (λ (l : List (List ℕ)). get_or l (get_or taken seat 0) next) mine ∙ get_or-map bytes (made worker) (get_or taken seat 0) item next less ∙ ap bytes (sym read)) in (
+        text ++ next,
+        now_is ∙ ap (λ (t : List ℕ). t ++ next) pending_is ∙ append_assoc old text next,
+        subst (λ (l : List (Line A)). IsGathered threads l texts more (text ++ next))
+            (sym (take_more block index line within ∙ ap (λ (l : Line A). take index block ++ l ∷ []) (sym is)))
+            (gathered_more threads (take index block) line texts taken more text (text ++ next) next seat so at few lower here set_is refl),
+      )
+
+  -- a line has no text
+  pub gathered_stopped : (threads index : ℕ) (fault : CallFault) (block : List (Line A)) (line : Line A) (texts : List (List (List ℕ))) (taken old pending : List ℕ) → 1 ≤ threads → threads ≤ 63
+      → index < length block → IsGatheredSo threads (take index block) texts taken old pending → (text : List ℕ) × (pending ≡ old ++ text) × Gathers threads block texts (Err fault) text
+  gathered_stopped threads index fault block line texts taken old pending some most within (text, pending_is, so) =
+      let more : 0 < length (drop index block) = omega (arith, ap length (drop_more block index line within)) in (
+        text,
+        pending_is,
+        subst (λ (l : List (Line A)). Gathers threads l texts (Err fault) text) (take-append-drop index block)
+            (gathered_some threads fault (take index block) (drop index block) texts taken text some most more so),
+      )
+
+  -- each has one
+  pub gathered_done : (threads index : ℕ) (block : List (Line A)) (texts : List (List (List ℕ))) (taken old pending : List ℕ) → 1 ≤ threads → threads ≤ 63 → length block ≤ index
+      → IsGatheredSo threads (take index block) texts taken old pending → (text : List ℕ) × (pending ≡ old ++ text) × Gathers threads block texts (Ok tt) text
+  gathered_done threads index block texts taken old pending some most ended (text, pending_is, so) = (
+    text,
+    pending_is,
+    gathered_all threads block texts taken text some most (subst (λ (l : List (Line A)). IsGathered threads l texts taken text) (take_all index block ended) so),
+  )

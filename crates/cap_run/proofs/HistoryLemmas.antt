@@ -1,0 +1,267 @@
+-- The one history of a run, and what the run wrote.
+use Rattle.std.proofs.Common.{◌≡◌, ℕ, zero, suc, ◌+◌, ◌<◌, ◌≤◌, List, [], ◌∷◌, ◌++◌, Option, Some, Result, Ok, Err, length, map, get_or, inl, inr, refl, slice_get, sym, ap, subst, ◌∙◌, append-nil, length-append, arith}
+use Rattle.std.proofs.lemmas.Bool.{cases_lt}
+use Rattle.std.proofs.lemmas.List.Elements.{AllZip-get_or}
+use Rattle.std.proofs.lemmas.List.FromFn.{get_or-map-range_with_len, length-map-range_with_len}
+use Rattle.std.specs.List.{AllZip, range_with_len}
+use Rattle.std.proofs.KnownBytes.{Keeps-refl}
+use Rattle.std.specs.Io.KnownBytes.{Appends}
+use mathlib.Core.List.{IsPrefix}
+use Rattle.cap_core.specs.Answer.{State}
+use Rattle.cap_core.specs.declared.event.Event.{Event}
+use Rattle.cap_core.specs.declared.reply.Reply.{Reply}
+use Rattle.cap_history.specs.Beginnings.{prefix-of-none, prefix-trans}
+use Rattle.cap_history.specs.History.{own}
+use Rattle.cap_history.specs.Own.{own-append}
+use Rattle.cap_history.specs.Seat.{SeatState, calls, newcomer}
+use Rattle.cap_run.proofs.GatherLemmas.{calls-beyond}
+use Rattle.cap_run.proofs.SeatLemmas.{calls-begin, calls_of-longer, count_few, newcomers_seats, reply_lines-longer, still_seats}
+use Rattle.cap_run.specs.Run.{AppendsFront, Ended, IsSpelled, ending, reply_lines}
+use Rattle.cap_run.specs.Code.Calls.{AreNumbered, AreSeats, HasCalledOwn, HaveCalled, RunsLines, unclosed_outcome}
+use Rattle.cap_run.specs.Workload.{AreCalls, AreOfOneHistory, WritesAll, WritesSome, WritesWorkload, calls_of}
+use Rattle.cap_run.specs.RunFault.{RunsNothing}
+use Rattle.cap_run.specs.declared.fault.RunFault.{RunFault}
+use Rattle.cap_run.specs.declared.fault.RunFault.TheVariants.{Blob, Call, Close, Memory, NotHex, NotUtf8, Read, Script, Write}
+use Rattle.cap_script.specs.declared.line.Line.{Line}
+use Rattle.cap_server.specs.Close.{FirstHasSeen, HasAll, IsClosed, IsMissing, StandsAt}
+use Rattle.cap_server.specs.Fault.{MatchCloseFault}
+use Rattle.cap_server.specs.declared.fault.CloseFault.{CloseFault}
+use Rattle.cap_server.specs.declared.fault.CloseFault.TheVariants as closing
+
+pub slice_get-at : {X : Type 0} (xs : List X) (place : ℕ) (d : X) → place < length xs → slice_get xs place ≡ Some (get_or xs place d)
+slice_get-at [] place d within = absurd (omega (arith, within))
+slice_get-at (x ∷ xs) zero d within = refl
+slice_get-at (x ∷ xs) (suc place) d within = slice_get-at xs place d (omega (arith, within))
+
+pub slice_get-less : {X : Type 0} (xs : List X) (place : ℕ) (x : X) → slice_get xs place ≡ Some x → (place < length xs) × ((d : X) → get_or xs place d ≡ x)
+slice_get-less [] place x is = absurd (cc is)
+slice_get-less (y ∷ xs) zero x is = (omega arith, λ d. cc is)
+slice_get-less (y ∷ xs) (suc place) x is = let rest = slice_get-less xs place x is in (omega (arith, rest.0), rest.1)
+
+pub calls-none : (A : Type 0) (ended : Ended) → AreCalls {A = A} ended [] []
+calls-none A (Ok done) = refl
+calls-none A (Err fault) = prefix-of-none []
+
+pub appends-front : (a b : Option (List ℕ)) (text : List ℕ) → Appends a b text → AppendsFront a b (text ++ [])
+appends-front a b text wrote = (text, [], refl, wrote)
+
+module _ {A : Type 0} where
+  -- ---- the history that a closed server leaves
+
+  pub own-prefix : (number : ℕ) (xs ys : List (Event A)) → IsPrefix xs ys → IsPrefix (own number xs) (own number ys)
+  own-prefix number xs ys so = (own number so.0, sym (own-append number xs so.0) ∙ ap (own number) so.1)
+
+  pub number-at : (number : ℕ → ℕ) (seats : List (SeatState A)) (place : ℕ) (d : SeatState A) → AreNumbered number seats → place < length seats → (get_or seats place d).number ≡ number place
+  number-at number [] place d so within = absurd (omega (arith, within))
+  number-at number (seat ∷ seats) zero d so within = so.0
+  number-at number (seat ∷ seats) (suc place) d so within = number-at (λ p. number (suc p)) seats place d so.1 (omega (arith, within))
+
+  -- a seat stands at each place, and nowhere else
+  pub stands_at : (threads : ℕ) (seats : List (SeatState A)) (number : ℕ) → AreSeats threads seats → number < threads + 1 → StandsAt seats number number
+  stands_at threads seats number so within =
+      let d : SeatState A = newcomer 0 in
+      let there : number < length seats = omega (arith, so.0, within) in
+      record { seat = get_or seats number d; at = slice_get-at seats number d there; is = number-at (λ place. place) seats number d so.1 there }
+
+  pub missing : (threads : ℕ) (seats : List (SeatState A)) (number : ℕ) → AreSeats threads seats → threads < number → IsMissing seats number
+  missing threads seats number so beyond place stands =
+      let found = slice_get-less seats place stands.seat stands.at in
+      let is : stands.seat.number ≡ place = ap (λ (s : SeatState A). s.number) (sym (found.1 stands.seat)) ∙ number-at (λ p. p) seats place stands.seat so.1 found.0 in
+      absurd (omega (arith, is, stands.is, found.0, so.0, beyond))
+
+  -- the seats that a server opens with
+  abbrev pub opened : ℕ → List (SeatState A)
+  opened threads = map newcomer (range_with_len 0 (threads + 1))
+
+  pub called-at : (threads : ℕ) (ended : Ended) (made : List (Event A)) (seats : List (SeatState A)) (number : ℕ) → AllZip (HasCalledOwn ended made) (opened threads) seats → number < threads + 1
+      → HasCalledOwn ended made (newcomer number) (get_or seats number (newcomer 0))
+  called-at threads ended made seats number each within =
+      let there : number < length (opened threads) = omega (arith, length-map-range_with_len (newcomer {A = A}) 0 (threads + 1), within) in
+      subst (λ (s : SeatState A). HasCalledOwn ended made s (get_or seats number (newcomer 0))) (get_or-map-range_with_len newcomer 0 (threads + 1) number number (newcomer 0) within (omega arith))
+      (AllZip-get_or (HasCalledOwn ended made) (opened threads) seats number (newcomer 0) (newcomer 0) each there)
+
+  pub closed-calls : (threads : ℕ) (lines : List (Line A)) (ended : Ended) (text : List ℕ) (seats : List (SeatState A)) (events : ℕ) (core : State A) (so : HaveCalled threads lines ended text (opened threads) seats)
+      → 1 ≤ threads → AreSeats threads seats → (closed : IsClosed seats events core) → (number : ℕ) → AreCalls ended (own number (calls_of threads lines so.replies)) (own number closed.history)
+  closed-calls threads lines ended text seats events core so some numbered closed number =
+      let made = calls_of threads lines so.replies in
+      elim (cases_lt threads number) [
+        | inl beyond ↦
+            let none : own number closed.history ≡ [] = closed.no_others number (missing threads seats number numbered beyond) in
+            subst (λ (l : List (Event A)). AreCalls ended l (own number closed.history)) (sym (calls-beyond threads number lines so.replies some beyond))
+            (subst (λ (l : List (Event A)). AreCalls ended [] l) (sym none) (calls-none A ended))
+        | inr within ↦
+            let seat = get_or seats number (newcomer 0) in
+            let less : number < threads + 1 = omega (arith, within) in
+            let there : number < length seats = omega (arith, numbered.0, less) in
+            let its = called-at threads ended made seats number so.seats less in
+            let same : own number closed.history ≡ calls seat = ap (λ (n : ℕ). own n closed.history) (sym (number-at (λ p. p) seats number (newcomer 0) numbered.1 there)) ∙ closed.own_calls number (newcomer 0) there in
+            subst (λ (l : List (Event A)). AreCalls ended (own number made) l) (sym same) its.calls_are
+      ]
+
+  pub closed_history : (threads : ℕ) (lines : List (Line A)) (ended : Ended) (text : List ℕ) (seats : List (SeatState A)) (events : ℕ) (core : State A) (so : HaveCalled threads lines ended text (opened threads) seats)
+      → 1 ≤ threads → AreSeats threads seats → IsClosed seats events core → AreOfOneHistory (AreCalls ended) threads lines so.replies
+  closed_history threads lines ended text seats events core so some numbered closed =
+      record { history = closed.history; legal = closed.legal; calls_are = closed-calls threads lines ended text seats events core so some numbered closed }
+
+  pub begun-history : (threads : ℕ) (lines : List (Line A)) (replies : List (Reply A)) (ended : Ended) → AreOfOneHistory (AreCalls ended) threads lines replies → AreOfOneHistory IsPrefix threads lines replies
+  begun-history threads lines replies ended so = record {
+    history = so.history;
+    legal = so.legal;
+    calls_are = λ number. calls-begin ended (own number (calls_of threads lines replies)) (own number so.history) (so.calls_are number);
+  }
+
+  -- what the first seat has seen of an unclosed server's history
+  pub seen_history : (threads : ℕ) (lines : List (Line A)) (ended : Ended) (text : List ℕ) (seats left : List (SeatState A)) (least : List (Event A)) (front : ℕ)
+      (so : HaveCalled threads lines ended text (opened threads) seats) → 1 ≤ threads → AreSeats threads seats → FirstHasSeen seats left least front → AreOfOneHistory IsPrefix threads lines so.replies
+  seen_history threads lines ended text seats left least front so some numbered first =
+      let made = calls_of threads lines so.replies in
+      record {
+        history = first.history;
+        legal = first.legal;
+        calls_are = λ number.
+            elim (cases_lt threads number) [
+              | inl beyond ↦
+                  subst (λ (l : List (Event A)). IsPrefix l (own number first.history)) (sym (calls-beyond threads number lines so.replies some beyond)) (prefix-of-none (own number first.history))
+              | inr within ↦
+                  let seat = get_or seats number (newcomer 0) in
+                  let less : number < threads + 1 = omega (arith, within) in
+                  let there : number < length seats = omega (arith, numbered.0, less) in
+                  let its = called-at threads ended made seats number so.seats less in
+                  let is = number-at (λ p. p) seats number (newcomer 0) numbered.1 there in
+                  let begins : IsPrefix (own number made) (own number seat.answered) =
+                  subst (λ (n : ℕ). IsPrefix (own number made) (own n seat.answered)) is (calls-begin ended (own number made) (calls seat) its.calls_are) in
+                  let shown : IsPrefix seat.answered first.history =
+                  prefix-trans seat.answered seat.seen first.history (its.seen (prefix-of-none [])) (first.seen number (newcomer 0) there) in
+                  prefix-trans (own number made) (own number seat.answered) (own number first.history) begins (own-prefix number seat.answered first.history shown)
+            ];
+      }
+
+  -- ---- what a run wrote
+
+  pub sooner-history : (threads : ℕ) (lines others : List (Line A)) (replies : List (Reply A)) → length replies ≤ length lines → AreOfOneHistory IsPrefix threads lines replies
+      → AreOfOneHistory IsPrefix threads (lines ++ others) replies
+  sooner-history threads lines others replies few so = record {
+    history = so.history;
+    legal = so.legal;
+    calls_are = λ number. subst (λ (l : List (Event A)). IsPrefix (own number l) (own number so.history)) (sym (calls_of-longer threads lines others replies few)) (so.calls_are number);
+  }
+
+  -- a history that has the calls of all lines that have replies
+  abbrev pub HasHistory : ℕ → (List (Event A) → List (Event A) → Type 0) → List (SeatState A) → Type 0
+  HasHistory threads Are seats =
+      (lines : List (Line A)) (ended : Ended) (text : List ℕ) (so : HaveCalled threads lines ended text (opened threads) seats) → AreOfOneHistory Are threads lines so.replies
+
+  pub writes-some : (threads : ℕ) (called others lines : List (Line A)) (ended : Ended) (text : List ℕ) (seats : List (SeatState A)) (a b : Option (List ℕ)) → lines ≡ called ++ others
+      → (so : HaveCalled threads called ended text (opened threads) seats) → AreOfOneHistory IsPrefix threads called so.replies → AppendsFront a b (text ++ ending ended) → WritesSome threads lines a b
+  writes-some threads called others lines ended text seats a b parts so history wrote =
+      let few = count_few ended (length so.replies) (length called) so.count in (
+        ended,
+        text ++ ending ended,
+        record {
+          replies = so.replies;
+          few = omega (arith, few, ap length parts, length-append called others);
+          text_is = ap (λ (t : List ℕ). t ++ ending ended)
+              (so.text_is ∙ sym (reply_lines-longer called others so.replies few) ∙ ap (λ (l : List (Line A)). reply_lines l so.replies) (sym parts));
+          history = subst (λ (l : List (Line A)). AreOfOneHistory IsPrefix threads l so.replies) (sym parts) (sooner-history threads called others so.replies few history);
+        },
+        wrote,
+      )
+
+  pub writes-all : (threads : ℕ) (lines : List (Line A)) (ended : Ended) (text : List ℕ) (seats : List (SeatState A)) (a b : Option (List ℕ)) → (so : HaveCalled threads lines ended text (opened threads) seats)
+      → AreOfOneHistory (AreCalls ended) threads lines so.replies → Appends a b (text ++ ending ended) → WritesAll threads lines ended a b
+  writes-all threads lines ended text seats a b so history wrote =
+      (text ++ ending ended, record { replies = so.replies; count = so.count; text_is = ap (λ (t : List ℕ). t ++ ending ended) so.text_is; history = history }, wrote)
+
+  -- ---- the whole run
+
+  pub writes_closed : (threads : ℕ) (input : Option (List ℕ)) (lines : List (Line A)) (outcome : Result (Unit {0}) RunFault) (seats : List (SeatState A)) (events : ℕ) (core : State A) (a b : Option (List ℕ))
+      → 1 ≤ threads → IsSpelled input lines → RunsLines threads lines outcome (opened threads) seats a b → IsClosed seats events core → WritesWorkload A threads input outcome a b
+  writes_closed threads input lines (Ok done) seats events core a b some spelled (text, so, wrote) closed =
+      let history = closed_history threads lines (Ok tt) text seats events core so some (still_seats threads lines (Ok tt) text (opened threads) seats so (newcomers_seats A threads)) closed in
+      (lines, spelled, writes-all threads lines (Ok tt) text seats a b so history (subst (λ (t : List ℕ). Appends a b t) (sym (append-nil text)) wrote))
+  writes_closed threads input lines (Err (Call fault)) seats events core a b some spelled (text, so, wrote) closed =
+      let history = closed_history threads lines (Err fault) text seats events core so some (still_seats threads lines (Err fault) text (opened threads) seats so (newcomers_seats A threads)) closed in
+      (lines, spelled, writes-all threads lines (Err fault) text seats a b so history wrote)
+  writes_closed threads input lines (Err Write) seats events core a b some spelled (called, others, ended, text, parts, so, wrote) closed =
+      let history = closed_history threads called ended text seats events core so some (still_seats threads called ended text (opened threads) seats so (newcomers_seats A threads)) closed in
+      (lines, spelled, writes-some threads called others lines ended text seats a b parts so (begun-history threads called so.replies ended history) wrote)
+  writes_closed threads input lines (Err Close) seats events core a b some spelled runs closed = absurd runs
+  writes_closed threads input lines (Err (Script fault)) seats events core a b some spelled runs closed = absurd runs
+  writes_closed threads input lines (Err NotUtf8) seats events core a b some spelled runs closed = absurd runs
+  writes_closed threads input lines (Err NotHex) seats events core a b some spelled runs closed = absurd runs
+  writes_closed threads input lines (Err (Blob fault)) seats events core a b some spelled runs closed = absurd runs
+  writes_closed threads input lines (Err Read) seats events core a b some spelled runs closed = absurd runs
+  writes_closed threads input lines (Err Memory) seats events core a b some spelled runs closed = absurd runs
+
+  pub writes_unclosed : (threads : ℕ) (input : Option (List ℕ)) (lines : List (Line A)) (outcome : Result (Unit {0}) RunFault) (seats left : List (SeatState A)) (least : List (Event A)) (front : ℕ)
+      (a b : Option (List ℕ)) → 1 ≤ threads → IsSpelled input lines → RunsLines threads lines outcome (opened threads) seats a b → FirstHasSeen seats left least front
+      → WritesWorkload A threads input (unclosed_outcome outcome) a b
+  writes_unclosed threads input lines (Ok done) seats left least front a b some spelled (text, so, wrote) first =
+      let history = seen_history threads lines (Ok tt) text seats left least front so some (still_seats threads lines (Ok tt) text (opened threads) seats so (newcomers_seats A threads)) first in
+      (lines, spelled, writes-some threads lines [] lines (Ok tt) text seats a b (sym (append-nil lines)) so history (appends-front a b text wrote))
+  writes_unclosed threads input lines (Err (Call fault)) seats left least front a b some spelled (text, so, wrote) first =
+      let history = seen_history threads lines (Err fault) text seats left least front so some (still_seats threads lines (Err fault) text (opened threads) seats so (newcomers_seats A threads)) first in
+      (lines, spelled, writes-all threads lines (Err fault) text seats a b so history wrote)
+  writes_unclosed threads input lines (Err Write) seats left least front a b some spelled (called, others, ended, text, parts, so, wrote) first =
+      let history = seen_history threads called ended text seats left least front so some (still_seats threads called ended text (opened threads) seats so (newcomers_seats A threads)) first in
+      (lines, spelled, writes-some threads called others lines ended text seats a b parts so history wrote)
+  writes_unclosed threads input lines (Err Close) seats left least front a b some spelled runs first = absurd runs
+  writes_unclosed threads input lines (Err (Script fault)) seats left least front a b some spelled runs first = absurd runs
+  writes_unclosed threads input lines (Err NotUtf8) seats left least front a b some spelled runs first = absurd runs
+  writes_unclosed threads input lines (Err NotHex) seats left least front a b some spelled runs first = absurd runs
+  writes_unclosed threads input lines (Err (Blob fault)) seats left least front a b some spelled runs first = absurd runs
+  writes_unclosed threads input lines (Err Read) seats left least front a b some spelled runs first = absurd runs
+  writes_unclosed threads input lines (Err Memory) seats left least front a b some spelled runs first = absurd runs
+
+  -- all seats were handed back
+  pub none_missing : (threads : ℕ) (lines : List (Line A)) (ended : Ended) (text : List ℕ) (seats : List (SeatState A)) (number : ℕ) → HaveCalled threads lines ended text (opened threads) seats
+      → number < threads + 1 → ¬ IsMissing seats number
+  none_missing threads lines ended text seats number so within missed =
+      missed number (stands_at threads seats number (still_seats threads lines ended text (opened threads) seats so (newcomers_seats A threads)) within)
+
+  -- some lines were called by the seats, however the run ended
+  pub runs-called : (threads : ℕ) (lines : List (Line A)) (outcome : Result (Unit {0}) RunFault) (a b : List (SeatState A)) (k l : Option (List ℕ)) → RunsLines threads lines outcome a b k l
+      → (called : List (Line A)) × (ended : Ended) × (text : List ℕ) × HaveCalled threads called ended text a b
+  runs-called threads lines (Ok done) a b k l (text, so, wrote) = (lines, Ok tt, text, so)
+  runs-called threads lines (Err (Call fault)) a b k l (text, so, wrote) = (lines, Err fault, text, so)
+  runs-called threads lines (Err Write) a b k l (called, others, ended, text, parts, so, wrote) = (called, ended, text, so)
+  runs-called threads lines (Err Close) a b k l runs = absurd runs
+  runs-called threads lines (Err (Script fault)) a b k l runs = absurd runs
+  runs-called threads lines (Err NotUtf8) a b k l runs = absurd runs
+  runs-called threads lines (Err NotHex) a b k l runs = absurd runs
+  runs-called threads lines (Err (Blob fault)) a b k l runs = absurd runs
+  runs-called threads lines (Err Read) a b k l runs = absurd runs
+  runs-called threads lines (Err Memory) a b k l runs = absurd runs
+
+  -- ---- a run of the seats that a server opened, and that were handed back to it
+
+  pub served_closed : (threads : ℕ) (input : Option (List ℕ)) (lines : List (Line A)) (outcome : Result (Unit {0}) RunFault) (first last back : List (SeatState A)) (events : ℕ) (core : State A)
+      (a b : Option (List ℕ)) → 1 ≤ threads → IsSpelled input lines → first ≡ opened threads → back ≡ last → RunsLines threads lines outcome first last a b → IsClosed back events core
+      → WritesWorkload A threads input outcome a b
+  served_closed threads input lines outcome first last back events core a b some spelled new same runs closed =
+      writes_closed threads input lines outcome last events core a b some spelled
+      (subst (λ (l : List (SeatState A)). RunsLines threads lines outcome l last a b) new runs) (subst (λ (l : List (SeatState A)). IsClosed l events core) same closed)
+
+  pub served_unclosed : (threads count : ℕ) (input : Option (List ℕ)) (lines : List (Line A)) (outcome : Result (Unit {0}) RunFault) (first last back left : List (SeatState A)) (fault : CloseFault)
+      (a b : Option (List ℕ)) → 1 ≤ threads → count ≡ threads + 1 → IsSpelled input lines → first ≡ opened threads → back ≡ last → RunsLines threads lines outcome first last a b
+      → MatchCloseFault fault (λ number. (left ≡ back) × (number < count) × IsMissing back number × HasAll back number) (λ front. HasAll back count × FirstHasSeen back left [] front)
+      → WritesWorkload A threads input (unclosed_outcome outcome) a b
+  served_unclosed threads count input lines outcome first last back left (closing.MissingSeat number) a b some seats spelled new same runs (kept, less, missed, all) =
+      let began = subst (λ (l : List (SeatState A)). RunsLines threads lines outcome l last a b) new runs in
+      let ran = runs-called threads lines outcome (opened threads) last a b began in
+      absurd (none_missing threads ran.0 ran.1 ran.2 last number ran.3 (omega (arith, less, seats)) (subst (λ (l : List (SeatState A)). IsMissing l number) same missed))
+  served_unclosed threads count input lines outcome first last back left (closing.Overtaken front) a b some seats spelled new same runs (all, seen) =
+      writes_unclosed threads input lines outcome last left [] front a b some spelled
+      (subst (λ (l : List (SeatState A)). RunsLines threads lines outcome l last a b) new runs) (subst (λ (l : List (SeatState A)). FirstHasSeen l left [] front) same seen)
+
+-- nothing was written, since the run did not begin
+pub begins_nothing : (A : Type 0) (threads : ℕ) (input : Option (List ℕ)) (fault : RunFault) (a : Option (List ℕ)) → RunsNothing fault → WritesWorkload A threads input (Err fault) a a
+begins_nothing A threads input (Script fault) a early = Keeps-refl a
+begins_nothing A threads input NotUtf8 a early = Keeps-refl a
+begins_nothing A threads input NotHex a early = Keeps-refl a
+begins_nothing A threads input (Blob fault) a early = Keeps-refl a
+begins_nothing A threads input (Call fault) a early = absurd early
+begins_nothing A threads input Read a early = Keeps-refl a
+begins_nothing A threads input Write a early = absurd early
+begins_nothing A threads input Memory a early = Keeps-refl a
+begins_nothing A threads input Close a early = absurd early

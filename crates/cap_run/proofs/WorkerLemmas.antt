@@ -1,0 +1,210 @@
+-- What a worker has called of its lines of a block.
+use Rattle.std.proofs.Common.{◌≡◌, ◌≢◌, ℕ, ◌+◌, ◌<◌, ◌≤◌, List, [], ◌∷◌, ◌++◌, Ok, Err, Bool, true, false, length, nat_eq, cond, drop, get_or, take, take-append-drop, take_all, refl, sym, ap, ap₂, subst, ◌∙◌, append_assoc, append-nil, length-append, arith}
+use Rattle.std.proofs.lemmas.List.{drop_more}
+use Rattle.std.proofs.lemmas.List.Elements.{filter-append, filter_more}
+use mathlib.Core.List.{IsPrefix}
+use Rattle.cap_core.specs.Answer.{event_by}
+use Rattle.cap_core.specs.declared.event.Event.{Event}
+use Rattle.cap_core.specs.declared.reply.Reply.{Reply}
+use Rattle.cap_core.specs.declared.command.Command.{Command}
+use Rattle.cap_history.specs.Beginnings.{prefix-append, prefix-self, prefix-trans}
+use Rattle.cap_history.specs.History.{own}
+use Rattle.cap_history.specs.Seat.{HasCalled, SeatState, SeesMore, calls}
+use Rattle.cap_run.proofs.SeatLemmas.{calls_of-append, calls_of-longer, calls_of-none, is_of, lines-own, nat_eq-other, nat_eq-same, reply_texts-none}
+use Rattle.cap_run.specs.Run.{Ended, on_a_line}
+use Rattle.cap_run.specs.Code.Calls.{HasAnswered, HasCalledLines, HasWorked, KeepsCalls, Work, lines_of, reply_texts, work}
+use Rattle.cap_run.specs.Workload.{calls_of, seat_of}
+use Rattle.cap_script.specs.ReplyText.{reply_text}
+use Rattle.cap_script.specs.declared.line.Line.{Line}
+use Rattle.cap_server.specs.Fault.{LeavesSeat}
+use Rattle.cap_server.specs.declared.fault.CallFault.{CallFault}
+use Rattle.cap_server.specs.declared.fault.CallFault.TheVariants as call
+
+module _ {A : Type 0} where
+  pub lines_none : (threads : ℕ) (seat : SeatState A) → HasCalledLines threads [] (Ok tt) [] seat seat
+  lines_none threads seat = record { replies = []; count = refl; texts_are = refl; number = refl; calls_are = sym (append-nil (calls seat)); seen = λ so. so }
+
+  -- no line of some is called
+  pub lines_refused : (threads : ℕ) (fault : CallFault) (lines : List (Line A)) (seat : SeatState A) → 0 < length lines → HasCalledLines threads lines (Err fault) [] seat seat
+  lines_refused threads fault lines seat some = record {
+    replies = [];
+    count = some;
+    texts_are = sym (reply_texts-none lines);
+    number = refl;
+    calls_are = subst (λ (l : List (Event A)). IsPrefix (calls seat ++ l) (calls seat)) (sym (calls_of-none threads lines))
+        (subst (λ (l : List (Event A)). IsPrefix l (calls seat)) (sym (append-nil (calls seat))) (prefix-self (calls seat)));
+    seen = λ so. so;
+  }
+
+  pub reply_texts-append : (lines others : List (Line A)) (replies more : List (Reply A)) → length replies ≡ length lines
+      → reply_texts (lines ++ others) (replies ++ more) ≡ reply_texts lines replies ++ reply_texts others more
+  reply_texts-append [] others [] more same = refl
+  reply_texts-append [] others (reply ∷ replies) more same = absurd (omega (arith, same))
+  reply_texts-append (line ∷ lines) others [] more same = absurd (omega (arith, same))
+  reply_texts-append (line ∷ lines) others (reply ∷ replies) more same =
+      ap (λ (texts : List (List ℕ)). on_a_line (reply_text line reply) ∷ texts) (reply_texts-append lines others replies more (omega (arith, same)))
+
+  pub reply_texts-longer : (lines others : List (Line A)) (replies : List (Reply A)) → length replies ≤ length lines → reply_texts (lines ++ others) replies ≡ reply_texts lines replies
+  reply_texts-longer [] others [] few = reply_texts-none others
+  reply_texts-longer [] others (reply ∷ replies) few = absurd (omega (arith, few))
+  reply_texts-longer (line ∷ lines) others [] few = refl
+  reply_texts-longer (line ∷ lines) others (reply ∷ replies) few = ap (λ (texts : List (List ℕ)). on_a_line (reply_text line reply) ∷ texts) (reply_texts-longer lines others replies (omega (arith, few)))
+
+  -- one more of a worker's lines has its reply
+  pub lines_more : (threads : ℕ) (lines : List (Line A)) (line : Line A) (texts more : List (List ℕ)) (text : List ℕ) (a b c : SeatState A) → HasCalledLines threads lines (Ok tt) texts a b
+      → b.number ≡ seat_of threads line.worker → HasAnswered line text b c → more ≡ texts ++ text ∷ [] → HasCalledLines threads (lines ++ line ∷ []) (Ok tt) more a c
+  lines_more threads lines line texts more text a b c so at answered is =
+      let event = event_by (seat_of threads line.worker) line.command answered.reply in
+      let made : event_by b.number line.command answered.reply ≡ event = ap (λ (n : ℕ). event_by n line.command answered.reply) at in
+      record {
+        replies = so.replies ++ answered.reply ∷ [];
+        count = omega (arith, so.count, length-append so.replies (answered.reply ∷ []), length-append lines (line ∷ []));
+        texts_are = is ∙ ap₂ (λ (l : List (List ℕ)) (t : List ℕ). l ++ t ∷ []) so.texts_are answered.text_is ∙ sym (reply_texts-append lines (line ∷ []) so.replies (answered.reply ∷ []) so.count);
+        number = answered.number ∙ so.number;
+        calls_are = answered.calls_are ∙ ap₂ (λ (l : List (Event A)) (e : Event A). l ++ e ∷ []) so.calls_are made
+            ∙ append_assoc (calls a) (calls_of threads lines so.replies) (event ∷ []) ∙ ap (λ (l : List (Event A)). calls a ++ l) (sym (calls_of-append threads lines (line ∷ []) so.replies (answered.reply ∷ []) so.count));
+        seen = λ before. answered.seen;
+      }
+
+  -- the next has none
+  pub lines_ended : (threads : ℕ) (fault : CallFault) (lines others : List (Line A)) (texts : List (List ℕ)) (a b c : SeatState A) → HasCalledLines threads lines (Ok tt) texts a b
+      → KeepsCalls b c → 0 < length others → HasCalledLines threads (lines ++ others) (Err fault) texts a c
+  lines_ended threads fault lines others texts a b c so keeps some =
+      let few : length so.replies ≤ length lines = omega (arith, so.count) in
+      record {
+        replies = so.replies;
+        count = omega (arith, so.count, some, length-append lines others);
+        texts_are = so.texts_are ∙ sym (reply_texts-longer lines others so.replies few);
+        number = keeps.number ∙ so.number;
+        calls_are = subst (λ (l : List (Event A)). IsPrefix (calls a ++ l) (calls c)) (sym (calls_of-longer threads lines others so.replies few))
+            (subst (λ (l : List (Event A)). IsPrefix l (calls c)) so.calls_are keeps.begins);
+        seen = λ before. keeps.seen (so.seen before);
+      }
+
+  -- the lines of a seat, one line after the other
+  pub lines_of-next : (threads number index : ℕ) (lines : List (Line A)) (line : Line A) → index < length lines → line ≡ get_or lines index line → seat_of threads line.worker ≡ number
+      → lines_of threads number (take (index + 1) lines) ≡ lines_of threads number (take index lines) ++ line ∷ []
+  lines_of-next threads number index lines line within is at =
+      let its : is_of threads number line ≡ true = ap (λ n. nat_eq n number) at ∙ nat_eq-same number in
+      filter_more (is_of threads number) lines index line within ∙ ap (λ (l : Line A). lines_of threads number (take index lines) ++ cond (is_of threads number l) (l ∷ []) []) (sym is)
+      ∙ ap (λ (b : Bool). lines_of threads number (take index lines) ++ cond b (line ∷ []) []) its
+
+  pub lines_of-passed : (threads number index : ℕ) (lines : List (Line A)) (line : Line A) → index < length lines → line ≡ get_or lines index line → seat_of threads line.worker ≢ number
+      → lines_of threads number (take (index + 1) lines) ≡ lines_of threads number (take index lines)
+  lines_of-passed threads number index lines line within is other =
+      let not_its : is_of threads number line ≡ false = nat_eq-other (seat_of threads line.worker) number other in
+      filter_more (is_of threads number) lines index line within ∙ ap (λ (l : Line A). lines_of threads number (take index lines) ++ cond (is_of threads number l) (l ∷ []) []) (sym is)
+      ∙ ap (λ (b : Bool). lines_of threads number (take index lines) ++ cond b (line ∷ []) []) not_its ∙ append-nil (lines_of threads number (take index lines))
+
+  -- the lines of a seat before a place and behind it
+  pub lines_of-parts : (threads number index : ℕ) (lines : List (Line A)) → lines_of threads number lines ≡ lines_of threads number (take index lines) ++ lines_of threads number (drop index lines)
+  lines_of-parts threads number index lines =
+      ap (lines_of threads number) (sym (take-append-drop index lines)) ∙ filter-append (is_of threads number) (take index lines) (drop index lines)
+
+  -- there is one behind it
+  pub lines_of-some : (threads number index : ℕ) (lines : List (Line A)) (line : Line A) → index < length lines → line ≡ get_or lines index line → seat_of threads line.worker ≡ number
+      → 0 < length (lines_of threads number (drop index lines))
+  lines_of-some threads number index lines line within is at =
+      let its : is_of threads number line ≡ true = ap (λ n. nat_eq n number) at ∙ nat_eq-same number in
+      let parts : drop index lines ≡ line ∷ drop (index + 1) lines = drop_more lines index line within ∙ ap (λ (l : Line A). l ∷ drop (index + 1) lines) (sym is) in
+      omega (arith, ap (λ (l : List (Line A)). length (lines_of threads number l)) parts, ap length (lines-own threads number line (drop (index + 1) lines) its))
+
+  -- some line of a block is of the seat
+  pub given_some : (threads number index : ℕ) (block : List (Line A)) (line : Line A) → index < length block → line ≡ get_or block index line → seat_of threads line.worker ≡ number
+      → 0 < length (lines_of threads number block)
+  given_some threads number index block line within is at =
+      omega (
+        arith,
+        ap length (lines_of-parts threads number index block),
+        length-append (lines_of threads number (take index block)) (lines_of threads number (drop index block)),
+        lines_of-some threads number index block line within is at,
+      )
+
+  -- a line of a block is passed over, since it is another seat's
+  pub lines_passed : (threads number index : ℕ) (block : List (Line A)) (line : Line A) (texts : List (List ℕ)) (a b : SeatState A) → index < length block → line ≡ get_or block index line
+      → seat_of threads line.worker ≢ number → HasCalledLines threads (lines_of threads number (take index block)) (Ok tt) texts a b
+      → HasCalledLines threads (lines_of threads number (take (index + 1) block)) (Ok tt) texts a b
+  lines_passed threads number index block line texts a b within is other so =
+      subst (λ (l : List (Line A)). HasCalledLines threads l (Ok tt) texts a b) (sym (lines_of-passed threads number index block line within is other)) so
+
+  -- it has its reply
+  pub lines_next : (threads number index : ℕ) (block : List (Line A)) (line : Line A) (texts more : List (List ℕ)) (text : List ℕ) (a b c : SeatState A) → index < length block → line ≡ get_or block index line
+      → seat_of threads line.worker ≡ number → a.number ≡ number → HasCalledLines threads (lines_of threads number (take index block)) (Ok tt) texts a b → HasAnswered line text b c → more ≡ texts ++ text ∷ []
+      → HasCalledLines threads (lines_of threads number (take (index + 1) block)) (Ok tt) more a c
+  lines_next threads number index block line texts more text a b c within is at its so answered grown =
+      subst (λ (l : List (Line A)). HasCalledLines threads l (Ok tt) more a c) (sym (lines_of-next threads number index block line within is at))
+      (lines_more threads (lines_of threads number (take index block)) line texts more text a b c so (so.number ∙ its ∙ sym at) answered grown)
+
+  -- it has none
+  pub lines_stopped : (threads number index : ℕ) (fault : CallFault) (block : List (Line A)) (line : Line A) (texts : List (List ℕ)) (a b c : SeatState A) → index < length block
+      → line ≡ get_or block index line → seat_of threads line.worker ≡ number → HasCalledLines threads (lines_of threads number (take index block)) (Ok tt) texts a b → KeepsCalls b c
+      → HasCalledLines threads (lines_of threads number block) (Err fault) texts a c
+  lines_stopped threads number index fault block line texts a b c within is at so keeps =
+      subst (λ (l : List (Line A)). HasCalledLines threads l (Err fault) texts a c) (sym (lines_of-parts threads number index block))
+      (lines_ended threads fault (lines_of threads number (take index block)) (lines_of threads number (drop index block)) texts a b c so keeps (lines_of-some threads number index block line within is at))
+
+  -- all lines of the block were looked at
+  pub lines_done : (threads number index : ℕ) (block : List (Line A)) (texts : List (List ℕ)) (a b : SeatState A) → length block ≤ index
+      → HasCalledLines threads (lines_of threads number (take index block)) (Ok tt) texts a b → HasCalledLines threads (lines_of threads number block) (Ok tt) texts a b
+  lines_done threads number index block texts a b ended so =
+      subst (λ (l : List (Line A)). HasCalledLines threads (lines_of threads number l) (Ok tt) texts a b) (take_all index block ended) so
+
+  -- a worker that calls no line of a block
+  pub worked_none : (threads : ℕ) (block : List (Line A)) (seat : SeatState A) (done : Work A) → lines_of threads seat.number block ≡ [] → done ≡ work seat [] (Ok tt) → HasWorked threads block seat done
+  worked_none threads block seat done none is =
+      subst (λ (w : Work A). HasWorked threads block seat w) (sym is)
+      (subst (λ (l : List (Line A)). HasCalledLines threads l (Ok tt) [] seat seat) (sym none) (lines_none threads seat))
+
+  -- or has no thread for them
+  pub worked_refused : (threads : ℕ) (fault : CallFault) (block : List (Line A)) (seat : SeatState A) (done : Work A) → 0 < length (lines_of threads seat.number block) → done ≡ work seat [] (Err fault)
+      → HasWorked threads block seat done
+  worked_refused threads fault block seat done some is =
+      subst (λ (w : Work A). HasWorked threads block seat w) (sym is) (lines_refused threads fault (lines_of threads seat.number block) seat some)
+
+  pub work_same : (a b : SeatState A) (texts others : List (List ℕ)) (c d : Ended) → a ≡ b → texts ≡ others → c ≡ d → work a texts c ≡ work b others d
+  work_same a b texts others c d seats same outcome =
+      ap (λ (s : SeatState A). work s texts c) seats ∙ ap (λ (t : List (List ℕ)). work b t c) same ∙ ap (λ (e : Ended). work b others e) outcome
+
+  -- what a thread has promised of its worker
+  pub worked_promised : (threads promised : ℕ) (block lines : List (Line A)) (seat before : SeatState A) (done : Work A) → promised ≡ threads → lines ≡ block → before ≡ seat → HasWorked promised lines before done
+      → HasWorked threads block seat done
+  worked_promised threads promised block lines seat before done count same is so =
+      subst (λ (s : SeatState A). HasWorked threads block s done) is (subst (λ (l : List (Line A)). HasWorked threads l before done) same (subst (λ (n : ℕ). HasWorked n lines before done) count so))
+
+  -- ---- one call of a seat
+
+  all-called : (old new : SeatState A) (command : Command A) (reply : Reply A) → HasCalled old new command reply → calls new ≡ calls old ++ event_by old.number command reply ∷ []
+  all-called old new command reply so = ap (λ (h : List (Event A)). own new.number h) so.answered ∙ so.calls
+
+  all-seen : (new : SeatState A) → new.answered ≡ new.seen → IsPrefix new.answered new.seen
+  all-seen new same = subst (λ (h : List (Event A)). IsPrefix h new.seen) (sym same) (prefix-self new.seen)
+
+  pub answered_of : (line : Line A) (text : List ℕ) (reply : Reply A) (old new : SeatState A) → HasCalled old new line.command reply → text ≡ on_a_line (reply_text line reply) → HasAnswered line text old new
+  answered_of line text reply old new so is =
+      record { reply = reply; text_is = is; number = so.number; calls_are = all-called old new line.command reply so; seen = all-seen new so.answered }
+
+  pub keeps_same : (seat : SeatState A) → KeepsCalls seat seat
+  keeps_same seat = record { number = refl; begins = prefix-self (calls seat); seen = λ so. so }
+
+  -- the call was answered, but the reply had no text
+  pub keeps_called : (old new : SeatState A) (command : Command A) (reply : Reply A) → HasCalled old new command reply → KeepsCalls old new
+  keeps_called old new command reply so = record {
+    number = so.number;
+    begins = subst (λ (h : List (Event A)). IsPrefix (calls old) h) (sym (all-called old new command reply so)) (prefix-append (calls old) (event_by old.number command reply ∷ []));
+    seen = λ before. all-seen new so.answered;
+  }
+
+  keeps-seen : (old new : SeatState A) → SeesMore old new → KeepsCalls old new
+  keeps-seen old new so =
+      let same : calls new ≡ calls old = ap₂ (λ (n : ℕ) (h : List (Event A)). own n h) so.number so.answered in
+      record {
+        number = so.number;
+        begins = subst (λ (h : List (Event A)). IsPrefix (calls old) h) (sym same) (prefix-self (calls old));
+        seen = λ before. subst (λ (h : List (Event A)). IsPrefix h new.seen) (sym so.answered) (prefix-trans old.answered old.seen new.seen before so.seen);
+      }
+
+  -- the call was not answered
+  pub keeps_left : (fault : CallFault) (old new : SeatState A) → LeavesSeat fault old new → KeepsCalls old new
+  keeps_left call.OutOfMemory old new same = subst (λ (s : SeatState A). KeepsCalls old s) (sym same) (keeps_same old)
+  keeps_left (call.Overtaken front) old new so = keeps-seen old new so.0
+  keeps_left call.HistoryFull old new so = keeps-seen old new so.0
