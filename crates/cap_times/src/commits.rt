@@ -107,6 +107,16 @@ pub(crate) fn inserts(alloc: Global, order: Order, count: u32) -> Option<Vec<Com
     Some(commands)
 }
 
+/// A commit for each of so many keys from the first one on, which inserts its row.
+pub(crate) fn inserts_from(alloc: Global, first: u64, count: u32) -> Option<Vec<Command<Global>>> {
+    let mut commands = Vec::new(alloc);
+    for number in 0..count {
+        let key = first.saturating_add(u64::from(number));
+        commands.push(commit(alloc, insert(alloc, key)?)?).ok()?;
+    }
+    Some(commands)
+}
+
 /// So many commits that update rows in turn: each `step`th of the table's, so many of them.
 pub(crate) fn updates(
     alloc: Global,
