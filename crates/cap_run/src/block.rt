@@ -4,7 +4,7 @@ ghost use denote.Param.Send.{Frees, IsSend, IsSync};
 ghost use Rattle.cap_run.specs.Code.Calls.{HasWorked, lines_of, work};
 
 use crate::Gate;
-use crate::worker::{Shared, Worker, answer_lines, is_given};
+use crate::worker::{Shared, Worker, answer_lines, is_given, let_all_go_on};
 use cap_history::Naming;
 use cap_script::Line;
 use cap_server::CallFault;
@@ -64,10 +64,12 @@ fn carry_out<J: Naming, A: AllocHandle, T: Wait, G: Gate>(
         mut worker,
     } = task;
     if state.without_thread.load(Ordering::SeqCst) == worker.seat.number() {
+        let_all_go_on(&state.called, Err(CallFault::OutOfMemory));
         return ended(worker, Err(CallFault::OutOfMemory));
     }
     worker.texts.clear();
     worker.ended = answer_lines(shared, &state.called, block, &mut worker);
+    let_all_go_on(&state.called, worker.ended);
     worker
 }
 

@@ -17,6 +17,9 @@ use std::thread::yield_now;
 /// The turns for which a worker lets the lines before its own be called first, in a whole block: some milliseconds.
 const TURNS_MAX: u32 = 5_000;
 
+/// More lines than any block has.
+const ALL_CALLED: u64 = 1 << 62;
+
 /// What all workers of a run share.
 #[derive(Drop)]
 pub(crate) struct Shared<'r, J: Naming, A: AllocHandle, T: Wait, G: Gate> {
@@ -100,6 +103,13 @@ fn let_others_first(called: &AtomicU64, before: u64, turns: u32) -> u32 {
         yield_now();
     }
     0
+}
+
+/// Where a worker ended at a fault nobody waits any longer for its lines to be called.
+pub(crate) fn let_all_go_on(called: &AtomicU64, ended: Result<(), CallFault>) {
+    if ended.is_err() {
+        called.store(ALL_CALLED, Ordering::SeqCst);
+    }
 }
 
 /// Lets a worker call a line, between the two sides of the gate.
