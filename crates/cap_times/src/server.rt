@@ -17,7 +17,7 @@ use std::thread::Threads;
 use std::time::{Clock, Instant};
 
 /// How many rows readers scan.
-const ROWS: u32 = 10_000;
+const ROWS: u32 = 100_000;
 
 /// How often the writer beside them makes its commits.
 const ROUNDS: u32 = 4;
@@ -250,9 +250,9 @@ fn read_beside<R: Print + Eprint + Threads + Wait + Clock + Sync>(
     }
     let outcome = together(rt, alloc, first.as_slice(), roles)?;
     let commit = outcome.nanos / (u128::from(COMMITS) * u128::from(ROUNDS));
-    let rows = u128::from(outcome.rows) * 1000 / (outcome.nanos / 1000).max(1);
+    let rows = u128::from(outcome.rows) * 1_000_000 / outcome.nanos.max(1);
     eprintln!(rt;
-        "a writer beside {readers} readers: {commit} ns a commit, {rows} thousand rows scanned a millisecond"
+        "a writer beside {readers} readers: {commit} ns a commit, {rows} rows scanned a millisecond"
     )?;
     Ok(())
 }
