@@ -389,12 +389,12 @@ fn missing_seats<J: Naming + Send + Sync, R: Wait + Abort>(
 }
 
 // The bytes of memory that a server and its contents fit into.
-const HEAP_LEN: usize = 32_768;
+pub(crate) const HEAP_LEN: usize = 32_768;
 
-type Block<'a> = Box<[u64; 2], &'a LocalHeap>;
+pub(crate) type Block<'a> = Box<[u64; 2], &'a LocalHeap>;
 
 // The heap's memory in small blocks, but for as many as are to be free.
-fn blocks_but<'a>(
+pub(crate) fn blocks_but<'a>(
     alloc: Global,
     heap: &'a LocalHeap,
     free: usize,

@@ -1,0 +1,158 @@
+//! Steps of the sequential server that are refused, by a step outside or for want of memory.
+use crate::server::{HEAP_LEN, blocks_but};
+use cap_core::{Agree, Confirm, Core, Reply};
+use cap_script::{Line, ScriptFault, parse, print_reply};
+use cap_value::{AllocHandle, Fault};
+use linked_list_allocator::LocalHeap;
+use std::test::Fail;
+
+// A step outside that counts how often it is asked, and agrees or refuses.
+#[derive(Drop)]
+struct Counted {
+    agrees: bool,
+    asked: u8,
+}
+
+impl<A: AllocHandle> Confirm<A> for Counted {
+    type Refusal = ();
+
+    ghost can_confirm = { λ confirm reply. Unit {0} };
+
+    ghost gives = { λ old reply answer new. Unit {0} };
+
+    fn confirm(&mut self, _reply: &Reply<A>) -> Result<(), ()> {
+        self.asked = self.asked.saturating_add(1);
+        if self.agrees { Ok(()) } else { Err(()) }
+    }
+}
+
+// A table, a saved database, and three sessions, of which the first two attach the table and saw a row.
+const SERVER: &str = "create t kv\n\
+     commit insert t (1,10)\n\
+     save old\n\
+     commit insert t (2,20)\n\
+     session\n\
+     attach 1 t\n\
+     session\n\
+     attach 2 t\n\
+     session\n\
+     commit insert t (5,50)";
+
+// Commands to it, with whether they change anything, and whether they take memory.
+const COMMANDS: [(&str, bool, bool); 19] = [
+    ("commit insert t (3,30)", true, true),
+    ("commit update t key(1) set 1 = 11", true, true),
+    ("commit delete t key(2)", true, true),
+    ("commit insert t (4,40) ; delete t key(2)", true, true),
+    ("create u kv", true, true),
+    (
+        "apply x'54020100740012000100000000000000020301780900010000000000000001030179' \
+         omit replace replace",
+        true,
+        true,
+    ),
+    ("save a", true, true),
+    ("session", true, false),
+    ("drop 1", true, false),
+    ("attach 3 t", true, true),
+    ("attachall 3", true, false),
+    ("filter 3 is t", true, false),
+    ("enable 1 off", true, false),
+    ("indirect 1 on", true, false),
+    ("diff 3 old t", true, true),
+    ("restart 1", true, true),
+    ("changeset 1", false, true),
+    ("isempty 1", false, false),
+    ("scan t", false, true),
+];
+
+// Shows what they may change, on a server beside it.
+const CONTENT: &str = "scan t\n\
+     scan u\n\
+     changeset 1\n\
+     changeset 2\n\
+     changeset 3\n\
+     isempty 4\n\
+     enable 1 ask\n\
+     indirect 1 ask\n\
+     isempty 3\n\
+     commit insert t (9,90)\n\
+     isempty 3\n\
+     diff 2 a t\n\
+     changeset 2";
+
+// What a test's text may meet: want of memory, or a fault of the text.
+type Outcome<T> = Result<T, Fault<ScriptFault>>;
+
+// The texts of the replies to the commands of a workload, which are given to a server one after the other.
+fn give<A: AllocHandle>(alloc: A, core: &mut Core<A>, text: &str) -> Outcome<String<A>> {
+    let mut texts = String::new(alloc);
+    for line in &parse(alloc, text)?.lines {
+        if core.events() >= 1000 {
+            break;
+        }
+        match core.step(&line.command, &mut Agree) {
+            Ok(reply) => texts.push_str(print_reply(alloc, line, &reply)?.as_str())?,
+            Err(_) => return Err(Fault::OutOfMemory),
+        }
+        texts.push_str("\n")?;
+    }
+    Ok(texts)
+}
+
+// The server as it is, with which it shares all memory.
+fn beside<A: AllocHandle>(alloc: A, core: &Core<A>) -> Outcome<Core<A>> {
+    match parse(alloc, "scan t")?.lines.first() {
+        Some(line) if core.events() < 1000 => {
+            let (beside, _reply) = core.prepare(&line.command)?;
+            Ok(beside)
+        }
+        _ => Err(Fault::OutOfMemory),
+    }
+}
+
+// What a server holds, in words.
+fn content<A: AllocHandle>(alloc: A, core: &Core<A>) -> Outcome<String<A>> {
+    give(alloc, &mut beside(alloc, core)?, CONTENT)
+}
+
+// Makes the step where there was room for it, and answers whether it was made and how often the step outside was asked.
+fn step<A: AllocHandle>(core: &mut Core<A>, line: &Line<A>, agrees: bool) -> (bool, u8) {
+    let mut confirm = Counted { agrees, asked: 0 };
+    let made = core.events() < 1000 && core.step(&line.command, &mut confirm).is_ok();
+    (made, confirm.asked)
+}
+
+// Each growth of each command is refused, until the step outside is asked, which refuses. Then it agrees.
+#[test]
+fn a_refused_step_changes_nothing(rt: HostRuntime) -> Result<(), Fail> {
+    for (command, changes, grows) in COMMANDS {
+        let heap = LocalHeap::new(rt.alloc(), HEAP_LEN)?;
+        let mut core = Core::new(&heap);
+        give(&heap, &mut core, SERVER)?;
+        let before = content(&heap, &core)?;
+        let lines = parse(&heap, command)?.lines;
+        let line = lines.first().ok_or("no command")?;
+        let mut refused = 0u32;
+        for free in 0..HEAP_LEN {
+            // Every node is shared, so that a change needs memory.
+            let shared = beside(&heap, &core)?;
+            let blocks = blocks_but(rt.alloc(), &heap, free)?;
+            let stepped = step(&mut core, line, false);
+            drop(blocks);
+            drop(shared);
+            assert_eq!(rt; core.events(), 10, "{command}");
+            assert_eq!(rt; content(&heap, &core)?.as_str(), before.as_str());
+            if stepped == (false, 1) {
+                break;
+            }
+            assert_eq!(rt; stepped, (false, 0), "{command}");
+            refused = refused.saturating_add(1);
+        }
+        assert_eq!(rt; step(&mut core, line, true), (true, 1), "{command}");
+        assert_eq!(rt; core.events(), 11, "{command}");
+        let is_same = content(&heap, &core)?.as_str() == before.as_str();
+        assert_eq!(rt; (is_same, refused > 0), (!changes, grows), "{command}");
+    }
+    Ok(())
+}
