@@ -64,7 +64,7 @@ fn an_insert(rt: HostRuntime) -> Result<(), Fail> {
     let bytes: [u8; 20] = [
         0x54, 2, 1, 0, 0x74, 0, 0x12, 0, 1, 0, 0, 0, 0, 0, 0, 0, 1, 3, 1, 0x78,
     ];
-    assert_eq!(rt; write_changes(alloc, &list)?.as_slice(), bytes.as_slice());
+    assert!(rt; write_changes(alloc, &list)?.as_slice() == bytes.as_slice());
     Ok(())
 }
 
@@ -88,15 +88,9 @@ fn an_update(rt: HostRuntime) -> Result<(), Fail> {
     let patchset: [u8; 20] = [
         0x50, 2, 1, 0, 0x74, 0, 0x17, 0, 1, 0, 0, 0, 0, 0, 0, 0, 1, 3, 1, 0x79,
     ];
-    assert_eq!(rt;
-        write_changes(alloc, &list)?.as_slice(),
-        changeset.as_slice()
-    );
+    assert!(rt; write_changes(alloc, &list)?.as_slice() == changeset.as_slice());
     let patches = to_patches(alloc, &list)?;
-    assert_eq!(rt;
-        write_patches(alloc, &patches)?.as_slice(),
-        patchset.as_slice()
-    );
+    assert!(rt; write_patches(alloc, &patches)?.as_slice() == patchset.as_slice());
     Ok(())
 }
 
@@ -116,15 +110,9 @@ fn a_delete(rt: HostRuntime) -> Result<(), Fail> {
         0x54, 2, 1, 0, 0x74, 0, 0x09, 0, 1, 0, 0, 0, 0, 0, 0, 0, 1, 3, 1, 0x78,
     ];
     let patchset: [u8; 17] = [0x50, 2, 1, 0, 0x74, 0, 0x09, 0, 1, 0, 0, 0, 0, 0, 0, 0, 1];
-    assert_eq!(rt;
-        write_changes(alloc, &list)?.as_slice(),
-        changeset.as_slice()
-    );
+    assert!(rt; write_changes(alloc, &list)?.as_slice() == changeset.as_slice());
     let patches = to_patches(alloc, &list)?;
-    assert_eq!(rt;
-        write_patches(alloc, &patches)?.as_slice(),
-        patchset.as_slice()
-    );
+    assert!(rt; write_patches(alloc, &patches)?.as_slice() == patchset.as_slice());
     Ok(())
 }
 
@@ -149,12 +137,9 @@ fn fields(rt: HostRuntime) -> Result<(), Fail> {
     let long = [b'a'; 300];
     let (long, _) = (std::str::from_utf8(&long)?, ());
     let number = as_field(&rt, alloc, Value::Int(-1))?;
-    assert_eq!(rt;
-        number.as_slice(),
-        [1, 255, 255, 255, 255, 255, 255, 255, 255].as_slice()
-    );
+    assert!(rt; number.as_slice() == [1, 255, 255, 255, 255, 255, 255, 255, 255].as_slice());
     let least = as_field(&rt, alloc, Value::Int(i64::MIN))?;
-    assert_eq!(rt; least.as_slice(), [1, 0x80, 0, 0, 0, 0, 0, 0, 0].as_slice());
+    assert!(rt; least.as_slice() == [1, 0x80, 0, 0, 0, 0, 0, 0, 0].as_slice());
     for (len, front) in [
         (127, [3, 0x7f, b'a']),
         (128, [3, 0x81, 0]),
@@ -168,11 +153,8 @@ fn fields(rt: HostRuntime) -> Result<(), Fail> {
         assert!(rt; text.starts_with(&front));
     }
     let empty = as_field(&rt, alloc, Value::blob(alloc, &[])?)?;
-    assert_eq!(rt; empty.as_slice(), [4, 0].as_slice());
-    assert_eq!(rt;
-        as_field(&rt, alloc, Value::Null)?.as_slice(),
-        [5].as_slice()
-    );
+    assert!(rt; empty.as_slice() == [4, 0].as_slice());
+    assert!(rt; as_field(&rt, alloc, Value::Null)?.as_slice() == [5].as_slice());
     Ok(())
 }
 
@@ -243,10 +225,7 @@ fn every_front_of_a_blob(rt: HostRuntime) -> Result<(), Fail> {
         }
     }
     let list = changes_in(alloc, &INSERT_ONE).ok_or("refused")?;
-    assert_eq!(rt;
-        write_changes(alloc, &list)?.as_slice(),
-        INSERT_ONE.as_slice()
-    );
+    assert!(rt; write_changes(alloc, &list)?.as_slice() == INSERT_ONE.as_slice());
     Ok(())
 }
 
@@ -291,7 +270,7 @@ fn a_patchset_reads_again(rt: HostRuntime) -> Result<(), Fail> {
     match read_blob(alloc, &delete) {
         Ok(blob) => match blob {
             Contents::Patches(list) => {
-                assert_eq!(rt; write_patches(alloc, &list)?.as_slice(), delete.as_slice());
+                assert!(rt; write_patches(alloc, &list)?.as_slice() == delete.as_slice());
             }
             Contents::Changes(_list) => assert!(rt; false),
         },
@@ -306,10 +285,7 @@ fn the_text_of_a_fault(rt: HostRuntime) -> Result<(), Fail> {
         at: 20,
         kind: FaultKind::Truncated,
     };
-    assert_eq!(rt;
-        format!(in rt.alloc(); "{fault}")?.as_str(),
-        "D1 Truncated at 20"
-    );
+    assert!(rt; format!(in rt.alloc(); "{fault}")?.as_str() == "D1 Truncated at 20");
     Ok(())
 }
 

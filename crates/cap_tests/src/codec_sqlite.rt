@@ -40,23 +40,16 @@ fn a_changeset_of_sqlite(rt: HostRuntime) -> Result<(), Fail> {
             return Err("a patchset".into());
         };
         let group = list.groups().first().ok_or("no group")?;
-        assert_eq!(rt;
-            group.schema().flags(),
-            [false, true, false, true].as_slice()
+        assert!(rt; group.schema().flags() == [false, true, false, true].as_slice());
+        assert!(rt; group.changes().len() == 3);
+        assert!(rt;
+            write_changes_with(alloc, KeyFlags::Places, &list)?.as_slice() == CHANGESET.as_slice()
         );
-        assert_eq!(rt; group.changes().len(), 3);
-        assert_eq!(rt;
-            write_changes_with(alloc, KeyFlags::Places, &list)?.as_slice(),
-            CHANGESET.as_slice()
+        assert!(rt;
+            write_changes_with(alloc, KeyFlags::Ones, &list)?.as_slice()
+                == with_ones(&CHANGESET).as_slice()
         );
-        assert_eq!(rt;
-            write_changes_with(alloc, KeyFlags::Ones, &list)?.as_slice(),
-            with_ones(&CHANGESET).as_slice()
-        );
-        assert_eq!(rt;
-            write_changes(alloc, &list)?.as_slice(),
-            with_ones(&CHANGESET).as_slice()
-        );
+        assert!(rt; write_changes(alloc, &list)?.as_slice() == with_ones(&CHANGESET).as_slice());
     }
     Ok(())
 }
@@ -68,18 +61,14 @@ fn a_patchset_of_sqlite(rt: HostRuntime) -> Result<(), Fail> {
         let Contents::Patches(list) = read_blob(alloc, &bytes)? else {
             return Err("a changeset".into());
         };
-        assert_eq!(rt;
-            write_patches_with(alloc, KeyFlags::Places, &list)?.as_slice(),
-            PATCHSET.as_slice()
+        assert!(rt;
+            write_patches_with(alloc, KeyFlags::Places, &list)?.as_slice() == PATCHSET.as_slice()
         );
-        assert_eq!(rt;
-            write_patches_with(alloc, KeyFlags::Ones, &list)?.as_slice(),
-            with_ones(&PATCHSET).as_slice()
+        assert!(rt;
+            write_patches_with(alloc, KeyFlags::Ones, &list)?.as_slice()
+                == with_ones(&PATCHSET).as_slice()
         );
-        assert_eq!(rt;
-            write_patches(alloc, &list)?.as_slice(),
-            with_ones(&PATCHSET).as_slice()
-        );
+        assert!(rt; write_patches(alloc, &list)?.as_slice() == with_ones(&PATCHSET).as_slice());
     }
     Ok(())
 }

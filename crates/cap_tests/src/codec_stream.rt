@@ -234,7 +234,7 @@ fn a_write_that_fails(rt: HostRuntime) -> Result<(), Fail> {
         } else {
             assert!(rt; outcome == Ok(()));
         }
-        assert_eq!(rt; sink.held.as_slice(), &INSERT[..(writes * 7).min(20)]);
+        assert!(rt; sink.held.as_slice() == &INSERT[..(writes * 7).min(20)]);
     }
     Ok(())
 }
@@ -258,7 +258,7 @@ fn a_patchset_is_written_whole(rt: HostRuntime) -> Result<(), Fail> {
         writes: 20,
     };
     assert!(rt; write_patches_to(rt.alloc(), &mut sink, &list) == Ok(()));
-    assert_eq!(rt; sink.held.as_slice(), UPDATE_PATCH.as_slice());
+    assert!(rt; sink.held.as_slice() == UPDATE_PATCH.as_slice());
     let mut stuck = Sink {
         held: Vec::new(rt.alloc()),
         most: 0,
@@ -301,7 +301,7 @@ fn want_of_memory_for_a_patchset(rt: HostRuntime) -> Result<(), Fail> {
         match read_blob(&heap, &UPDATE_PATCH) {
             Ok(Contents::Patches(list)) => {
                 if let Ok(bytes) = write_patches(&heap, &list) {
-                    assert_eq!(rt; bytes.as_slice(), UPDATE_PATCH.as_slice());
+                    assert!(rt; bytes.as_slice() == UPDATE_PATCH.as_slice());
                     return Ok(());
                 }
             }

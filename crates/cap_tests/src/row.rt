@@ -17,19 +17,16 @@ fn schemas_have_1_to_2000_columns(rt: HostRuntime) -> Result<(), Fail> {
     let alloc = rt.alloc();
     let flags = vec![in alloc; true; COLUMNS_MAX + 1]?;
     let widest = Schema::new(alloc, &flags[1..])?;
-    assert_eq!(rt; (widest.width(), widest.has_key()), (2_000, true));
+    assert!(rt; (widest.width(), widest.has_key()) == (2_000, true));
     assert!(rt; widest.copy()?.same(&widest));
     for refused in [&flags[..], &flags[..0]] {
         match Schema::new(alloc, refused) {
             Ok(schema) => assert!(rt; false, "{schema:?} is no schema"),
-            Err(fault) => assert_eq!(rt; fault, Fault::Refused(Refusal::BadSchema)),
+            Err(fault) => assert!(rt; fault == Fault::Refused(Refusal::BadSchema)),
         }
     }
     let narrow = Schema::new(alloc, &[false, true])?;
-    assert_eq!(rt;
-        (narrow.is_key(0), narrow.is_key(1), narrow.is_key(2)),
-        (false, true, false)
-    );
+    assert!(rt; (narrow.is_key(0), narrow.is_key(1), narrow.is_key(2)) == (false, true, false));
     Ok(())
 }
 
@@ -38,15 +35,15 @@ fn keys_are_the_values_of_key_columns(rt: HostRuntime) -> Result<(), Fail> {
     let alloc = rt.alloc();
     let schema = Schema::new(alloc, &[true, false, true, true])?;
     let row = Row::new(numbers(alloc, &[1, 2, 3, 4])?)?;
-    assert_eq!(rt; row.width(), schema.width());
+    assert!(rt; row.width() == schema.width());
     let key = key_of(alloc, &schema, &row)?;
-    assert_eq!(rt; key, Key::new(alloc, numbers(alloc, &[1, 3, 4])?)?);
+    assert!(rt; key == Key::new(alloc, numbers(alloc, &[1, 3, 4])?)?);
     let unset = row.with_fields(alloc, &schema, &[(2, Value::Null)])?;
-    assert_eq!(rt; key_of(alloc, &schema, &unset)?, None);
-    assert_eq!(rt; Key::new(alloc, Vec::<Value<Global>>::new(alloc))?, None);
+    assert!(rt; key_of(alloc, &schema, &unset)? == None);
+    assert!(rt; Key::new(alloc, Vec::<Value<Global>>::new(alloc))? == None);
     let keyless = Schema::new(alloc, &[false; 4])?;
-    assert_eq!(rt; row.width(), keyless.width());
-    assert_eq!(rt; key_of(alloc, &keyless, &row)?, None);
+    assert!(rt; row.width() == keyless.width());
+    assert!(rt; key_of(alloc, &keyless, &row)? == None);
 
     let short = Key::new(alloc, numbers(alloc, &[1, 3])?)?;
     assert!(rt; short < key);
@@ -62,12 +59,9 @@ fn updates_set_just_their_fields(rt: HostRuntime) -> Result<(), Fail> {
     let alloc = rt.alloc();
     let schema = Schema::new(alloc, &[true, false, false])?;
     let row = Row::new(numbers(alloc, &[1, 2, 3])?)?;
-    assert_eq!(rt; row.width(), schema.width());
+    assert!(rt; row.width() == schema.width());
     let set = row.with_fields(alloc, &schema, &[(2, Value::Int(9)), (0, Value::Null)])?;
-    assert_eq!(rt;
-        format!(in alloc; "{set:?}")?.as_str(),
-        "Row([Null, Int(2), Int(9)])"
-    );
+    assert!(rt; format!(in alloc; "{set:?}")?.as_str() == "Row([Null, Int(2), Int(9)])");
     assert!(rt; row.with_fields(alloc, &schema, &[])?.same(&row) && row.copy()?.same(&row));
     assert!(rt; row.width() == 3 && row.get(3).is_none());
     for refused in [&[3][..], &[1, 0, 1]] {
@@ -77,7 +71,7 @@ fn updates_set_just_their_fields(rt: HostRuntime) -> Result<(), Fail> {
         }
         match row.with_fields(alloc, &schema, &fields) {
             Ok(row) => assert!(rt; false, "{row:?}"),
-            Err(fault) => assert_eq!(rt; fault, Fault::Refused(Refusal::BadColumn)),
+            Err(fault) => assert!(rt; fault == Fault::Refused(Refusal::BadColumn)),
         }
     }
     Ok(())
@@ -108,9 +102,9 @@ fn each_allocation_may_be_refused(rt: HostRuntime) -> Result<(), Fail> {
                 enough = size;
                 break;
             }
-            Err(fault) => assert_eq!(rt; fault, Fault::OutOfMemory),
+            Err(fault) => assert!(rt; fault == Fault::OutOfMemory),
         }
-        assert_eq!(rt; heap.used(), 0);
+        assert!(rt; heap.used() == 0);
     }
     assert!(rt; enough > 20, "{enough} blocks of 16 bytes were enough");
     Ok(())

@@ -97,19 +97,19 @@ fn going_back_keeps_the_mark(rt: HostRuntime) -> Result<(), Fail> {
     let first = txn.savepoint()?;
     txn.op(set_text(alloc, 1, "y")?)?;
     let second = txn.savepoint()?;
-    assert_eq!(rt; (first.number, second.number), (0, 1));
+    assert!(rt; (first.number, second.number) == (0, 1));
     txn.op(delete(alloc, 1)?)?;
     assert!(rt; is_row(&txn, &name, &one, None));
     txn.back_to(second)?;
     assert!(rt; is_row(&txn, &name, &one, Some(&y)));
     txn.back_to(first)?;
     assert!(rt; is_row(&txn, &name, &one, Some(&x)));
-    assert_eq!(rt; refusal(txn.back_to(second)), Some(Refusal::NoMark));
+    assert!(rt; refusal(txn.back_to(second)) == Some(Refusal::NoMark));
     txn.back_to(first)?;
-    assert_eq!(rt; txn.savepoint()?, Mark { number: 2 });
-    assert_eq!(rt; txn.scan(&name)?.left(), 1);
+    assert!(rt; txn.savepoint()? == Mark { number: 2 });
+    assert!(rt; txn.scan(&name)?.left() == 1);
     let batch = txn.into_batch();
-    assert_eq!(rt; (batch.ops().len(), batch.base()), (0, Some(2)));
+    assert!(rt; (batch.ops().len(), batch.base()) == (0, Some(2)));
     assert!(rt; snapshot.get(&name, &one)?.is_some() && snapshot.scan(&name)?.left() == 1);
     Txn::begin(alloc, &snapshot)?.rollback();
     Ok(())
@@ -125,24 +125,18 @@ fn limits_of_a_transaction(rt: HostRuntime) -> Result<(), Fail> {
         txn.op(insert(alloc, key, "x")?)?;
         batch.push(insert(alloc, key, "x")?)?;
     }
-    assert_eq!(rt;
-        refusal(txn.op(insert(alloc, 0, "x")?)),
-        Some(Refusal::TooMany)
-    );
-    assert_eq!(rt;
-        refusal(batch.push(insert(alloc, 0, "x")?)),
-        Some(Refusal::TooMany)
-    );
+    assert!(rt; refusal(txn.op(insert(alloc, 0, "x")?)) == Some(Refusal::TooMany));
+    assert!(rt; refusal(batch.push(insert(alloc, 0, "x")?)) == Some(Refusal::TooMany));
     let outcome = run_ops(alloc, snapshot.database(), batch.ops());
     match outcome {
-        Ok(outcome) => assert_eq!(rt; outcome.changes().len(), OPS_MAX),
+        Ok(outcome) => assert!(rt; outcome.changes().len() == OPS_MAX),
         Err(_) => assert!(rt; false, "the batch is refused"),
     }
     for _made in 0..SAVEPOINTS_MAX {
         txn.savepoint()?;
     }
-    assert_eq!(rt; refusal(txn.savepoint()), Some(Refusal::TooMany));
-    assert_eq!(rt; txn.into_batch().ops().len(), OPS_MAX);
+    assert!(rt; refusal(txn.savepoint()) == Some(Refusal::TooMany));
+    assert!(rt; txn.into_batch().ops().len() == OPS_MAX);
     Ok(())
 }
 
@@ -156,22 +150,22 @@ fn a_refused_list_changes_nothing(rt: HostRuntime) -> Result<(), Fail> {
     batch.push(insert(alloc, 1, "z")?)?;
     match run_ops(alloc, &database, batch.ops()) {
         Err(Fault::Refused(refused)) => {
-            assert_eq!(rt;
-                refused,
-                RefusedAt {
-                    at: 2,
-                    why: Refusal::Duplicate
-                }
+            assert!(rt;
+                refused
+                    == RefusedAt {
+                        at: 2,
+                        why: Refusal::Duplicate
+                    }
             )
         }
         _ => assert!(rt; false, "the list is not refused"),
     }
-    assert_eq!(rt; database.scan(&Name::new(alloc, "t")?)?.left(), 0);
+    assert!(rt; database.scan(&Name::new(alloc, "t")?)?.left() == 0);
     match run_ops(alloc, &database, &batch.ops()[..2]) {
         Ok(outcome) => {
-            assert_eq!(rt; outcome.changes().len(), 2);
+            assert!(rt; outcome.changes().len() == 2);
             let after = outcome.into_database();
-            assert_eq!(rt; after.scan(&Name::new(alloc, "t")?)?.left(), 2);
+            assert!(rt; after.scan(&Name::new(alloc, "t")?)?.left() == 2);
         }
         Err(_) => assert!(rt; false, "the first two are refused"),
     }
@@ -183,30 +177,27 @@ fn up_to_64_tables(rt: HostRuntime) -> Result<(), Fail> {
     let alloc = rt.alloc();
     let mut database = with_table(alloc)?;
     let schema = Schema::new(alloc, &[true])?;
-    assert_eq!(rt;
-        refusal(database.create(Name::new(alloc, "t")?, schema.copy()?)),
-        Some(Refusal::TableExists)
+    assert!(rt;
+        refusal(database.create(Name::new(alloc, "t")?, schema.copy()?))
+            == Some(Refusal::TableExists)
     );
     for number in 1..TABLES_MAX {
         let name = format!(in alloc; "{number}")?;
         database.create(Name::new(alloc, name.as_str())?, schema.copy()?)?;
     }
-    assert_eq!(rt; database.len(), TABLES_MAX);
-    assert_eq!(rt;
-        refusal(database.create(Name::new(alloc, "t")?, schema.copy()?)),
-        Some(Refusal::TableExists)
+    assert!(rt; database.len() == TABLES_MAX);
+    assert!(rt;
+        refusal(database.create(Name::new(alloc, "t")?, schema.copy()?))
+            == Some(Refusal::TableExists)
     );
-    assert_eq!(rt;
-        refusal(database.create(Name::new(alloc, "u")?, schema)),
-        Some(Refusal::TooMany)
-    );
+    assert!(rt; refusal(database.create(Name::new(alloc, "u")?, schema)) == Some(Refusal::TooMany));
     assert!(rt; database.table(&Name::new(alloc, "u")?).is_none());
     let nowhere = Op {
         table: Name::new(alloc, "u")?,
         cause: Cause::Cascade,
         action: Action::Delete(RowRef::Loose(1)),
     };
-    assert_eq!(rt; refusal(database.step(&nowhere)), Some(Refusal::NoTable));
+    assert!(rt; refusal(database.step(&nowhere)) == Some(Refusal::NoTable));
     Ok(())
 }
 
@@ -237,9 +228,9 @@ fn each_allocation_may_be_refused(rt: HostRuntime) -> Result<(), Fail> {
                 enough = size;
                 break;
             }
-            Err(fault) => assert_eq!(rt; fault, Fault::OutOfMemory),
+            Err(fault) => assert!(rt; fault == Fault::OutOfMemory),
         }
-        assert_eq!(rt; heap.used(), 0);
+        assert!(rt; heap.used() == 0);
     }
     assert!(rt; enough > 20, "{enough} blocks of 16 bytes were enough");
     Ok(())
@@ -284,18 +275,12 @@ fn operations_wait_for_a_step_outside(rt: HostRuntime) -> Result<(), Fail> {
         (delete(alloc, 1)?, 1),
     ];
     for (op, changes) in &ops {
-        assert_eq!(rt; database.changes_of(op)?.len(), *changes);
-        assert_eq!(rt;
-            database.step_after(op, &mut no),
-            Err(NotMade::Disagreed(()))
-        );
-        assert_eq!(rt; database.step_after(op, &mut yes), Ok(()));
+        assert!(rt; database.changes_of(op)?.len() == *changes);
+        assert!(rt; database.step_after(op, &mut no) == Err(NotMade::Disagreed(())));
+        assert!(rt; database.step_after(op, &mut yes) == Ok(()));
     }
     let refused = delete(alloc, 1)?;
-    assert_eq!(rt;
-        database.step_after(&refused, &mut no),
-        Err(NotMade::Refused(Refusal::NoRow))
-    );
-    assert_eq!(rt; (no.asked, yes.asked), (3, 3));
+    assert!(rt; database.step_after(&refused, &mut no) == Err(NotMade::Refused(Refusal::NoRow)));
+    assert!(rt; (no.asked, yes.asked) == (3, 3));
     Ok(())
 }

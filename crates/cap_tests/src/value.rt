@@ -25,22 +25,16 @@ fn values_are_in_the_order_of_sqlite(rt: HostRuntime) -> Result<(), Fail> {
     ];
     for (i, a) in ascending.iter().enumerate() {
         for (j, b) in ascending.iter().enumerate() {
-            assert_eq!(rt; a.order(b), i.cmp(&j), "{i} and {j}");
-            assert_eq!(rt; a.cmp(b), i.cmp(&j), "{i} and {j}");
-            assert_eq!(rt; a.same(b), i == j, "{i} and {j}");
+            assert!(rt; a.order(b) == i.cmp(&j), "{i} and {j}");
+            assert!(rt; a.cmp(b) == i.cmp(&j), "{i} and {j}");
+            assert!(rt; a.same(b) == (i == j), "{i} and {j}");
         }
         a.keeps_limits();
-        assert_eq!(rt; a.copy()?, a.copy()?);
-        assert_eq!(rt; a.is_null(), i == 0);
+        assert!(rt; a.copy()? == a.copy()?);
+        assert!(rt; a.is_null() == (i == 0));
     }
-    assert_eq!(rt;
-        format!(in alloc; "{:?}", ascending[6])?.as_str(),
-        "Text(\"10\")"
-    );
-    assert_eq!(rt;
-        format!(in alloc; "{:?}", ascending[14])?.as_str(),
-        "Blob([97])"
-    );
+    assert!(rt; format!(in alloc; "{:?}", ascending[6])?.as_str() == "Text(\"10\")");
+    assert!(rt; format!(in alloc; "{:?}", ascending[14])?.as_str() == "Blob([97])");
     Ok(())
 }
 
@@ -50,13 +44,13 @@ fn names_have_1_to_255_bytes(rt: HostRuntime) -> Result<(), Fail> {
     let long = vec![in alloc; b'n'; 256]?;
     let long = String::from_utf8(long)?;
     let name = Name::new(alloc, &long.as_str()[1..])?;
-    assert_eq!(rt; (name.as_str().len(), NAME_MAX), (255, 255));
+    assert!(rt; (name.as_str().len(), NAME_MAX) == (255, 255));
     assert!(rt; name.copy()?.same(&name));
     assert!(rt; Name::new(alloc, "T")? < Name::new(alloc, "t")?);
     for refused in [long.as_str(), "", "a\0"] {
         match Name::new(alloc, refused) {
             Ok(name) => assert!(rt; false, "{name:?} is no name"),
-            Err(fault) => assert_eq!(rt; fault, Fault::Refused(Refusal::BadName)),
+            Err(fault) => assert!(rt; fault == Fault::Refused(Refusal::BadName)),
         }
     }
     Ok(())
@@ -87,7 +81,7 @@ fn texts_of_refusals(rt: HostRuntime) -> Result<(), Fail> {
         (Refusal::NoMark, "E20 NoMark"),
     ];
     for (refusal, text) in rows {
-        assert_eq!(rt; format!(in rt.alloc(); "{refusal}")?.as_str(), text);
+        assert!(rt; format!(in rt.alloc(); "{refusal}")?.as_str() == text);
     }
     Ok(())
 }
@@ -111,9 +105,9 @@ fn each_allocation_may_be_refused(rt: HostRuntime) -> Result<(), Fail> {
                 enough = size;
                 break;
             }
-            Err(fault) => assert_eq!(rt; fault, Fault::OutOfMemory),
+            Err(fault) => assert!(rt; fault == Fault::OutOfMemory),
         }
-        assert_eq!(rt; heap.used(), 0);
+        assert!(rt; heap.used() == 0);
     }
     assert!(rt; enough > 6, "{enough} blocks of 16 bytes were enough");
     Ok(())
