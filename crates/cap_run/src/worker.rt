@@ -12,10 +12,13 @@ use cap_server::{CallFault, Server};
 use cap_value::{AllocHandle, OutOfMemory};
 use std::sync::Wait;
 use std::sync::atomic::{AtomicU64, Ordering};
-use std::thread::yield_now;
+use std::time::Duration;
 
-/// The turns for which a worker lets the lines before its own be called first, in a whole block: some milliseconds.
-const TURNS_MAX: u32 = 5_000;
+/// The turns for which a worker lets the lines before its own be called first, in a whole block.
+const TURNS_MAX: u32 = 1_000;
+
+/// How many microseconds a turn takes, where no line is called meanwhile.
+const TURN_MICROS: u64 = 100;
 
 /// More lines than any block has.
 const ALL_CALLED: u64 = 1 << 62;
@@ -85,7 +88,7 @@ pub(crate) fn answer_lines<J: Naming, A: AllocHandle, T: Wait, G: Gate>(
     let mut turns = TURNS_MAX;
     for line in block {
         if seat_of(shared.threads, line.worker) == number {
-            turns = let_others_first(called, before, turns);
+            turns = let_others_first(shared.rt, called, before, turns);
             answer_own(shared, called, worker, line)?;
         }
         before = before.saturating_add(1);
@@ -93,14 +96,18 @@ pub(crate) fn answer_lines<J: Naming, A: AllocHandle, T: Wait, G: Gate>(
     Ok(())
 }
 
-/// Waits until so many lines of the block were called, for at most these turns, and answers how many turns are left. So a
-/// short block whose calls hold up nobody prints the same in each run, mostly; no order is promised.
-fn let_others_first(called: &AtomicU64, before: u64, turns: u32) -> u32 {
+/// Waits until so many lines of the block were called, for at most these turns, and answers how many turns are left. It
+/// sleeps in a turn, so that the other workers run also where the processors are taken. So a short block whose calls hold
+/// up nobody prints the same in each run, mostly; no order is promised.
+fn let_others_first<T: Wait>(rt: &T, called: &AtomicU64, before: u64, turns: u32) -> u32 {
     for spent in 0..turns {
-        if called.load(Ordering::SeqCst) >= before {
+        let seen = called.load(Ordering::SeqCst);
+        if seen >= before {
             return turns - spent;
         }
-        yield_now();
+        // The sleep ends early where the word's lower half is another.
+        let low = (seen % (1 << 32)) as u32;
+        called.park_timeout(rt, low, Duration::from_micros(TURN_MICROS));
     }
     0
 }
