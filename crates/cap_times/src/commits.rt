@@ -6,13 +6,16 @@ use anyhow::{Context, Result, bail};
 use cap_core::{Agree, Command, Core, Reply};
 use cap_row::{Key, Row, Schema};
 use cap_table::RowRef;
-use cap_txn::{Action, Assignments, Batch, Cause, Op};
+use cap_txn::{Action, Assignments, Batch, Cause, Op, Snapshot};
 use cap_value::{Name, Value};
 use std::alloc::Global;
 use std::time::CpuClock;
 
 /// How many commits are timed together.
 pub(crate) const COMMITS: u32 = 100_000;
+
+/// After how many commits a snapshot is kept, where snapshots are.
+const COMMITS_A_SNAPSHOT: usize = 100;
 
 /// The most events of a history.
 pub(crate) const EVENTS_MAX: u64 = (1 << 63) - 1;
@@ -173,6 +176,37 @@ fn timed(
     Ok(core)
 }
 
+// A snapshot of the server's tables.
+fn snapshot(core: &mut Core<Global>) -> Result<Snapshot<Global>> {
+    if core.events() >= EVENTS_MAX {
+        bail!("the history is full");
+    }
+    match core.step(&Command::Read, &mut Agree) {
+        Ok(Reply::Snapshot(snapshot)) => Ok(snapshot),
+        _ => bail!("no memory"),
+    }
+}
+
+// Carries out the commands, and keeps a snapshot of the tables now and then until the end.
+fn try_keeping(
+    rt: &(impl Print + Eprint + CpuClock + AllocGlobal),
+    load: &str,
+    core: Core<Global>,
+    commands: &[Command<Global>],
+) -> Result<()> {
+    let mut core = core;
+    let mut kept = Vec::new(rt.alloc());
+    let watch = Stopwatch::start(rt)?;
+    for some in commands.chunks(COMMITS_A_SNAPSHOT) {
+        core = after(core, some)?;
+        kept.push(snapshot(&mut core)?)?;
+    }
+    let each = watch.read(rt)? / (commands.len() as u128).max(1);
+    eprintln!(rt; "{load}, a snapshot kept every {COMMITS_A_SNAPSHOT}: {each} ns a commit")?;
+    println!(rt; "{} snapshots kept", kept.len())?;
+    Ok(())
+}
+
 // How long a capture takes for each of its changes.
 fn try_capture(
     rt: &(impl Print + Eprint + CpuClock + AllocGlobal),
@@ -205,6 +239,7 @@ pub(crate) fn report(rt: &(impl Print + Eprint + CpuClock + AllocGlobal)) -> Res
         let load = format!(in alloc; "{COMMITS} inserts, {order}")?;
         let core = timed(rt, load.as_str(), server(alloc, 0)?, commands.as_slice())?;
         try_capture(rt, &core)?;
+        try_keeping(rt, load.as_str(), server(alloc, 0)?, commands.as_slice())?;
     }
     for rows in [1000, 1] {
         let commands = updates(alloc, COMMITS, rows, 1).context("no commands")?;
