@@ -67,7 +67,14 @@ pub(crate) fn read_text<A: AllocHandle, R: Read>(
         result ≡ Err RunFault.NotUtf8 → ¬ (IsUtf8 given)) }
     ensures unread { IfErr result (λ fault. (fault ≡ RunFault.NotUtf8) ⊎ IsUnread fault) }
 {
-    let bytes = read_whole(alloc, reader)?;
+    text_of(read_whole(alloc, reader)?)
+}
+
+/// The text with these bytes. They are refused for no other fault than that they are no text.
+fn text_of<A: AllocHandle>(bytes: Vec<u8, A>) -> Result<String<A>, RunFault>
+    ensures text { IfOk result (λ text. string_bytes text ≡ bytes.items) }
+    ensures no_text { IfErr result (λ fault. (fault ≡ RunFault.NotUtf8) × (¬ (IsUtf8 bytes.items))) }
+{
     String::from_utf8(bytes).map_err(|_| RunFault::NotUtf8)
 }
 
