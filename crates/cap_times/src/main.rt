@@ -1,8 +1,5 @@
-//! How long the calls of the libraries take, by the processor's time of one thread: `cap_times tree [N..]` tries trees
-//! of N keys beside std's map, `cap_times codec` a changeset, `cap_times txn` operations on tables, `cap_times apply`
-//! changesets that are applied, `cap_times core` commits under a session, `cap_times sessions` commits under one and
-//! under 64 sessions, captures and a diff, and by the wall clock `cap_times server` commits from several threads and
-//! readers beside a writer. Standard output says what was checked, and standard error how long it took.
+//! How long the calls of the libraries take, by the processor's time of one thread. Standard output says what was
+//! checked, and standard error how long it took.
 #![tactic(auto)]
 
 mod apply;
@@ -22,7 +19,10 @@ use std::sync::Wait;
 use std::thread::Threads;
 use std::time::{Clock, CpuClock};
 
-/// Carries out the load that the command line names.
+/// Carries out the load that the command line names: `tree [N..]` tries trees of N keys beside std's map, `codec` a
+/// changeset, `txn` operations on tables, `apply` changesets that are applied, `core` commits under a session, `sessions`
+/// commits under one and under 64 sessions, captures and a diff, and `server`, by the wall clock, commits from several
+/// threads and readers beside a writer.
 fn run<R>(rt: &R) -> Result<()>
 where
     R: Print + Eprint + Env + Clock + CpuClock + Threads + Wait + Sync + AllocGlobal,
