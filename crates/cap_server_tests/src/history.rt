@@ -38,13 +38,13 @@ fn append_twice<J: Naming, R: Abort>(
         return Err("no calls".into());
     }
     let added = front.append(&mut first, &list, &Command::Read, &reply);
-    assert_eq!(rt; added, Ok(()));
-    assert_eq!(rt; first.seen(), 1);
-    assert_eq!(rt; first.calls(), 1);
+    assert!(rt; added == Ok(()));
+    assert!(rt; first.seen() == 1);
+    assert!(rt; first.calls() == 1);
     let refused = front.append(&mut second, &list, &Command::Read, &reply);
-    assert_eq!(rt; refused, Err(Overtaken { front: 1 }));
-    assert_eq!(rt; second.seen(), 1);
-    assert_eq!(rt; second.calls(), 0);
+    assert!(rt; refused == Err(Overtaken { front: 1 }));
+    assert!(rt; second.seen() == 1);
+    assert!(rt; second.calls() == 0);
     Ok(())
 }
 

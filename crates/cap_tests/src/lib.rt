@@ -5,14 +5,6 @@
 #[cfg(test)]
 mod apply;
 #[cfg(test)]
-mod changes;
-#[cfg(test)]
-mod codec;
-#[cfg(test)]
-mod codec_sqlite;
-#[cfg(test)]
-mod codec_stream;
-#[cfg(test)]
 mod compare;
 #[cfg(test)]
 mod filter;

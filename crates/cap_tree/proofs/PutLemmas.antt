@@ -19,6 +19,10 @@ pub on_err : {P A E : Type 0} (r : Result A E) → P → OnErr r P
 on_err (Ok a) p = tt
 on_err (Err e) p = p
 
+pub on_ok : {P A E : Type 0} (r : Result A E) → P → OnOk r P
+on_ok (Ok a) p = p
+on_ok (Err e) p = tt
+
 pub at_err : {P A E : Type 0} (r : Result A E) (e : E) → r ≡ Err e → OnErr r P → P
 at_err (Ok a) e is h = absurd (ok_is_not_err is)
   where

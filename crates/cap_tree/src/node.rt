@@ -96,6 +96,14 @@ impl<K: Ord, V, A: AllocHandle> Node<K, V, A> {
         }
     }
 
+    // The allocator of its items.
+    pub(crate) fn allocator(&self) -> A {
+        match &self.link {
+            Link::Leaf(entries) => *entries.allocator(),
+            Link::Inner(_, _, parts) => *parts.allocator(),
+        }
+    }
+
     // How many levels there are below the node.
     pub(crate) fn height(&self) -> u64
         ensures { result ≡ self.now.1 }

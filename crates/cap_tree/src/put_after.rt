@@ -1,5 +1,5 @@
 //! A put in place whose last step is held back until another change is done.
-ghost use Rattle.std.specs.Prelude.{if◌then◌else◌, ◌≡◌, ◌+◌, ◌<◌, ◌≤◌, ◌^◌, length, Ok, Err, IfOk, IfErr, OnOk, OnErr};
+ghost use Rattle.std.specs.Prelude.{if◌then◌else◌, ◌≡◌, ◌+◌, ◌<◌, ◌≤◌, ◌^◌, length, vec_len, Ok, Err, IfOk, IfErr, OnOk, OnErr};
 ghost use Rattle.std.specs.Option.{is_some};
 ghost use Rattle.cap_value.specs.Memory.{MatchFault};
 ghost use Rattle.cap_tree.specs.Tree.{IsOrdered, get, put_entry};
@@ -7,7 +7,6 @@ ghost use Rattle.cap_tree.specs.Tree.{IsOrdered, get, put_entry};
 use crate::confirm::{Confirm, ask};
 use crate::leaf::put_in_leaf;
 use crate::node::{Link, Node};
-use crate::part::part_for;
 use crate::split::make_room;
 use cap_value::{AllocHandle, Exact, Fault};
 use std::alloc::AllocError;
@@ -21,6 +20,29 @@ fn count_put<V>(count: &mut usize, replaced: &Option<V>)
     if replaced.is_none() {
         *count += 1;
     }
+}
+
+// Puts the entry into a leaf. `confirm` is asked once there is room for it.
+fn put_in_leaf_after<K: Ord + Drop, V: Drop, A: AllocHandle, C: Confirm>(
+    entries: &mut Vec<(K, V), A>,
+    key: K,
+    value: V,
+    confirm: &mut C,
+) -> Result<Option<V>, Fault<C::Refusal>>
+    requires can_confirm { C.can_confirm confirm.old }
+    requires ordered { IsOrdered K.cmp entries.old.items }
+    ensures confirmed { OnOk result (C.gives confirm.old (Ok tt) confirm.new) }
+    ensures refused { IfErr result (λ fault. MatchFault fault (confirm.new ≡ confirm.old)
+        (λ why. C.gives confirm.old (Err why) confirm.new)) }
+    ensures err { OnErr result (entries.new.items ≡ entries.old.items) }
+    ensures ok { OnOk result (entries.new.items ≡ put_entry K.cmp entries.old.items key value) }
+    ensures replaced { IfOk result (λ o. o ≡ get K.cmp entries.old.items key) }
+    ensures not_less { vec_len entries.old ≤ vec_len entries.new }
+    ensures one_more { vec_len entries.new ≤ vec_len entries.old + 1 }
+{
+    entries.try_reserve(1)?;
+    ask(confirm)?;
+    Ok(put_in_leaf(entries, key, value))
 }
 
 // Puts the entry into a node that is not full. On the way down shared nodes are copied and full ones are cut, which
@@ -46,14 +68,9 @@ pub(crate) fn put_after<K: Ord + Exact + Drop, V: Exact + Drop, A: AllocHandle, 
     ensures replaced { IfOk result (λ o. o ≡ get K.cmp node.old.0 key) }
 {
     match &mut node.link {
-        Link::Leaf(entries) => {
-            entries.try_reserve(1)?;
-            ask(confirm)?;
-            return Ok(put_in_leaf(entries, key, value));
-        }
+        Link::Leaf(entries) => return put_in_leaf_after(entries, key, value, confirm),
         Link::Inner(height, count, parts) => {
-            let at = part_for(parts, *height, &key)?;
-            let at = make_room(parts, *height, at, &key)?;
+            let at = make_room(parts, *height, &key)?;
             let part = &mut parts[at];
             let child = Arc::make_mut(&mut part.node)?;
             let replaced = put_after(child, key, value, confirm);

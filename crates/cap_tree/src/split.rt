@@ -1,11 +1,11 @@
 //! Full nodes are cut in two.
-ghost use Rattle.std.specs.Prelude.{List, ◌≡◌, ℕ, ◌+◌, ◌<◌, ◌≤◌, [], ◌++◌, length, vec_len, slice_index_or, IfOk, OnOk, OnErr};
+ghost use Rattle.std.specs.Prelude.{List, ◌≡◌, ℕ, ◌+◌, ◌<◌, ◌≤◌, ◌^◌, ◌++◌, length, vec_len, take, drop, slice_index_or, IfOk, OnOk, OnErr};
 ghost use Rattle.std.specs.Arc.{arc_value};
 ghost use Rattle.cap_tree.specs.Tree.{IsOrdered};
 ghost use Rattle.cap_tree.specs.Shape.{seen, place, entries_of, IsParts, AreFit, IsFilled, EachBelow, NoneBelow};
 
 use crate::node::{Link, MOST, Node, Part};
-use crate::part::count_of;
+use crate::part::{count_of, part_for};
 use crate::shift::shift_back;
 use cap_value::{AllocHandle, Exact};
 use std::alloc::AllocError;
@@ -40,7 +40,95 @@ impl<K: Ord, V, A: AllocHandle> Node<K, V, A> {
     }
 }
 
+// Cuts the entries of a leaf in two: those from `at` on are answered behind the least of their keys.
+fn split_entries<K: Ord + Exact + Drop, V: Drop, A: AllocHandle>(
+    entries: &mut Vec<(K, V), A>,
+    at: usize,
+) -> Result<(K, Vec<(K, V), A>), AllocError>
+    requires small { vec_len entries.old ≤ 16 }
+    requires within { at < vec_len entries.old }
+    requires ordered { IsOrdered K.cmp entries.old.items }
+    ensures err { OnErr result (entries.new.items ≡ entries.old.items) }
+    ensures front { OnOk result (entries.new.items ≡ take at entries.old.items) }
+    ensures front_len { OnOk result (vec_len entries.new ≡ at) }
+    ensures back { IfOk result (λ r. r.1.items ≡ drop at entries.old.items) }
+    ensures back_len { IfOk result (λ r. vec_len r.1 + at ≡ vec_len entries.old) }
+    ensures below { IfOk result (λ r. EachBelow K.cmp r.0 entries.new.items) }
+    ensures not_below { IfOk result (λ r. NoneBelow K.cmp r.0 r.1.items) }
+{
+    let least = entries[at].0.clone()?;
+    let mut back = Vec::with_capacity(*entries.allocator(), MOST)?;
+    shift_back(entries, &mut back, at);
+    Ok((least, back))
+}
+
+// Cuts the children of a node in two: those from `at` on are answered behind their least key, and in front of the
+// number of their entries.
+fn split_parts<K: Ord + Exact + Drop, V: Drop, A: AllocHandle>(
+    parts: &mut Vec<Part<K, V, A>, A>,
+    height: u64,
+    at: usize,
+) -> Result<(K, Vec<Part<K, V, A>, A>, usize), AllocError>
+    requires small { vec_len parts.old ≤ 16 }
+    requires within { at < vec_len parts.old }
+    requires parts { IsParts K.cmp height (seen parts.old.items) }
+    requires fit { AreFit (seen parts.old.items) }
+    requires fits { length (entries_of (seen parts.old.items)) < 2 ^ 64 }
+    ensures err { OnErr result (parts.new.items ≡ parts.old.items) }
+    ensures entries { IfOk result (λ r. entries_of (seen parts.old.items)
+        ≡ entries_of (seen parts.new.items) ++ entries_of (seen r.1.items)) }
+    ensures front_parts { OnOk result (IsParts K.cmp height (seen parts.new.items)) }
+    ensures front_fit { OnOk result (AreFit (seen parts.new.items)) }
+    ensures front_len { OnOk result (vec_len parts.new ≡ at) }
+    ensures back_parts { IfOk result (λ r. IsParts K.cmp height (seen r.1.items)) }
+    ensures back_fit { IfOk result (λ r. AreFit (seen r.1.items)) }
+    ensures back_len { IfOk result (λ r. vec_len r.1 + at ≡ vec_len parts.old) }
+    ensures below { IfOk result (λ r. EachBelow K.cmp r.0 (entries_of (seen parts.new.items))) }
+    ensures not_below { IfOk result (λ r. NoneBelow K.cmp r.0 (entries_of (seen r.1.items))) }
+    ensures count { IfOk result (λ r. r.2 ≡ length (entries_of (seen r.1.items))) }
+{
+    let least = parts[at].least.clone()?;
+    let mut back = Vec::with_capacity(*parts.allocator(), MOST)?;
+    shift_back(parts, &mut back, at);
+    let count = count_of(back.as_slice());
+    Ok((least, back, count))
+}
+
 impl<K: Ord + Exact + Drop, V: Drop, A: AllocHandle> Node<K, V, A> {
+    // Cuts the node in two: its items from `at` on take the place of those of the back one, whose least key is
+    // answered.
+    fn split_into(&mut self, back: &mut Node<K, V, A>, at: usize) -> Result<K, AllocError>
+        requires front { 0 < at }
+        requires back { at < self.old.2 }
+        requires ordered { IsOrdered K.cmp self.old.0 }
+        ensures err { OnErr result (self.new ≡ self.old) }
+        ensures height { self.new.1 ≡ self.old.1 }
+        ensures len { OnOk result (self.new.2 ≡ at) }
+        ensures entries { OnOk result (self.old.0 ≡ self.new.0 ++ back.new.0) }
+        ensures back_height { OnOk result (back.new.1 ≡ self.old.1) }
+        ensures back_len { OnOk result (back.new.2 + at ≡ self.old.2) }
+        ensures below { IfOk result (λ k. EachBelow K.cmp k self.new.0) }
+        ensures not_below { IfOk result (λ k. NoneBelow K.cmp k back.new.0) }
+    {
+        match &mut self.link {
+            Link::Leaf(entries) => {
+                let (least, moved) = split_entries(entries, at)?;
+                *back = Node {
+                    link: Link::Leaf(moved),
+                };
+                return Ok(least);
+            }
+            Link::Inner(height, count, parts) => {
+                let (least, moved, behind) = split_parts(parts, *height, at)?;
+                *count -= behind;
+                *back = Node {
+                    link: Link::Inner(*height, behind, moved),
+                };
+                return Ok(least);
+            }
+        }
+    }
+
     // Cuts the node in two: its items from `at` on become a child of their own.
     pub(crate) fn split(&mut self, at: usize) -> Result<Part<K, V, A>, AllocError>
         requires front { 0 < at }
@@ -55,38 +143,13 @@ impl<K: Ord + Exact + Drop, V: Drop, A: AllocHandle> Node<K, V, A> {
         ensures below { IfOk result (λ p. EachBelow K.cmp p.least self.new.0) }
         ensures not_below { IfOk result (λ p. NoneBelow K.cmp p.least (arc_value p.node).0) }
     {
-        match &mut self.link {
-            Link::Leaf(entries) => {
-                let alloc = *entries.allocator();
-                let least = entries[at].0.clone()?;
-                let mut back = Vec::with_capacity(alloc, MOST)?;
-                let mut node = Arc::new(alloc, Node::empty(alloc))?;
-                let Some(empty) = Arc::get_mut(&mut node) else {
-                    return Err(AllocError);
-                };
-                shift_back(entries, &mut back, at);
-                *empty = Node {
-                    link: Link::Leaf(back),
-                };
-                return Ok(Part { least, node });
-            }
-            Link::Inner(height, count, parts) => {
-                let alloc = *parts.allocator();
-                let least = parts[at].least.clone()?;
-                let mut back = Vec::with_capacity(alloc, MOST)?;
-                let mut node = Arc::new(alloc, Node::empty(alloc))?;
-                let Some(empty) = Arc::get_mut(&mut node) else {
-                    return Err(AllocError);
-                };
-                shift_back(parts, &mut back, at);
-                let moved = count_of(back.as_slice());
-                *count -= moved;
-                *empty = Node {
-                    link: Link::Inner(*height, moved, back),
-                };
-                return Ok(Part { least, node });
-            }
-        }
+        let alloc = self.allocator();
+        let mut node = Arc::new(alloc, Node::empty(alloc))?;
+        let Some(back) = Arc::get_mut(&mut node) else {
+            return Err(AllocError);
+        };
+        let least = self.split_into(back, at)?;
+        Ok(Part { least, node })
     }
 }
 
@@ -157,18 +220,16 @@ fn split_child<K: Ord + Exact + Drop, V: Exact + Drop, A: AllocHandle>(
     }
 }
 
-// Sees to it that the child into which the key belongs is not full, and answers which it is then.
+// Finds the child into which the key belongs, sees to it that it is not full, and answers which it is then.
 pub(crate) fn make_room<K: Ord + Exact + Drop, V: Exact + Drop, A: AllocHandle>(
     parts: &mut Vec<Part<K, V, A>, A>,
     height: u64,
-    at: usize,
     key: &K,
 ) -> Result<usize, AllocError>
-    requires within { at < vec_len parts.old }
+    requires some { 0 < vec_len parts.old }
     requires parts { IsParts K.cmp height (seen parts.old.items) }
     requires fit { AreFit (seen parts.old.items) }
     requires ordered { IsOrdered K.cmp (entries_of (seen parts.old.items)) }
-    requires place { place K.cmp key.now (seen parts.old.items) ≡ at + 1 }
     ensures entries { entries_of (seen parts.new.items) ≡ entries_of (seen parts.old.items) }
     ensures parts { IsParts K.cmp height (seen parts.new.items) }
     ensures fit { AreFit (seen parts.new.items) }
@@ -179,6 +240,7 @@ pub(crate) fn make_room<K: Ord + Exact + Drop, V: Exact + Drop, A: AllocHandle>(
     ensures room { IfOk result (λ i. (d : K × (List (K × V) × ℕ × ℕ))
         → (slice_index_or (seen parts.new.items) i d).1.2 < 16) }
 {
+    let at = part_for(parts, height, key)?;
     let child = &parts[at].node;
     if child.len() < MOST {
         return Ok(at);

@@ -1,5 +1,5 @@
 //! A removal in place whose last step is held back until another change is done.
-ghost use Rattle.std.specs.Prelude.{if◌then◌else◌, ◌≡◌, ◌+◌, ◌<◌, ◌≤◌, ◌^◌, length, true, Ok, Err, IfOk, IfErr, OnOk, OnErr};
+ghost use Rattle.std.specs.Prelude.{if◌then◌else◌, ◌≡◌, ◌+◌, ◌<◌, ◌≤◌, ◌^◌, length, vec_len, true, None, Ok, Err, IfOk, IfErr, OnOk, OnErr};
 ghost use Rattle.std.specs.Option.{is_some};
 ghost use Rattle.cap_value.specs.Memory.{MatchFault};
 ghost use Rattle.cap_tree.specs.Tree.{IsOrdered, get, take_entry};
@@ -23,6 +23,39 @@ fn count_take<V>(count: &mut usize, removed: &Option<V>)
     }
 }
 
+// Takes the entry at the key out of a leaf, if there is one. `confirm` is asked first.
+fn take_from_leaf_after<K: Ord + Drop, V: Drop, A: AllocHandle, C: Confirm>(
+    entries: &mut Vec<(K, V), A>,
+    key: &K,
+    confirm: &mut C,
+) -> Result<Option<V>, Fault<C::Refusal>>
+    requires can_confirm { C.can_confirm confirm.old }
+    requires ordered { IsOrdered K.cmp entries.old.items }
+    ensures confirmed { OnOk result (C.gives confirm.old (Ok tt) confirm.new) }
+    ensures refused { IfErr result (λ fault. MatchFault fault (confirm.new ≡ confirm.old)
+        (λ why. C.gives confirm.old (Err why) confirm.new)) }
+    ensures err { OnErr result (entries.new.items ≡ entries.old.items) }
+    ensures ok { OnOk result (entries.new.items ≡ take_entry K.cmp entries.old.items key.now) }
+    ensures removed { IfOk result (λ o. o ≡ get K.cmp entries.old.items key.now) }
+    ensures not_more { vec_len entries.new ≤ vec_len entries.old }
+    ensures one_less { vec_len entries.old ≤ vec_len entries.new + 1 }
+{
+    ask(confirm)?;
+    Ok(take_from_leaf(entries, key))
+}
+
+// Asks the step where there is nothing to take out.
+fn ask_for_none<V, C: Confirm>(confirm: &mut C) -> Result<Option<V>, Fault<C::Refusal>>
+    requires { C.can_confirm confirm.old }
+    ensures confirmed { OnOk result (C.gives confirm.old (Ok tt) confirm.new) }
+    ensures refused { IfErr result (λ fault. MatchFault fault (confirm.new ≡ confirm.old)
+        (λ why. C.gives confirm.old (Err why) confirm.new)) }
+    ensures none { IfOk result (λ o. o ≡ None) }
+{
+    ask(confirm)?;
+    Ok(None)
+}
+
 // Takes the entry at the key out of a node, if there is one. On the way down shared nodes are copied and lean ones are
 // filled from a neighbour, which keeps the entries; `confirm` is asked at the bottom, also where no key is equal.
 pub(crate) fn take_after<K: Ord + Exact + Drop, V: Exact + Drop, A: AllocHandle, C: Confirm>(
@@ -44,15 +77,11 @@ pub(crate) fn take_after<K: Ord + Exact + Drop, V: Exact + Drop, A: AllocHandle,
     ensures removed { IfOk result (λ o. o ≡ get K.cmp node.old.0 key.now) }
 {
     match &mut node.link {
-        Link::Leaf(entries) => {
-            ask(confirm)?;
-            return Ok(take_from_leaf(entries, key));
-        }
+        Link::Leaf(entries) => return take_from_leaf_after(entries, key, confirm),
         Link::Inner(height, count, parts) => {
             let place = count_up_to(parts.as_slice(), key);
             if place == 0 {
-                ask(confirm)?;
-                return Ok(None);
+                return ask_for_none(confirm);
             }
             let at = make_spare(parts, *height, place - 1, key)?;
             let part = &mut parts[at];

@@ -6,7 +6,7 @@ use Rattle.cap_tree.specs.Shape.{IsFit, seen, entries_of}
 use Rattle.cap_tree.proofs.EntryLemmas.{length-take_entry, take_entry-absent, get-some-length}
 use Rattle.cap_tree.proofs.PartLemmas.{high}
 use Rattle.cap_tree.proofs.PlaceLemmas.{get_none}
-use Rattle.cap_tree.proofs.PutLemmas.{either_way, at_err, on_err, child_is, child_fit, child_has, child_still, child_ordered, kept_entries, kept_parts, fit_still, take_child, take_there, get_child}
+use Rattle.cap_tree.proofs.PutLemmas.{either_way, at_err, on_err, on_ok, child_is, child_fit, child_has, child_still, child_ordered, kept_entries, kept_parts, fit_still, take_child, take_there, get_child}
 use Rattle.cap_tree.proofs.take_after.+take_after.Goals as goal
 
 pub returns-then-place-eq0-clause-ok : goal.returns-then-place-eq0-clause-ok
@@ -15,7 +15,7 @@ returns-then-place-eq0-clause-ok g t c =
     let view = rw c.in-Inner.is at c.node.view_is in
     let count = rw c.as_slice.ensures.value at (c.count_up_to-place.ensures.place c.in-Inner.height (rw c.as_slice.ensures.value n.2)) in
     let none = get_none g.K.Ord.cmp g.met.K.Ord.total c.args.key.now c.in-Inner.height (seen c.in-Inner.parts.items) n.2 (sym count ∙ c.if-place-eq0.true) in
-    rw (← ap (λ n. n.0) view) (sym (take_entry-absent g.K.Ord.cmp c.args.key.now _ none))
+    on_ok c.ask_for_none.result (rw (← ap (λ n. n.0) view) (sym (take_entry-absent g.K.Ord.cmp c.args.key.now _ none)))
 
 pub returns-then-place-eq0-clause-removed : goal.returns-then-place-eq0-clause-removed
 returns-then-place-eq0-clause-removed g t c =
@@ -23,7 +23,7 @@ returns-then-place-eq0-clause-removed g t c =
     let view = rw c.in-Inner.is at c.node.view_is in
     let count = rw c.as_slice.ensures.value at (c.count_up_to-place.ensures.place c.in-Inner.height (rw c.as_slice.ensures.value n.2)) in
     let none = get_none g.K.Ord.cmp g.met.K.Ord.total c.args.key.now c.in-Inner.height (seen c.in-Inner.parts.items) n.2 (sym count ∙ c.if-place-eq0.true) in
-    rw (← ap (λ n. n.0) view) (sym none)
+    rw (← ap (λ n. n.0) view, none) c.ask_for_none.ensures.none
 
 pub make_spare-requires-clause-within : goal.make_spare-requires-clause-within
 make_spare-requires-clause-within g t c = omega (arith, c.count_up_to-place.ensures.within, c.as_slice.ensures.len, c.if-place-eq0.false)

@@ -1,4 +1,4 @@
-use Rattle.cap_server_tests.proofs.server.a_call_without_memory_is_no_event.Given as goal
+use Rattle.cap_command_tests.proofs.calls.a_call_without_memory_is_no_event.Given as goal
 
 -- the history that was just opened, and its seat
 abbrev pub ghosts-starved : goal.ghosts-starved

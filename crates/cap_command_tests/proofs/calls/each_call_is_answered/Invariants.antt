@@ -1,4 +1,4 @@
-use Rattle.cap_server_tests.proofs.server.each_call_is_answered.Given as goal
+use Rattle.cap_command_tests.proofs.calls.each_call_is_answered.Given as goal
 
 -- the history that was just opened, and its seat
 abbrev pub ghosts-each_call : goal.ghosts-each_call
