@@ -3,16 +3,13 @@ ghost use Rattle.cap_value.specs.Memory.{AnswersUnlessMemory};
 ghost use Rattle.cap_run.specs.RunFault.{exit_status, IsUnread};
 ghost use Rattle.cap_run.specs.Show.{contents_at};
 
-use self::blob::{write_changeset, write_patchset};
 use crate::RunFault;
 use crate::input::read_whole;
 use cap_codec::{Contents, read_blob};
+use cap_show::{write_changeset, write_patchset};
 use cap_value::{AllocHandle, Fault};
 use hex::FromHexError;
 use std::io::{BufWriter, Read, Write};
-
-mod blob;
-mod text;
 
 /// Writes what is in the blob that the reader gives as hex digits, in either case, with at most one line feed at
 /// their end: a line for the blob, for each group and for each change, or `empty`.

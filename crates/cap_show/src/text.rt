@@ -6,7 +6,7 @@ use std::fmt::{Display, Formatter, Write};
 
 /// A value as text: `null`, decimal digits, a quoted text, or the hex digits of a blob.
 #[derive(Drop)]
-pub struct ValueText<'a, A: AllocHandle>(pub &'a Value<A>);
+pub(crate) struct ValueText<'a, A: AllocHandle>(pub(crate) &'a Value<A>);
 
 impl<'a, A: AllocHandle> Display for ValueText<'a, A> {
     fn fmt<W: Write>(&self, f: &mut Formatter<W>) -> fmt::Result {
@@ -41,7 +41,7 @@ fn write_digits<W: Write>(f: &mut Formatter<W>, bytes: &[u8]) -> fmt::Result {
 
 /// The columns of a table as text: `k` for each column of the primary key, and `v` for each other.
 #[derive(Drop)]
-pub struct SchemaText<'a, A: AllocHandle>(pub &'a Schema<A>);
+pub(crate) struct SchemaText<'a, A: AllocHandle>(pub(crate) &'a Schema<A>);
 
 impl<'a, A: AllocHandle> Display for SchemaText<'a, A> {
     fn fmt<W: Write>(&self, f: &mut Formatter<W>) -> fmt::Result {
@@ -54,7 +54,7 @@ impl<'a, A: AllocHandle> Display for SchemaText<'a, A> {
 
 /// A record as text: its fields between parentheses, with `-` for each that is undefined.
 #[derive(Drop)]
-pub struct RecordText<'a, A: AllocHandle>(pub &'a Record<A>);
+pub(crate) struct RecordText<'a, A: AllocHandle>(pub(crate) &'a Record<A>);
 
 impl<'a, A: AllocHandle> Display for RecordText<'a, A> {
     fn fmt<W: Write>(&self, f: &mut Formatter<W>) -> fmt::Result {
@@ -74,7 +74,7 @@ impl<'a, A: AllocHandle> Display for RecordText<'a, A> {
 
 /// The defined fields of a record as text, between parentheses.
 #[derive(Drop)]
-pub struct DefinedText<'a, A: AllocHandle>(pub &'a Record<A>);
+pub(crate) struct DefinedText<'a, A: AllocHandle>(pub(crate) &'a Record<A>);
 
 impl<'a, A: AllocHandle> Display for DefinedText<'a, A> {
     fn fmt<W: Write>(&self, f: &mut Formatter<W>) -> fmt::Result {

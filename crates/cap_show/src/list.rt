@@ -1,4 +1,4 @@
-use super::text::{DefinedText, RecordText, SchemaText};
+use crate::text::{DefinedText, RecordText, SchemaText};
 use cap_changes::{Change, ChangeList, Patch, PatchList};
 use cap_value::AllocHandle;
 use std::io;
@@ -7,7 +7,10 @@ use std::io::Write;
 /// The line of a blob without groups.
 const EMPTY: &str = "empty";
 
-/// Writes a changeset: a line for it, for each group and for each change.
+/// Writes a changeset: a line for it, for each group and for each change, or `empty` where it has no group.
+///
+/// A change's line has its kind, `direct` or `indirect`, and its fields between parentheses, `-` for each that is
+/// undefined. The error is the writer's.
 pub fn write_changeset<A: AllocHandle, W: Write>(
     list: &ChangeList<A>,
     output: &mut W,
@@ -26,7 +29,10 @@ pub fn write_changeset<A: AllocHandle, W: Write>(
     Ok(())
 }
 
-/// Writes a patchset: a line for it, for each group and for each change.
+/// Writes a patchset: a line for it, for each group and for each change, or `empty` where it has no group.
+///
+/// As of a changeset, but an update has only its key and new values, and a delete only its key. The error is the
+/// writer's.
 pub fn write_patchset<A: AllocHandle, W: Write>(
     list: &PatchList<A>,
     output: &mut W,

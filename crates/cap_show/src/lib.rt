@@ -1,0 +1,7 @@
+//! What is in a changeset or a patchset, as text.
+#![tactic(auto)]
+
+mod list;
+mod text;
+
+pub use list::{write_changeset, write_patchset};
