@@ -1,3 +1,6 @@
+ghost use Rattle.std.specs.Prelude.{◌≡◌, ◌∷◌, ◌++◌, [], OnOk, codes};
+ghost use Rattle.std.specs.Io.KnownBytes.{Appends};
+
 use crate::text::{DefinedText, RecordText, SchemaText};
 use cap_changes::{Change, ChangeList, Patch, PatchList};
 use cap_value::AllocHandle;
@@ -5,21 +8,25 @@ use std::io;
 use std::io::Write;
 
 /// The line of a blob without groups.
-const EMPTY: &str = "empty";
+const EMPTY: &[u8] = b"empty\n";
 
 /// Writes a changeset: a line for it, for each group and for each change, or `empty` where it has no group.
 ///
 /// A change's line has its kind, `direct` or `indirect`, and its fields between parentheses, `-` for each that is
 /// undefined. The error is the writer's.
 pub fn write_changeset<A: AllocHandle, W: Write>(
-    list: &ChangeList<A>,
+    changes: &ChangeList<A>,
     output: &mut W,
-) -> io::Result<()> {
-    if list.groups().is_empty() {
-        return writeln!(output, "{EMPTY}");
+) -> io::Result<()>
+    // A list without groups is a line of its own.
+    ensures empty { changes.now ≡ [] → OnOk result (Appends (W.contents output.old) (W.contents output.new)
+        (codes "empty" ++ 10 ∷ [])) }
+{
+    if changes.groups().is_empty() {
+        return output.write_all(EMPTY);
     }
     writeln!(output, "changeset")?;
-    for group in list.groups() {
+    for group in changes.groups() {
         let columns = SchemaText(group.schema());
         writeln!(output, "group {} {columns}", group.table().as_str())?;
         for change in group.changes() {
@@ -34,14 +41,18 @@ pub fn write_changeset<A: AllocHandle, W: Write>(
 /// As of a changeset, but an update has only its key and new values, and a delete only its key. The error is the
 /// writer's.
 pub fn write_patchset<A: AllocHandle, W: Write>(
-    list: &PatchList<A>,
+    patches: &PatchList<A>,
     output: &mut W,
-) -> io::Result<()> {
-    if list.groups().is_empty() {
-        return writeln!(output, "{EMPTY}");
+) -> io::Result<()>
+    // A list without groups is a line of its own.
+    ensures empty { patches.now ≡ [] → OnOk result (Appends (W.contents output.old) (W.contents output.new)
+        (codes "empty" ++ 10 ∷ [])) }
+{
+    if patches.groups().is_empty() {
+        return output.write_all(EMPTY);
     }
     writeln!(output, "patchset")?;
-    for group in list.groups() {
+    for group in patches.groups() {
         let columns = SchemaText(group.schema());
         writeln!(output, "group {} {columns}", group.table().as_str())?;
         for patch in group.changes() {
