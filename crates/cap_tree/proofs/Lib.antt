@@ -1,5 +1,6 @@
 mod BesideLemmas
 mod BuildLemmas
+mod CutLemmas
 pub mod Crossing
 mod EntryLemmas
 mod HeightLemmas

@@ -9,8 +9,11 @@ use Rattle.std.proofs.lemmas.List.{map-append, take_at}
 use Rattle.cap_tree.specs.declared.node.Part.{Part}
 use Rattle.cap_tree.specs.Tree.{IsOrdered}
 use Rattle.cap_tree.specs.Shape.{seen, entries_of, IsChild, NoneBelow, EachBelow, IsParts, IsFit, AreFit, items_at, place}
+use Rattle.cap_tree.specs.Cut.{joined, IsCut}
+use Rattle.cap_tree.proofs.HeightLemmas.{fed}
 use Rattle.cap_tree.proofs.PartLemmas.{length_seen, seen_set}
 use Rattle.cap_tree.proofs.PlaceLemmas.{Seen, fit_set}
+use Rattle.cap_tree.proofs.PutLemmas.{child_is}
 use Rattle.cap_tree.proofs.SplitLemmas.{seen_take, seen_drop}
 use Rattle.cap_tree.proofs.JoinLemmas.{pair_below, pair_not_below, pair_ordered, pair_count, entries_one, parts_one, place_one, at_one, fit_one, entries_shared, parts_shared, place_shared_first, place_shared_second}
 
@@ -168,3 +171,35 @@ module _ {K V Z : Type 0} (cmp : K → K → Ordering) (o : IsTotalOrder cmp) (p
 
     pub both_second : (f : Seen K V) → (get_or (seen (set (set parts j x) (j + 1) y)) (j + 1) f).1 ≡ y.node.value
     both_second f = ap (λ p. p.1) (seen_at (set (set parts j x) (j + 1) y) (j + 1) y f (rw (length-set, length-set) within) (sym (second_read parts j x y y within)))
+
+  -- x and y have the items of d and e, divided anew
+  module _ (height cut : ℕ) (x y : Part K V Z) (least : x.least ≡ d.least) (anew : IsCut cmp cut (joined d.node.value e.node.value) x.node.value y.node.value y.least) (fit_x : IsFit x.node.value) (fit_y : IsFit y.node.value) (h : IsParts cmp height (seen parts)) where
+    level : d.node.value.1 + 1 ≡ height
+    level = (child_is cmp parts j d (omega arith) is_d height h).0
+
+    child_x : IsChild height x.node.value
+    child_x = (omega (arith, level, anew.height), fed x.node.value (omega (arith, fit_x.0)) fit_x.2)
+
+    child_y : IsChild height y.node.value
+    child_y = (omega (arith, level, anew.back_height), fed y.node.value (omega (arith, fit_y.0)) fit_y.2)
+
+    pub anew_entries : entries_of (seen (set (set parts j x) (j + 1) y)) ≡ entries_of (seen parts)
+    anew_entries = both_entries height x y least child_x child_y anew.below anew.not_below (sym anew.entries)
+
+    pub anew_parts : IsParts cmp height (seen (set (set parts j x) (j + 1) y))
+    anew_parts = both_parts height x y least child_x child_y anew.below anew.not_below (sym anew.entries) h
+
+    pub anew_fit : AreFit (seen parts) → AreFit (seen (set (set parts j x) (j + 1) y))
+    anew_fit fit = both_fit height x y least child_x child_y anew.below anew.not_below (sym anew.entries) fit fit_x fit_y
+
+    pub anew_place_first : (k : K) → (place cmp k (seen parts) ≡ j + 1) ⊎ (place cmp k (seen parts) ≡ j + 2) → cmp k y.least ≡ Less → place cmp k (seen (set (set parts j x) (j + 1) y)) ≡ j + 1
+    anew_place_first k belongs less = both_place_first height x y least child_x child_y anew.below anew.not_below (sym anew.entries) k h belongs less
+
+    pub anew_place_second : (k : K) → (place cmp k (seen parts) ≡ j + 1) ⊎ (place cmp k (seen parts) ≡ j + 2) → cmp k y.least ≢ Less → place cmp k (seen (set (set parts j x) (j + 1) y)) ≡ j + 1 + 1
+    anew_place_second k belongs not = both_place_second height x y least child_x child_y anew.below anew.not_below (sym anew.entries) k h belongs not
+
+    pub anew_first : (f : Seen K V) → (get_or (seen (set (set parts j x) (j + 1) y)) j f).1 ≡ x.node.value
+    anew_first f = both_first height x y least child_x child_y anew.below anew.not_below (sym anew.entries) f
+
+    pub anew_second : (f : Seen K V) → (get_or (seen (set (set parts j x) (j + 1) y)) (j + 1) f).1 ≡ y.node.value
+    anew_second f = both_second height x y least child_x child_y anew.below anew.not_below (sym anew.entries) f

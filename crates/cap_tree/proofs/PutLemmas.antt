@@ -1,13 +1,14 @@
 -- A part is changed in place: what its parent is seen as.
-use Rattle.std.proofs.Common.{◌≡◌, ℕ, ◌+◌, ◌<◌, ◌≤◌, List, length, get_or, set, arith, inl, inr, Ok, Err, Result}
-use Rattle.std.specs.Prelude.{OnOk, OnErr, ◌⊎◌}
+use Rattle.std.proofs.Common.{◌≡◌, ℕ, ◌+◌, ◌<◌, ◌≤◌, Option, List, length, cond, true, get_or, set, refl, sym, ap, ◌∙◌, arith, inl, inr, Ok, Err, Result}
+use Rattle.std.specs.Prelude.{OnOk, OnErr, IfOk, ◌⊎◌}
+use Rattle.std.specs.Option.{is_some}
 use Rattle.std.specs.declared.cmp.Ordering.{Ordering}
 use Rattle.std.specs.Cmp.{IsTotalOrder}
 use Rattle.cap_tree.specs.declared.node.Part.{Part}
 use Rattle.cap_tree.specs.Tree.{IsOrdered, get, put_entry, take_entry}
 use Rattle.cap_tree.specs.Shape.{seen, entries_of, IsChild, IsParts, IsFit, AreFit, place}
 use Rattle.cap_tree.proofs.HeightLemmas.{fed}
-use Rattle.cap_tree.proofs.EntryLemmas.{ordered_put}
+use Rattle.cap_tree.proofs.EntryLemmas.{ordered_put, length-put_entry, length-take_entry, get-some-length}
 use Rattle.cap_tree.proofs.PartLemmas.{at_seen, seen_set, length_seen}
 use Rattle.cap_tree.proofs.PlaceLemmas.{Seen, take_parts, parts_take, put_parts, get_parts, parts_put, entries_same, parts_same, child_at, ordered_at, fit_at, fit_set, count_at}
 
@@ -44,6 +45,18 @@ on_err_turn (Err e) f h = f h
 pub on_ok_turn : {P Q A E : Type 0} (r : Result A E) → (P → Q) → OnOk r P → OnOk r Q
 on_ok_turn (Ok a) f h = f h
 on_ok_turn (Err e) f h = tt
+
+-- the same of what is equal to the last part
+module _ {X Y A E : Type 0} (f : X → Y) (b c : X) (same : b ≡ c) where
+  pub err_of : (r : Result A E) (a : Y) → OnErr r (a ≡ f b) → OnErr r (a ≡ f c)
+  err_of r a h = on_err_turn r (λ (e : a ≡ f b). e ∙ ap f same) h
+
+  pub ok_of : (r : Result A E) (a : Y) → OnOk r (a ≡ f b) → OnOk r (a ≡ f c)
+  ok_of r a h = on_ok_turn r (λ (e : a ≡ f b). e ∙ ap f same) h
+
+pub answer_of : {X Y E : Type 0} (f : X → Y) (b c : X) → b ≡ c → (r : Result Y E) → IfOk r (λ a. a ≡ f b) → IfOk r (λ a. a ≡ f c)
+answer_of f b c same (Ok a) e = e ∙ ap f same
+answer_of f b c same (Err e) h = tt
 
 module _ {K V Z : Type 0} (cmp : K → K → Ordering) (parts : List (Part K V Z)) (j : ℕ) (d : Part K V Z) (within : j < length parts) (is : d ≡ get_or parts j d) where
   -- the part at j, as its parent sees it
@@ -105,6 +118,18 @@ module _ {K V Z : Type 0} (cmp : K → K → Ordering) (parts : List (Part K V Z
       put_child_ok (Ok a) new = put_there new
       put_child_ok (Err e) new = tt
 
+      -- what was there under the key was there in the child
+      pub put_child_replaced : {E : Type 0} (r : Result (Option V) E) → IfOk r (λ a. a ≡ get cmp d.node.value.0 k) → IfOk r (λ a. a ≡ get cmp (entries_of (seen parts)) k)
+      put_child_replaced (Ok a) found = found ∙ sym (get_child o k height h belongs)
+      put_child_replaced (Err e) found = tt
+
+      -- the count of entries, raised where one was put and took no other's place
+      pub put_child_count : {E : Type 0} (r : Result (Option V) E) (old new : ℕ) → IsOrdered cmp (entries_of (seen parts)) → old ≡ length (entries_of (seen parts)) → OnErr r (x.node.value.0 ≡ d.node.value.0) → OnOk r (x.node.value.0 ≡ put_entry cmp d.node.value.0 k v) → IfOk r (λ a. a ≡ get cmp d.node.value.0 k) → OnErr r (new ≡ old) → IfOk r (λ a. new ≡ old + cond (is_some a) 0 1) → new ≡ length (entries_of (seen (set parts j x)))
+      put_child_count (Ok a) old new s n same put found kept counted =
+          let all = length-put_entry cmp o k v (entries_of (seen parts)) s in
+          rw (put_there put, all, ← put_child_replaced {E = Unit {0}} (Ok a) found) (counted ∙ ap (λ m. m + cond (is_some a) 0 1) n)
+      put_child_count (Err e) old new s n same put found kept counted = kept ∙ n ∙ ap length (sym (kept_entries same))
+
     module _ (o : IsTotalOrder cmp) (k : K) (height : ℕ) (h : IsParts cmp height (seen parts)) (belongs : place cmp k (seen parts) ≡ j + 1) where
       pub take_there : x.node.value.0 ≡ take_entry cmp d.node.value.0 k → entries_of (seen (set parts j x)) ≡ take_entry cmp (entries_of (seen parts)) k
       take_there new = rw changed (take_parts cmp o k height (seen parts) j (d.least, d.node.value) x.node.value h belongs (rw at new))
@@ -120,6 +145,23 @@ module _ {K V Z : Type 0} (cmp : K → K → Ordering) (parts : List (Part K V Z
       pub take_child_ok : {A E : Type 0} (r : Result A E) → OnOk r (x.node.value.0 ≡ take_entry cmp d.node.value.0 k) → OnOk r (entries_of (seen (set parts j x)) ≡ take_entry cmp (entries_of (seen parts)) k)
       take_child_ok (Ok a) new = take_there new
       take_child_ok (Err e) new = tt
+
+      pub take_child_removed : {E : Type 0} (r : Result (Option V) E) → IfOk r (λ a. a ≡ get cmp d.node.value.0 k) → IfOk r (λ a. a ≡ get cmp (entries_of (seen parts)) k)
+      take_child_removed (Ok a) found = found ∙ sym (get_child o k height h belongs)
+      take_child_removed (Err e) found = tt
+
+      -- the count of entries, lowered where one was taken out
+      pub take_child_count : {E : Type 0} (r : Result (Option V) E) (old new : ℕ) → old ≡ length (entries_of (seen parts)) → OnErr r (x.node.value.0 ≡ d.node.value.0) → OnOk r (x.node.value.0 ≡ take_entry cmp d.node.value.0 k) → IfOk r (λ a. a ≡ get cmp d.node.value.0 k) → OnErr r (new ≡ old) → IfOk r (λ a. new + cond (is_some a) 1 0 ≡ old) → new ≡ length (entries_of (seen (set parts j x)))
+      take_child_count (Ok a) old new n same taken found kept counted =
+          let all = length-take_entry cmp k (entries_of (seen parts)) in
+          let left = rw (← take_there taken, ← take_child_removed {E = Unit {0}} (Ok a) found) at all in
+          omega (arith, left, counted, n)
+      take_child_count (Err e) old new n same taken found kept counted = kept ∙ n ∙ ap length (sym (kept_entries same))
+
+-- where a value is found there is an entry
+pub some_there : {K V E : Type 0} (cmp : K → K → Ordering) (k : K) (es : List (K × V)) (r : Result (Option V) E) (count : ℕ) → count ≡ length es → IfOk r (λ a. a ≡ get cmp es k) → IfOk r (λ a. is_some a ≡ true → 0 < count)
+some_there cmp k es (Ok a) count n found = λ some. omega (arith, n, get-some-length cmp k es (ap is_some (sym found) ∙ some))
+some_there cmp k es (Err e) count n found = tt
 
 -- in order after a put, and where it failed
 pub ordered_either : {K V A E : Type 0} (cmp : K → K → Ordering) → IsTotalOrder cmp → (k : K) (v : V) (r : Result A E) (old new : List (K × V)) → IsOrdered cmp old → OnErr r (new ≡ old) → OnOk r (new ≡ put_entry cmp old k v) → IsOrdered cmp new

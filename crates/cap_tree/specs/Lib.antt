@@ -1,6 +1,7 @@
 pub mod Beside
 pub mod Tree
 pub mod Shape
+pub mod Cut
 pub mod Falls
 pub mod Path
 pub mod Root

@@ -1,11 +1,11 @@
 //! Several trees that change together.
-ghost use Rattle.std.specs.Prelude.{◌≡◌, ◌∷◌, Ok, Err, IfErr, OnOk, OnErr};
+ghost use Rattle.std.specs.Prelude.{◌≡◌, ◌∷◌, Ok, Err, IfOk, IfErr, OnOk, OnErr};
 ghost use Rattle.cap_value.specs.Memory.{MatchFault};
 ghost use Rattle.cap_tree.specs.Tree.{put_entry, put_each};
 
 use crate::Tree;
 use crate::confirm::{Confirm, ask};
-use cap_value::{AllocHandle, Exact, Fault};
+use cap_value::{AllocHandle, Exact, Fault, OutOfMemory};
 
 /// Puts an entry into each tree, the first into the first and so on, once the last step of another change is done: into
 /// all of them, or into none. Where one list is longer, what it has more stays as it is.
@@ -34,6 +34,16 @@ pub fn insert_each_after<K: Ord + Exact + Drop, V: Exact + Drop, A: AllocHandle,
     insert_first_after(tree, entry, rest, others, confirm)
 }
 
+// The tree with a clone of the entry.
+fn with_entry<K: Ord + Exact + Drop, V: Exact + Drop, A: AllocHandle>(
+    tree: &Tree<K, V, A>,
+    entry: &(K, V),
+) -> Result<Tree<K, V, A>, OutOfMemory>
+    ensures { IfOk result (λ t. t ≡ put_entry K.cmp tree.now entry.now.0 entry.now.1) }
+{
+    tree.put(entry.0.clone()?, entry.1.clone()?)
+}
+
 // The same, with the first tree and its entry apart.
 #[cycle(each)]
 fn insert_first_after<K: Ord + Exact + Drop, V: Exact + Drop, A: AllocHandle, C: Confirm>(
@@ -52,9 +62,7 @@ fn insert_first_after<K: Ord + Exact + Drop, V: Exact + Drop, A: AllocHandle, C:
     ensures ok { OnOk result (tree.new ≡ put_entry K.cmp tree.old entry.now.0 entry.now.1) }
     ensures rest_ok { OnOk result (rest.new ≡ put_each K.cmp rest.old others.now) }
 {
-    let key = entry.0.clone()?;
-    let value = entry.1.clone()?;
-    let whole = tree.put(key, value)?;
+    let whole = with_entry(tree, entry)?;
     insert_each_after(rest, others, confirm)?;
     *tree = whole;
     Ok(())

@@ -3,6 +3,7 @@ ghost use Rattle.std.specs.Prelude.{List, ◌≡◌, ◌≢◌, ℕ, ◌+◌, �
 ghost use Rattle.std.specs.Arc.{arc_value};
 ghost use Rattle.cap_tree.specs.Tree.{IsOrdered};
 ghost use Rattle.cap_tree.specs.Shape.{seen, place, items_at, entries_of, IsParts, AreFit, IsFilled, EachBelow, NoneBelow};
+ghost use Rattle.cap_tree.specs.Cut.{IsCut, joined, of_entries, of_parts};
 
 use crate::node::{FEWEST, Link, MOST, Node, Part};
 use crate::part::count_of;
@@ -25,12 +26,8 @@ fn even_entries<K: Ord + Exact + Drop, V: Drop, A: AllocHandle>(
     requires ordered { IsOrdered K.cmp (front.old.items ++ back.old.items) }
     ensures err { OnErr result (front.new.items ≡ front.old.items) }
     ensures back_err { OnErr result (back.new.items ≡ back.old.items) }
-    ensures front { OnOk result (front.new.items ≡ take at (front.old.items ++ back.old.items)) }
-    ensures back { OnOk result (back.new.items ≡ drop at (front.old.items ++ back.old.items)) }
-    ensures front_len { OnOk result (vec_len front.new ≡ at) }
-    ensures back_len { OnOk result (vec_len back.new + at ≡ vec_len front.old + vec_len back.old) }
-    ensures below { IfOk result (λ k. EachBelow K.cmp k front.new.items) }
-    ensures not_below { IfOk result (λ k. NoneBelow K.cmp k back.new.items) }
+    ensures cut { IfOk result (λ k. IsCut K.cmp at (joined (of_entries front.old) (of_entries back.old))
+        (of_entries front.new) (of_entries back.new) k) }
 {
     let least = item_at(front.as_slice(), back.as_slice(), at).0.clone()?;
     reserve_for(front, back, at)?;
@@ -62,16 +59,12 @@ fn even_parts<K: Ord + Exact + Drop, V: Drop, A: AllocHandle>(
         < 2 ^ 64 }
     ensures err { OnErr result (front.new.items ≡ front.old.items) }
     ensures back_err { OnErr result (back.new.items ≡ back.old.items) }
-    ensures entries { OnOk result (entries_of (seen front.new.items) ++ entries_of (seen back.new.items)
-        ≡ entries_of (seen front.old.items) ++ entries_of (seen back.old.items)) }
+    ensures cut { IfOk result (λ r. IsCut K.cmp at (joined (of_parts height front.old) (of_parts height back.old))
+        (of_parts height front.new) (of_parts height back.new) r.0) }
     ensures front_parts { OnOk result (IsParts K.cmp height (seen front.new.items)) }
     ensures back_parts { OnOk result (IsParts K.cmp height (seen back.new.items)) }
     ensures front_fit { OnOk result (AreFit (seen front.new.items)) }
     ensures back_fit { OnOk result (AreFit (seen back.new.items)) }
-    ensures front_len { OnOk result (vec_len front.new ≡ at) }
-    ensures back_len { OnOk result (vec_len back.new + at ≡ vec_len front.old + vec_len back.old) }
-    ensures below { IfOk result (λ r. EachBelow K.cmp r.0 (entries_of (seen front.new.items))) }
-    ensures not_below { IfOk result (λ r. NoneBelow K.cmp r.0 (entries_of (seen back.new.items))) }
     ensures behind { IfOk result (λ r. r.1 ≡ length (entries_of (seen back.new.items))) }
 {
     let renamed = least.clone()?;
@@ -103,11 +96,10 @@ fn join_parts<K: Ord + Exact + Drop, V: Drop, A: AllocHandle>(
     requires not_below { NoneBelow K.cmp least.now (entries_of (seen back.old.items)) }
     ensures err { OnErr result (front.new.items ≡ front.old.items) }
     ensures back_err { OnErr result (back.new.items ≡ back.old.items) }
-    ensures entries { OnOk result (entries_of (seen front.new.items)
-        ≡ entries_of (seen front.old.items) ++ entries_of (seen back.old.items)) }
+    ensures whole { OnOk result (of_parts height front.new
+        ≡ joined (of_parts height front.old) (of_parts height back.old)) }
     ensures parts { OnOk result (IsParts K.cmp height (seen front.new.items)) }
     ensures fit { OnOk result (AreFit (seen front.new.items)) }
-    ensures len { OnOk result (vec_len front.new ≡ vec_len front.old + vec_len back.old) }
 {
     let renamed = least.clone()?;
     front.try_reserve(back.len())?;
@@ -132,9 +124,7 @@ fn join<K: Ord + Exact + Drop, V: Drop, A: AllocHandle>(
     requires not_below { NoneBelow K.cmp least.now back.old.0 }
     ensures err { OnErr result (front.new ≡ front.old) }
     ensures back_err { OnErr result (back.new ≡ back.old) }
-    ensures entries { OnOk result (front.new.0 ≡ front.old.0 ++ back.old.0) }
-    ensures height { front.new.1 ≡ front.old.1 }
-    ensures len { OnOk result (front.new.2 ≡ front.old.2 + back.old.2) }
+    ensures whole { OnOk result (front.new ≡ joined front.old back.old) }
 {
     match &mut front.link {
         Link::Leaf(entries) => match &mut back.link {
@@ -178,13 +168,7 @@ fn even<K: Ord + Exact + Drop, V: Drop, A: AllocHandle>(
     requires not_below { NoneBelow K.cmp least.now back.old.0 }
     ensures err { OnErr result (front.new ≡ front.old) }
     ensures back_err { OnErr result (back.new ≡ back.old) }
-    ensures entries { OnOk result (front.new.0 ++ back.new.0 ≡ front.old.0 ++ back.old.0) }
-    ensures height { front.new.1 ≡ front.old.1 }
-    ensures back_height { back.new.1 ≡ back.old.1 }
-    ensures len { OnOk result (front.new.2 ≡ at) }
-    ensures back_len { OnOk result (back.new.2 + at ≡ front.old.2 + back.old.2) }
-    ensures below { IfOk result (λ k. EachBelow K.cmp k front.new.0) }
-    ensures not_below { IfOk result (λ k. NoneBelow K.cmp k back.new.0) }
+    ensures cut { IfOk result (λ k. IsCut K.cmp at (joined front.old back.old) front.new back.new k) }
 {
     match &mut front.link {
         Link::Leaf(entries) => match &mut back.link {
@@ -217,11 +201,8 @@ fn join_pair<K: Ord + Exact + Drop, V: Exact + Drop, A: AllocHandle>(
     ensures back_least { back.new.least ≡ back.old.least }
     ensures err { OnErr result (arc_value front.new.node ≡ arc_value front.old.node) }
     ensures back_err { OnErr result (arc_value back.new.node ≡ arc_value back.old.node) }
-    ensures entries { OnOk result ((arc_value front.new.node).0
-        ≡ (arc_value front.old.node).0 ++ (arc_value back.old.node).0) }
-    ensures height { (arc_value front.new.node).1 ≡ (arc_value front.old.node).1 }
-    ensures len { OnOk result ((arc_value front.new.node).2
-        ≡ (arc_value front.old.node).2 + (arc_value back.old.node).2) }
+    ensures whole { OnOk result (arc_value front.new.node
+        ≡ joined (arc_value front.old.node) (arc_value back.old.node)) }
     ensures filled { OnOk result (IsFilled (arc_value front.new.node)) }
 {
     let node = Arc::make_mut(&mut front.node)?;
@@ -252,17 +233,10 @@ fn even_pair<K: Ord + Exact + Drop, V: Exact + Drop, A: AllocHandle>(
     ensures back_least { OnErr result (back.new.least ≡ back.old.least) }
     ensures err { OnErr result (arc_value front.new.node ≡ arc_value front.old.node) }
     ensures back_err { OnErr result (arc_value back.new.node ≡ arc_value back.old.node) }
-    ensures entries { OnOk result ((arc_value front.new.node).0 ++ (arc_value back.new.node).0
-        ≡ (arc_value front.old.node).0 ++ (arc_value back.old.node).0) }
-    ensures height { (arc_value front.new.node).1 ≡ (arc_value front.old.node).1 }
-    ensures back_height { (arc_value back.new.node).1 ≡ (arc_value back.old.node).1 }
-    ensures len { OnOk result ((arc_value front.new.node).2 ≡ at) }
-    ensures back_len { OnOk result ((arc_value back.new.node).2 + at
-        ≡ (arc_value front.old.node).2 + (arc_value back.old.node).2) }
+    ensures cut { OnOk result (IsCut K.cmp at (joined (arc_value front.old.node) (arc_value back.old.node))
+        (arc_value front.new.node) (arc_value back.new.node) back.new.least) }
     ensures filled { OnOk result (IsFilled (arc_value front.new.node)) }
     ensures back_filled { OnOk result (IsFilled (arc_value back.new.node)) }
-    ensures below { OnOk result (EachBelow K.cmp back.new.least (arc_value front.new.node).0) }
-    ensures not_below { OnOk result (NoneBelow K.cmp back.new.least (arc_value back.new.node).0) }
 {
     let node = Arc::make_mut(&mut front.node)?;
     let behind = Arc::make_mut(&mut back.node)?;

@@ -2,7 +2,8 @@
 ghost use Rattle.std.specs.Prelude.{List, ◌≡◌, ℕ, ◌+◌, ◌<◌, ◌≤◌, ◌^◌, ◌++◌, length, vec_len, take, drop, slice_index_or, IfOk, OnOk, OnErr};
 ghost use Rattle.std.specs.Arc.{arc_value};
 ghost use Rattle.cap_tree.specs.Tree.{IsOrdered};
-ghost use Rattle.cap_tree.specs.Shape.{seen, place, entries_of, IsParts, AreFit, IsFilled, EachBelow, NoneBelow};
+ghost use Rattle.cap_tree.specs.Shape.{seen, place, entries_of, IsParts, AreFit, IsFilled};
+ghost use Rattle.cap_tree.specs.Cut.{IsCut, of_entries, of_parts};
 
 use crate::node::{Link, MOST, Node, Part};
 use crate::part::{count_of, part_for};
@@ -49,12 +50,8 @@ fn split_entries<K: Ord + Exact + Drop, V: Drop, A: AllocHandle>(
     requires within { at < vec_len entries.old }
     requires ordered { IsOrdered K.cmp entries.old.items }
     ensures err { OnErr result (entries.new.items ≡ entries.old.items) }
-    ensures front { OnOk result (entries.new.items ≡ take at entries.old.items) }
-    ensures front_len { OnOk result (vec_len entries.new ≡ at) }
-    ensures back { IfOk result (λ r. r.1.items ≡ drop at entries.old.items) }
-    ensures back_len { IfOk result (λ r. vec_len r.1 + at ≡ vec_len entries.old) }
-    ensures below { IfOk result (λ r. EachBelow K.cmp r.0 entries.new.items) }
-    ensures not_below { IfOk result (λ r. NoneBelow K.cmp r.0 r.1.items) }
+    ensures cut { IfOk result (λ r. IsCut K.cmp at (of_entries entries.old) (of_entries entries.new)
+        (of_entries r.1) r.0) }
 {
     let least = entries[at].0.clone()?;
     let mut back = Vec::with_capacity(*entries.allocator(), MOST)?;
@@ -75,16 +72,12 @@ fn split_parts<K: Ord + Exact + Drop, V: Drop, A: AllocHandle>(
     requires fit { AreFit (seen parts.old.items) }
     requires fits { length (entries_of (seen parts.old.items)) < 2 ^ 64 }
     ensures err { OnErr result (parts.new.items ≡ parts.old.items) }
-    ensures entries { IfOk result (λ r. entries_of (seen parts.old.items)
-        ≡ entries_of (seen parts.new.items) ++ entries_of (seen r.1.items)) }
+    ensures cut { IfOk result (λ r. IsCut K.cmp at (of_parts height parts.old) (of_parts height parts.new)
+        (of_parts height r.1) r.0) }
     ensures front_parts { OnOk result (IsParts K.cmp height (seen parts.new.items)) }
     ensures front_fit { OnOk result (AreFit (seen parts.new.items)) }
-    ensures front_len { OnOk result (vec_len parts.new ≡ at) }
     ensures back_parts { IfOk result (λ r. IsParts K.cmp height (seen r.1.items)) }
     ensures back_fit { IfOk result (λ r. AreFit (seen r.1.items)) }
-    ensures back_len { IfOk result (λ r. vec_len r.1 + at ≡ vec_len parts.old) }
-    ensures below { IfOk result (λ r. EachBelow K.cmp r.0 (entries_of (seen parts.new.items))) }
-    ensures not_below { IfOk result (λ r. NoneBelow K.cmp r.0 (entries_of (seen r.1.items))) }
     ensures count { IfOk result (λ r. r.2 ≡ length (entries_of (seen r.1.items))) }
 {
     let least = parts[at].least.clone()?;
@@ -102,13 +95,7 @@ impl<K: Ord + Exact + Drop, V: Drop, A: AllocHandle> Node<K, V, A> {
         requires back { at < self.old.2 }
         requires ordered { IsOrdered K.cmp self.old.0 }
         ensures err { OnErr result (self.new ≡ self.old) }
-        ensures height { self.new.1 ≡ self.old.1 }
-        ensures len { OnOk result (self.new.2 ≡ at) }
-        ensures entries { OnOk result (self.old.0 ≡ self.new.0 ++ back.new.0) }
-        ensures back_height { OnOk result (back.new.1 ≡ self.old.1) }
-        ensures back_len { OnOk result (back.new.2 + at ≡ self.old.2) }
-        ensures below { IfOk result (λ k. EachBelow K.cmp k self.new.0) }
-        ensures not_below { IfOk result (λ k. NoneBelow K.cmp k back.new.0) }
+        ensures cut { IfOk result (λ k. IsCut K.cmp at self.old self.new back.new k) }
     {
         match &mut self.link {
             Link::Leaf(entries) => {
@@ -135,13 +122,7 @@ impl<K: Ord + Exact + Drop, V: Drop, A: AllocHandle> Node<K, V, A> {
         requires back { at < self.old.2 }
         requires ordered { IsOrdered K.cmp self.old.0 }
         ensures err { OnErr result (self.new ≡ self.old) }
-        ensures height { self.new.1 ≡ self.old.1 }
-        ensures len { OnOk result (self.new.2 ≡ at) }
-        ensures entries { IfOk result (λ p. self.old.0 ≡ self.new.0 ++ (arc_value p.node).0) }
-        ensures right_height { IfOk result (λ p. (arc_value p.node).1 ≡ self.old.1) }
-        ensures right_len { IfOk result (λ p. (arc_value p.node).2 + at ≡ self.old.2) }
-        ensures below { IfOk result (λ p. EachBelow K.cmp p.least self.new.0) }
-        ensures not_below { IfOk result (λ p. NoneBelow K.cmp p.least (arc_value p.node).0) }
+        ensures cut { IfOk result (λ p. IsCut K.cmp at self.old self.new (arc_value p.node) p.least) }
     {
         let alloc = self.allocator();
         let mut node = Arc::new(alloc, Node::empty(alloc))?;
@@ -163,16 +144,10 @@ fn split_part<K: Ord + Exact + Drop, V: Exact + Drop, A: AllocHandle>(
     requires ordered { IsOrdered K.cmp (arc_value part.old.node).0 }
     ensures least { part.new.least ≡ part.old.least }
     ensures err { OnErr result (arc_value part.new.node ≡ arc_value part.old.node) }
-    ensures height { (arc_value part.new.node).1 ≡ (arc_value part.old.node).1 }
-    ensures len { OnOk result ((arc_value part.new.node).2 ≡ at) }
+    ensures cut { IfOk result (λ p. IsCut K.cmp at (arc_value part.old.node) (arc_value part.new.node)
+        (arc_value p.node) p.least) }
     ensures filled { OnOk result (IsFilled (arc_value part.new.node)) }
-    ensures entries { IfOk result (λ p. (arc_value part.old.node).0
-        ≡ (arc_value part.new.node).0 ++ (arc_value p.node).0) }
-    ensures right_height { IfOk result (λ p. (arc_value p.node).1 ≡ (arc_value part.old.node).1) }
-    ensures right_len { IfOk result (λ p. (arc_value p.node).2 + at ≡ (arc_value part.old.node).2) }
-    ensures right_filled { IfOk result (λ p. IsFilled (arc_value p.node)) }
-    ensures below { IfOk result (λ p. EachBelow K.cmp p.least (arc_value part.new.node).0) }
-    ensures not_below { IfOk result (λ p. NoneBelow K.cmp p.least (arc_value p.node).0) }
+    ensures back_filled { IfOk result (λ p. IsFilled (arc_value p.node)) }
 {
     let child = Arc::make_mut(&mut part.node)?;
     let next = child.split(at)?;

@@ -24,7 +24,7 @@ overflow_sub-count g c =
     let nf = rw c.in-Inner.is at c.front.invariant in
     let nb = rw c.in-Inner-link-2.is at c.back.invariant in
     let e = c.in_ok-next-in-Inner-link-2.ensures in
-    let total = sym (length-append (entries_of (seen c.even_parts.new.front.items)) (entries_of (seen c.even_parts.new.back.items))) ∙ ap length e.entries ∙ length-append (entries_of (seen c.in-Inner.parts.items)) (entries_of (seen c.in-Inner-link-2.others.items)) in
+    let total = sym (length-append (entries_of (seen c.even_parts.new.front.items)) (entries_of (seen c.even_parts.new.back.items))) ∙ ap length (sym e.cut.entries) ∙ length-append (entries_of (seen c.in-Inner.parts.items)) (entries_of (seen c.in-Inner-link-2.others.items)) in
     omega (arith, total, e.behind, nf.4, nb.4)
 
 pub invariant_of-front-in-Inner-link-2 : goal.invariant_of-front-in-Inner-link-2
@@ -32,5 +32,5 @@ invariant_of-front-in-Inner-link-2 g c =
     let nf = rw c.in-Inner.is at c.front.invariant in
     let nb = rw c.in-Inner-link-2.is at c.back.invariant in
     let e = c.in_ok-next-in-Inner-link-2.ensures in
-    let total = sym (length-append (entries_of (seen c.even_parts.new.front.items)) (entries_of (seen c.even_parts.new.back.items))) ∙ ap length e.entries ∙ length-append (entries_of (seen c.in-Inner.parts.items)) (entries_of (seen c.in-Inner-link-2.others.items)) in
-    (omega (arith, e.front_len, c.requires.some), omega (arith, e.front_len, c.requires.most), e.front_parts, e.front_fit, omega (arith, total, e.behind, nf.4, nb.4))
+    let total = sym (length-append (entries_of (seen c.even_parts.new.front.items)) (entries_of (seen c.even_parts.new.back.items))) ∙ ap length (sym e.cut.entries) ∙ length-append (entries_of (seen c.in-Inner.parts.items)) (entries_of (seen c.in-Inner-link-2.others.items)) in
+    (omega (arith, e.cut.len, c.requires.some), omega (arith, e.cut.len, c.requires.most), e.front_parts, e.front_fit, omega (arith, total, e.behind, nf.4, nb.4))

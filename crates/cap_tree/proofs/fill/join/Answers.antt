@@ -18,8 +18,8 @@ unreachable-requires-in-Leaf-link-2 g c =
     let up = high g.K.Ord.cmp c.in-Inner.height c.in-Inner.parts.items (omega (arith, n.0, c.in-Inner.parts.ok.0)) n.2 in
     absurd (omega (arith, up, ap (λ n. n.1) front, ap (λ n. n.1) back, c.requires.level))
 
-pub returns-in-Inner-link-2-clause-entries : goal.returns-in-Inner-link-2-clause-entries
-returns-in-Inner-link-2-clause-entries g c =
+pub returns-in-Inner-link-2-clause-whole : goal.returns-in-Inner-link-2-clause-whole
+returns-in-Inner-link-2-clause-whole g c =
     let front = rw c.in-Inner.is at c.front.view_is in
     let back = rw c.in-Inner-link-2.is at c.back.view_is in
-    c.in_ok-join_parts-in-Inner-link-2.ensures.entries ∙ rw (ap (λ n. n.0) front, ap (λ n. n.0) back) refl
+    rw (← front, ← back) c.in_ok-join_parts-in-Inner-link-2.ensures.whole

@@ -1,4 +1,4 @@
-use Rattle.std.proofs.Common.{◌≡◌, ◌<◌, length, arith, sym, ap, ◌∙◌}
+use Rattle.std.proofs.Common.{◌≡◌, ◌<◌, length, arith, rules, sym, ap, ◌∙◌}
 use Rattle.cap_tree.specs.Shape.{seen, IsParts, IsChild, IsFit, AreFit, entries_of}
 use Rattle.cap_tree.proofs.HeightLemmas.{fed}
 use Rattle.cap_tree.proofs.PlaceLemmas.{is_not_less}
@@ -26,38 +26,27 @@ split_part-requires-clause-ordered g c =
     let within : c.args.at < length c.try_reserve.new.self.items = omega (arith, c.requires.within, c.in_ok-try_reserve.ensures.len, c.try_reserve.new.self.ok.0) in
     child_ordered g.K.Ord.cmp c.try_reserve.new.self.items c.args.at part within is (rw items c.requires.ordered)
 
-pub returns-in_err-next-clause-entries : goal.returns-in_err-next-clause-entries
-returns-in_err-next-clause-entries g c =
-    let part = c.index_mut-part.result.now in
-    let items = c.in_ok-try_reserve.ensures.items in
-    let is = c.index_mut-part.ensures.value in
-    let within : c.args.at < length c.try_reserve.new.self.items = omega (arith, c.requires.within, c.in_ok-try_reserve.ensures.len, c.try_reserve.new.self.ok.0) in
-    let x = c.split_part.new.part in
-    let kept : x.node.value ≡ part.node.value = at_err c.split_part.result _ c.in_err-next.was c.split_part.ensures.err in
-    kept_entries g.K.Ord.cmp c.try_reserve.new.self.items c.args.at part within is x c.split_part.ensures.least (ap (λ n. n.0) kept) ∙ ap (λ l. entries_of (seen l)) items
-
-pub returns-in_err-next-clause-parts : goal.returns-in_err-next-clause-parts
-returns-in_err-next-clause-parts g c =
+pub returns-in_err-next : goal.returns-in_err-next
+returns-in_err-next g c =
     let part = c.index_mut-part.result.now in
     let items = c.in_ok-try_reserve.ensures.items in
     let is = c.index_mut-part.ensures.value in
     let within : c.args.at < length c.try_reserve.new.self.items = omega (arith, c.requires.within, c.in_ok-try_reserve.ensures.len, c.try_reserve.new.self.ok.0) in
     let h : IsParts g.K.Ord.cmp c.args.height (seen c.try_reserve.new.self.items) = rw items c.requires.parts in
+    let fit : AreFit (seen c.try_reserve.new.self.items) = rw items c.requires.fit in
     let shape = child_is g.K.Ord.cmp c.try_reserve.new.self.items c.args.at part within is c.args.height h in
     let x = c.split_part.new.part in
     let kept : x.node.value ≡ part.node.value = at_err c.split_part.result _ c.in_err-next.was c.split_part.ensures.err in
-    kept_parts g.K.Ord.cmp c.try_reserve.new.self.items c.args.at part within is x c.split_part.ensures.least c.args.height h (rw kept shape) (ap (λ n. n.0) kept)
-
-pub returns-in_err-next-clause-fit : goal.returns-in_err-next-clause-fit
-returns-in_err-next-clause-fit g c =
-    let part = c.index_mut-part.result.now in
-    let items = c.in_ok-try_reserve.ensures.items in
-    let is = c.index_mut-part.ensures.value in
-    let within : c.args.at < length c.try_reserve.new.self.items = omega (arith, c.requires.within, c.in_ok-try_reserve.ensures.len, c.try_reserve.new.self.ok.0) in
-    let fit : AreFit (seen c.try_reserve.new.self.items) = rw items c.requires.fit in
-    let x = c.split_part.new.part in
-    let kept : x.node.value ≡ part.node.value = at_err c.split_part.result _ c.in_err-next.was c.split_part.ensures.err in
-    fit_still g.K.Ord.cmp c.try_reserve.new.self.items c.args.at part within is x c.split_part.ensures.least fit (rw kept (child_fit g.K.Ord.cmp c.try_reserve.new.self.items c.args.at part within is fit))
+    record {
+      entries = kept_entries g.K.Ord.cmp c.try_reserve.new.self.items c.args.at part within is x c.split_part.ensures.least (ap (λ n. n.0) kept) ∙ ap (λ l. entries_of (seen l)) items;
+      parts = kept_parts g.K.Ord.cmp c.try_reserve.new.self.items c.args.at part within is x c.split_part.ensures.least c.args.height h (rw kept shape) (ap (λ n. n.0) kept);
+      fit = fit_still g.K.Ord.cmp c.try_reserve.new.self.items c.args.at part within is x c.split_part.ensures.least fit (rw kept (child_fit g.K.Ord.cmp c.try_reserve.new.self.items c.args.at part within is fit));
+      not_less = omega (arith, c.in_ok-try_reserve.ensures.len);
+      one_more = omega (arith, c.in_ok-try_reserve.ensures.len);
+      within = search rules;
+      place = search rules;
+      room = search rules;
+    }
 
 pub returns-in-Less : goal.returns-in-Less
 returns-in-Less g c =
@@ -71,21 +60,22 @@ returns-in-Less g c =
     let full : part.node.value.2 ≡ 16 = child_has g.K.Ord.cmp c.try_reserve.new.self.items c.args.at part within is (λ n. n ≡ 16) (rw items c.requires.full) in
     let x = c.split_part.new.part in
     let e = c.in_ok-next.ensures in
+    let cut = e.cut in
     let y = c.in_ok-next.next in
-    let fit_x : IsFit x.node.value = (omega (arith, e.len, c.requires.front), omega (arith, e.len, c.requires.back), e.filled) in
-    let fit_y : IsFit y.node.value = (omega (arith, e.right_len, full, c.requires.back), omega (arith, e.right_len, full), e.right_filled) in
-    let child_x : IsChild c.args.height x.node.value = (omega (arith, shape.0, e.height), fed x.node.value (omega (arith, fit_x.0)) fit_x.2) in
-    let child_y : IsChild c.args.height y.node.value = (omega (arith, shape.0, e.right_height), fed y.node.value (omega (arith, fit_y.0)) fit_y.2) in
+    let fit_x : IsFit x.node.value = (omega (arith, cut.len, c.requires.front), omega (arith, cut.len, c.requires.back), e.filled) in
+    let fit_y : IsFit y.node.value = (omega (arith, cut.back_len, full, c.requires.back), omega (arith, cut.back_len, full), e.back_filled) in
+    let child_x : IsChild c.args.height x.node.value = (omega (arith, shape.0, cut.height), fed x.node.value (omega (arith, fit_x.0)) fit_x.2) in
+    let child_y : IsChild c.args.height y.node.value = (omega (arith, shape.0, cut.back_height), fed y.node.value (omega (arith, fit_y.0)) fit_y.2) in
     let inserted = c.in-Ok.ensures.items in
     record {
-      entries = rw inserted (two_entries g.K.Ord.cmp g.met.K.Ord.total c.args.height c.try_reserve.new.self.items c.args.at part x y within is e.least child_x child_y e.below e.not_below e.entries ∙ ap (λ l. entries_of (seen l)) items);
-      parts = rw inserted (two_parts g.K.Ord.cmp g.met.K.Ord.total c.args.height c.try_reserve.new.self.items c.args.at part x y within is e.least child_x child_y e.below e.not_below e.entries h);
-      fit = rw inserted (two_fit g.K.Ord.cmp g.met.K.Ord.total c.args.height c.try_reserve.new.self.items c.args.at part x y within is e.least child_x child_y e.below e.not_below e.entries fit fit_x fit_y);
+      entries = rw inserted (two_entries g.K.Ord.cmp g.met.K.Ord.total c.args.height c.try_reserve.new.self.items c.args.at part x y within is e.least child_x child_y cut.below cut.not_below cut.entries ∙ ap (λ l. entries_of (seen l)) items);
+      parts = rw inserted (two_parts g.K.Ord.cmp g.met.K.Ord.total c.args.height c.try_reserve.new.self.items c.args.at part x y within is e.least child_x child_y cut.below cut.not_below cut.entries h);
+      fit = rw inserted (two_fit g.K.Ord.cmp g.met.K.Ord.total c.args.height c.try_reserve.new.self.items c.args.at part x y within is e.least child_x child_y cut.below cut.not_below cut.entries fit fit_x fit_y);
       not_less = omega (arith, c.in-Ok.ensures.len, c.in_ok-try_reserve.ensures.len);
       one_more = omega (arith, c.in-Ok.ensures.len, c.in_ok-try_reserve.ensures.len);
       within = omega (arith, c.in-Ok.ensures.len, c.in_ok-try_reserve.ensures.len, c.requires.within);
-      place = rw inserted (two_place_first g.K.Ord.cmp g.met.K.Ord.total c.args.height c.try_reserve.new.self.items c.args.at part x y within is e.least child_x child_y e.below e.not_below e.entries c.args.key.now (rw items c.requires.place) (sym c.cmp-below.ensures ∙ c.in-Less.is));
-      room = λ d. rw inserted (two_first g.K.Ord.cmp g.met.K.Ord.total c.args.height c.try_reserve.new.self.items c.args.at part x y within is e.least child_x child_y e.below e.not_below e.entries d (omega (arith, e.len, c.requires.back)));
+      place = rw inserted (two_place_first g.K.Ord.cmp g.met.K.Ord.total c.args.height c.try_reserve.new.self.items c.args.at part x y within is e.least child_x child_y cut.below cut.not_below cut.entries c.args.key.now (rw items c.requires.place) (sym c.cmp-below.ensures ∙ c.in-Less.is));
+      room = λ d. rw inserted (two_first g.K.Ord.cmp g.met.K.Ord.total c.args.height c.try_reserve.new.self.items c.args.at part x y within is e.least child_x child_y cut.below cut.not_below cut.entries d (omega (arith, cut.len, c.requires.back)));
     }
 
 pub returns-in-Equal : goal.returns-in-Equal
@@ -100,19 +90,20 @@ returns-in-Equal g c =
     let full : part.node.value.2 ≡ 16 = child_has g.K.Ord.cmp c.try_reserve.new.self.items c.args.at part within is (λ n. n ≡ 16) (rw items c.requires.full) in
     let x = c.split_part.new.part in
     let e = c.in_ok-next.ensures in
+    let cut = e.cut in
     let y = c.in_ok-next.next in
-    let fit_x : IsFit x.node.value = (omega (arith, e.len, c.requires.front), omega (arith, e.len, c.requires.back), e.filled) in
-    let fit_y : IsFit y.node.value = (omega (arith, e.right_len, full, c.requires.back), omega (arith, e.right_len, full), e.right_filled) in
-    let child_x : IsChild c.args.height x.node.value = (omega (arith, shape.0, e.height), fed x.node.value (omega (arith, fit_x.0)) fit_x.2) in
-    let child_y : IsChild c.args.height y.node.value = (omega (arith, shape.0, e.right_height), fed y.node.value (omega (arith, fit_y.0)) fit_y.2) in
+    let fit_x : IsFit x.node.value = (omega (arith, cut.len, c.requires.front), omega (arith, cut.len, c.requires.back), e.filled) in
+    let fit_y : IsFit y.node.value = (omega (arith, cut.back_len, full, c.requires.back), omega (arith, cut.back_len, full), e.back_filled) in
+    let child_x : IsChild c.args.height x.node.value = (omega (arith, shape.0, cut.height), fed x.node.value (omega (arith, fit_x.0)) fit_x.2) in
+    let child_y : IsChild c.args.height y.node.value = (omega (arith, shape.0, cut.back_height), fed y.node.value (omega (arith, fit_y.0)) fit_y.2) in
     let inserted = c.in-Ok.ensures.items in
     record {
-      entries = rw inserted (two_entries g.K.Ord.cmp g.met.K.Ord.total c.args.height c.try_reserve.new.self.items c.args.at part x y within is e.least child_x child_y e.below e.not_below e.entries ∙ ap (λ l. entries_of (seen l)) items);
-      parts = rw inserted (two_parts g.K.Ord.cmp g.met.K.Ord.total c.args.height c.try_reserve.new.self.items c.args.at part x y within is e.least child_x child_y e.below e.not_below e.entries h);
-      fit = rw inserted (two_fit g.K.Ord.cmp g.met.K.Ord.total c.args.height c.try_reserve.new.self.items c.args.at part x y within is e.least child_x child_y e.below e.not_below e.entries fit fit_x fit_y);
+      entries = rw inserted (two_entries g.K.Ord.cmp g.met.K.Ord.total c.args.height c.try_reserve.new.self.items c.args.at part x y within is e.least child_x child_y cut.below cut.not_below cut.entries ∙ ap (λ l. entries_of (seen l)) items);
+      parts = rw inserted (two_parts g.K.Ord.cmp g.met.K.Ord.total c.args.height c.try_reserve.new.self.items c.args.at part x y within is e.least child_x child_y cut.below cut.not_below cut.entries h);
+      fit = rw inserted (two_fit g.K.Ord.cmp g.met.K.Ord.total c.args.height c.try_reserve.new.self.items c.args.at part x y within is e.least child_x child_y cut.below cut.not_below cut.entries fit fit_x fit_y);
       not_less = omega (arith, c.in-Ok.ensures.len, c.in_ok-try_reserve.ensures.len);
       one_more = omega (arith, c.in-Ok.ensures.len, c.in_ok-try_reserve.ensures.len);
       within = omega (arith, c.in-Ok.ensures.len, c.in_ok-try_reserve.ensures.len, c.requires.within);
-      place = rw inserted (two_place_second g.K.Ord.cmp g.met.K.Ord.total c.args.height c.try_reserve.new.self.items c.args.at part x y within is e.least child_x child_y e.below e.not_below e.entries c.args.key.now (rw items c.requires.place) (rw (← c.cmp-below.ensures) (is_not_less c.cmp-below.result c.in-Equal.is)));
-      room = λ d. rw inserted (two_second g.K.Ord.cmp g.met.K.Ord.total c.args.height c.try_reserve.new.self.items c.args.at part x y within is e.least child_x child_y e.below e.not_below e.entries d (omega (arith, e.right_len, full, c.requires.front)));
+      place = rw inserted (two_place_second g.K.Ord.cmp g.met.K.Ord.total c.args.height c.try_reserve.new.self.items c.args.at part x y within is e.least child_x child_y cut.below cut.not_below cut.entries c.args.key.now (rw items c.requires.place) (rw (← c.cmp-below.ensures) (is_not_less c.cmp-below.result c.in-Equal.is)));
+      room = λ d. rw inserted (two_second g.K.Ord.cmp g.met.K.Ord.total c.args.height c.try_reserve.new.self.items c.args.at part x y within is e.least child_x child_y cut.below cut.not_below cut.entries d (omega (arith, cut.back_len, full, c.requires.front)));
     }

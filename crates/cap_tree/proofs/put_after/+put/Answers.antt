@@ -1,0 +1,72 @@
+use Rattle.std.proofs.Common.{◌≡◌, ◌+◌, ◌*◌, ◌<◌, ◌^◌, length, arith, rules, sym, ap, ◌∙◌}
+use Rattle.cap_tree.specs.Tree.{IsOrdered, put_entry, get}
+use Rattle.cap_tree.specs.Shape.{IsFit, seen, entries_of}
+use Rattle.cap_tree.proofs.PutLemmas.{err_of, ok_of, answer_of, child_is, child_fit, child_has, child_count, child_still, child_ordered, fit_still, put_child, put_child_err, put_child_ok, put_child_replaced, put_child_count}
+use Rattle.cap_tree.proofs.put_after.+put.Goals as goal
+
+pub put_after-put_in_child-replaced-requires : goal.put_after-put_in_child-replaced-requires
+put_after-put_in_child-replaced-requires g t c =
+    let n = rw c.in-Inner.is at c.node.invariant in
+    let view = rw c.in-Inner.is at c.node.view_is in
+    let items = c.make_room.new.parts.items in
+    let at = c.in_ok-at-in-Inner.at in
+    let part = c.index_mut.result.now in
+    let is = c.index_mut.ensures.value in
+    let parts = c.make_room.ensures.parts in
+    let fit = c.make_room.ensures.fit in
+    let within : at < length items = omega (arith, c.in_ok-at-in-Inner.ensures.within, c.make_room.new.parts.ok.0) in
+    let whole : entries_of (seen items) ≡ c.args.node.now.0 = c.make_room.ensures.entries ∙ ap (λ n. n.0) view in
+    let room = child_has g.K.Ord.cmp items at part within is (λ n. n < 16) c.in_ok-at-in-Inner.ensures.room in
+    let ordered : IsOrdered g.K.Ord.cmp part.node.value.0 = child_ordered g.K.Ord.cmp items at part within is (rw whole c.requires.ordered) in
+    let fit_part : IsFit part.node.value = child_fit g.K.Ord.cmp items at part within is fit in
+    let fits : length part.node.value.0 + 1 < 2 ^ 64 = omega (arith, child_count g.K.Ord.cmp items at part within is, ap length whole, c.requires.fits) in
+    let shape = child_is g.K.Ord.cmp items at part within is c.in-Inner.height parts in
+    let level : 2 * part.node.value.1 + 1 < 2 * c.args.node.now.1 = omega (arith, shape.0, ap (λ n. n.1) view) in
+    let can = c.requires.can_confirm in
+    λ κs h. search rules
+
+pub put_after-invariant_of-node-in-Inner : goal.put_after-invariant_of-node-in-Inner
+put_after-invariant_of-node-in-Inner g t c =
+    let n = rw c.in-Inner.is at c.node.invariant in
+    let view = rw c.in-Inner.is at c.node.view_is in
+    let items = c.make_room.new.parts.items in
+    let at = c.in_ok-at-in-Inner.at in
+    let part = c.index_mut.result.now in
+    let is = c.index_mut.ensures.value in
+    let parts = c.make_room.ensures.parts in
+    let fit = c.make_room.ensures.fit in
+    let within : at < length items = omega (arith, c.in_ok-at-in-Inner.ensures.within, c.make_room.new.parts.ok.0) in
+    let whole : entries_of (seen items) ≡ c.args.node.now.0 = c.make_room.ensures.entries ∙ ap (λ n. n.0) view in
+    let x = c.put_in_child-replaced.new.part in
+    let r = c.put_in_child-replaced.result in
+    let e = c.put_in_child-replaced.ensures in
+    let child = child_still g.K.Ord.cmp items at part within is x e.least c.in-Inner.height parts e.height e.fit in
+    (omega (arith, n.0, c.make_room.ensures.not_less), omega (arith, ap (λ n. n.2) view, c.requires.room, c.make_room.ensures.one_more), put_child g.K.Ord.cmp items at part within is x e.least g.met.K.Ord.total c.args.key c.args.value c.in-Inner.height parts c.in_ok-at-in-Inner.ensures.place r child e.err e.ok, fit_still g.K.Ord.cmp items at part within is x e.least fit e.fit, put_child_count g.K.Ord.cmp items at part within is x e.least g.met.K.Ord.total c.args.key c.args.value c.in-Inner.height parts c.in_ok-at-in-Inner.ensures.place r c.in-Inner.count c.count_put.new.count (rw whole c.requires.ordered) (n.4 ∙ ap length (sym c.make_room.ensures.entries)) e.err e.ok e.replaced c.count_put.ensures.err c.count_put.ensures.ok)
+
+pub put_after-returns-in-Inner : goal.put_after-returns-in-Inner
+put_after-returns-in-Inner g t c =
+    let n = rw c.in-Inner.is at c.node.invariant in
+    let view = rw c.in-Inner.is at c.node.view_is in
+    let items = c.make_room.new.parts.items in
+    let at = c.in_ok-at-in-Inner.at in
+    let part = c.index_mut.result.now in
+    let is = c.index_mut.ensures.value in
+    let parts = c.make_room.ensures.parts in
+    let fit = c.make_room.ensures.fit in
+    let within : at < length items = omega (arith, c.in_ok-at-in-Inner.ensures.within, c.make_room.new.parts.ok.0) in
+    let whole : entries_of (seen items) ≡ c.args.node.now.0 = c.make_room.ensures.entries ∙ ap (λ n. n.0) view in
+    let x = c.put_in_child-replaced.new.part in
+    let r = c.put_in_child-replaced.result in
+    let e = c.put_in_child-replaced.ensures in
+    record {
+      confirmed = e.confirmed;
+      refused = e.refused;
+      grown = record {
+        height = ap (λ n. n.1) view;
+        not_less = omega (arith, ap (λ n. n.2) view, c.make_room.ensures.not_less);
+        one_more = omega (arith, ap (λ n. n.2) view, c.make_room.ensures.one_more);
+      };
+      err = err_of (λ l. l) _ _ whole r _ (put_child_err g.K.Ord.cmp items at part within is x e.least g.met.K.Ord.total c.args.key c.args.value c.in-Inner.height parts c.in_ok-at-in-Inner.ensures.place r e.err);
+      ok = ok_of (λ l. put_entry g.K.Ord.cmp l c.args.key c.args.value) _ _ whole r _ (put_child_ok g.K.Ord.cmp items at part within is x e.least g.met.K.Ord.total c.args.key c.args.value c.in-Inner.height parts c.in_ok-at-in-Inner.ensures.place r e.ok);
+      replaced = answer_of (λ l. get g.K.Ord.cmp l c.args.key) _ _ whole r (put_child_replaced g.K.Ord.cmp items at part within is x e.least g.met.K.Ord.total c.args.key c.args.value c.in-Inner.height parts c.in_ok-at-in-Inner.ensures.place r e.replaced);
+    }

@@ -1,0 +1,135 @@
+use Rattle.std.proofs.Common.{◌≡◌, ◌+◌, ◌*◌, ◌<◌, length, arith, rules, sym, ap, ◌∙◌}
+use Rattle.cap_tree.specs.Tree.{IsOrdered, take_entry, get}
+use Rattle.cap_tree.specs.Shape.{IsFit, seen, entries_of}
+use Rattle.cap_tree.proofs.EntryLemmas.{take_entry-absent, get-some-length}
+use Rattle.cap_tree.proofs.PartLemmas.{high}
+use Rattle.cap_tree.proofs.PlaceLemmas.{get_none}
+use Rattle.cap_tree.proofs.PutLemmas.{err_of, ok_of, answer_of, on_ok, child_is, child_fit, child_has, child_still, child_ordered, fit_still, take_child, take_child_err, take_child_ok, take_child_removed, take_child_count, some_there}
+use Rattle.cap_tree.proofs.take_after.+take.Goals as goal
+
+pub take_after-returns-then-place-eq0-clause-ok : goal.take_after-returns-then-place-eq0-clause-ok
+take_after-returns-then-place-eq0-clause-ok g t c =
+    let n = rw c.in-Inner.is at c.node.invariant in
+    let view = rw c.in-Inner.is at c.node.view_is in
+    let count = rw c.as_slice.ensures.value at (c.count_up_to-place.ensures.place c.in-Inner.height (rw c.as_slice.ensures.value n.2)) in
+    let none = get_none g.K.Ord.cmp g.met.K.Ord.total c.args.key.now c.in-Inner.height (seen c.in-Inner.parts.items) n.2 (sym count ∙ c.if-place-eq0.true) in
+    on_ok c.ask_for_none.result (rw (← ap (λ n. n.0) view) (sym (take_entry-absent g.K.Ord.cmp c.args.key.now _ none)))
+
+pub take_after-returns-then-place-eq0-clause-removed : goal.take_after-returns-then-place-eq0-clause-removed
+take_after-returns-then-place-eq0-clause-removed g t c =
+    let n = rw c.in-Inner.is at c.node.invariant in
+    let view = rw c.in-Inner.is at c.node.view_is in
+    let count = rw c.as_slice.ensures.value at (c.count_up_to-place.ensures.place c.in-Inner.height (rw c.as_slice.ensures.value n.2)) in
+    let none = get_none g.K.Ord.cmp g.met.K.Ord.total c.args.key.now c.in-Inner.height (seen c.in-Inner.parts.items) n.2 (sym count ∙ c.if-place-eq0.true) in
+    rw (← ap (λ n. n.0) view, none) c.ask_for_none.ensures.none
+
+pub take_after-make_spare-requires : goal.take_after-make_spare-requires
+take_after-make_spare-requires g t c =
+    let n = rw c.in-Inner.is at c.node.invariant in
+    let view = rw c.in-Inner.is at c.node.view_is in
+    let count = rw c.as_slice.ensures.value at (c.count_up_to-place.ensures.place c.in-Inner.height (rw c.as_slice.ensures.value n.2)) in
+    let up = high g.K.Ord.cmp c.in-Inner.height c.in-Inner.parts.items (omega (arith, n.0, c.in-Inner.parts.ok.0)) n.2 in
+    let two = c.requires.two (omega (arith, up, ap (λ n. n.1) view)) in
+    let range = rw c.in-Inner.is at c.node.ranges in
+    record {
+      within = omega (arith, c.count_up_to-place.ensures.within, c.as_slice.ensures.len, c.if-place-eq0.false);
+      two = omega (arith, two, ap (λ n. n.2) view);
+      parts = n.2;
+      fit = n.3;
+      ordered = rw (ap (λ n. n.0) view) c.requires.ordered;
+      fits = omega (arith, n.4, range);
+      place = omega (arith, count, c.if-place-eq0.false);
+    }
+
+pub take_after-invariant_of-node-in_err-at-in-Inner : goal.take_after-invariant_of-node-in_err-at-in-Inner
+take_after-invariant_of-node-in_err-at-in-Inner g t c =
+    let n = rw c.in-Inner.is at c.node.invariant in
+    let view = rw c.in-Inner.is at c.node.view_is in
+    let up = high g.K.Ord.cmp c.in-Inner.height c.in-Inner.parts.items (omega (arith, n.0, c.in-Inner.parts.ok.0)) n.2 in
+    let two = c.requires.two (omega (arith, up, ap (λ n. n.1) view)) in
+    let e = c.make_spare.ensures in
+    (omega (arith, e.one_less, two, ap (λ n. n.2) view), omega (arith, n.1, e.not_more), e.parts, e.fit, n.4 ∙ ap length (sym e.entries))
+
+pub take_after-take_from_child-removed-requires : goal.take_after-take_from_child-removed-requires
+take_after-take_from_child-removed-requires g t c =
+    let n = rw c.in-Inner.is at c.node.invariant in
+    let view = rw c.in-Inner.is at c.node.view_is in
+    let items = c.make_spare.new.parts.items in
+    let at = c.in_ok-at-in-Inner.at in
+    let part = c.index_mut.result.now in
+    let is = c.index_mut.ensures.value in
+    let parts = c.make_spare.ensures.parts in
+    let fit = c.make_spare.ensures.fit in
+    let within : at < length items = omega (arith, c.in_ok-at-in-Inner.ensures.within, c.make_spare.new.parts.ok.0) in
+    let whole : entries_of (seen items) ≡ c.args.node.now.0 = c.make_spare.ensures.entries ∙ ap (λ n. n.0) view in
+    let spare = child_has g.K.Ord.cmp items at part within is (λ n. 4 < n) c.in_ok-at-in-Inner.ensures.spare in
+    let ordered : IsOrdered g.K.Ord.cmp part.node.value.0 = child_ordered g.K.Ord.cmp items at part within is (rw whole c.requires.ordered) in
+    let fit_part : IsFit part.node.value = child_fit g.K.Ord.cmp items at part within is fit in
+    let shape = child_is g.K.Ord.cmp items at part within is c.in-Inner.height parts in
+    let level : 2 * part.node.value.1 + 1 < 2 * c.args.node.now.1 = omega (arith, shape.0, ap (λ n. n.1) view) in
+    let can = c.requires.can_confirm in
+    λ κs h. search rules
+
+pub take_after-count_take-requires : goal.take_after-count_take-requires
+take_after-count_take-requires g t c =
+    let n = rw c.in-Inner.is at c.node.invariant in
+    let view = rw c.in-Inner.is at c.node.view_is in
+    let items = c.make_spare.new.parts.items in
+    let at = c.in_ok-at-in-Inner.at in
+    let part = c.index_mut.result.now in
+    let is = c.index_mut.ensures.value in
+    let parts = c.make_spare.ensures.parts in
+    let fit = c.make_spare.ensures.fit in
+    let within : at < length items = omega (arith, c.in_ok-at-in-Inner.ensures.within, c.make_spare.new.parts.ok.0) in
+    let whole : entries_of (seen items) ≡ c.args.node.now.0 = c.make_spare.ensures.entries ∙ ap (λ n. n.0) view in
+    let x = c.take_from_child-removed.new.part in
+    let r = c.take_from_child-removed.result in
+    let e = c.take_from_child-removed.ensures in
+    let found = take_child_removed g.K.Ord.cmp items at part within is x e.least g.met.K.Ord.total c.args.key.now c.in-Inner.height parts c.in_ok-at-in-Inner.ensures.place r e.removed in
+    record { some = some_there g.K.Ord.cmp c.args.key.now (entries_of (seen items)) r c.in-Inner.count (n.4 ∙ ap length (sym c.make_spare.ensures.entries)) found }
+
+pub take_after-invariant_of-node-in-Inner : goal.take_after-invariant_of-node-in-Inner
+take_after-invariant_of-node-in-Inner g t c =
+    let n = rw c.in-Inner.is at c.node.invariant in
+    let view = rw c.in-Inner.is at c.node.view_is in
+    let items = c.make_spare.new.parts.items in
+    let at = c.in_ok-at-in-Inner.at in
+    let part = c.index_mut.result.now in
+    let is = c.index_mut.ensures.value in
+    let parts = c.make_spare.ensures.parts in
+    let fit = c.make_spare.ensures.fit in
+    let within : at < length items = omega (arith, c.in_ok-at-in-Inner.ensures.within, c.make_spare.new.parts.ok.0) in
+    let whole : entries_of (seen items) ≡ c.args.node.now.0 = c.make_spare.ensures.entries ∙ ap (λ n. n.0) view in
+    let x = c.take_from_child-removed.new.part in
+    let r = c.take_from_child-removed.result in
+    let e = c.take_from_child-removed.ensures in
+    let child = child_still g.K.Ord.cmp items at part within is x e.least c.in-Inner.height parts e.height e.fit in
+    (omega (arith, c.in_ok-at-in-Inner.ensures.within), omega (arith, n.1, c.make_spare.ensures.not_more), take_child g.K.Ord.cmp items at part within is x e.least g.met.K.Ord.total c.args.key.now c.in-Inner.height parts c.in_ok-at-in-Inner.ensures.place r child e.err e.ok, fit_still g.K.Ord.cmp items at part within is x e.least fit e.fit, take_child_count g.K.Ord.cmp items at part within is x e.least g.met.K.Ord.total c.args.key.now c.in-Inner.height parts c.in_ok-at-in-Inner.ensures.place r c.in-Inner.count c.count_take.new.count (n.4 ∙ ap length (sym c.make_spare.ensures.entries)) e.err e.ok e.removed c.count_take.ensures.err c.count_take.ensures.ok)
+
+pub take_after-returns-in-Inner : goal.take_after-returns-in-Inner
+take_after-returns-in-Inner g t c =
+    let n = rw c.in-Inner.is at c.node.invariant in
+    let view = rw c.in-Inner.is at c.node.view_is in
+    let items = c.make_spare.new.parts.items in
+    let at = c.in_ok-at-in-Inner.at in
+    let part = c.index_mut.result.now in
+    let is = c.index_mut.ensures.value in
+    let parts = c.make_spare.ensures.parts in
+    let fit = c.make_spare.ensures.fit in
+    let within : at < length items = omega (arith, c.in_ok-at-in-Inner.ensures.within, c.make_spare.new.parts.ok.0) in
+    let whole : entries_of (seen items) ≡ c.args.node.now.0 = c.make_spare.ensures.entries ∙ ap (λ n. n.0) view in
+    let x = c.take_from_child-removed.new.part in
+    let r = c.take_from_child-removed.result in
+    let e = c.take_from_child-removed.ensures in
+    record {
+      confirmed = e.confirmed;
+      refused = e.refused;
+      shrunk = record {
+        height = ap (λ n. n.1) view;
+        not_more = omega (arith, ap (λ n. n.2) view, c.make_spare.ensures.not_more);
+        one_less = omega (arith, ap (λ n. n.2) view, c.make_spare.ensures.one_less);
+      };
+      err = err_of (λ l. l) _ _ whole r _ (take_child_err g.K.Ord.cmp items at part within is x e.least g.met.K.Ord.total c.args.key.now c.in-Inner.height parts c.in_ok-at-in-Inner.ensures.place r e.err);
+      ok = ok_of (λ l. take_entry g.K.Ord.cmp l c.args.key.now) _ _ whole r _ (take_child_ok g.K.Ord.cmp items at part within is x e.least g.met.K.Ord.total c.args.key.now c.in-Inner.height parts c.in_ok-at-in-Inner.ensures.place r e.ok);
+      removed = answer_of (λ l. get g.K.Ord.cmp l c.args.key.now) _ _ whole r (take_child_removed g.K.Ord.cmp items at part within is x e.least g.met.K.Ord.total c.args.key.now c.in-Inner.height parts c.in_ok-at-in-Inner.ensures.place r e.removed);
+    }
