@@ -1,18 +1,14 @@
 //! How long commits, updates and captures take under a session, without text.
 
-use crate::clock::Stopwatch;
-use crate::keys::{Order, keys};
 use anyhow::{Context, Result, bail};
 use cap_core::{Agree, Command, Core, Reply};
-use cap_row::{Key, Row, Schema};
-use cap_table::RowRef;
-use cap_txn::{Action, Assignments, Batch, Cause, Op, Snapshot};
-use cap_value::{Name, Value};
+use cap_loads::clock::Stopwatch;
+use cap_loads::keys::{Order, keys};
+use cap_loads::rows::{COMMITS, insert, table, update};
+use cap_row::Schema;
+use cap_txn::{Batch, Op, Snapshot};
 use std::alloc::Global;
 use std::time::CpuClock;
-
-/// How many commits are timed together.
-pub(crate) const COMMITS: u32 = 100_000;
 
 /// After how many commits a snapshot is kept, where snapshots are.
 const COMMITS_A_SNAPSHOT: usize = 100;
@@ -20,14 +16,8 @@ const COMMITS_A_SNAPSHOT: usize = 100;
 /// The most events of a history.
 pub(crate) const EVENTS_MAX: u64 = (1 << 63) - 1;
 
-/// The table, a key and a value, and the number of the session that it is attached to.
-const TABLE: &str = "t";
-
+/// The number of the session that the table is attached to.
 const SESSION: u64 = 1;
-
-pub(crate) fn table(alloc: Global) -> Option<Name<Global>> {
-    Name::new(alloc, TABLE).ok()
-}
 
 /// The command that makes the table.
 pub(crate) fn create_table(alloc: Global) -> Option<Vec<Command<Global>>> {
@@ -53,52 +43,11 @@ fn attach_table(alloc: Global) -> Option<Vec<Command<Global>>> {
     Some(commands)
 }
 
-/// The row with this key and the value 'x'.
-pub(crate) fn row(alloc: Global, key: u64) -> Option<Row<Global>> {
-    let mut fields = Vec::new(alloc);
-    fields.push(Value::Int(signed(key))).ok()?;
-    fields.push(Value::text(alloc, "x").ok()?).ok()?;
-    Row::new(fields).ok()
-}
-
-/// The key of that row.
-pub(crate) fn key_of(alloc: Global, key: u64) -> Option<Key<Global>> {
-    let mut fields = Vec::new(alloc);
-    fields.push(Value::Int(signed(key))).ok()?;
-    Key::new(alloc, fields).ok()?
-}
-
-/// The operation that inserts a row with this key.
-pub(crate) fn insert(alloc: Global, key: u64) -> Option<Op<Global>> {
-    Some(Op {
-        table: table(alloc)?,
-        cause: Cause::Direct,
-        action: Action::Insert(row(alloc, key)?),
-    })
-}
-
-/// The operation that sets the value of the row with this key to a number.
-pub(crate) fn update(alloc: Global, key: u64, number: i64) -> Option<Op<Global>> {
-    let row = RowRef::Key(key_of(alloc, key)?);
-    let mut assigned = Vec::new(alloc);
-    assigned.push((1, Value::Int(number))).ok()?;
-    Some(Op {
-        table: table(alloc)?,
-        cause: Cause::Direct,
-        action: Action::Update(row, Assignments::new(assigned)),
-    })
-}
-
 /// The commit of one operation.
 fn commit(alloc: Global, op: Op<Global>) -> Option<Command<Global>> {
     let mut batch = Batch::blind(alloc);
     batch.push(op).ok()?;
     Some(Command::Commit(batch))
-}
-
-// A key's bits as a number with a sign.
-fn signed(key: u64) -> i64 {
-    i64::from_be_bytes(key.to_be_bytes())
 }
 
 /// A commit for each key, which inserts its row.

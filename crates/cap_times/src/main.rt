@@ -2,17 +2,12 @@
 //! checked, and standard error how long it took.
 #![tactic(auto)]
 
-mod apply;
-mod clock;
-mod codec;
 mod commits;
-mod keys;
 mod server;
 mod sessions;
-mod tables;
-mod tree;
 
 use anyhow::{Result, bail};
+use cap_loads::{apply, codec, tables, tree};
 use std::env;
 use std::rt::Env;
 use std::sync::Wait;

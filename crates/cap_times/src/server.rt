@@ -1,10 +1,11 @@
 //! How long commits take from several threads at once, and what readers beside a writer do, by the wall clock.
 ghost use Rattle.std.specs.Prelude.{◌≡◌, ◌≤◌, length};
 
-use crate::commits::{COMMITS, create_table, inserts_from, table, updates};
+use crate::commits::{create_table, inserts_from, updates};
 use anyhow::{Context, Result, bail};
 use cap_core::{Command, Reply};
 use cap_history::{Naming, Opened, Seat};
+use cap_loads::rows::{COMMITS, table};
 use cap_server::Server;
 use cap_txn::Snapshot;
 use cap_value::Name;

@@ -1,11 +1,12 @@
 //! How long commits take under one and under 64 sessions, and captures and diffs of many rows.
 
-use crate::clock::Stopwatch;
-use crate::commits::{COMMITS, EVENTS_MAX, after, create_table, inserts, table, updates};
-use crate::keys::Order;
+use crate::commits::{EVENTS_MAX, after, create_table, inserts, updates};
 use anyhow::{Context, Result, bail};
 use cap_codec::KeyFlags;
 use cap_core::{Command, Core, Reply};
+use cap_loads::clock::Stopwatch;
+use cap_loads::keys::Order;
+use cap_loads::rows::{COMMITS, table};
 use cap_value::Name;
 use std::alloc::Global;
 use std::time::CpuClock;

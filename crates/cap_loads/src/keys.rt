@@ -6,9 +6,12 @@ use std::fmt::{Display, Formatter};
 
 /// The order in which keys are put.
 #[derive(Clone, Copy)]
-pub(crate) enum Order {
+pub enum Order {
+    /// From 0 on.
     Rising,
+    /// Down to 0.
     Falling,
+    /// From all over the range of 64 bits, neighbours far apart.
     Scrambled,
 }
 
@@ -23,7 +26,7 @@ impl Display for Order {
 }
 
 /// So many distinct keys in the order in which they are to be put.
-pub(crate) fn keys(alloc: Global, order: Order, count: u32) -> Result<Vec<u64>, AllocError> {
+pub fn keys(alloc: Global, order: Order, count: u32) -> Result<Vec<u64>, AllocError> {
     let numbers = (0..count).map(u64::from);
     match order {
         Order::Rising => numbers.collect(alloc),

@@ -10,7 +10,7 @@ use std::time::CpuClock;
 use trial::try_order;
 
 /// Tries each of these numbers of keys, in three orders of putting them.
-pub(crate) fn report(
+pub fn report(
     rt: &(impl Print + Eprint + CpuClock + AllocGlobal),
     counts: &[String],
 ) -> Result<()> {

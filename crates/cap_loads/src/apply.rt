@@ -1,11 +1,11 @@
 //! How long it takes to apply a changeset to a table, for each of its changes.
 
 use crate::clock::Stopwatch;
-use crate::codec::{CHANGES, group, inserts};
+use crate::codec::{CHANGES, add, group, inserts, list_of, record};
 use crate::tables::database;
 use anyhow::{Context, Result, bail};
 use cap_apply::{Answer, Policy, apply};
-use cap_changes::{Change, ChangeList, Record};
+use cap_changes::{Change, ChangeList};
 use cap_codec::Contents;
 use cap_txn::Database;
 use cap_value::Value;
@@ -19,29 +19,22 @@ const POLICY: Policy = Policy {
     on_conflict: Answer::Abort,
 };
 
+// The change that gives the row with this key and the value 'x' another value.
+fn update(alloc: Global, key: i64) -> Option<Change<Global>> {
+    Some(Change::Update {
+        indirect: false,
+        old: record(alloc, Some(Value::Int(key)), "x")?,
+        new: record(alloc, None, "y")?,
+    })
+}
+
 /// The changeset that gives each row that was inserted another value.
 fn updates(alloc: Global) -> Option<ChangeList<Global>> {
     let mut group = group(alloc)?;
     for key in 0..CHANGES {
-        let mut old = Vec::new(alloc);
-        old.push(Some(Value::Int(key))).ok()?;
-        old.push(Some(Value::text(alloc, "x").ok()?)).ok()?;
-        let mut new = Vec::new(alloc);
-        new.push(None).ok()?;
-        new.push(Some(Value::text(alloc, "y").ok()?)).ok()?;
-        let change = Change::Update {
-            indirect: false,
-            old: Record::new(old),
-            new: Record::new(new),
-        };
-        if !change.fits(group.schema()) {
-            return None;
-        }
-        group.push(change).ok()?;
+        add(&mut group, update(alloc, key)?)?;
     }
-    let mut list = ChangeList::new(alloc);
-    list.push(group).ok()?;
-    Some(list)
+    list_of(alloc, group)
 }
 
 /// The database after the changes, and the nanoseconds that each took.
@@ -67,7 +60,7 @@ fn timed(
 }
 
 /// Times inserts into an empty table, and then updates of the rows.
-pub(crate) fn report(rt: &(impl Print + Eprint + CpuClock + AllocGlobal)) -> Result<()> {
+pub fn report(rt: &(impl Print + Eprint + CpuClock + AllocGlobal)) -> Result<()> {
     let alloc = rt.alloc();
     let empty = database(alloc).context("no database")?;
     let inserts = Contents::Changes(inserts(alloc).context("no changes")?);

@@ -24,25 +24,48 @@ pub(crate) fn group(alloc: Global) -> Option<Group<Global>> {
     Some(Group::new(alloc, Name::new(alloc, "t").ok()?, schema))
 }
 
+/// The record of a key, where there is one, and a value.
+pub(crate) fn record(
+    alloc: Global,
+    key: Option<Value<Global>>,
+    value: &str,
+) -> Option<Record<Global>> {
+    let mut fields = Vec::new(alloc);
+    fields.push(key).ok()?;
+    fields.push(Some(Value::text(alloc, value).ok()?)).ok()?;
+    Some(Record::new(fields))
+}
+
+/// Adds the change to the group, which it has to fit.
+pub(crate) fn add(group: &mut Group<Global>, change: Change<Global>) -> Option<()> {
+    if !change.fits(group.schema()) {
+        return None;
+    }
+    group.push(change).ok()
+}
+
+/// The list of this group alone.
+pub(crate) fn list_of(alloc: Global, group: Group<Global>) -> Option<ChangeList<Global>> {
+    let mut list = ChangeList::new(alloc);
+    list.push(group).ok()?;
+    Some(list)
+}
+
+// The change that inserts the row with this key and the value 'x'.
+fn insertion(alloc: Global, key: i64) -> Option<Change<Global>> {
+    Some(Change::Insert {
+        indirect: false,
+        new: record(alloc, Some(Value::Int(key)), "x")?,
+    })
+}
+
 /// The changeset that inserts the rows (0, 'x'), (1, 'x') and so on.
 pub(crate) fn inserts(alloc: Global) -> Option<ChangeList<Global>> {
     let mut group = group(alloc)?;
     for key in 0..CHANGES {
-        let mut fields = Vec::new(alloc);
-        fields.push(Some(Value::Int(key))).ok()?;
-        fields.push(Some(Value::text(alloc, "x").ok()?)).ok()?;
-        let change = Change::Insert {
-            indirect: false,
-            new: Record::new(fields),
-        };
-        if !change.fits(group.schema()) {
-            return None;
-        }
-        group.push(change).ok()?;
+        add(&mut group, insertion(alloc, key)?)?;
     }
-    let mut list = ChangeList::new(alloc);
-    list.push(group).ok()?;
-    Some(list)
+    list_of(alloc, group)
 }
 
 fn in_pieces(alloc: Global, bytes: &[u8]) -> Option<Contents<Global>> {
@@ -61,7 +84,7 @@ fn is_written_so(alloc: Global, blob: &Contents<Global>, bytes: &[u8]) -> Option
 }
 
 /// Writes and reads the changeset, and says how long each took.
-pub(crate) fn report(rt: &(impl Print + Eprint + CpuClock + AllocGlobal)) -> Result<()> {
+pub fn report(rt: &(impl Print + Eprint + CpuClock + AllocGlobal)) -> Result<()> {
     let alloc = rt.alloc();
     let list = inserts(alloc).context("the changes are not made")?;
     let watch = Stopwatch::start(rt)?;

@@ -5,20 +5,20 @@ use std::time::CpuClock;
 
 /// What the processor has spent on this thread since a start.
 #[derive(Clone, Copy)]
-pub(crate) struct Stopwatch {
+pub struct Stopwatch {
     start: u128,
 }
 
 impl Stopwatch {
     /// The stopwatch that starts now.
-    pub(crate) fn start(clock: &impl CpuClock) -> io::Result<Self> {
+    pub fn start(clock: &impl CpuClock) -> io::Result<Self> {
         Ok(Stopwatch {
             start: clock.thread_cpu_time()?.as_nanos(),
         })
     }
 
     /// Nanoseconds.
-    pub(crate) fn read(&self, clock: &impl CpuClock) -> io::Result<u128> {
+    pub fn read(&self, clock: &impl CpuClock) -> io::Result<u128> {
         Ok(
             clock
                 .thread_cpu_time()?

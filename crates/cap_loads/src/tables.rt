@@ -1,14 +1,17 @@
 //! How long operations on tables take, in place, without a server, and what of that a tree of the same rows takes.
 
 use crate::clock::Stopwatch;
-use crate::commits::{COMMITS, insert, key_of, row, table, update};
 use crate::keys::{Order, keys};
+use crate::rows::{COMMITS, insert, key_of, row, table, update};
 use anyhow::{Context, Result, bail};
 use cap_row::{Key, Row, Schema};
 use cap_tree::Tree;
 use cap_txn::{Database, OPS_MAX, Op, run_ops};
 use std::alloc::Global;
 use std::time::CpuClock;
+
+// The rows that are updated in turn.
+const UPDATED: u32 = 1000;
 
 /// A database with the table, which has no row.
 pub(crate) fn database(alloc: Global) -> Option<Database<Global>> {
@@ -137,26 +140,37 @@ fn try_tree(
     Ok(())
 }
 
-/// Times inserts one by one and in a batch, updates, and a scan.
-pub(crate) fn report(rt: &(impl Print + Eprint + CpuClock + AllocGlobal)) -> Result<()> {
+// Times inserts one by one and in a batch, and a scan.
+fn try_inserts(rt: &(impl Print + Eprint + CpuClock + AllocGlobal), order: Order) -> Result<()> {
     let alloc = rt.alloc();
-    for order in [Order::Rising, Order::Scrambled] {
-        let ops = inserts(alloc, order, COMMITS).context("no operations")?;
-        let load = format!(in alloc; "{COMMITS} inserts, {order}")?;
-        let mut tables = database(alloc).context("no database")?;
-        timed(rt, load.as_str(), &mut tables, ops.as_slice())?;
-        try_scan(rt, &tables)?;
-        try_tree(rt, load.as_str(), keys(alloc, order, COMMITS)?.as_slice())?;
-        try_batch(rt, order)?;
-    }
+    let ops = inserts(alloc, order, COMMITS).context("no operations")?;
+    let load = format!(in alloc; "{COMMITS} inserts, {order}")?;
     let mut tables = database(alloc).context("no database")?;
-    let rows = inserts(alloc, Order::Rising, 1000).context("no operations")?;
+    timed(rt, load.as_str(), &mut tables, ops.as_slice())?;
+    try_scan(rt, &tables)?;
+    try_tree(rt, load.as_str(), keys(alloc, order, COMMITS)?.as_slice())?;
+    try_batch(rt, order)
+}
+
+// Times updates of the rows in turn.
+fn try_updates(rt: &(impl Print + Eprint + CpuClock + AllocGlobal)) -> Result<()> {
+    let alloc = rt.alloc();
+    let mut tables = database(alloc).context("no database")?;
+    let rows = inserts(alloc, Order::Rising, UPDATED).context("no operations")?;
     make(&mut tables, rows.as_slice())?;
-    let ops = updates(alloc, 1000).context("no operations")?;
-    let load = format!(in alloc; "{COMMITS} updates of 1000 rows")?;
+    let ops = updates(alloc, UPDATED).context("no operations")?;
+    let load = format!(in alloc; "{COMMITS} updates of {UPDATED} rows")?;
     timed(rt, load.as_str(), &mut tables, ops.as_slice())?;
     let keys: Vec<u64> = (0..COMMITS)
-        .map(|number| u64::from(number % 1000))
+        .map(|number| u64::from(number % UPDATED))
         .collect(alloc)?;
     try_tree(rt, load.as_str(), keys.as_slice())
+}
+
+/// Times inserts one by one and in a batch, updates, and a scan.
+pub fn report(rt: &(impl Print + Eprint + CpuClock + AllocGlobal)) -> Result<()> {
+    for order in [Order::Rising, Order::Scrambled] {
+        try_inserts(rt, order)?;
+    }
+    try_updates(rt)
 }
