@@ -65,7 +65,8 @@ impl<A: AllocHandle> Core<A> {
         ensures ok { IfOk result (λ reply. let session = session_numbered self.old.sessions number in
             (reply ≡ done_reply session) × (self.new ≡ after_drop self.old number)
             × C.gives confirm.old (done_reply session) (Ok tt) confirm.new) }
-        ensures err { IfErr result (λ fault. (self.new ≡ self.old) × MatchFault fault (confirm.new ≡ confirm.old)
+        ensures err { IfErr result (λ fault. (self.new ≡ self.old)
+            × MatchFault fault (confirm.new ≡ confirm.old)
             (λ why. C.gives confirm.old (done_reply (session_numbered self.old.sessions number))
             (Err why) confirm.new)) }
     {
@@ -92,7 +93,8 @@ impl<A: AllocHandle> Core<A> {
             (reply ≡ done_reply session)
             × (self.new ≡ changed_session self.old number (option_map (attached name.now) session))
             × C.gives confirm.old (done_reply session) (Ok tt) confirm.new) }
-        ensures err { IfErr result (λ fault. (self.new ≡ self.old) × MatchFault fault (confirm.new ≡ confirm.old)
+        ensures err { IfErr result (λ fault. (self.new ≡ self.old)
+            × MatchFault fault (confirm.new ≡ confirm.old)
             (λ why. C.gives confirm.old (done_reply (session_numbered self.old.sessions number))
             (Err why) confirm.new)) }
     {
@@ -119,7 +121,8 @@ impl<A: AllocHandle> Core<A> {
             (reply ≡ done_reply session)
             × (self.new ≡ changed_session self.old number (option_map attach_all session))
             × C.gives confirm.old (done_reply session) (Ok tt) confirm.new) }
-        ensures err { IfErr result (λ fault. (self.new ≡ self.old) × MatchFault fault (confirm.new ≡ confirm.old)
+        ensures err { IfErr result (λ fault. (self.new ≡ self.old)
+            × MatchFault fault (confirm.new ≡ confirm.old)
             (λ why. C.gives confirm.old (done_reply (session_numbered self.old.sessions number))
             (Err why) confirm.new)) }
     {
@@ -146,7 +149,8 @@ impl<A: AllocHandle> Core<A> {
             (reply ≡ done_reply session)
             × (self.new ≡ changed_session self.old number (option_map (set_filter filter.now) session))
             × C.gives confirm.old (done_reply session) (Ok tt) confirm.new) }
-        ensures err { IfErr result (λ fault. (self.new ≡ self.old) × MatchFault fault (confirm.new ≡ confirm.old)
+        ensures err { IfErr result (λ fault. (self.new ≡ self.old)
+            × MatchFault fault (confirm.new ≡ confirm.old)
             (λ why. C.gives confirm.old (done_reply (session_numbered self.old.sessions number))
             (Err why) confirm.new)) }
     {
@@ -174,7 +178,8 @@ impl<A: AllocHandle> Core<A> {
             (reply ≡ enabled_reply asked session)
             × (self.new ≡ changed_session self.old number (option_map (enabled_as asked) session))
             × C.gives confirm.old (enabled_reply asked session) (Ok tt) confirm.new) }
-        ensures err { IfErr result (λ fault. (self.new ≡ self.old) × MatchFault fault (confirm.new ≡ confirm.old)
+        ensures err { IfErr result (λ fault. (self.new ≡ self.old)
+            × MatchFault fault (confirm.new ≡ confirm.old)
             (λ why. C.gives confirm.old (enabled_reply asked (session_numbered self.old.sessions number))
             (Err why) confirm.new)) }
     {
@@ -201,7 +206,8 @@ impl<A: AllocHandle> Core<A> {
             (reply ≡ indirect_reply asked session)
             × (self.new ≡ changed_session self.old number (option_map (indirect_as asked) session))
             × C.gives confirm.old (indirect_reply asked session) (Ok tt) confirm.new) }
-        ensures err { IfErr result (λ fault. (self.new ≡ self.old) × MatchFault fault (confirm.new ≡ confirm.old)
+        ensures err { IfErr result (λ fault. (self.new ≡ self.old)
+            × MatchFault fault (confirm.new ≡ confirm.old)
             (λ why. C.gives confirm.old (indirect_reply asked (session_numbered self.old.sessions number))
             (Err why) confirm.new)) }
     {
@@ -226,7 +232,8 @@ impl<A: AllocHandle> Core<A> {
         ensures ok { IfOk result (λ reply. let session = session_numbered self.old.sessions number in
             (reply ≡ empty_reply session) × (self.new ≡ one_more self.old)
             × C.gives confirm.old (empty_reply session) (Ok tt) confirm.new) }
-        ensures err { IfErr result (λ fault. (self.new ≡ self.old) × MatchFault fault (confirm.new ≡ confirm.old)
+        ensures err { IfErr result (λ fault. (self.new ≡ self.old)
+            × MatchFault fault (confirm.new ≡ confirm.old)
             (λ why. C.gives confirm.old (empty_reply (session_numbered self.old.sessions number))
             (Err why) confirm.new)) }
     {
@@ -253,7 +260,8 @@ impl<A: AllocHandle> Core<A> {
             (reply ≡ diff_reply found session)
             × (self.new ≡ changed_session self.old number (option_map (compared name.now found) session))
             × C.gives confirm.old (diff_reply found session) (Ok tt) confirm.new) }
-        ensures err { IfErr result (λ fault. (self.new ≡ self.old) × MatchFault fault (confirm.new ≡ confirm.old)
+        ensures err { IfErr result (λ fault. (self.new ≡ self.old)
+            × MatchFault fault (confirm.new ≡ confirm.old)
             (λ why. C.gives confirm.old
             (diff_reply (diff self.old.main self.old.saved from.now name.now)
             (session_numbered self.old.sessions number))
@@ -285,7 +293,8 @@ impl<A: AllocHandle> Core<A> {
             (reply ≡ Reply.Done)
             × (self.new ≡ changed_session self.old number (option_map (note_diff name.now found.now) session))
             × C.gives confirm.old Reply.Done (Ok tt) confirm.new) }
-        ensures err { IfErr result (λ fault. (self.new ≡ self.old) × MatchFault fault (confirm.new ≡ confirm.old)
+        ensures err { IfErr result (λ fault. (self.new ≡ self.old)
+            × MatchFault fault (confirm.new ≡ confirm.old)
             (λ why. C.gives confirm.old Reply.Done (Err why) confirm.new)) }
     {
         self.sessions.note_diff(number, name, found)?;
@@ -307,7 +316,8 @@ impl<A: AllocHandle> Core<A> {
         ensures ok { IfOk result (λ reply. let session = session_numbered self.old.sessions number in
             (reply ≡ capture_reply self.old.main session) × (self.new ≡ one_more self.old)
             × C.gives confirm.old (capture_reply self.old.main session) (Ok tt) confirm.new) }
-        ensures err { IfErr result (λ fault. (self.new ≡ self.old) × MatchFault fault (confirm.new ≡ confirm.old)
+        ensures err { IfErr result (λ fault. (self.new ≡ self.old)
+            × MatchFault fault (confirm.new ≡ confirm.old)
             (λ why. C.gives confirm.old
             (capture_reply self.old.main (session_numbered self.old.sessions number))
             (Err why) confirm.new)) }
@@ -331,7 +341,8 @@ impl<A: AllocHandle> Core<A> {
             (reply ≡ capture_reply self.old.main session)
             × (self.new ≡ changed_session self.old number (option_map restart session))
             × C.gives confirm.old (capture_reply self.old.main session) (Ok tt) confirm.new) }
-        ensures err { IfErr result (λ fault. (self.new ≡ self.old) × MatchFault fault (confirm.new ≡ confirm.old)
+        ensures err { IfErr result (λ fault. (self.new ≡ self.old)
+            × MatchFault fault (confirm.new ≡ confirm.old)
             (λ why. C.gives confirm.old
             (capture_reply self.old.main (session_numbered self.old.sessions number))
             (Err why) confirm.new)) }
@@ -354,9 +365,11 @@ impl<A: AllocHandle> Core<A> {
     ) -> Result<Reply<A>, Fault<C::Refusal>>
         requires room { self.old.events + 1 < 2 ^ 63 }
         requires can_confirm { C.can_confirm confirm.old (refusal Refusal.NoSession) }
-        ensures ok { IfOk result (λ reply. (reply ≡ refusal Refusal.NoSession) × (self.new ≡ one_more self.old)
+        ensures ok { IfOk result (λ reply. (reply ≡ refusal Refusal.NoSession)
+            × (self.new ≡ one_more self.old)
             × C.gives confirm.old (refusal Refusal.NoSession) (Ok tt) confirm.new) }
-        ensures err { IfErr result (λ fault. (self.new ≡ self.old) × MatchFault fault (confirm.new ≡ confirm.old)
+        ensures err { IfErr result (λ fault. (self.new ≡ self.old)
+            × MatchFault fault (confirm.new ≡ confirm.old)
             (λ why. C.gives confirm.old (refusal Refusal.NoSession) (Err why) confirm.new)) }
     {
         let why = Refusal::NoSession;

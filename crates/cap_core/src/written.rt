@@ -116,7 +116,8 @@ fn push_touched<A: AllocHandle>(
     ensures { IfOk result (λ some. (others : List (Change A))
         → out.new.items ++ behind some (header_bytes key_flags 0x54 name.now schema.now) others
         ≡ out.old.items ++ behind begun (header_bytes key_flags 0x54 name.now schema.now)
-        (cons_option (change_of schema.now kept.now.indirect kept.now.image (option_copied now.entry)) others)) }
+        (cons_option (change_of schema.now kept.now.indirect kept.now.image (option_copied now.entry))
+        others)) }
 {
     let image = kept.image.as_ref();
     if is_changed(image, now) {

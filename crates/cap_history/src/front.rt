@@ -52,7 +52,8 @@ impl<J: Naming, A: AllocHandle> Front<J, A> {
         requires reply { reply.now ≡ reply_of at.now command.now }
         requires calls { length (own seat.old.number at.now) ≡ length (calls seat.old) }
         ensures called { OnOk result (HasCalled seat.old seat.new command.now reply.now) }
-        ensures added { OnOk result (seat.new.seen ≡ at.now ++ event_by seat.old.number command.now reply.now ∷ []) }
+        ensures added { OnOk result
+            (seat.new.seen ≡ at.now ++ event_by seat.old.number command.now reply.now ∷ []) }
         ensures seen { IfErr result (λ overtaken. SeesMore seat.old seat.new
             × (length seat.new.seen ≡ overtaken.front)) }
         ensures overtaken { IfErr result (λ overtaken. length at.now < overtaken.front) }

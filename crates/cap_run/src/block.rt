@@ -101,7 +101,8 @@ pub(crate) fn run_block<
             requires { IsSend J.row × IsSync J.row × IsSend A.row × IsSync A.row × IsSync T.row × IsSync G.row
                 × Frees A.Allocator A.dealloc_token
                 × (1 ≤ shared.now.threads) × (shared.now.threads ≤ 63) }
-            ensures { AllZip (HasWorked shared.entry.now.threads block.entry.now) (map (λ w. w.seat) workers.items)
+            ensures { AllZip (HasWorked shared.entry.now.threads block.entry.now)
+                (map (λ w. w.seat) workers.items)
                 (map (λ w. work w.seat (map string_bytes w.texts.items) w.ended) result.items) }
         {
             let mut workers = workers;

@@ -117,7 +117,8 @@ fn write_overtaken<W: Write>(writer: &mut W, front: u64) -> Result<(), RunFault>
 /// Writes some bytes and then others.
 #[tactic(auto, using(crate::proofs::RunLemmas::front_more, crate::proofs::RunLemmas::front_sooner))]
 fn write_both<W: Write>(writer: &mut W, first: &[u8], second: &[u8]) -> Result<(), RunFault>
-    ensures ok { OnOk result (Appends (W.contents writer.old) (W.contents writer.new) (first.now ++ second.now)) }
+    ensures ok { OnOk result (Appends (W.contents writer.old) (W.contents writer.new)
+        (first.now ++ second.now)) }
     ensures err { IfErr result (λ fault. (fault ≡ RunFault.Write)
         × AppendsFront (W.contents writer.old) (W.contents writer.new) (first.now ++ second.now)) }
 {

@@ -61,7 +61,8 @@ pub(crate) fn seat_of(threads: u64, worker: Option<u64>) -> u64
 /// Whether a line of the block is called from the seat.
 pub(crate) fn is_given<A: AllocHandle>(threads: u64, seat: u64, block: &[Line<A>]) -> bool
     requires { (1 ≤ threads) × (threads ≤ 63) }
-    ensures { MatchBool result (0 < length (lines_of threads seat block.now)) (lines_of threads seat block.now ≡ []) }
+    ensures { MatchBool result (0 < length (lines_of threads seat block.now))
+        (lines_of threads seat block.now ≡ []) }
 {
     for line in block {
         if seat_of(threads, line.worker) == seat {
@@ -80,7 +81,8 @@ pub(crate) fn answer_lines<J: Naming, A: AllocHandle, T: Wait, G: Gate>(
 ) -> Result<(), CallFault>
     requires threads { (1 ≤ shared.now.threads) × (shared.now.threads ≤ 63) }
     requires none { worker.old.texts.items ≡ [] }
-    ensures called { HasCalledLines shared.now.threads (lines_of shared.now.threads worker.old.seat.number block.now)
+    ensures called { HasCalledLines shared.now.threads
+        (lines_of shared.now.threads worker.old.seat.number block.now)
         result (map string_bytes worker.new.texts.items) worker.old.seat worker.new.seat }
 {
     let number = worker.seat.number();

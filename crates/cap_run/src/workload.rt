@@ -91,7 +91,8 @@ fn serve_lines<
     requires history { opened.seen.book ≡ J.book }
     requires seats { threads + 1 ≡ J.seats }
     ensures status { IfErr result (λ fault. exit_status fault ≡ 3) }
-    ensures written { (input : Known) → (spelled : List (Line A)) → IsSpelled input spelled → SpellsScript spelled lines.old
+    ensures written { (input : Known) → (spelled : List (Line A)) → IsSpelled input spelled
+        → SpellsScript spelled lines.old
         → WritesWorkload A threads input result (W.contents writer.old) (W.contents writer.new) }
 {
     let Ok((server, seats)) = Server::<J, A>::open(opened, alloc, threads + 1) else {
@@ -122,7 +123,8 @@ fn serve_lines<
 /// The outcome of a run whose server was not closed.
 fn outcome_unclosed(outcome: Result<(), RunFault>) -> Result<(), RunFault>
     ensures same { result ≡ unclosed_outcome outcome }
-    ensures status { IfErr outcome (λ fault. exit_status fault ≡ 3) → IfErr result (λ fault. exit_status fault ≡ 3) }
+    ensures status { IfErr outcome (λ fault. exit_status fault ≡ 3)
+        → IfErr result (λ fault. exit_status fault ≡ 3) }
 {
     match outcome {
         Ok(()) => Err(RunFault::Close),
@@ -206,7 +208,8 @@ fn write_rest<A: AllocHandle, W: Write>(
     outcome: Result<(), CallFault>,
 ) -> Result<(), RunFault>
     ensures status { IfErr result (λ fault. exit_status fault ≡ 3) }
-    ensures runs { (threads : ℕ) → (lines : List (Line A)) → (a : List (SeatState A)) → (b : List (SeatState A)) → (known : Known)
+    ensures runs { (threads : ℕ) → (lines : List (Line A)) → (a : List (SeatState A))
+        → (b : List (SeatState A)) → (known : Known)
         → EndSo threads lines outcome (string_bytes pending.old) a b known (W.contents writer.old)
         → RunsLines threads lines result a b known (W.contents writer.new) }
 {
@@ -240,7 +243,8 @@ fn answer_all<
     ensures len { vec_len result.0 ≡ vec_len workers }
     ensures status { IfErr result.1 (λ fault. fault ≡ RunFault.Write) }
     ensures called { (spelled : List (Line A)) → SpellsScript spelled lines.old → MatchResult result.1
-        (λ ended. EndSo shared.now.threads spelled ended (string_bytes pending.new) (map (λ w. w.seat) workers.items)
+        (λ ended. EndSo shared.now.threads spelled ended (string_bytes pending.new)
+        (map (λ w. w.seat) workers.items)
         (map (λ w. w.seat) result.0.items) (W.contents writer.old) (W.contents writer.new))
         (λ fault. RunsLines shared.now.threads spelled (Err RunFault.Write) (map (λ w. w.seat) workers.items)
         (map (λ w. w.seat) result.0.items) (W.contents writer.old) (W.contents writer.new)) }

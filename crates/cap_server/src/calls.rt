@@ -175,7 +175,8 @@ impl<J: Naming, A: AllocHandle> Server<J, A> {
         session: u64,
         indirect: Option<bool>,
     ) -> Result<Reply<A>, CallFault>
-        ensures called { IfOk result (λ reply. HasCalled seat.old seat.new (Indirect session indirect) reply) }
+        ensures called { IfOk result (λ reply.
+            HasCalled seat.old seat.new (Indirect session indirect) reply) }
         ensures refused { IfErr result (λ fault. LeavesSeat fault seat.old seat.new) }
     {
         self.call(rt, seat, &Command::Indirect { session, indirect })

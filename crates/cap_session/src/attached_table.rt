@@ -99,7 +99,8 @@ pub(crate) fn note_tables<A: AllocHandle>(
     changes: &[Change<A>],
 ) -> Result<(), OutOfMemory>
     ensures same { tables_of (take (length tables.old.items) tables.new.items) ≡ tables_of tables.old.items }
-    ensures waiting { OnOk result (waiting_tables tables.new.items ≡ touch_tables before.now indirect changes.now
+    ensures waiting { OnOk result (waiting_tables tables.new.items
+        ≡ touch_tables before.now indirect changes.now
         (attach_by_rule rule.now changes.now (tables_of tables.old.items))) }
 {
     let mut added = tables_attached(alloc, tables, rule, changes)?;

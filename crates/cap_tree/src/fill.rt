@@ -59,7 +59,8 @@ fn even_parts<K: Ord + Exact + Drop, V: Drop, A: AllocHandle>(
         < 2 ^ 64 }
     ensures err { OnErr result (front.new.items ≡ front.old.items) }
     ensures back_err { OnErr result (back.new.items ≡ back.old.items) }
-    ensures cut { IfOk result (λ r. IsCut K.cmp at (joined (of_parts height front.old) (of_parts height back.old))
+    ensures cut { IfOk result (λ r. IsCut K.cmp at
+        (joined (of_parts height front.old) (of_parts height back.old))
         (of_parts height front.new) (of_parts height back.new) r.0) }
     ensures front_parts { OnOk result (IsParts K.cmp height (seen front.new.items)) }
     ensures back_parts { OnOk result (IsParts K.cmp height (seen back.new.items)) }
