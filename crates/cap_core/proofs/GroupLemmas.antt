@@ -1,5 +1,5 @@
 -- Groups of changes while they are made.
-use Rattle.std.proofs.Common.{◌≡◌, ℕ, Bool, Option, Some, None, List, [], ◌∷◌, ◌++◌, append_assoc, refl, sym, ap, ◌∙◌}
+use Rattle.std.proofs.Common.{◌≡◌, ℕ, Bool, Option, Some, None, Result, Ok, Err, IfOk, List, [], ◌∷◌, ◌++◌, append_assoc, refl, sym, ap, ◌∙◌}
 use Rattle.std.specs.List.{cons_option, filter_map}
 use Rattle.cap_changes.specs.declared.change.Change.{Change}
 use Rattle.cap_changes.specs.Group.{TableChanges}
@@ -11,6 +11,13 @@ module _ {A : Type 0} {name : List ℕ} {schema : List Bool} where
       → made ≡ record { table = name; schema = schema; changes = changes_in group ++ change ∷ [] }
   same_group group g change is of made =
       made ∙ (λ i. record { table = of.table i; schema = of.schema_is i; changes = changes_in (sym is i) ++ change ∷ [] })
+
+  -- the same of what a call gives
+  pub same_groups : {E : Type 0} (group : Option (TableChanges A)) (g : TableChanges A) (change : Change A) (r : Result (TableChanges A) E) → group ≡ Some g → IsGroupOf name schema g
+      → IfOk r (λ made. made ≡ record g { changes = g.changes ++ change ∷ [] })
+      → IfOk r (λ made. made ≡ record { table = name; schema = schema; changes = changes_in group ++ change ∷ [] })
+  same_groups group g change (Ok made) is of met = same_group group g change is of met
+  same_groups group g change (Err e) is of met = tt
 
 module _ {X : Type 0} where
   cons_option-one : (x : Option X) (xs : List X) → cons_option x [] ++ xs ≡ cons_option x xs

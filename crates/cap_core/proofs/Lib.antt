@@ -18,6 +18,7 @@ pub mod SessionStandLemmas
 pub mod SmallLemmas
 pub mod SoundLemmas
 pub mod StayLemmas
+pub mod TellsLemmas
 pub mod ToldLemmas
 pub mod TouchedLemmas
 pub mod WrittenLemmas

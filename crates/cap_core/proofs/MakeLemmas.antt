@@ -1,5 +1,5 @@
 -- One operation as a batch of its own.
-use Rattle.std.proofs.Common.{◌≡◌, ◌+◌, ℕ, None, Result, Ok, Err, IfOk, List, [], ◌∷◌, refl, ap, ◌∙◌}
+use Rattle.std.proofs.Common.{◌≡◌, ◌+◌, ℕ, None, Result, Ok, Err, IfOk, List, [], ◌∷◌, refl, ap, sym, ◌∙◌, length, get_or, arith}
 use Rattle.std.specs.Prelude.{IsOk}
 use Rattle.std.proofs.lemmas.List.{append-nil}
 use Rattle.cap_value.specs.declared.refusal.Refusal.{Refusal}
@@ -14,6 +14,12 @@ use Rattle.cap_core.specs.Answer.{State, write_reply}
 use Rattle.cap_core.specs.Code.Sound.{KeepsColumns}
 use Rattle.cap_core.specs.Outcome.{made}
 use Rattle.cap_core.proofs.SoundLemmas.{run-columns}
+
+-- a list of one item
+pub one_item : {X : Type 0} (xs : List X) (x : X) → length xs ≡ 1 → x ≡ get_or xs 0 x → xs ≡ x ∷ []
+one_item [] x few is = absurd (omega arith)
+one_item (y ∷ []) x few is = ap (λ z. z ∷ []) (sym is)
+one_item (y ∷ z ∷ rest) x few is = absurd (omega arith)
 
 module _ {A : Type 0} (tables : Tables A) (op : Op A) where
   one_run : (after : Tables A) → step tables op ≡ Ok after → run tables (op ∷ []) ≡ Ok (record { database = after; changes = changes tables op })

@@ -198,14 +198,19 @@ fn with_change<A: AllocHandle>(
         ≡ record { table = name.now; schema = schema.now; changes = changes_in group ++ change ∷ [] }) }
 {
     match group {
-        Some(mut group) => {
-            group.push(change)?;
-            Ok(group)
-        }
-        None => {
-            let mut group = Group::new(alloc, name.copy()?, schema.copy()?);
-            group.push(change)?;
-            Ok(group)
-        }
+        Some(group) => with_last(group, change),
+        None => with_last(Group::new(alloc, name.copy()?, schema.copy()?), change),
     }
+}
+
+// The group with this change behind the others.
+fn with_last<A: AllocHandle>(
+    mut group: Group<A>,
+    change: Change<A>,
+) -> Result<Group<A>, OutOfMemory>
+    requires { IsTrue (change_fits group.schema change) }
+    ensures { IfOk result (λ g. g ≡ record group { changes = group.changes ++ change ∷ [] }) }
+{
+    group.push(change)?;
+    Ok(group)
 }

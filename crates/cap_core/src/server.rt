@@ -2,7 +2,10 @@
 ghost use Rattle.std.specs.Prelude.{◌≡◌, ℕ, ◌+◌, ◌<◌, ◌^◌, ◌≤◌, [], ◌∷◌, ◌++◌, List, None, Ok, Err, IfOk, IfErr, OnOk, OnErr, IsTrue, length};
 ghost use Rattle.cap_core.specs.declared.event.Event.{Event};
 ghost use Rattle.cap_core.specs.Answer.{State, state, reply_of, IsLegal, event_by, history_of, answer, has_room_for, save_reply, snapshot_of};
+ghost use Rattle.cap_tree.specs.Tree.{put_entry};
+ghost use Rattle.cap_value.specs.Bytes.{bytes_cmp};
 ghost use Rattle.cap_value.specs.Memory.{MatchFault};
+ghost use Rattle.cap_core.specs.Code.Told.{Tells};
 ghost use Rattle.cap_core.specs.Transition.{next, one_more, after_save};
 
 use crate::confirm::{Asked, ask};
@@ -89,28 +92,7 @@ impl<A: AllocHandle> Core<A> {
         ensures refused { IfErr result (λ fault. MatchFault fault (confirm.new ≡ confirm.old)
             (λ why. C.gives confirm.old (answer self.old command.now) (Err why) confirm.new)) }
     {
-        match command {
-            Command::CreateTable { table, schema } => self.create_table(table, schema, confirm),
-            Command::Commit(batch) => self.commit(batch, confirm),
-            Command::Apply { blob, policy } => self.apply(blob, *policy, confirm),
-            Command::Read => self.read(confirm),
-            Command::SaveAs { database } => self.save_as(database, confirm),
-            Command::NewSession => self.new_session(confirm),
-            Command::DropSession { session } => self.drop_session(*session, confirm),
-            Command::Attach { session, table } => self.attach(*session, table, confirm),
-            Command::AttachAll { session } => self.attach_all(*session, confirm),
-            Command::SetFilter { session, filter } => self.set_filter(*session, filter, confirm),
-            Command::Enable { session, enabled } => self.enable(*session, *enabled, confirm),
-            Command::Indirect { session, indirect } => self.indirect(*session, *indirect, confirm),
-            Command::IsEmpty { session } => self.is_empty(*session, confirm),
-            Command::Diff {
-                session,
-                from,
-                table,
-            } => self.diff(*session, from, table, confirm),
-            Command::Capture { session } => self.capture(*session, confirm),
-            Command::Restart { session } => self.restart(*session, confirm),
-        }
+        self.carry_out(command, confirm)
     }
 
     /// The reply to a command, and the server after it; this one stays as it was. Where there is no memory,
@@ -149,6 +131,41 @@ impl<A: AllocHandle> Core<A> {
         Ok((core, replies))
     }
 
+    // Carries out a command, each by the function that is its own.
+    fn carry_out<C: Confirm<A>>(
+        &mut self,
+        command: &Command<A>,
+        confirm: &mut C,
+    ) -> Result<Reply<A>, Fault<C::Refusal>>
+        requires room { self.old.events + 1 < 2 ^ 63 }
+        requires can_confirm { C.can_confirm confirm.old (answer self.old command.now) }
+        ensures { Tells C.gives (answer self.old command.now) (next self.old command.now)
+            self.old self.new confirm.old confirm.new result }
+    {
+        match command {
+            Command::CreateTable { table, schema } => self.create_table(table, schema, confirm),
+            Command::Commit(batch) => self.commit(batch, confirm),
+            Command::Apply { blob, policy } => self.apply(blob, *policy, confirm),
+            Command::Read => self.read(confirm),
+            Command::SaveAs { database } => self.save_as(database, confirm),
+            Command::NewSession => self.new_session(confirm),
+            Command::DropSession { session } => self.drop_session(*session, confirm),
+            Command::Attach { session, table } => self.attach(*session, table, confirm),
+            Command::AttachAll { session } => self.attach_all(*session, confirm),
+            Command::SetFilter { session, filter } => self.set_filter(*session, filter, confirm),
+            Command::Enable { session, enabled } => self.enable(*session, *enabled, confirm),
+            Command::Indirect { session, indirect } => self.indirect(*session, *indirect, confirm),
+            Command::IsEmpty { session } => self.is_empty(*session, confirm),
+            Command::Diff {
+                session,
+                from,
+                table,
+            } => self.diff(*session, from, table, confirm),
+            Command::Capture { session } => self.capture(*session, confirm),
+            Command::Restart { session } => self.restart(*session, confirm),
+        }
+    }
+
     // A command that no step outside belongs to.
     fn run_command(&mut self, command: &Command<A>) -> Result<Reply<A>, OutOfMemory>
         requires room { self.old.events + 1 < 2 ^ 63 }
@@ -180,12 +197,8 @@ impl<A: AllocHandle> Core<A> {
     fn read<C: Confirm<A>>(&mut self, confirm: &mut C) -> Result<Reply<A>, Fault<C::Refusal>>
         requires room { self.old.events + 1 < 2 ^ 63 }
         requires can_confirm { C.can_confirm confirm.old (Reply.Snapshot (snapshot_of self.old)) }
-        ensures ok { IfOk result (λ reply. (reply ≡ Reply.Snapshot (snapshot_of self.old))
-            × (self.new ≡ one_more self.old)
-            × C.gives confirm.old (Reply.Snapshot (snapshot_of self.old)) (Ok tt) confirm.new) }
-        ensures err { IfErr result (λ fault. (self.new ≡ self.old)
-            × MatchFault fault (confirm.new ≡ confirm.old)
-            (λ why. C.gives confirm.old (Reply.Snapshot (snapshot_of self.old)) (Err why) confirm.new)) }
+        ensures { Tells C.gives (Reply.Snapshot (snapshot_of self.old)) (one_more self.old)
+            self.old self.new confirm.old confirm.new result }
     {
         let snapshot = Snapshot::new(self.version, self.main.snapshot()?);
         self.keep(Reply::Snapshot(snapshot), confirm)
@@ -199,24 +212,36 @@ impl<A: AllocHandle> Core<A> {
     ) -> Result<Reply<A>, Fault<C::Refusal>>
         requires room { self.old.events + 1 < 2 ^ 63 }
         requires can_confirm { C.can_confirm confirm.old (save_reply self.old.saved name.now) }
-        ensures ok { IfOk result (λ reply. (reply ≡ save_reply self.old.saved name.now)
-            × (self.new ≡ after_save self.old name.now)
-            × C.gives confirm.old (save_reply self.old.saved name.now) (Ok tt) confirm.new) }
-        ensures err { IfErr result (λ fault. (self.new ≡ self.old)
-            × MatchFault fault (confirm.new ≡ confirm.old)
-            (λ why. C.gives confirm.old (save_reply self.old.saved name.now) (Err why) confirm.new)) }
+        ensures { Tells C.gives (save_reply self.old.saved name.now) (after_save self.old name.now)
+            self.old self.new confirm.old confirm.new result }
     {
         if !has_room_for(&self.saved, name) {
             let why = Refusal::TooMany;
             return self.keep(Reply::Refused { at: None, why }, confirm);
         }
         let database = self.main.snapshot()?;
+        self.save(name.copy()?, database, confirm)
+    }
+
+    // Saves these tables under a name that there is room for.
+    fn save<C: Confirm<A>>(
+        &mut self,
+        name: Name<A>,
+        database: Database<A>,
+        confirm: &mut C,
+    ) -> Result<Reply<A>, Fault<C::Refusal>>
+        requires room { self.old.events + 1 < 2 ^ 63 }
+        requires can_confirm { C.can_confirm confirm.old Reply.Done }
+        ensures { Tells C.gives Reply.Done
+            (record (one_more self.old) { saved = put_entry bytes_cmp self.old.saved name database })
+            self.old self.new confirm.old confirm.new result }
+    {
         let reply = Reply::Done;
         let mut asked = Asked {
             reply: &reply,
             outside: confirm,
         };
-        match self.saved.insert_after(name.copy()?, database, &mut asked) {
+        match self.saved.insert_after(name, database, &mut asked) {
             Ok(_replaced) => {
                 self.events += 1;
                 Ok(reply)
@@ -233,11 +258,8 @@ impl<A: AllocHandle> Core<A> {
     ) -> Result<Reply<A>, Fault<C::Refusal>>
         requires room { self.old.events + 1 < 2 ^ 63 }
         requires can_confirm { C.can_confirm confirm.old reply }
-        ensures ok { IfOk result (λ r. (r ≡ reply) × (self.new ≡ one_more self.old)
-            × C.gives confirm.old reply (Ok tt) confirm.new) }
-        ensures err { IfErr result (λ fault. (self.new ≡ self.old)
-            × MatchFault fault (confirm.new ≡ confirm.old)
-            (λ why. C.gives confirm.old reply (Err why) confirm.new)) }
+        ensures { Tells C.gives reply (one_more self.old)
+            self.old self.new confirm.old confirm.new result }
     {
         ask(confirm, &reply)?;
         self.events += 1;

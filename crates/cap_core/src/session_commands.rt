@@ -1,16 +1,16 @@
 //! The commands to sessions. Each finds all memory and knows its reply, asks the step outside, and then changes the
 //! session where it stands.
-ghost use Rattle.std.specs.Prelude.{◌≡◌, ◌+◌, ◌<◌, ◌^◌, Ok, Err, IfOk, IfErr, IsTrue};
+ghost use Rattle.std.specs.Prelude.{◌+◌, ◌<◌, ◌^◌, ◌∷◌, ◌++◌, [], IsTrue};
 ghost use Rattle.std.specs.Option.{option_map};
 ghost use Rattle.cap_core.specs.Answer.{capture_reply, diff_reply, done_reply, empty_reply, enabled_reply, indirect_reply, refusal, session_reply};
 ghost use Rattle.cap_core.specs.Code.Sound.{differences_stand};
+ghost use Rattle.cap_core.specs.Code.Told.{Tells};
 ghost use Rattle.cap_core.specs.Diff.{diff};
 ghost use Rattle.cap_core.specs.Transition.{after_drop, after_new_session, changed_session, compared, one_more};
 ghost use Rattle.cap_session.specs.Note.{note_diff};
-ghost use Rattle.cap_session.specs.Session.{attach_all, attached, enabled_as, indirect_as, restart, set_filter};
+ghost use Rattle.cap_session.specs.Session.{attach_all, attached, enabled_as, indirect_as, new_session, restart, set_filter};
 ghost use Rattle.cap_session.specs.Sessions.{session_numbered};
 ghost use Rattle.cap_txn.specs.Tables.{schema_of};
-ghost use Rattle.cap_value.specs.Memory.{MatchFault};
 
 use crate::capture::changes_of;
 use crate::confirm::{Asked, ask};
@@ -27,17 +27,25 @@ impl<A: AllocHandle> Core<A> {
     ) -> Result<Reply<A>, Fault<C::Refusal>>
         requires room { self.old.events + 1 < 2 ^ 63 }
         requires can_confirm { C.can_confirm confirm.old (session_reply self.old) }
-        ensures ok { IfOk result (λ reply. (reply ≡ session_reply self.old)
-            × (self.new ≡ after_new_session self.old)
-            × C.gives confirm.old (session_reply self.old) (Ok tt) confirm.new) }
-        ensures err { IfErr result (λ fault. (self.new ≡ self.old)
-            × MatchFault fault (confirm.new ≡ confirm.old)
-            (λ why. C.gives confirm.old (session_reply self.old) (Err why) confirm.new)) }
+        ensures { Tells C.gives (session_reply self.old) (after_new_session self.old)
+            self.old self.new confirm.old confirm.new result }
     {
         if self.sessions.len() >= SESSIONS_MAX {
             let why = Refusal::TooMany;
             return self.keep(Reply::Refused { at: None, why }, confirm);
         }
+        self.add_session(confirm)
+    }
+
+    // Makes a session that there is room for.
+    fn add_session<C: Confirm<A>>(&mut self, confirm: &mut C) -> Result<Reply<A>, Fault<C::Refusal>>
+        requires room { self.old.events + 1 < 2 ^ 63 }
+        requires can_confirm { C.can_confirm confirm.old (Reply.Session (self.old.sessions_made + 1)) }
+        ensures { let number = self.old.sessions_made + 1 in
+            Tells C.gives (Reply.Session number)
+            (record (one_more self.old) { sessions_made = number; sessions = self.old.sessions ++ (number, new_session) ∷ [] })
+            self.old self.new confirm.old confirm.new result }
+    {
         let number = self.sessions_made + 1;
         let reply = Reply::Session(number);
         let mut asked = Asked {
@@ -62,13 +70,8 @@ impl<A: AllocHandle> Core<A> {
         requires room { self.old.events + 1 < 2 ^ 63 }
         requires can_confirm { C.can_confirm confirm.old
             (done_reply (session_numbered self.old.sessions number)) }
-        ensures ok { IfOk result (λ reply. let session = session_numbered self.old.sessions number in
-            (reply ≡ done_reply session) × (self.new ≡ after_drop self.old number)
-            × C.gives confirm.old (done_reply session) (Ok tt) confirm.new) }
-        ensures err { IfErr result (λ fault. (self.new ≡ self.old)
-            × MatchFault fault (confirm.new ≡ confirm.old)
-            (λ why. C.gives confirm.old (done_reply (session_numbered self.old.sessions number))
-            (Err why) confirm.new)) }
+        ensures { Tells C.gives (done_reply (session_numbered self.old.sessions number)) (after_drop self.old number)
+            self.old self.new confirm.old confirm.new result }
     {
         if self.sessions.get(number).is_none() {
             return self.refuse_session(confirm);
@@ -89,14 +92,9 @@ impl<A: AllocHandle> Core<A> {
         requires room { self.old.events + 1 < 2 ^ 63 }
         requires can_confirm { C.can_confirm confirm.old
             (done_reply (session_numbered self.old.sessions number)) }
-        ensures ok { IfOk result (λ reply. let session = session_numbered self.old.sessions number in
-            (reply ≡ done_reply session)
-            × (self.new ≡ changed_session self.old number (option_map (attached name.now) session))
-            × C.gives confirm.old (done_reply session) (Ok tt) confirm.new) }
-        ensures err { IfErr result (λ fault. (self.new ≡ self.old)
-            × MatchFault fault (confirm.new ≡ confirm.old)
-            (λ why. C.gives confirm.old (done_reply (session_numbered self.old.sessions number))
-            (Err why) confirm.new)) }
+        ensures { let session = session_numbered self.old.sessions number in
+            Tells C.gives (done_reply session) (changed_session self.old number (option_map (attached name.now) session))
+            self.old self.new confirm.old confirm.new result }
     {
         if self.sessions.get(number).is_none() {
             return self.refuse_session(confirm);
@@ -117,14 +115,9 @@ impl<A: AllocHandle> Core<A> {
         requires room { self.old.events + 1 < 2 ^ 63 }
         requires can_confirm { C.can_confirm confirm.old
             (done_reply (session_numbered self.old.sessions number)) }
-        ensures ok { IfOk result (λ reply. let session = session_numbered self.old.sessions number in
-            (reply ≡ done_reply session)
-            × (self.new ≡ changed_session self.old number (option_map attach_all session))
-            × C.gives confirm.old (done_reply session) (Ok tt) confirm.new) }
-        ensures err { IfErr result (λ fault. (self.new ≡ self.old)
-            × MatchFault fault (confirm.new ≡ confirm.old)
-            (λ why. C.gives confirm.old (done_reply (session_numbered self.old.sessions number))
-            (Err why) confirm.new)) }
+        ensures { let session = session_numbered self.old.sessions number in
+            Tells C.gives (done_reply session) (changed_session self.old number (option_map attach_all session))
+            self.old self.new confirm.old confirm.new result }
     {
         if self.sessions.get(number).is_none() {
             return self.refuse_session(confirm);
@@ -145,14 +138,9 @@ impl<A: AllocHandle> Core<A> {
         requires room { self.old.events + 1 < 2 ^ 63 }
         requires can_confirm { C.can_confirm confirm.old
             (done_reply (session_numbered self.old.sessions number)) }
-        ensures ok { IfOk result (λ reply. let session = session_numbered self.old.sessions number in
-            (reply ≡ done_reply session)
-            × (self.new ≡ changed_session self.old number (option_map (set_filter filter.now) session))
-            × C.gives confirm.old (done_reply session) (Ok tt) confirm.new) }
-        ensures err { IfErr result (λ fault. (self.new ≡ self.old)
-            × MatchFault fault (confirm.new ≡ confirm.old)
-            (λ why. C.gives confirm.old (done_reply (session_numbered self.old.sessions number))
-            (Err why) confirm.new)) }
+        ensures { let session = session_numbered self.old.sessions number in
+            Tells C.gives (done_reply session) (changed_session self.old number (option_map (set_filter filter.now) session))
+            self.old self.new confirm.old confirm.new result }
     {
         if self.sessions.get(number).is_none() {
             return self.refuse_session(confirm);
@@ -174,14 +162,9 @@ impl<A: AllocHandle> Core<A> {
         requires room { self.old.events + 1 < 2 ^ 63 }
         requires can_confirm { C.can_confirm confirm.old
             (enabled_reply asked (session_numbered self.old.sessions number)) }
-        ensures ok { IfOk result (λ reply. let session = session_numbered self.old.sessions number in
-            (reply ≡ enabled_reply asked session)
-            × (self.new ≡ changed_session self.old number (option_map (enabled_as asked) session))
-            × C.gives confirm.old (enabled_reply asked session) (Ok tt) confirm.new) }
-        ensures err { IfErr result (λ fault. (self.new ≡ self.old)
-            × MatchFault fault (confirm.new ≡ confirm.old)
-            (λ why. C.gives confirm.old (enabled_reply asked (session_numbered self.old.sessions number))
-            (Err why) confirm.new)) }
+        ensures { let session = session_numbered self.old.sessions number in
+            Tells C.gives (enabled_reply asked session) (changed_session self.old number (option_map (enabled_as asked) session))
+            self.old self.new confirm.old confirm.new result }
     {
         let Some(session) = self.sessions.get(number) else {
             return self.refuse_session(confirm);
@@ -202,14 +185,9 @@ impl<A: AllocHandle> Core<A> {
         requires room { self.old.events + 1 < 2 ^ 63 }
         requires can_confirm { C.can_confirm confirm.old
             (indirect_reply asked (session_numbered self.old.sessions number)) }
-        ensures ok { IfOk result (λ reply. let session = session_numbered self.old.sessions number in
-            (reply ≡ indirect_reply asked session)
-            × (self.new ≡ changed_session self.old number (option_map (indirect_as asked) session))
-            × C.gives confirm.old (indirect_reply asked session) (Ok tt) confirm.new) }
-        ensures err { IfErr result (λ fault. (self.new ≡ self.old)
-            × MatchFault fault (confirm.new ≡ confirm.old)
-            (λ why. C.gives confirm.old (indirect_reply asked (session_numbered self.old.sessions number))
-            (Err why) confirm.new)) }
+        ensures { let session = session_numbered self.old.sessions number in
+            Tells C.gives (indirect_reply asked session) (changed_session self.old number (option_map (indirect_as asked) session))
+            self.old self.new confirm.old confirm.new result }
     {
         let Some(session) = self.sessions.get(number) else {
             return self.refuse_session(confirm);
@@ -229,13 +207,8 @@ impl<A: AllocHandle> Core<A> {
         requires room { self.old.events + 1 < 2 ^ 63 }
         requires can_confirm { C.can_confirm confirm.old
             (empty_reply (session_numbered self.old.sessions number)) }
-        ensures ok { IfOk result (λ reply. let session = session_numbered self.old.sessions number in
-            (reply ≡ empty_reply session) × (self.new ≡ one_more self.old)
-            × C.gives confirm.old (empty_reply session) (Ok tt) confirm.new) }
-        ensures err { IfErr result (λ fault. (self.new ≡ self.old)
-            × MatchFault fault (confirm.new ≡ confirm.old)
-            (λ why. C.gives confirm.old (empty_reply (session_numbered self.old.sessions number))
-            (Err why) confirm.new)) }
+        ensures { Tells C.gives (empty_reply (session_numbered self.old.sessions number)) (one_more self.old)
+            self.old self.new confirm.old confirm.new result }
     {
         let Some(session) = self.sessions.get(number) else {
             return self.refuse_session(confirm);
@@ -255,17 +228,10 @@ impl<A: AllocHandle> Core<A> {
         requires can_confirm { C.can_confirm confirm.old
             (diff_reply (diff self.old.main self.old.saved from.now name.now)
             (session_numbered self.old.sessions number)) }
-        ensures ok { IfOk result (λ reply. let session = session_numbered self.old.sessions number in
+        ensures { let session = session_numbered self.old.sessions number in
             let found = diff self.old.main self.old.saved from.now name.now in
-            (reply ≡ diff_reply found session)
-            × (self.new ≡ changed_session self.old number (option_map (compared name.now found) session))
-            × C.gives confirm.old (diff_reply found session) (Ok tt) confirm.new) }
-        ensures err { IfErr result (λ fault. (self.new ≡ self.old)
-            × MatchFault fault (confirm.new ≡ confirm.old)
-            (λ why. C.gives confirm.old
-            (diff_reply (diff self.old.main self.old.saved from.now name.now)
-            (session_numbered self.old.sessions number))
-            (Err why) confirm.new)) }
+            Tells C.gives (diff_reply found session) (changed_session self.old number (option_map (compared name.now found) session))
+            self.old self.new confirm.old confirm.new result }
     {
         if self.sessions.get(number).is_none() {
             return self.refuse_session(confirm);
@@ -289,13 +255,9 @@ impl<A: AllocHandle> Core<A> {
         requires room { self.old.events + 1 < 2 ^ 63 }
         requires stand { IsTrue (differences_stand (schema_of self.old.main name.now) found.now) }
         requires can_confirm { C.can_confirm confirm.old Reply.Done }
-        ensures ok { IfOk result (λ reply. let session = session_numbered self.old.sessions number in
-            (reply ≡ Reply.Done)
-            × (self.new ≡ changed_session self.old number (option_map (note_diff name.now found.now) session))
-            × C.gives confirm.old Reply.Done (Ok tt) confirm.new) }
-        ensures err { IfErr result (λ fault. (self.new ≡ self.old)
-            × MatchFault fault (confirm.new ≡ confirm.old)
-            (λ why. C.gives confirm.old Reply.Done (Err why) confirm.new)) }
+        ensures { let session = session_numbered self.old.sessions number in
+            Tells C.gives Reply.Done (changed_session self.old number (option_map (note_diff name.now found.now) session))
+            self.old self.new confirm.old confirm.new result }
     {
         self.sessions.note_diff(number, name, found)?;
         let reply = Reply::Done;
@@ -313,14 +275,8 @@ impl<A: AllocHandle> Core<A> {
         requires room { self.old.events + 1 < 2 ^ 63 }
         requires can_confirm { C.can_confirm confirm.old
             (capture_reply self.old.main (session_numbered self.old.sessions number)) }
-        ensures ok { IfOk result (λ reply. let session = session_numbered self.old.sessions number in
-            (reply ≡ capture_reply self.old.main session) × (self.new ≡ one_more self.old)
-            × C.gives confirm.old (capture_reply self.old.main session) (Ok tt) confirm.new) }
-        ensures err { IfErr result (λ fault. (self.new ≡ self.old)
-            × MatchFault fault (confirm.new ≡ confirm.old)
-            (λ why. C.gives confirm.old
-            (capture_reply self.old.main (session_numbered self.old.sessions number))
-            (Err why) confirm.new)) }
+        ensures { Tells C.gives (capture_reply self.old.main (session_numbered self.old.sessions number)) (one_more self.old)
+            self.old self.new confirm.old confirm.new result }
     {
         let Some(session) = self.sessions.get(number) else {
             return self.refuse_session(confirm);
@@ -337,15 +293,9 @@ impl<A: AllocHandle> Core<A> {
         requires room { self.old.events + 1 < 2 ^ 63 }
         requires can_confirm { C.can_confirm confirm.old
             (capture_reply self.old.main (session_numbered self.old.sessions number)) }
-        ensures ok { IfOk result (λ reply. let session = session_numbered self.old.sessions number in
-            (reply ≡ capture_reply self.old.main session)
-            × (self.new ≡ changed_session self.old number (option_map restart session))
-            × C.gives confirm.old (capture_reply self.old.main session) (Ok tt) confirm.new) }
-        ensures err { IfErr result (λ fault. (self.new ≡ self.old)
-            × MatchFault fault (confirm.new ≡ confirm.old)
-            (λ why. C.gives confirm.old
-            (capture_reply self.old.main (session_numbered self.old.sessions number))
-            (Err why) confirm.new)) }
+        ensures { let session = session_numbered self.old.sessions number in
+            Tells C.gives (capture_reply self.old.main session) (changed_session self.old number (option_map restart session))
+            self.old self.new confirm.old confirm.new result }
     {
         let Some(session) = self.sessions.get(number) else {
             return self.refuse_session(confirm);
@@ -365,12 +315,8 @@ impl<A: AllocHandle> Core<A> {
     ) -> Result<Reply<A>, Fault<C::Refusal>>
         requires room { self.old.events + 1 < 2 ^ 63 }
         requires can_confirm { C.can_confirm confirm.old (refusal Refusal.NoSession) }
-        ensures ok { IfOk result (λ reply. (reply ≡ refusal Refusal.NoSession)
-            × (self.new ≡ one_more self.old)
-            × C.gives confirm.old (refusal Refusal.NoSession) (Ok tt) confirm.new) }
-        ensures err { IfErr result (λ fault. (self.new ≡ self.old)
-            × MatchFault fault (confirm.new ≡ confirm.old)
-            (λ why. C.gives confirm.old (refusal Refusal.NoSession) (Err why) confirm.new)) }
+        ensures { Tells C.gives (refusal Refusal.NoSession) (one_more self.old)
+            self.old self.new confirm.old confirm.new result }
     {
         let why = Refusal::NoSession;
         self.keep(Reply::Refused { at: None, why }, confirm)

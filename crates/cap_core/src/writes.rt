@@ -1,14 +1,14 @@
 //! The commands that write: a new table, a transaction, and a blob that is applied.
-ghost use Rattle.std.specs.Prelude.{◌≡◌, ◌+◌, ◌<◌, ◌^◌, ◌∷◌, [], Some, None, Ok, Err, IfOk, IfErr, IsOk, OnOk, OnErr};
-ghost use Rattle.cap_value.specs.Memory.{MatchFault};
-ghost use Rattle.cap_table.specs.NotMade.{MatchNotMade};
-ghost use Rattle.cap_txn.specs.Operation.{changes, run, step};
+ghost use Rattle.std.specs.Prelude.{◌≡◌, ◌+◌, ◌<◌, ◌^◌, ◌∷◌, [], Ok};
+ghost use Rattle.cap_txn.specs.Operation.{run, step};
 ghost use Rattle.cap_txn.specs.Tables.{Tables, create};
 ghost use Rattle.cap_apply.specs.Apply.{apply};
 ghost use Rattle.cap_core.specs.Answer.{write_reply};
 ghost use Rattle.cap_core.specs.Code.Sound.{KeepsColumns};
+ghost use Rattle.cap_core.specs.Code.Told.{Makes, Tells};
 ghost use Rattle.cap_core.specs.Outcome.{applied, change_refused, commit_unless, created, made, stale};
 ghost use Rattle.cap_core.specs.Transition.{after_write, written};
+ghost use Rattle.cap_value.specs.Memory.{AnswersUnlessMemory};
 
 use crate::confirm::{Asked, ask};
 use crate::{Confirm, Core, Reply};
@@ -30,19 +30,14 @@ impl<A: AllocHandle> Core<A> {
         requires room { self.old.events + 1 < 2 ^ 63 }
         requires can_confirm { C.can_confirm confirm.old
             (write_reply self.old (created (create self.old.main name.now schema.now))) }
-        ensures ok { IfOk result (λ reply. let effect = created (create self.old.main name.now schema.now) in
-            (reply ≡ write_reply self.old effect) × (self.new ≡ after_write self.old effect)
-            × C.gives confirm.old (write_reply self.old effect) (Ok tt) confirm.new) }
-        ensures err { IfErr result (λ fault.
-            let effect = created (create self.old.main name.now schema.now) in
-            (self.new ≡ self.old) × MatchFault fault (confirm.new ≡ confirm.old)
-            (λ why. C.gives confirm.old (write_reply self.old effect) (Err why) confirm.new)) }
+        ensures { let effect = created (create self.old.main name.now schema.now) in
+            Tells C.gives (write_reply self.old effect) (after_write self.old effect)
+            self.old self.new confirm.old confirm.new result }
     {
         tables_keep_columns::<A>();
-        let changes = Vec::new(self.alloc);
-        let mut tables = self.main.snapshot()?;
-        match tables.create(name.copy()?, schema.copy()?) {
-            Ok(()) => {
+        match with_table(&self.main, name, schema) {
+            Ok(tables) => {
+                let changes = Vec::new(self.alloc);
                 let version = self.version + 1;
                 self.write(
                     tables,
@@ -65,14 +60,9 @@ impl<A: AllocHandle> Core<A> {
         requires room { self.old.events + 1 < 2 ^ 63 }
         requires can_confirm { C.can_confirm confirm.old (write_reply self.old
             (commit_unless (stale batch.now.base self.old.version) self.old.main batch.now.ops)) }
-        ensures ok { IfOk result (λ reply.
-            let effect = commit_unless (stale batch.now.base self.old.version) self.old.main batch.now.ops in
-            (reply ≡ write_reply self.old effect) × (self.new ≡ after_write self.old effect)
-            × C.gives confirm.old (write_reply self.old effect) (Ok tt) confirm.new) }
-        ensures err { IfErr result (λ fault.
-            let effect = commit_unless (stale batch.now.base self.old.version) self.old.main batch.now.ops in
-            (self.new ≡ self.old) × MatchFault fault (confirm.new ≡ confirm.old)
-            (λ why. C.gives confirm.old (write_reply self.old effect) (Err why) confirm.new)) }
+        ensures { let effect = commit_unless (stale batch.now.base self.old.version) self.old.main batch.now.ops in
+            Tells C.gives (write_reply self.old effect) (after_write self.old effect)
+            self.old self.new confirm.old confirm.new result }
     {
         match stale(batch.base(), self.version) {
             Some(why) => self.keep(Reply::Refused { at: None, why }, confirm),
@@ -89,12 +79,9 @@ impl<A: AllocHandle> Core<A> {
         requires room { self.old.events + 1 < 2 ^ 63 }
         requires can_confirm { C.can_confirm confirm.old
             (write_reply self.old (made (run self.old.main ops.now))) }
-        ensures ok { IfOk result (λ reply. let effect = made (run self.old.main ops.now) in
-            (reply ≡ write_reply self.old effect) × (self.new ≡ after_write self.old effect)
-            × C.gives confirm.old (write_reply self.old effect) (Ok tt) confirm.new) }
-        ensures err { IfErr result (λ fault. let effect = made (run self.old.main ops.now) in
-            (self.new ≡ self.old) × MatchFault fault (confirm.new ≡ confirm.old)
-            (λ why. C.gives confirm.old (write_reply self.old effect) (Err why) confirm.new)) }
+        ensures { let effect = made (run self.old.main ops.now) in
+            Tells C.gives (write_reply self.old effect) (after_write self.old effect)
+            self.old self.new confirm.old confirm.new result }
     {
         match ops {
             [op] => self.commit_one(op, confirm),
@@ -111,12 +98,9 @@ impl<A: AllocHandle> Core<A> {
         requires room { self.old.events + 1 < 2 ^ 63 }
         requires can_confirm { C.can_confirm confirm.old
             (write_reply self.old (made (run self.old.main ops.now))) }
-        ensures ok { IfOk result (λ reply. let effect = made (run self.old.main ops.now) in
-            (reply ≡ write_reply self.old effect) × (self.new ≡ after_write self.old effect)
-            × C.gives confirm.old (write_reply self.old effect) (Ok tt) confirm.new) }
-        ensures err { IfErr result (λ fault. let effect = made (run self.old.main ops.now) in
-            (self.new ≡ self.old) × MatchFault fault (confirm.new ≡ confirm.old)
-            (λ why. C.gives confirm.old (write_reply self.old effect) (Err why) confirm.new)) }
+        ensures { let effect = made (run self.old.main ops.now) in
+            Tells C.gives (write_reply self.old effect) (after_write self.old effect)
+            self.old self.new confirm.old confirm.new result }
     {
         tables_keep_columns::<A>();
         match run_ops(self.alloc, &self.main, ops) {
@@ -139,12 +123,9 @@ impl<A: AllocHandle> Core<A> {
         requires room { self.old.events + 1 < 2 ^ 63 }
         requires can_confirm { C.can_confirm confirm.old
             (write_reply self.old (made (run self.old.main (op.now ∷ [])))) }
-        ensures ok { IfOk result (λ reply. let effect = made (run self.old.main (op.now ∷ [])) in
-            (reply ≡ write_reply self.old effect) × (self.new ≡ after_write self.old effect)
-            × C.gives confirm.old (write_reply self.old effect) (Ok tt) confirm.new) }
-        ensures err { IfErr result (λ fault. let effect = made (run self.old.main (op.now ∷ [])) in
-            (self.new ≡ self.old) × MatchFault fault (confirm.new ≡ confirm.old)
-            (λ why. C.gives confirm.old (write_reply self.old effect) (Err why) confirm.new)) }
+        ensures { let effect = made (run self.old.main (op.now ∷ [])) in
+            Tells C.gives (write_reply self.old effect) (after_write self.old effect)
+            self.old self.new confirm.old confirm.new result }
     {
         let changes = self.main.changes_of(op)?;
         match self.make(op, changes.as_slice(), confirm) {
@@ -165,16 +146,7 @@ impl<A: AllocHandle> Core<A> {
         requires room { self.old.events + 1 < 2 ^ 63 }
         requires can_confirm { (after : Tables A) → step self.old.main op.now ≡ Ok after
             → C.can_confirm confirm.old (Reply.Written (self.old.version + 1)) }
-        ensures ok { IfOk result (λ reply. (reply ≡ Reply.Written (self.old.version + 1))
-            × C.gives confirm.old (Reply.Written (self.old.version + 1)) (Ok tt) confirm.new) }
-        ensures state { OnOk result ((after : Tables A) × (step self.old.main op.now ≡ Ok after)
-            × (self.new ≡ written self.old after changes.now)) }
-        ensures kept { OnErr result (self.new ≡ self.old) }
-        ensures err { IfErr result (λ fault. MatchNotMade fault
-            (λ why. (step self.old.main op.now ≡ Err why) × (confirm.new ≡ confirm.old))
-            (confirm.new ≡ confirm.old)
-            (λ why. IsOk (step self.old.main op.now)
-            × C.gives confirm.old (Reply.Written (self.old.version + 1)) (Err why) confirm.new)) }
+        ensures { Makes C.gives op.now changes.now self.old self.new confirm.old confirm.new result }
     {
         tables_keep_columns::<A>();
         self.main.rows_stand();
@@ -209,12 +181,8 @@ impl<A: AllocHandle> Core<A> {
         requires room { self.old.events + 1 < 2 ^ 63 }
         requires kept { KeepsColumns self.old.main outcome.database }
         requires can_confirm { C.can_confirm confirm.old (write_reply self.old (made (Ok outcome))) }
-        ensures ok { IfOk result (λ reply. (reply ≡ write_reply self.old (made (Ok outcome)))
-            × (self.new ≡ after_write self.old (made (Ok outcome)))
-            × C.gives confirm.old (write_reply self.old (made (Ok outcome))) (Ok tt) confirm.new) }
-        ensures err { IfErr result (λ fault. (self.new ≡ self.old)
-            × MatchFault fault (confirm.new ≡ confirm.old)
-            (λ why. C.gives confirm.old (write_reply self.old (made (Ok outcome))) (Err why) confirm.new)) }
+        ensures { Tells C.gives (write_reply self.old (made (Ok outcome))) (after_write self.old (made (Ok outcome)))
+            self.old self.new confirm.old confirm.new result }
     {
         let version = self.version + 1;
         let (database, changes) = outcome.into_parts();
@@ -236,12 +204,9 @@ impl<A: AllocHandle> Core<A> {
         requires room { self.old.events + 1 < 2 ^ 63 }
         requires can_confirm { C.can_confirm confirm.old
             (write_reply self.old (applied (apply self.old.main blob.now policy))) }
-        ensures ok { IfOk result (λ reply. let effect = applied (apply self.old.main blob.now policy) in
-            (reply ≡ write_reply self.old effect) × (self.new ≡ after_write self.old effect)
-            × C.gives confirm.old (write_reply self.old effect) (Ok tt) confirm.new) }
-        ensures err { IfErr result (λ fault. let effect = applied (apply self.old.main blob.now policy) in
-            (self.new ≡ self.old) × MatchFault fault (confirm.new ≡ confirm.old)
-            (λ why. C.gives confirm.old (write_reply self.old effect) (Err why) confirm.new)) }
+        ensures { let effect = applied (apply self.old.main blob.now policy) in
+            Tells C.gives (write_reply self.old effect) (after_write self.old effect)
+            self.old self.new confirm.old confirm.new result }
     {
         applied_blobs_keep_columns::<A>();
         match cap_apply::apply(self.alloc, &self.main, blob, policy) {
@@ -263,12 +228,8 @@ impl<A: AllocHandle> Core<A> {
         requires room { self.old.events + 1 < 2 ^ 63 }
         requires kept { KeepsColumns self.old.main blob.database }
         requires can_confirm { C.can_confirm confirm.old (write_reply self.old (applied (Ok blob))) }
-        ensures ok { IfOk result (λ reply. (reply ≡ write_reply self.old (applied (Ok blob)))
-            × (self.new ≡ after_write self.old (applied (Ok blob)))
-            × C.gives confirm.old (write_reply self.old (applied (Ok blob))) (Ok tt) confirm.new) }
-        ensures err { IfErr result (λ fault. (self.new ≡ self.old)
-            × MatchFault fault (confirm.new ≡ confirm.old)
-            (λ why. C.gives confirm.old (write_reply self.old (applied (Ok blob))) (Err why) confirm.new)) }
+        ensures { Tells C.gives (write_reply self.old (applied (Ok blob))) (after_write self.old (applied (Ok blob)))
+            self.old self.new confirm.old confirm.new result }
     {
         let version = self.version + 1;
         let (database, changes, report) = blob.into_parts();
@@ -291,11 +252,8 @@ impl<A: AllocHandle> Core<A> {
         requires room { self.old.events + 1 < 2 ^ 63 }
         requires kept { KeepsColumns self.old.main tables }
         requires can_confirm { C.can_confirm confirm.old reply }
-        ensures ok { IfOk result (λ told. (told ≡ reply) × (self.new ≡ written self.old tables changes.now)
-            × C.gives confirm.old reply (Ok tt) confirm.new) }
-        ensures err { IfErr result (λ fault. (self.new ≡ self.old)
-            × MatchFault fault (confirm.new ≡ confirm.old)
-            (λ why. C.gives confirm.old reply (Err why) confirm.new)) }
+        ensures { Tells C.gives reply (written self.old tables changes.now)
+            self.old self.new confirm.old confirm.new result }
     {
         self.main.rows_stand();
         self.sessions.note(&self.main, changes)?;
@@ -305,6 +263,21 @@ impl<A: AllocHandle> Core<A> {
         self.version += 1;
         self.events += 1;
         Ok(reply)
+    }
+}
+
+// The tables with one more, which is empty.
+fn with_table<A: AllocHandle>(
+    main: &Database<A>,
+    name: &Name<A>,
+    schema: &Schema<A>,
+) -> Result<Database<A>, Fault<Refusal>>
+    ensures { AnswersUnlessMemory result (create main.now name.now schema.now) }
+{
+    let mut tables = main.snapshot()?;
+    match tables.create(name.copy()?, schema.copy()?) {
+        Ok(()) => Ok(tables),
+        Err(fault) => Err(fault),
     }
 }
 

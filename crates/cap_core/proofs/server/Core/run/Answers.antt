@@ -1,6 +1,6 @@
-use Rattle.std.proofs.Common.{◌≡◌, ◌≤◌, length, take, [], ◌∷◌, arith, sym, ap, ◌∙◌, length-append}
+use Rattle.std.proofs.Common.{◌≡◌, ◌≤◌, length, take, [], ◌∷◌, arith, sym, ap, subst, ◌∙◌, length-append}
 use Rattle.std.proofs.lemmas.List.{length-take-le, take_all}
-use Rattle.cap_core.specs.Answer.{history_of, state}
+use Rattle.cap_core.specs.Answer.{IsLegal, history_of, state}
 use Rattle.cap_core.specs.Transition.{next}
 use Rattle.cap_core.proofs.NextLemmas.{IsLegal-none, state-push}
 use Rattle.cap_core.proofs.PrepareLemmas.{run-push, events-run}
@@ -26,6 +26,11 @@ loop-command-preserved g c =
     let pushed = run-push commands replies c.command-item.result c.in_ok-reply.reply (next c.loop-command.core c.command-item.result) (taken ∙ sym c.loop-command.invariant.0) c.loop-command.invariant.1 pushes in
     rw (c.in_ok-push.ensures.items, take-item c.args.commands.now c.loop-command.command-index c.command-item.result c.loop-command-test.true c.command-item.is)
     (omega (arith, length-append replies (c.in_ok-reply.reply ∷ []), c.loop-command.invariant.0), pushed.0, pushed.1 ∙ sym c.in_ok-reply.ensures.0)
+
+pub returns-clause-legal : goal.returns-clause-legal
+returns-clause-legal g c =
+    let ended : length c.args.commands.now ≤ c.loop-command.command-index = (let over = c.loop-command-test.false in omega (arith, over)) in
+    subst (λ commands. IsLegal (history_of commands c.loop-command.replies.items)) (take_all c.loop-command.command-index c.args.commands.now ended) c.loop-command.invariant.1
 
 pub returns-clause-state : goal.returns-clause-state
 returns-clause-state g c =

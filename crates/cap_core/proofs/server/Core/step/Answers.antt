@@ -1,17 +1,19 @@
-use Rattle.cap_core.proofs.SmallLemmas.{if_err, if_ok, on_ok}
+use Rattle.cap_core.specs.Answer.{answer}
+use Rattle.cap_core.specs.Transition.{next}
+use Rattle.cap_core.proofs.TellsLemmas.{told-agreed, told-refused, told-reply, told-state, told-unchanged}
 use Rattle.cap_core.proofs.server.Core.step.Goals as goal
 
-pub diff-requires-clause-can_confirm : goal.diff-requires-clause-can_confirm
-diff-requires-clause-can_confirm g c = rw c.in-Diff.is at c.requires.can_confirm
-
-pub returns-in-Diff-clause-reply : goal.returns-in-Diff-clause-reply
-returns-in-Diff-clause-reply g c = rw c.in-Diff.is (if_ok _ _ (λ reply met. met.0) c.diff.result c.diff.ensures.ok)
-
-pub returns-in-Diff-clause-state : goal.returns-in-Diff-clause-state
-returns-in-Diff-clause-state g c = rw c.in-Diff.is (on_ok _ _ (λ reply met. met.1) c.diff.result c.diff.ensures.ok)
-
-pub returns-in-Diff-clause-agreed : goal.returns-in-Diff-clause-agreed
-returns-in-Diff-clause-agreed g c = rw c.in-Diff.is (on_ok _ _ (λ reply met. met.2) c.diff.result c.diff.ensures.ok)
-
-pub returns-in-Diff-clause-refused : goal.returns-in-Diff-clause-refused
-returns-in-Diff-clause-refused g c = rw c.in-Diff.is (if_err _ _ (λ fault met. met.1) c.diff.result c.diff.ensures.err)
+pub returns : goal.returns
+returns g c =
+    let now = c.args.self.now in
+    let reply = answer now c.args.command.now in
+    let left = next now c.args.command.now in
+    let new = c.carry_out.new in
+    let before = c.args.confirm.now in
+    record {
+      reply = told-reply g.C.Confirm.gives reply left now new.self before new.confirm c.carry_out.result c.carry_out.ensures;
+      state = told-state g.C.Confirm.gives reply left now new.self before new.confirm c.carry_out.result c.carry_out.ensures;
+      agreed = told-agreed g.C.Confirm.gives reply left now new.self before new.confirm c.carry_out.result c.carry_out.ensures;
+      unchanged = told-unchanged g.C.Confirm.gives reply left now new.self before new.confirm c.carry_out.result c.carry_out.ensures;
+      refused = told-refused g.C.Confirm.gives reply left now new.self before new.confirm c.carry_out.result c.carry_out.ensures;
+    }
