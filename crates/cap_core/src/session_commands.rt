@@ -43,7 +43,10 @@ impl<A: AllocHandle> Core<A> {
         requires can_confirm { C.can_confirm confirm.old (Reply.Session (self.old.sessions_made + 1)) }
         ensures { let number = self.old.sessions_made + 1 in
             Tells C.gives (Reply.Session number)
-            (record (one_more self.old) { sessions_made = number; sessions = self.old.sessions ++ (number, new_session) ∷ [] })
+            (record (one_more self.old) {
+              sessions_made = number;
+              sessions = self.old.sessions ++ (number, new_session) ∷ [];
+            })
             self.old self.new confirm.old confirm.new result }
     {
         let number = self.sessions_made + 1;
@@ -70,7 +73,8 @@ impl<A: AllocHandle> Core<A> {
         requires room { self.old.events + 1 < 2 ^ 63 }
         requires can_confirm { C.can_confirm confirm.old
             (done_reply (session_numbered self.old.sessions number)) }
-        ensures { Tells C.gives (done_reply (session_numbered self.old.sessions number)) (after_drop self.old number)
+        ensures { Tells C.gives (done_reply (session_numbered self.old.sessions number))
+            (after_drop self.old number)
             self.old self.new confirm.old confirm.new result }
     {
         if self.sessions.get(number).is_none() {
@@ -275,7 +279,8 @@ impl<A: AllocHandle> Core<A> {
         requires room { self.old.events + 1 < 2 ^ 63 }
         requires can_confirm { C.can_confirm confirm.old
             (capture_reply self.old.main (session_numbered self.old.sessions number)) }
-        ensures { Tells C.gives (capture_reply self.old.main (session_numbered self.old.sessions number)) (one_more self.old)
+        ensures { Tells C.gives (capture_reply self.old.main (session_numbered self.old.sessions number))
+            (one_more self.old)
             self.old self.new confirm.old confirm.new result }
     {
         let Some(session) = self.sessions.get(number) else {

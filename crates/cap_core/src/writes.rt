@@ -181,7 +181,8 @@ impl<A: AllocHandle> Core<A> {
         requires room { self.old.events + 1 < 2 ^ 63 }
         requires kept { KeepsColumns self.old.main outcome.database }
         requires can_confirm { C.can_confirm confirm.old (write_reply self.old (made (Ok outcome))) }
-        ensures { Tells C.gives (write_reply self.old (made (Ok outcome))) (after_write self.old (made (Ok outcome)))
+        ensures { Tells C.gives (write_reply self.old (made (Ok outcome)))
+            (after_write self.old (made (Ok outcome)))
             self.old self.new confirm.old confirm.new result }
     {
         let version = self.version + 1;
@@ -228,7 +229,8 @@ impl<A: AllocHandle> Core<A> {
         requires room { self.old.events + 1 < 2 ^ 63 }
         requires kept { KeepsColumns self.old.main blob.database }
         requires can_confirm { C.can_confirm confirm.old (write_reply self.old (applied (Ok blob))) }
-        ensures { Tells C.gives (write_reply self.old (applied (Ok blob))) (after_write self.old (applied (Ok blob)))
+        ensures { Tells C.gives (write_reply self.old (applied (Ok blob)))
+            (after_write self.old (applied (Ok blob)))
             self.old self.new confirm.old confirm.new result }
     {
         let version = self.version + 1;
