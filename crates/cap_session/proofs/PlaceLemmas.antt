@@ -1,17 +1,19 @@
 -- Sessions under their numbers: the place of one, and what a change there makes of all.
-use Rattle.std.proofs.Common.{◌≡◌, ◌<◌, ◌+◌, ℕ, zero, suc, Bool, true, false, cond, Some, None, List, [], ◌∷◌, map, length, set, get_or, refl, sym, ap, ap₂, subst, ◌∙◌, arith, nat_eq, nat_lt}
+use Rattle.std.proofs.Common.{◌≡◌, ◌<◌, ◌+◌, ℕ, zero, suc, Bool, true, false, cond, Result, Some, None, List, [], ◌∷◌, ◌++◌, map, length, set, get_or, take, drop, refl, sym, ap, ap₂, subst, ◌∙◌, arith, nat_eq, nat_lt}
 use Rattle.std.proofs.lemmas.Bool.Decides.{nat_tests}
 use Rattle.std.proofs.lemmas.Iterator.Adapters.{position_from-zero}
 use Rattle.std.proofs.lemmas.List.Quantifiers.{position-Some}
+use Rattle.std.proofs.lemmas.Result.{on_ok_weaker}
 use Rattle.std.specs.List.{position, position_from, position_or_len, remove}
 use Rattle.std.specs.Option.{option_map}
+use Rattle.std.specs.Prelude.{OnOk}
 use Rattle.cap_session.specs.declared.numbered.Numbered.{Numbered}
 use Rattle.cap_session.specs.declared.parts.Parts.{Parts}
 use Rattle.cap_session.specs.Code.Numbered.{live_of, waiting_of}
 use Rattle.cap_session.specs.Code.Parts.{noted_of, state_of}
 use Rattle.cap_session.specs.Session.{SessionState}
 use Rattle.cap_session.specs.Sessions.{NumberedSessions, session_numbered, with_session, with_session_if, without_session}
-use Rattle.cap_session.proofs.ListLemmas.{map-set-same}
+use Rattle.cap_session.proofs.ListLemmas.{map-set-same, put_back, same-length}
 
 module _ {A : Type 0} (number : ℕ) where
   -- taking out a session that is not there leaves all
@@ -95,7 +97,7 @@ module _ {A : Type 0} (shown : Parts A → SessionState A) (number : ℕ) where
 
 module _ {A : Type 0} (number : ℕ) (change : SessionState A → SessionState A) where
   -- all sessions, with the change in the one with the number
-  abbrev changed : NumberedSessions A → NumberedSessions A
+  abbrev pub changed : NumberedSessions A → NumberedSessions A
   changed sessions = with_session_if sessions number (option_map change (session_numbered sessions number))
 
   -- a change where it stands
@@ -125,3 +127,11 @@ module _ {A : Type 0} where
   live-kept sessions i new old lt is same kept =
       map-set-same (λ session. (session.number, state_of session.parts)) sessions i new old lt
       (ap₂ (λ n s. (n, s)) (same ∙ ap (λ (s : Numbered A). s.number) is) (kept ∙ ap (λ (s : Numbered A). state_of s.parts) is))
+
+  -- what a slice of all sessions noted, once it is put back
+  pub noted-back : {T E : Type 0} (r : Result T E) (change : NumberedSessions A → NumberedSessions A) (old mid new : List (Numbered A)) (len : ℕ) (shown : NumberedSessions A) → live_of old ≡ shown → mid ≡ old → len ≡ length old → live_of new ≡ live_of mid → OnOk r (waiting_of new ≡ change (live_of mid))
+      → (live_of (take len (new ++ drop (length new) old)) ≡ shown) × OnOk r (waiting_of (take len (new ++ drop (length new) old)) ≡ change shown)
+  noted-back r change old mid new len shown shows is whole kept noted =
+      let live : live_of mid ≡ shown = ap live_of is ∙ shows in
+      let back : take len (new ++ drop (length new) old) ≡ new = put_back old new len whole (same-length (λ session. (session.number, state_of session.parts)) new old (kept ∙ ap live_of is)) in
+      (ap live_of back ∙ kept ∙ live, on_ok_weaker r (λ made. ap waiting_of back ∙ made ∙ ap change live) noted)

@@ -4,7 +4,7 @@ use Rattle.cap_value.specs.Bytes.{bytes_eq}
 use Rattle.cap_session.specs.Code.Attached.{tables_of}
 use Rattle.cap_session.specs.Note.{touches_found}
 use Rattle.cap_session.specs.Records.{Records, with_touches}
-use Rattle.cap_session.proofs.ListLemmas.{loop-more}
+use Rattle.cap_session.proofs.ListLemmas.{loop-done, loop-more, map-set-same}
 use Rattle.cap_session.proofs.attached_table.touch_table.Goals as goal
 
 -- a name with what is chosen
@@ -22,3 +22,28 @@ loop-table-preserved g c =
     (ap (λ records. (old.name, records)) c.in_ok-table.ensures
     ∙ ap (λ records. (old.name, cond (bytes_eq c.args.name.now old.name) (with_touches records touches) records)) c.settle.ensures
     ∙ named old.name (bytes_eq c.args.name.now old.name) (with_touches old.records touches) old.records) c.loop-table.invariant.0 c.loop-table.invariant.1
+
+pub returns-in_err-settle-clause-same : goal.returns-in_err-settle-clause-same
+returns-in_err-settle-clause-same g c =
+    let old = get_or c.loop-table.tables c.loop-table.table-index c.table-item.result in
+    map-set-same (λ table. (table.name, table.records)) c.loop-table.tables c.loop-table.table-index (record { name = old.name; records = c.settle.new.self; waiting = old.waiting }) c.table-item.result
+    (omega (arith, c.loop-table-test.true, c.loop-table.auto.tables)) (ap (λ records. (old.name, records)) c.settle.ensures)
+    ∙ c.loop-table.invariant.0
+
+pub returns-in_err-table-clause-same : goal.returns-in_err-table-clause-same
+returns-in_err-table-clause-same g c =
+    let old = get_or c.loop-table.tables c.loop-table.table-index c.table-item.result in
+    map-set-same (λ table. (table.name, table.records)) c.loop-table.tables c.loop-table.table-index (record { name = old.name; records = c.settle.new.self; waiting = old.waiting }) c.table-item.result
+    (omega (arith, c.loop-table-test.true, c.loop-table.auto.tables)) (ap (λ records. (old.name, records)) c.settle.ensures)
+    ∙ c.loop-table.invariant.0
+
+pub returns-clause-same : goal.returns-clause-same
+returns-clause-same g c = c.loop-table.invariant.0
+
+pub returns-clause-waiting : goal.returns-clause-waiting
+returns-clause-waiting g c =
+    loop-done (λ table. (table.name, table.records)) (λ table. (table.name, unwrap_or table.waiting table.records)) (λ attached. cond (bytes_eq c.args.name.now attached.0) (attached.0, with_touches attached.1 (touches_found c.args.indirect c.args.differences.now)) attached)
+    c.loop-table.tables (tables_of c.args.tables.now) c.loop-table.table-index (omega (arith, c.loop-table-test.false, c.loop-table.auto.tables)) c.loop-table.invariant.0 c.loop-table.invariant.1
+
+pub loop-table-init : goal.loop-table-init
+loop-table-init g c = (refl, refl)

@@ -34,3 +34,9 @@ returns-in-Some-clause-noted g c =
 pub returns-in-None-clause-noted : goal.returns-in-None-clause-noted
 returns-in-None-clause-noted g c =
     none-waiting c.args.number (note_diff c.args.name.now c.args.differences.now) c.forget_waiting.new.sessions (live_of c.args.sessions.now) c.forget_waiting.ensures.kept c.forget_waiting.ensures.none (sym c.place_of.ensures ∙ c.in-None.is)
+
+pub returns-in-None-clause-kept : goal.returns-in-None-clause-kept
+returns-in-None-clause-kept g c = c.forget_waiting.ensures.kept
+
+pub bounds-sessions-place : goal.bounds-sessions-place
+bounds-sessions-place g c = place-lt c.args.number c.forget_waiting.new.sessions c.in-Some.place (sym c.place_of.ensures ∙ c.in-Some.is)

@@ -1,7 +1,11 @@
 use Rattle.std.proofs.Common.{refl, sym, ◌∙◌}
 use Rattle.cap_session.specs.Session.{enabled_as}
-use Rattle.cap_session.proofs.PlaceLemmas.{live-changed, none-changed}
+use Rattle.cap_session.proofs.PlaceLemmas.{live-changed, none-changed, place-lt}
 use Rattle.cap_session.proofs.sessions.Sessions.enable.Goals as goal
+
+pub index_mut-requires : goal.index_mut-requires
+index_mut-requires g c =
+    rw (← c.deref.ensures.len) (place-lt c.args.number c.deref.result.now c.in-Some.place (sym c.place_of.ensures ∙ c.in-Some.is))
 
 pub returns-in-Some : goal.returns-in-Some
 returns-in-Some g c =

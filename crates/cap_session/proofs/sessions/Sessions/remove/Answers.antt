@@ -1,8 +1,12 @@
 use Rattle.std.proofs.Common.{sym, ap, ◌∙◌}
 use Rattle.cap_session.specs.Code.Numbered.{live_of}
 use Rattle.cap_session.specs.Code.Parts.{state_of}
-use Rattle.cap_session.proofs.PlaceLemmas.{place-none, place-without, without-absent}
+use Rattle.cap_session.proofs.PlaceLemmas.{place-lt, place-none, place-without, without-absent}
 use Rattle.cap_session.proofs.sessions.Sessions.remove.Goals as goal
+
+pub remove-requires : goal.remove-requires
+remove-requires g c =
+    rw (← c.deref.ensures.len) (place-lt c.args.number c.deref.result.now c.in-Some.place (sym c.place_of.ensures ∙ c.in-Some.is))
 
 pub returns-in-Some : goal.returns-in-Some
 returns-in-Some g c =
