@@ -98,8 +98,8 @@ impl<A: AllocHandle> Applied<A> {
         requires key { IsTrue (is_key (key_values columns.now key.now)) }
         requires target { IsTrue (is_some (target self.old.database table.now columns.now)) }
         ensures { (indirect : Bool) → LeavesUnlessMemory result (change_applied turn.policy turn.number
-            table.now columns.now (record { old = old.now; patch = patched.Delete indirect key.now }) self.old)
-            self.new }
+            table.now columns.now
+            (record { old = old.now; patch = patched.Delete indirect key.now }) self.old) self.new }
     {
         let under = key_of_fields(self.alloc(), columns.flags(), key)?;
         let gone = self.take(table, &under)?;

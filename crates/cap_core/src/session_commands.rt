@@ -97,7 +97,8 @@ impl<A: AllocHandle> Core<A> {
         requires can_confirm { C.can_confirm confirm.old
             (done_reply (session_numbered self.old.sessions number)) }
         ensures { let session = session_numbered self.old.sessions number in
-            Tells C.gives (done_reply session) (changed_session self.old number (option_map (attached name.now) session))
+            Tells C.gives (done_reply session)
+            (changed_session self.old number (option_map (attached name.now) session))
             self.old self.new confirm.old confirm.new result }
     {
         if self.sessions.get(number).is_none() {
@@ -120,7 +121,8 @@ impl<A: AllocHandle> Core<A> {
         requires can_confirm { C.can_confirm confirm.old
             (done_reply (session_numbered self.old.sessions number)) }
         ensures { let session = session_numbered self.old.sessions number in
-            Tells C.gives (done_reply session) (changed_session self.old number (option_map attach_all session))
+            Tells C.gives (done_reply session)
+            (changed_session self.old number (option_map attach_all session))
             self.old self.new confirm.old confirm.new result }
     {
         if self.sessions.get(number).is_none() {
@@ -143,7 +145,8 @@ impl<A: AllocHandle> Core<A> {
         requires can_confirm { C.can_confirm confirm.old
             (done_reply (session_numbered self.old.sessions number)) }
         ensures { let session = session_numbered self.old.sessions number in
-            Tells C.gives (done_reply session) (changed_session self.old number (option_map (set_filter filter.now) session))
+            Tells C.gives (done_reply session)
+            (changed_session self.old number (option_map (set_filter filter.now) session))
             self.old self.new confirm.old confirm.new result }
     {
         if self.sessions.get(number).is_none() {
@@ -167,7 +170,8 @@ impl<A: AllocHandle> Core<A> {
         requires can_confirm { C.can_confirm confirm.old
             (enabled_reply asked (session_numbered self.old.sessions number)) }
         ensures { let session = session_numbered self.old.sessions number in
-            Tells C.gives (enabled_reply asked session) (changed_session self.old number (option_map (enabled_as asked) session))
+            Tells C.gives (enabled_reply asked session)
+            (changed_session self.old number (option_map (enabled_as asked) session))
             self.old self.new confirm.old confirm.new result }
     {
         let Some(session) = self.sessions.get(number) else {
@@ -190,7 +194,8 @@ impl<A: AllocHandle> Core<A> {
         requires can_confirm { C.can_confirm confirm.old
             (indirect_reply asked (session_numbered self.old.sessions number)) }
         ensures { let session = session_numbered self.old.sessions number in
-            Tells C.gives (indirect_reply asked session) (changed_session self.old number (option_map (indirect_as asked) session))
+            Tells C.gives (indirect_reply asked session)
+            (changed_session self.old number (option_map (indirect_as asked) session))
             self.old self.new confirm.old confirm.new result }
     {
         let Some(session) = self.sessions.get(number) else {
@@ -234,7 +239,8 @@ impl<A: AllocHandle> Core<A> {
             (session_numbered self.old.sessions number)) }
         ensures { let session = session_numbered self.old.sessions number in
             let found = diff self.old.main self.old.saved from.now name.now in
-            Tells C.gives (diff_reply found session) (changed_session self.old number (option_map (compared name.now found) session))
+            Tells C.gives (diff_reply found session)
+            (changed_session self.old number (option_map (compared name.now found) session))
             self.old self.new confirm.old confirm.new result }
     {
         if self.sessions.get(number).is_none() {
@@ -260,7 +266,8 @@ impl<A: AllocHandle> Core<A> {
         requires stand { IsTrue (differences_stand (schema_of self.old.main name.now) found.now) }
         requires can_confirm { C.can_confirm confirm.old Reply.Done }
         ensures { let session = session_numbered self.old.sessions number in
-            Tells C.gives Reply.Done (changed_session self.old number (option_map (note_diff name.now found.now) session))
+            Tells C.gives Reply.Done
+            (changed_session self.old number (option_map (note_diff name.now found.now) session))
             self.old self.new confirm.old confirm.new result }
     {
         self.sessions.note_diff(number, name, found)?;
@@ -299,7 +306,8 @@ impl<A: AllocHandle> Core<A> {
         requires can_confirm { C.can_confirm confirm.old
             (capture_reply self.old.main (session_numbered self.old.sessions number)) }
         ensures { let session = session_numbered self.old.sessions number in
-            Tells C.gives (capture_reply self.old.main session) (changed_session self.old number (option_map restart session))
+            Tells C.gives (capture_reply self.old.main session)
+            (changed_session self.old number (option_map restart session))
             self.old self.new confirm.old confirm.new result }
     {
         let Some(session) = self.sessions.get(number) else {

@@ -60,7 +60,8 @@ impl<A: AllocHandle> Core<A> {
         requires room { self.old.events + 1 < 2 ^ 63 }
         requires can_confirm { C.can_confirm confirm.old (write_reply self.old
             (commit_unless (stale batch.now.base self.old.version) self.old.main batch.now.ops)) }
-        ensures { let effect = commit_unless (stale batch.now.base self.old.version) self.old.main batch.now.ops in
+        ensures { let effect =
+            commit_unless (stale batch.now.base self.old.version) self.old.main batch.now.ops in
             Tells C.gives (write_reply self.old effect) (after_write self.old effect)
             self.old self.new confirm.old confirm.new result }
     {

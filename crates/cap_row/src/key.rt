@@ -226,7 +226,8 @@ impl<A: AllocHandle> PartialOrd for Key<A> {
 
     ghost partial_cmp = { as_partial_cmp fields_cmp };
 
-    ghost laws = { partial_order_from_agreeing_total fields_cmp fields_cmp_total (λ x y. refl) (λ x y. refl) };
+    ghost laws = { partial_order_from_agreeing_total fields_cmp fields_cmp_total
+        (λ x y. refl) (λ x y. refl) };
 
     fn partial_cmp(&self, other: &Self) -> Option<Ordering> {
         Some(self.order(other))

@@ -189,7 +189,8 @@ fn run_lines<
     ensures status { IfErr result.1 (λ fault. exit_status fault ≡ 3) }
     ensures len { vec_len result.0 ≡ vec_len workers }
     ensures runs { (spelled : List (Line A)) → SpellsScript spelled lines.old
-        → RunsLines shared.now.threads spelled result.1 (map (λ w. w.seat) workers.items) (map (λ w. w.seat) result.0.items)
+        → RunsLines shared.now.threads spelled result.1
+        (map (λ w. w.seat) workers.items) (map (λ w. w.seat) result.0.items)
         (W.contents writer.old) (W.contents writer.new) }
 {
     let mut pending = String::new(shared.alloc);
@@ -287,7 +288,8 @@ fn answer_next<
     ensures len { vec_len result.0 ≡ vec_len workers }
     ensures left { OnOk result.1 (length lines.new ≤ length lines.old) }
     ensures called { (rest : List (Line A)) → SpellsScript rest lines.old
-        → IsNext shared.now.threads line rest result.1 lines.new (string_bytes pending.old) (string_bytes pending.new)
+        → IsNext shared.now.threads line rest result.1 lines.new
+        (string_bytes pending.old) (string_bytes pending.new)
         (map (λ w. w.seat) workers.items) (map (λ w. w.seat) result.0.items) }
 {
     if line.worker.is_some() {
@@ -319,7 +321,8 @@ fn answer_block<
     ensures len { vec_len result.0 ≡ vec_len workers }
     ensures left { OnOk result.1 (length lines.new ≤ length lines.old) }
     ensures called { (rest : List (Line A)) → SpellsScript rest lines.old
-        → IsNext shared.now.threads first rest result.1 lines.new (string_bytes pending.old) (string_bytes pending.new)
+        → IsNext shared.now.threads first rest result.1 lines.new
+        (string_bytes pending.old) (string_bytes pending.new)
         (map (λ w. w.seat) workers.items) (map (λ w. w.seat) result.0.items) }
 {
     let Ok(block) = block_from(shared.alloc, first, lines) else {

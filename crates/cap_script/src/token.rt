@@ -146,7 +146,8 @@ pub(crate) fn split_quoted<A: AllocHandle>(
 pub(crate) fn integer_of(text: &str) -> Option<i64>
     ensures value { (negative : Bool) (digits : List ℕ) → text.now ≡ minus negative digits
         → list_all is_ascii_digit digits ≡ true
-        → IfSome result (λ number. (0 < length digits) × (number ≡ signed negative (digits_value 10 digits))) }
+        → IfSome result (λ number. (0 < length digits)
+        × (number ≡ signed negative (digits_value 10 digits))) }
     ensures fits { IfSome result (λ number. FitsSigned w64 number) }
 {
     text.parse::<i64>().ok()

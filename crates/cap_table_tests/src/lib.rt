@@ -1,0 +1,10 @@
+//! Tests of tables, transactions and comparisons through their public calls. They stand in a crate of their own, since a
+//! crate's functions are proved once more with the tests that stand in it.
+#![tactic(auto)]
+
+#[cfg(test)]
+mod compare;
+#[cfg(test)]
+mod table;
+#[cfg(test)]
+mod txn;
