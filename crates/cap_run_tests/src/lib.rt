@@ -1,8 +1,6 @@
-//! Tests of workloads on many threads, and of the command line. They stand in a crate of their own, since a crate's
-//! functions are proved once more with the tests that stand in it.
+//! Tests of workloads on many threads. They stand in a crate of their own, since a crate's functions are proved once more
+//! with the tests that stand in it.
 #![tactic(auto)]
 
-#[cfg(test)]
-mod options;
 #[cfg(test)]
 mod workers;
