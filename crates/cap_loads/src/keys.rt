@@ -1,5 +1,8 @@
 //! Keys to put, in three orders.
 
+ghost use Rattle.std.specs.Prelude.{IfOk};
+ghost use Rattle.cap_loads.specs.Keys.{AreKeys};
+
 use std::alloc::{AllocError, Global};
 use std::fmt;
 use std::fmt::{Display, Formatter};
@@ -26,8 +29,10 @@ impl Display for Order {
 }
 
 /// So many distinct keys in the order in which they are to be put.
-pub fn keys(alloc: Global, order: Order, count: u32) -> Result<Vec<u64>, AllocError> {
-    let numbers = (0..count).map(u64::from);
+pub fn keys(alloc: Global, order: Order, count: u32) -> Result<Vec<u64>, AllocError>
+    ensures { IfOk result (λ keys. AreKeys order count keys.items) }
+{
+    let numbers = 0..u64::from(count);
     match order {
         Order::Rising => numbers.collect(alloc),
         Order::Falling => numbers.rev().collect(alloc),

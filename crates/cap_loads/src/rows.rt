@@ -1,5 +1,8 @@
 //! Rows of one table, which has a key and a value, and operations on them.
 
+ghost use Rattle.std.specs.Prelude.{◌≡◌, IfSome};
+ghost use Rattle.cap_loads.specs.Rows.{table_name, key_fields, row_fields, insert_of, update_of};
+
 use cap_row::{Key, Row};
 use cap_table::RowRef;
 use cap_txn::{Action, Assignments, Cause, Op};
@@ -12,28 +15,36 @@ pub const COMMITS: u32 = 100_000;
 // The table that has the rows.
 const TABLE: &str = "t";
 
-/// The name of the table.
-pub fn table(alloc: Global) -> Option<Name<Global>> {
+/// The name of the table, or none where there is no memory, as for all of these.
+pub fn table(alloc: Global) -> Option<Name<Global>>
+    ensures { IfSome result (λ name. name ≡ table_name) }
+{
     Name::new(alloc, TABLE).ok()
 }
 
 /// The row with this key and the value 'x'.
-pub fn row(alloc: Global, key: u64) -> Option<Row<Global>> {
+pub fn row(alloc: Global, key: u64) -> Option<Row<Global>>
+    ensures { IfSome result (λ row. row ≡ row_fields key) }
+{
     let mut fields = Vec::new(alloc);
-    fields.push(Value::Int(signed(key))).ok()?;
+    fields.push(Value::Int(key.cast_signed())).ok()?;
     fields.push(Value::text(alloc, "x").ok()?).ok()?;
     Row::new(fields).ok()
 }
 
 /// The key of that row.
-pub fn key_of(alloc: Global, key: u64) -> Option<Key<Global>> {
-    let mut fields = Vec::new(alloc);
-    fields.push(Value::Int(signed(key))).ok()?;
-    Key::new(alloc, fields).ok()?
+pub fn key_of(alloc: Global, key: u64) -> Option<Key<Global>>
+    ensures { IfSome result (λ of_row. of_row ≡ key_fields key) }
+{
+    let mut values = Vec::new(alloc);
+    values.push(Value::Int(key.cast_signed())).ok()?;
+    Key::new(alloc, values).ok()?
 }
 
 /// The operation that inserts a row with this key.
-pub fn insert(alloc: Global, key: u64) -> Option<Op<Global>> {
+pub fn insert(alloc: Global, key: u64) -> Option<Op<Global>>
+    ensures { IfSome result (λ op. op ≡ insert_of key) }
+{
     Some(Op {
         table: table(alloc)?,
         cause: Cause::Direct,
@@ -42,7 +53,9 @@ pub fn insert(alloc: Global, key: u64) -> Option<Op<Global>> {
 }
 
 /// The operation that sets the value of the row with this key to a number.
-pub fn update(alloc: Global, key: u64, number: i64) -> Option<Op<Global>> {
+pub fn update(alloc: Global, key: u64, number: i64) -> Option<Op<Global>>
+    ensures { IfSome result (λ op. op ≡ update_of key number) }
+{
     let row = RowRef::Key(key_of(alloc, key)?);
     let mut assigned = Vec::new(alloc);
     assigned.push((1, Value::Int(number))).ok()?;
@@ -51,9 +64,4 @@ pub fn update(alloc: Global, key: u64, number: i64) -> Option<Op<Global>> {
         cause: Cause::Direct,
         action: Action::Update(row, Assignments::new(assigned)),
     })
-}
-
-// A key's bits as a number with a sign.
-fn signed(key: u64) -> i64 {
-    i64::from_be_bytes(key.to_be_bytes())
 }
