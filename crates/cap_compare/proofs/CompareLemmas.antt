@@ -11,7 +11,7 @@ use Rattle.std.specs.BTreeMap.{is_at}
 use Rattle.cap_row.specs.Fields.{Fields}
 use Rattle.cap_row.specs.Key.{fields_cmp, fields_cmp_total}
 use Rattle.cap_tree.specs.Tree.{IsOrdered, get}
-use Rattle.cap_tree.specs.Beside.{beside, both_at}
+use Rattle.cap_compare.specs.Beside.{beside, both_at}
 use Rattle.cap_compare.specs.declared.difference.Difference.{Difference}
 use Rattle.cap_compare.specs.Compare.{AreDifferences, difference_at, differences, image_at, image_of}
 

@@ -1,1 +1,2 @@
+mod BesideLemmas
 mod CompareLemmas

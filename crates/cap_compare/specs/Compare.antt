@@ -7,7 +7,7 @@ use Rattle.cap_value.specs.declared.refusal.Refusal.TheVariants.{Incompatible}
 use Rattle.cap_row.specs.Fields.{Fields}
 use Rattle.cap_row.specs.Key.{fields_cmp, fields_eq}
 use Rattle.cap_tree.specs.Tree.{IsOrdered, get}
-use Rattle.cap_tree.specs.Beside.{beside}
+use Rattle.cap_compare.specs.Beside.{beside}
 use Rattle.cap_table.specs.Table.{TableState}
 use Rattle.cap_compare.specs.declared.difference.Difference.{Difference}
 

@@ -3,7 +3,7 @@ ghost use Rattle.std.specs.Option.{option_copied};
 ghost use Rattle.cap_value.specs.Memory.{ShowsUnlessMemory};
 ghost use Rattle.cap_compare.specs.Compare.{compare, differences, difference_at, image_at};
 
-use crate::Difference;
+use crate::{Beside, Difference};
 use cap_row::{Key, Row};
 use cap_table::Table;
 use cap_tree::Tree;
@@ -42,7 +42,7 @@ fn differences<A: AllocHandle>(
     ensures { IfOk result (λ found. found.items ≡ differences from.now to.now) }
 {
     let mut found = Vec::new(alloc);
-    for (key, old, new) in from.beside(to) {
+    for (key, old, new) in Beside::of(from, to) {
         if let Some(difference) = difference(key, old, new)? {
             found.push(difference)?;
         }

@@ -5,8 +5,8 @@ ghost use Rattle.cap_row.specs.Key.{fields_cmp};
 ghost use Rattle.cap_tree.specs.Tree.{IsOrdered};
 ghost use Rattle.cap_compare.specs.Compare.{AreDifferences, differences};
 
+use crate::entries_stand_beside;
 use cap_row::{Key, Row};
-use cap_tree::entries_stand_beside;
 use cap_value::AllocHandle;
 
 /// The differences of two tables are just the keys at which their rows differ, in order, each with its row in the

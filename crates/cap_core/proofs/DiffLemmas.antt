@@ -9,7 +9,7 @@ use Rattle.cap_row.specs.Fields.{Fields}
 use Rattle.cap_row.specs.Key.{fields_cmp, fields_eq}
 use Rattle.cap_row.specs.Schema.{flags_eq}
 use Rattle.cap_tree.specs.Tree.{get}
-use Rattle.cap_tree.specs.Beside.{alone, beside, first_of, put_beside}
+use Rattle.cap_compare.specs.Beside.{alone, beside, first_of, put_beside}
 use Rattle.cap_table.specs.Sound.{IsRising, keyed_stands}
 use Rattle.cap_table.specs.Table.{TableState}
 use Rattle.cap_txn.specs.Tables.{EachRises, Tables, table_of}

@@ -1,11 +1,11 @@
 //! Going over the records of a table.
-ghost use Rattle.std.specs.Prelude.{◌≡◌, drop, length};
+ghost use Rattle.std.specs.Prelude.{◌≡◌, length};
 ghost use Rattle.std.specs.Iterator.{at_most};
 ghost use Rattle.std.specs.Map.Iter.{TakesFirst, deref_pair};
-ghost use Rattle.cap_tree.specs.Beside.{taken};
 ghost use Rattle.cap_session.specs.Code.Latest.{before_tree};
 
 use crate::Record;
+use cap_compare::Ahead;
 use cap_row::Key;
 use cap_tree::Iter;
 use cap_value::AllocHandle;
@@ -13,53 +13,11 @@ use std::cmp::Ordering;
 use std::iter::FusedIterator;
 use std::marker::Model;
 
-// Records of a tree to go over, the next of them at hand.
-#[derive(Drop)]
-struct Ahead<'a, A: AllocHandle> {
-    next: Option<(&'a Key<A>, &'a Record<A>)>,
-    behind: Iter<'a, Key<A>, Record<A>, A>,
-}
-
-impl<'a, A: AllocHandle> Model for Ahead<'a, A> {
-    ghost use Rattle.cap_tree.specs.Beside.{taken};
-    ghost use Rattle.cap_session.specs.Records.{Records};
-
-    ghost Value = { Records A };
-
-    ghost view = { λ a. taken a.next a.behind };
-}
-
-impl<'a, A: AllocHandle> Ahead<'a, A> {
-    fn of(behind: Iter<'a, Key<A>, Record<A>, A>) -> Self
-        ensures { result ≡ behind.entry }
-    {
-        let mut behind = behind;
-        let next = behind.next();
-        Ahead { next, behind }
-    }
-
-    // The next record.
-    fn next(&self) -> Option<(&'a Key<A>, &'a Record<A>)>
-        ensures { self.now ≡ taken result (drop 1 self.now) }
-    {
-        self.next
-    }
-
-    // Goes past the next record.
-    fn pass(&mut self)
-        ensures { self.new ≡ drop 1 self.old }
-    {
-        if self.next.is_some() {
-            self.next = self.behind.next();
-        }
-    }
-}
-
 /// Records that are still to come, in the order of their keys.
 #[derive(Drop)]
 pub struct RecordsIter<'a, A: AllocHandle> {
     latest: Option<(&'a Key<A>, &'a Record<A>)>,
-    rest: Ahead<'a, A>,
+    rest: Ahead<'a, Key<A>, Record<A>, A>,
 }
 
 impl<'a, A: AllocHandle> Model for RecordsIter<'a, A> {

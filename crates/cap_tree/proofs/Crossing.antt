@@ -8,7 +8,6 @@ use Rattle.std.specs.declared.cmp.PartialOrd as comparison
 use Rattle.std.specs.declared.alloc.Allocator as allocator
 use Rattle.cap_tree.proofs.node.Node.TheLaws.TheKnot.{both_send-Node, both_sync-Node}
 use Rattle.cap_tree.specs.contracts.node.Node as Node
-use Rattle.cap_tree.specs.contracts.root.Root as Root
 use Rattle.cap_tree.specs.contracts.tree.Tree as Tree
 
 module _ (K V A : RattleType) (o : ord.Ghosts K.Denot) (e : equality.Ghosts K.Denot) (p : comparison.Ghosts K.Denot)
@@ -21,14 +20,8 @@ module _ (K V A : RattleType) (o : ord.Ghosts K.Denot) (e : equality.Ghosts K.De
     pub node_sync : IsSync (Node.the_row K V A o e p a)
     node_sync = search (both_sync-Node, sendable, crosses) depth 20
 
-    pub root_send : IsSend (Root.the_row K V A o e p a)
-    root_send = search (node_send, node_sync, sendable, crosses) depth 20
-
     pub tree_send : IsSend (Tree.the_row K V A o e p a)
-    tree_send = search (root_send, sendable, crosses) depth 20
-
-    pub root_sync : IsSync (Root.the_row K V A o e p a)
-    root_sync = search (node_send, node_sync, sendable, crosses) depth 20
+    tree_send = search (node_send, node_sync, sendable, crosses) depth 20
 
     pub tree_sync : IsSync (Tree.the_row K V A o e p a)
-    tree_sync = search (root_sync, sendable, crosses) depth 20
+    tree_sync = search (node_send, node_sync, sendable, crosses) depth 20

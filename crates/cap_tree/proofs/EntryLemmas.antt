@@ -1,6 +1,6 @@
 -- Entries in order, around one of them: what a look-up, a put and a take do on its side of it.
 use Rattle.std.proofs.Common.{◌≡◌, ◌+◌, suc, inl, inr, Bool, true, false, cond, List, [], ◌∷◌, ◌++◌, length, ◌<◌, length-append, refl, ap, ◌∙◌, subst, arith}
-use Rattle.std.specs.Prelude.{Option, Some, None, Result, Ok, Err, OnOk, ◌↔◌, ◌⊎◌}
+use Rattle.std.specs.Prelude.{Option, Some, None, ◌↔◌, ◌⊎◌}
 use Rattle.std.specs.declared.cmp.Ordering.{Ordering}
 use Rattle.std.specs.declared.cmp.Ordering.TheVariants.{Less, Equal, Greater}
 use Rattle.std.specs.Ordering.{is_eq, is_le, is_gt, match_ordering, ordering_reverse}
@@ -356,8 +356,3 @@ pub put_each-none : {K V : Type 0} (cmp : K → K → Ordering) (trees : List (L
 put_each-none cmp [] added none = refl
 put_each-none cmp (t ∷ ts) [] none = refl
 put_each-none cmp (t ∷ ts) (e ∷ es) none = absurd (omega (arith, none))
-
--- what holds anyhow holds on success
-pub on_ok : {P A E : Type 0} (r : Result A E) → P → OnOk r P
-on_ok (Ok a) p = p
-on_ok (Err e) p = tt

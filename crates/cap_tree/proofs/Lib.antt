@@ -1,8 +1,7 @@
-mod BesideLemmas
 mod BuildLemmas
 mod CutLemmas
 pub mod Crossing
-mod EntryLemmas
+pub mod EntryLemmas
 mod HeightLemmas
 mod JoinLemmas
 mod LeafLemmas

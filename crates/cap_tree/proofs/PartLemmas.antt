@@ -1,13 +1,13 @@
 -- Parts as their parent sees them.
-use Rattle.std.proofs.Common.{◌≡◌, ℕ, zero, suc, add-one, ◌+◌, ◌-◌, ◌<◌, List, [], ◌∷◌, ◌++◌, length, take, drop, get_or, set, refl, sym, ◌∙◌, arith, length-append}
-use Rattle.std.proofs.lemmas.List.{take_more, map-append, map-set, get_or-map, length-map}
+use Rattle.std.proofs.Common.{◌≡◌, ℕ, zero, suc, add-one, ◌+◌, ◌-◌, ◌<◌, ◌≤◌, List, [], ◌∷◌, ◌++◌, length, take, drop, get_or, set, refl, sym, ap, subst, ◌∙◌, arith, length-append}
+use Rattle.std.proofs.lemmas.List.{append-nil, take_more, map-append, map-set, get_or-map, length-map}
 use Rattle.std.proofs.lemmas.Option.{get_or_from_slice_get}
 use Rattle.std.specs.Prelude.{Some, slice_get, ◌≢◌}
 use Rattle.std.specs.declared.cmp.Ordering.{Ordering}
 use Rattle.std.specs.declared.cmp.Ordering.TheVariants.{Less}
 use Rattle.std.specs.Cmp.{IsTotalOrder}
 use Rattle.cap_tree.specs.declared.node.Part.{Part}
-use Rattle.cap_tree.specs.Shape.{seen, entries_of, IsParts, place}
+use Rattle.cap_tree.specs.Shape.{seen, entries_of, AreFit, IsParts, place}
 use Rattle.cap_tree.proofs.PlaceLemmas.{place_last}
 
 module _ {K V Z : Type 0} where
@@ -56,3 +56,21 @@ module _ {K V Z : Type 0} where
   pub high : (cmp : K → K → Ordering) (height : ℕ) (parts : List (Part K V Z)) → 0 < length parts → IsParts cmp height (seen parts) → 0 < height
   high cmp height [] some h = absurd (omega arith)
   high cmp height (p ∷ ps) some h = omega (arith, h.0.0)
+
+-- the only child of a node: it has all entries of the node, and is fit
+module _ {K V Z : Type 0} (all rest : List (Part K V Z)) (p : Part K V Z) (is : all ≡ rest ++ p ∷ []) (few : length all ≤ 1) where
+  none_else : rest ≡ []
+  none_else = no_more rest (omega (arith, few, ap length is, length-append rest (p ∷ [])))
+    where
+      no_more : (l : List (Part K V Z)) → length l ≤ 0 → l ≡ []
+      no_more [] h = refl
+      no_more (x ∷ xs) h = absurd (omega (arith, h))
+
+  alone : all ≡ p ∷ []
+  alone = is ∙ ap (λ l. l ++ p ∷ []) none_else
+
+  pub only_entries : p.node.value.0 ≡ entries_of (seen all)
+  only_entries = sym (append-nil p.node.value.0) ∙ ap (λ l. entries_of (seen l)) (sym alone)
+
+  pub only_fit : AreFit (seen all) → 4 ≤ p.node.value.2
+  only_fit fit = (subst (λ l. AreFit (seen l)) alone fit).0.0

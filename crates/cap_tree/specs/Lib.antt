@@ -1,4 +1,3 @@
-pub mod Beside
 pub mod Tree
 pub mod Shape
 pub mod Cut

@@ -2,10 +2,10 @@
 ghost use Rattle.std.specs.Prelude.{◌≡◌, ℕ, ◌+◌, ◌-◌, ◌*◌, ◌^◌, ◌<◌, ◌≤◌, ◌++◌, length, vec_len, IsTrue, IfOk, ◌↔◌};
 ghost use Rattle.std.specs.Arc.{arc_value};
 ghost use Rattle.cap_tree.specs.Shape.{seen, entries_of, IsParts, IsFit, AreFit, EachBelow, NoneBelow};
+ghost use Rattle.cap_tree.specs.Root.{root_entries, IsRoot};
 ghost use Rattle.cap_tree.specs.Tree.{IsOrdered};
 
 use crate::node::{Link, MOST, Node, Part};
-use crate::root::Root;
 use crate::shift::shift_back;
 use cap_value::{AllocHandle, Exact};
 use std::alloc::AllocError;
@@ -186,23 +186,22 @@ fn lowest_for(count: usize) -> (u64, usize)
     (height, share)
 }
 
-// The root of these entries.
+// The root of these entries, if there are any.
 pub(crate) fn build<K: Ord + Exact + Drop, V: Drop, A: AllocHandle>(
     alloc: A,
     entries: Vec<(K, V), A>,
-) -> Result<Root<K, V, A>, AllocError>
+) -> Result<Option<Arc<Node<K, V, A>, A>>, AllocError>
     requires { IsOrdered K.cmp entries.items }
-    ensures { IfOk result (λ root. root ≡ entries.items) }
+    ensures entries { IfOk result (λ root. root_entries root ≡ entries.items) }
+    ensures two { IfOk result (λ root. IsRoot root) }
 {
     let mut entries = entries;
     let count = entries.len();
     if count == 0 {
-        return Ok(Root::empty());
+        return Ok(None);
     }
     let (height, share) = lowest_for(count);
     let node = last_node(alloc, &mut entries, height, share, count)?;
-    let root = Root {
-        node: Some(Arc::new(alloc, node)?),
-    };
-    Ok(root)
+    let root = Arc::new(alloc, node)?;
+    Ok(Some(root))
 }

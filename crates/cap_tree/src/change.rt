@@ -1,22 +1,20 @@
-//! Changes of a root in place, each held back until another change is done.
+//! Changes of the root node in place, each held back until another change is done.
 ghost use Rattle.std.specs.Prelude.{◌≡◌, ◌+◌, ◌<◌, ◌≤◌, ◌∷◌, [], ◌^◌, length, Ok, Err, IfOk, IfErr, IfSome, IfNone, OnOk, OnErr};
 ghost use Rattle.std.specs.Arc.{arc_value};
 ghost use Rattle.cap_value.specs.Memory.{MatchFault};
 ghost use Rattle.cap_tree.specs.Tree.{IsOrdered, get, put_entry, take_entry};
 
-use crate::agree::Agree;
-use crate::confirm::{Confirm, ask};
+use crate::confirm::Confirm;
 use crate::grow::grow;
 use crate::node::{Link, MOST, Node, Part};
 use crate::put_after::put_after;
-use crate::root::Root;
 use crate::take_after::take_after;
 use cap_value::{AllocHandle, Exact, Fault};
 use std::alloc::AllocError;
 use std::sync::Arc;
 
 // A leaf of one entry.
-fn leaf_of<K: Ord + Drop, V: Drop, A: AllocHandle>(
+pub(crate) fn leaf_of<K: Ord + Drop, V: Drop, A: AllocHandle>(
     alloc: A,
     key: K,
     value: V,
@@ -35,7 +33,7 @@ fn leaf_of<K: Ord + Drop, V: Drop, A: AllocHandle>(
 }
 
 // Puts the entry below a root that has a node. The node is cut in two first if it is full.
-fn put_below<K: Ord + Exact + Drop, V: Exact + Drop, A: AllocHandle, C: Confirm>(
+pub(crate) fn put_below<K: Ord + Exact + Drop, V: Exact + Drop, A: AllocHandle, C: Confirm>(
     root: &mut Arc<Node<K, V, A>, A>,
     alloc: A,
     key: K,
@@ -44,7 +42,6 @@ fn put_below<K: Ord + Exact + Drop, V: Exact + Drop, A: AllocHandle, C: Confirm>
 ) -> Result<Option<V>, Fault<C::Refusal>>
     requires can_confirm { C.can_confirm confirm.old }
     requires ordered { IsOrdered K.cmp (arc_value root.old).0 }
-    requires fits { length (arc_value root.old).0 + 1 < 2 ^ 64 }
     requires two { 0 < (arc_value root.old).1 → 1 < (arc_value root.old).2 }
     ensures confirmed { OnOk result (C.gives confirm.old (Ok tt) confirm.new) }
     ensures refused { IfErr result (λ fault. MatchFault fault (confirm.new ≡ confirm.old)
@@ -54,12 +51,23 @@ fn put_below<K: Ord + Exact + Drop, V: Exact + Drop, A: AllocHandle, C: Confirm>
     ensures ok { OnOk result ((arc_value root.new).0 ≡ put_entry K.cmp (arc_value root.old).0 key value) }
     ensures replaced { IfOk result (λ o. o ≡ get K.cmp (arc_value root.old).0 key) }
 {
+    if root.count() == usize::MAX {
+        return Err(Fault::OutOfMemory);
+    }
     let node = Arc::make_mut(root)?;
     if node.len() == MOST {
         let at = node.cut_for(&key);
         grow(node, alloc, at)?;
     }
     put_after(node, key, value, confirm)
+}
+
+// The node of a child whose least key is not needed any more.
+fn node_of<K: Ord + Drop, V: Drop, A: AllocHandle>(part: Part<K, V, A>) -> Arc<Node<K, V, A>, A>
+    ensures { arc_value result ≡ arc_value part.node }
+{
+    let Part { least: _, node } = part;
+    node
 }
 
 // The only child of a node that has no other, which leaves an empty node behind.
@@ -82,17 +90,13 @@ fn lone_child<K: Ord + Drop, V: Drop, A: AllocHandle>(
                 unreachable!()
             };
             *node = Node::empty(alloc);
-            let Part {
-                least: _,
-                node: child,
-            } = only;
-            return Some(child);
+            return Some(node_of(only));
         }
     }
 }
 
 // Takes the entry at the key out below a root that has a node. The node gives way to its child where only one is left.
-fn take_below<K: Ord + Exact + Drop, V: Exact + Drop, A: AllocHandle, C: Confirm>(
+pub(crate) fn take_below<K: Ord + Exact + Drop, V: Exact + Drop, A: AllocHandle, C: Confirm>(
     root: &mut Arc<Node<K, V, A>, A>,
     key: &K,
     confirm: &mut C,
@@ -115,89 +119,6 @@ fn take_below<K: Ord + Exact + Drop, V: Exact + Drop, A: AllocHandle, C: Confirm
         Some(child) => {
             *root = child;
             removed
-        }
-    }
-}
-
-impl<K: Ord + Exact + Drop, V: Exact + Drop, A: AllocHandle> Root<K, V, A> {
-    // Puts the value at the key, once the last step of another change is done, and answers the value that was there.
-    pub(crate) fn put_after<C: Confirm>(
-        &mut self,
-        alloc: A,
-        key: K,
-        value: V,
-        confirm: &mut C,
-    ) -> Result<Option<V>, Fault<C::Refusal>>
-        requires can_confirm { C.can_confirm confirm.old }
-        requires ordered { IsOrdered K.cmp self.old }
-        requires fits { length self.old + 1 < 2 ^ 64 }
-        ensures confirmed { OnOk result (C.gives confirm.old (Ok tt) confirm.new) }
-        ensures refused { IfErr result (λ fault. MatchFault fault (confirm.new ≡ confirm.old)
-            (λ why. C.gives confirm.old (Err why) confirm.new)) }
-        ensures err { OnErr result (self.new ≡ self.old) }
-        ensures ok { OnOk result (self.new ≡ put_entry K.cmp self.old key value) }
-        ensures replaced { IfOk result (λ o. o ≡ get K.cmp self.old key) }
-    {
-        match &mut self.node {
-            None => {
-                let leaf = leaf_of(alloc, key, value)?;
-                ask(confirm)?;
-                self.node = Some(leaf);
-                Ok(None)
-            }
-            Some(node) => put_below(node, alloc, key, value, confirm),
-        }
-    }
-
-    // Takes the entry at the key out, if there is one, once the last step of another change is done, and answers its
-    // value.
-    pub(crate) fn take_after<C: Confirm>(
-        &mut self,
-        key: &K,
-        confirm: &mut C,
-    ) -> Result<Option<V>, Fault<C::Refusal>>
-        requires can_confirm { C.can_confirm confirm.old }
-        requires ordered { IsOrdered K.cmp self.old }
-        ensures confirmed { OnOk result (C.gives confirm.old (Ok tt) confirm.new) }
-        ensures refused { IfErr result (λ fault. MatchFault fault (confirm.new ≡ confirm.old)
-            (λ why. C.gives confirm.old (Err why) confirm.new)) }
-        ensures err { OnErr result (self.new ≡ self.old) }
-        ensures ok { OnOk result (self.new ≡ take_entry K.cmp self.old key.now) }
-        ensures removed { IfOk result (λ o. o ≡ get K.cmp self.old key.now) }
-    {
-        match &mut self.node {
-            None => {
-                ask(confirm)?;
-                Ok(None)
-            }
-            Some(node) => take_below(node, key, confirm),
-        }
-    }
-
-    // Puts the value at the key, and answers the value that was there.
-    pub(crate) fn put(&mut self, alloc: A, key: K, value: V) -> Result<Option<V>, AllocError>
-        requires ordered { IsOrdered K.cmp self.old }
-        requires fits { length self.old + 1 < 2 ^ 64 }
-        ensures err { OnErr result (self.new ≡ self.old) }
-        ensures ok { OnOk result (self.new ≡ put_entry K.cmp self.old key value) }
-        ensures replaced { IfOk result (λ o. o ≡ get K.cmp self.old key) }
-    {
-        match self.put_after(alloc, key, value, &mut Agree) {
-            Ok(replaced) => Ok(replaced),
-            Err(_) => Err(AllocError),
-        }
-    }
-
-    // Takes the entry at the key out, if there is one, and answers its value.
-    pub(crate) fn take(&mut self, key: &K) -> Result<Option<V>, AllocError>
-        requires { IsOrdered K.cmp self.old }
-        ensures err { OnErr result (self.new ≡ self.old) }
-        ensures ok { OnOk result (self.new ≡ take_entry K.cmp self.old key.now) }
-        ensures removed { IfOk result (λ o. o ≡ get K.cmp self.old key.now) }
-    {
-        match self.take_after(key, &mut Agree) {
-            Ok(removed) => Ok(removed),
-            Err(_) => Err(AllocError),
         }
     }
 }

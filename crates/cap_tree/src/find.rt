@@ -44,20 +44,6 @@ pub(crate) fn find<'a, K: Ord, V, A: AllocHandle>(node: &'a Node<K, V, A>, key: 
     }
 }
 
-// The first entry.
-pub(crate) fn first<K: Ord, V, A: AllocHandle>(node: &Node<K, V, A>) -> Option<&(K, V)>
-    ensures none { IfNone result (node.now.0 ≡ []) }
-    ensures first { IfSome result (λ e. slice_get node.now.0 0 ≡ Some e.now) }
-{
-    match &node.link {
-        Link::Leaf(entries) => return entries.as_slice().first(),
-        Link::Inner(_, _, parts) => {
-            let (child, _) = parts.as_slice().split_first()?;
-            return first(&child.node);
-        }
-    }
-}
-
 // The last entry.
 pub(crate) fn last<K: Ord, V, A: AllocHandle>(node: &Node<K, V, A>) -> Option<&(K, V)>
     ensures none { IfNone result (node.now.0 ≡ []) }

@@ -3,7 +3,6 @@
 #![tactic(auto)]
 
 mod agree;
-mod beside;
 mod build;
 mod change;
 mod confirm;
@@ -17,14 +16,12 @@ mod node;
 mod part;
 mod path;
 mod put_after;
-mod root;
 mod shift;
 mod split;
 mod stack;
 mod take_after;
 mod tree;
 
-pub use beside::{Beside, entries_stand_beside};
 pub use confirm::Confirm;
 pub use each::insert_each_after;
 pub use iter::Iter;

@@ -49,7 +49,7 @@ fn take_from_leaf_after<K: Ord + Drop, V: Drop, A: AllocHandle, C: Confirm>(
 }
 
 // Asks the step where there is nothing to take out.
-fn ask_for_none<V, C: Confirm>(confirm: &mut C) -> Result<Option<V>, Fault<C::Refusal>>
+pub(crate) fn ask_for_none<V, C: Confirm>(confirm: &mut C) -> Result<Option<V>, Fault<C::Refusal>>
     requires { C.can_confirm confirm.old }
     ensures confirmed { OnOk result (C.gives confirm.old (Ok tt) confirm.new) }
     ensures refused { IfErr result (λ fault. MatchFault fault (confirm.new ≡ confirm.old)

@@ -7,13 +7,19 @@ ghost use Rattle.std.specs.Map.Iter.{ShowsInOrder, ShowsValuesInOrder, deref_pai
 ghost use Rattle.cap_value.specs.Memory.{MatchFault};
 ghost use Rattle.cap_tree.specs.Tree.{IsOrdered, get, put_entry, take_entry, Updates};
 
+use crate::agree::Agree;
 use crate::build::{build, is_ordered};
-use crate::confirm::Confirm;
+use crate::change::{leaf_of, put_below, take_below};
+use crate::confirm::{Confirm, ask};
+use crate::find::{find, last};
 use crate::iter::Iter;
-use crate::root::Root;
+use crate::node::Node;
+use crate::path::depth;
+use crate::take_after::ask_for_none;
 use cap_value::{AllocHandle, Exact, Fault, OutOfMemory};
 use std::alloc::AllocError;
 use std::marker::Model;
+use std::sync::Arc;
 
 /// A map whose old versions stay readable: a snapshot costs the same whatever the tree holds.
 ///
@@ -24,18 +30,20 @@ use std::marker::Model;
 /// In a clause a tree is the list of its entries, in the order of the keys. No two keys are equal by `Ord`.
 pub struct Tree<K: Ord, V, A: AllocHandle> {
     alloc: A,
-    root: Root<K, V, A>,
+    // None where there never was an entry.
+    root: Option<Arc<Node<K, V, A>, A>>,
 }
 
 impl<K: Ord, V, A: AllocHandle> Model for Tree<K, V, A> {
     ghost use Rattle.std.specs.Prelude.{List};
+    ghost use Rattle.cap_tree.specs.Root.{root_entries, IsRoot};
     ghost use Rattle.cap_tree.specs.Tree.{IsOrdered};
 
     ghost Value = { List (K × V) };
 
-    ghost view = { λ t. t.root };
+    ghost view = { λ t. root_entries t.root };
 
-    ghost invariant = { λ t. IsOrdered K.cmp t.root };
+    ghost invariant = { λ t. IsRoot t.root × IsOrdered K.cmp (root_entries t.root) };
 }
 
 // A derived `Drop` would be opened in each caller's loop.
@@ -50,10 +58,7 @@ impl<K: Ord, V, A: AllocHandle> Tree<K, V, A> {
     pub fn empty(alloc: A) -> Self
         ensures { result ≡ [] }
     {
-        Tree {
-            alloc,
-            root: Root::empty(),
-        }
+        Tree { alloc, root: None }
     }
 
     /// The number of entries.
@@ -61,14 +66,17 @@ impl<K: Ord, V, A: AllocHandle> Tree<K, V, A> {
         ensures value { result ≡ length self.now }
         ensures ordered { IsOrdered K.cmp self.now }
     {
-        self.root.count()
+        match &self.root {
+            None => 0,
+            Some(node) => node.count(),
+        }
     }
 
     /// Whether there is no entry.
     pub fn is_empty(&self) -> bool
         ensures { IsTrue result ↔ (self.now ≡ []) }
     {
-        self.root.count() == 0
+        self.len() == 0
     }
 
     /// The number of nodes on the way from the root down to an entry, which is the same for all, and 0 for the empty
@@ -82,7 +90,10 @@ impl<K: Ord, V, A: AllocHandle> Tree<K, V, A> {
         ensures least { 1 < result → 2 * 4 ^ (result - 1) ≤ length self.now }
         ensures digits { (digits : ℕ) → length self.now < 2 ^ digits → result ≤ digits }
     {
-        self.root.height()
+        match &self.root {
+            None => 0,
+            Some(node) => levels(node),
+        }
     }
 
     /// The same tree once more, which shares every node with this one and takes no memory.
@@ -91,9 +102,13 @@ impl<K: Ord, V, A: AllocHandle> Tree<K, V, A> {
     pub fn snapshot(&self) -> Result<Self, AllocError>
         ensures { IfOk result (λ t. t ≡ self.now) }
     {
+        let root = match &self.root {
+            None => None,
+            Some(node) => Some(Arc::try_clone(node)?),
+        };
         Ok(Tree {
             alloc: self.alloc,
-            root: self.root.share()?,
+            root,
         })
     }
 
@@ -101,7 +116,10 @@ impl<K: Ord, V, A: AllocHandle> Tree<K, V, A> {
     pub fn get(&self, key: &K) -> Option<&V>
         ensures { option_copied result ≡ get K.cmp self.now key.now }
     {
-        self.root.get(key)
+        match &self.root {
+            None => None,
+            Some(node) => find(node, key),
+        }
     }
 
     /// The entries in the order of their keys. Going over all of them takes time in proportion to their number.
@@ -113,7 +131,7 @@ impl<K: Ord, V, A: AllocHandle> Tree<K, V, A> {
         ensures values_run { ShowsValuesInOrder (deref_pair {K = K} {X = V}) }
         ensures found { All (λ e. get K.cmp self.now e.0 ≡ Some e.1) self.now }
     {
-        self.root.iter()
+        Iter::over(&self.root)
     }
 
     /// The entries from the first whose key is not below this one.
@@ -125,9 +143,9 @@ impl<K: Ord, V, A: AllocHandle> Tree<K, V, A> {
         ensures runs { ShowsInOrder (deref_pair {K = K} {X = V}) }
         ensures values_run { ShowsValuesInOrder (deref_pair {K = K} {X = V}) }
     {
-        // The count shows that the number of entries fits.
-        let _count = self.root.count();
-        self.root.seek(key)
+        // The length shows that the number of entries fits.
+        let _length = self.len();
+        Iter::from_key(&self.root, key)
     }
 
     /// The entry with the least key.
@@ -135,8 +153,7 @@ impl<K: Ord, V, A: AllocHandle> Tree<K, V, A> {
         ensures none { IfNone result (self.now ≡ []) }
         ensures first { IfSome result (λ p. slice_get self.now 0 ≡ Some (deref_pair p)) }
     {
-        let entry = self.root.first()?;
-        Some((&entry.0, &entry.1))
+        self.iter().next()
     }
 
     /// The entry with the greatest key.
@@ -144,8 +161,13 @@ impl<K: Ord, V, A: AllocHandle> Tree<K, V, A> {
         ensures none { IfNone result (self.now ≡ []) }
         ensures last { IfSome result (λ p. slice_get self.now (length self.now - 1) ≡ Some (deref_pair p)) }
     {
-        let entry = self.root.last()?;
-        Some((&entry.0, &entry.1))
+        match &self.root {
+            None => None,
+            Some(node) => {
+                let entry = last(node)?;
+                Some((&entry.0, &entry.1))
+            }
+        }
     }
 }
 
@@ -182,10 +204,16 @@ impl<K: Ord + Exact + Drop, V: Exact + Drop, A: AllocHandle> Tree<K, V, A> {
         ensures ok { OnOk result (self.new ≡ put_entry K.cmp self.old key value) }
         ensures replaced { IfOk result (λ o. o ≡ get K.cmp self.old key) }
     {
-        if self.root.count() == usize::MAX {
-            return Err(Fault::OutOfMemory);
+        let alloc = self.alloc;
+        match &mut self.root {
+            None => {
+                let leaf = leaf_of(alloc, key, value)?;
+                ask(confirm)?;
+                self.root = Some(leaf);
+                Ok(None)
+            }
+            Some(node) => put_below(node, alloc, key, value, confirm),
         }
-        self.root.put_after(self.alloc, key, value, confirm)
     }
 
     /// Takes the entry at the key out, if there is one, once the last step of another change is done, and answers its
@@ -206,7 +234,10 @@ impl<K: Ord + Exact + Drop, V: Exact + Drop, A: AllocHandle> Tree<K, V, A> {
         ensures ok { OnOk result (self.new ≡ take_entry K.cmp self.old key.now) }
         ensures removed { IfOk result (λ o. o ≡ get K.cmp self.old key.now) }
     {
-        self.root.take_after(key, confirm)
+        match &mut self.root {
+            None => ask_for_none(confirm),
+            Some(node) => take_below(node, key, confirm),
+        }
     }
 
     /// Puts the value at the key, and answers the value that was there. It searches once.
@@ -220,10 +251,12 @@ impl<K: Ord + Exact + Drop, V: Exact + Drop, A: AllocHandle> Tree<K, V, A> {
         ensures len { IfOk result (λ o. length self.new ≡ length self.old + (if is_some o then 0 else 1)) }
         ensures ordered { OnOk result (IsOrdered K.cmp self.new) }
     {
-        if self.root.count() == usize::MAX {
-            return Err(OutOfMemory);
+        // The length shows that the entries are ordered.
+        let _length = self.len();
+        match self.insert_after(key, value, &mut Agree) {
+            Ok(replaced) => Ok(replaced),
+            Err(_) => Err(OutOfMemory),
         }
-        self.root.put(self.alloc, key, value)
     }
 
     /// Takes the entry at the key out, if there is one, and answers its value. It searches once.
@@ -237,7 +270,12 @@ impl<K: Ord + Exact + Drop, V: Exact + Drop, A: AllocHandle> Tree<K, V, A> {
         ensures len { IfOk result (λ o. length self.new + (if is_some o then 1 else 0) ≡ length self.old) }
         ensures ordered { OnOk result (IsOrdered K.cmp self.new) }
     {
-        self.root.take(key)
+        // The length shows that the entries are ordered.
+        let _length = self.len();
+        match self.remove_after(key, &mut Agree) {
+            Ok(removed) => Ok(removed),
+            Err(_) => Err(OutOfMemory),
+        }
     }
 }
 
@@ -282,4 +320,19 @@ impl<K: Ord + Exact + Drop, V: Exact + Drop, A: AllocHandle> Tree<K, V, A> {
         let root = build(alloc, entries)?;
         Ok(Some(Tree { alloc, root }))
     }
+}
+
+// The number of nodes on each way down from the root, 0 where there is no entry.
+fn levels<K: Ord, V, A: AllocHandle>(node: &Node<K, V, A>) -> u64
+    requires { 0 < node.now.1 → 2 ≤ node.now.2 }
+    ensures empty { (result ≡ 0) ↔ (node.now.0 ≡ []) }
+    ensures most { length node.now.0 ≤ 16 ^ result }
+    ensures least { 1 < result → 2 * 4 ^ (result - 1) ≤ length node.now.0 }
+    ensures digits { (digits : ℕ) → length node.now.0 < 2 ^ digits → result ≤ digits }
+{
+    let _length = node.len();
+    if node.count() == 0 {
+        return 0;
+    }
+    depth(node) + 1
 }

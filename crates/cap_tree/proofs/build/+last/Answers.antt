@@ -1,4 +1,4 @@
-use Rattle.std.proofs.Common.{◌≡◌, ◌+◌, ◌-◌, ◌*◌, ◌/◌, ◌^◌, ◌<◌, ◌≤◌, ◌∷◌, length, vec_len, take, drop, length-append, sym, ap, ◌∙◌, subst, arith, lit<, rules}
+use Rattle.std.proofs.Common.{◌≡◌, ◌+◌, ◌-◌, ◌*◌, ◌/◌, ◌^◌, ◌<◌, ◌≤◌, ◌∷◌, length, vec_len, take, drop, length-append, refl, sym, ap, ◌∙◌, subst, arith, lit<, rules}
 use Rattle.std.proofs.lemmas.List.{append-nil}
 use Rattle.std.proofs.Math.Nat.{lt_of_mul-lt-mul_right, one-le-pow}
 use Rattle.cap_tree.specs.Shape.{seen, entries_of, IsChild, EachBelow, NoneBelow}
@@ -133,3 +133,38 @@ last_parts-returns-clause-most g t c =
 
 pub last_parts-returns-clause-items : goal.last_parts-returns-clause-items
 last_parts-returns-clause-items g t c = omega (arith, c.loop-rest.invariant.covered, c.loop-rest.invariant.count, c.loop-rest-test.false)
+
+pub last_node-last_leaf-requires-clause-most : goal.last_node-last_leaf-requires-clause-most
+last_node-last_leaf-requires-clause-most g t c =
+    let one : c.args.share ≡ 1 = rw c.if-height-eq0.true at c.requires.share in
+    omega (arith, one, c.requires.most)
+
+pub last_node-returns-then-height-eq0-clause-height : goal.last_node-returns-then-height-eq0-clause-height
+last_node-returns-then-height-eq0-clause-height g t c = rw c.if-height-eq0.true c.last_leaf.ensures.height
+
+pub last_node-last_parts-requires : goal.last_node-last_parts-requires
+last_node-last_parts-requires g t c =
+    let inner : 0 < c.args.height = omega (arith, c.if-height-eq0.false) in
+    let level : 3 * c.args.height + 1 < 3 * c.args.height + 2 = omega arith in
+    let r = c.requires in
+    λ κs h. search rules
+
+pub last_node-invariant_of-result : goal.last_node-invariant_of-result
+last_node-invariant_of-result g t c =
+    let e = c.in_ok-parts.ensures in
+    let some : 0 < vec_len c.in_ok-parts.parts = lt_of_mul-lt-mul_right c.args.share (omega (arith, e.items, c.requires.some)) in
+    (some, e.most, e.parts, e.fit, sym e.count)
+
+pub last_node-returns : goal.last_node-returns
+last_node-returns g t c =
+    let e = c.in_ok-parts.ensures in
+    record { entries = e.entries; count = e.count; height = refl; items = e.items }
+
+pub last_part-returns-clause-entries : goal.last_part-returns-clause-entries
+last_part-returns-clause-entries g t c = rw c.in_ok-node-2.ensures.ok c.in_ok-node.ensures.entries
+
+pub last_part-returns-clause-count : goal.last_part-returns-clause-count
+last_part-returns-clause-count g t c = rw c.in_ok-node-2.ensures.ok c.in_ok-node.ensures.count
+
+pub last_part-returns-clause-height : goal.last_part-returns-clause-height
+last_part-returns-clause-height g t c = rw c.in_ok-node-2.ensures.ok c.in_ok-node.ensures.height

@@ -5,8 +5,5 @@ use Rattle.cap_tree.proofs.build.build.Goals as goal
 pub returns-then-count-eq0 : goal.returns-then-count-eq0
 returns-then-count-eq0 g c = grind (arith, common_steps)
 
-pub invariant_of-root : goal.invariant_of-root
-invariant_of-root g c = grind (arith, common_steps)
-
 pub returns : goal.returns
-returns g c = grind (arith, common_steps)
+returns g c = record { entries = grind (arith, common_steps); two = grind (arith, common_steps) }

@@ -1,5 +1,5 @@
-use Rattle.std.proofs.Common.{length, length-append, arith, sym, ap, ◌∙◌}
-use Rattle.cap_tree.specs.Shape.{seen, entries_of}
+use Rattle.std.proofs.Common.{◌≡◌, length, length-append, arith, sym, subst, ap, ◌∙◌}
+use Rattle.cap_tree.specs.Shape.{seen, entries_of, IsParts}
 use Rattle.cap_tree.proofs.PartLemmas.{high}
 use Rattle.cap_tree.proofs.fill.even.Goals as goal
 
@@ -34,3 +34,33 @@ invariant_of-front-in-Inner-link-2 g c =
     let e = c.in_ok-next-in-Inner-link-2.ensures in
     let total = sym (length-append (entries_of (seen c.even_parts.new.front.items)) (entries_of (seen c.even_parts.new.back.items))) ∙ ap length (sym e.cut.entries) ∙ length-append (entries_of (seen c.in-Inner.parts.items)) (entries_of (seen c.in-Inner-link-2.others.items)) in
     (omega (arith, e.cut.len, c.requires.some), omega (arith, e.cut.len, c.requires.most), e.front_parts, e.front_fit, omega (arith, total, e.behind, nf.4, nb.4))
+
+pub even_parts-requires : goal.even_parts-requires
+even_parts-requires g c =
+    let nf = rw c.in-Inner.is at c.front.invariant in
+    let nb = rw c.in-Inner-link-2.is at c.back.invariant in
+    let front = rw c.in-Inner.is at c.front.view_is in
+    let back = rw c.in-Inner-link-2.is at c.back.view_is in
+    let level : c.in-Inner-link-2.field-0 ≡ c.in-Inner.height = ap (λ n. n.1) back ∙ sym c.requires.level ∙ sym (ap (λ n. n.1) front) in
+    record {
+      front_small = nf.1;
+      back_small = nb.1;
+      some = nb.0;
+      within = omega (arith, ap (λ n. n.2) front, ap (λ n. n.2) back, c.requires.within);
+      uneven = λ q. c.requires.uneven (q ∙ ap (λ n. n.2) front);
+      front_parts = nf.2;
+      back_parts = subst (λ h. IsParts g.K.Ord.cmp h (seen c.in-Inner-link-2.others.items)) level nb.2;
+      front_fit = nf.3;
+      back_fit = nb.3;
+      below = rw (ap (λ n. n.0) front) c.requires.below;
+      not_below = rw (ap (λ n. n.0) back) c.requires.not_below;
+      fits = omega (arith, ap (λ n. length n.0) front, ap (λ n. length n.0) back, c.requires.fits);
+    }
+
+pub invariant_of-back-in-Inner-link-2 : goal.invariant_of-back-in-Inner-link-2
+invariant_of-back-in-Inner-link-2 g c =
+    let front = rw c.in-Inner.is at c.front.view_is in
+    let back = rw c.in-Inner-link-2.is at c.back.view_is in
+    let level : c.in-Inner.height ≡ c.in-Inner-link-2.field-0 = ap (λ n. n.1) front ∙ c.requires.level ∙ sym (ap (λ n. n.1) back) in
+    let e = c.in_ok-next-in-Inner-link-2.ensures in
+    (omega (arith, e.cut.back_len, ap (λ n. n.2) front, ap (λ n. n.2) back, c.requires.within), omega (arith, e.cut.back_len, ap (λ n. n.2) front, ap (λ n. n.2) back, c.requires.back_most), subst (λ h. IsParts g.K.Ord.cmp h (seen c.even_parts.new.back.items)) level e.back_parts, e.back_fit, e.behind)

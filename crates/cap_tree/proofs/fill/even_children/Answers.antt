@@ -1,6 +1,5 @@
-use Rattle.std.proofs.Common.{◌≡◌, ◌≢◌, ◌+◌, ◌<◌, ◌≤◌, ◌++◌, length, take, drop, get_or, arith, refl, rules, sym, ap, ◌∙◌}
-use Rattle.cap_tree.specs.Shape.{IsChild, IsFit}
-use Rattle.cap_tree.proofs.HeightLemmas.{fed}
+use Rattle.std.proofs.Common.{◌≡◌, ◌≢◌, ◌+◌, ◌<◌, ◌≤◌, length, take, drop, get_or, arith, refl, rules, sym, ap, ◌∙◌}
+use Rattle.cap_tree.specs.Shape.{IsFit}
 use Rattle.cap_tree.proofs.PlaceLemmas.{is_not_less}
 use Rattle.cap_tree.proofs.PutLemmas.{child_is}
 use Rattle.cap_tree.proofs.PairLemmas.{seam, front_read, back_read, second_read, kept_pair, pair_has, below_pair, not_below_pair, ordered_pair, count_pair, anew_entries, anew_parts, anew_fit, anew_place_first, anew_place_second, anew_first, anew_second}

@@ -1,4 +1,4 @@
-use Rattle.std.proofs.Common.{◌≡◌, ◌+◌, ◌<◌, ◌++◌, length, vec_len, length-append, take, drop, arith, refl, ◌∙◌}
+use Rattle.std.proofs.Common.{◌≡◌, ◌+◌, ◌<◌, ◌++◌, length, vec_len, length-append, arith}
 use Rattle.cap_tree.proofs.CutLemmas.{leaf_cut}
 use Rattle.cap_tree.proofs.fill.even_entries.Goals as goal
 

@@ -21,3 +21,27 @@ even_children-requires-clause-uneven g c f q =
     let b : c.len-2.result ≡ items_at (c.args.at + 1) f (seen items) = c.len-2.ensures.value ∙ ap (λ n. n.2) c.deref-2.ensures ∙ sym (ap (λ p. p.1.2) (seen_at items (c.args.at + 1) c.index-2.result.now f within c.index-2.ensures)) in
     let lean : (c.len.result ≤ 4) ⊎ (c.len-2.result ≤ 4) = rw (a, b) (at_each c.requires.lean f) in
     uneven c.len.result c.len-2.result lean c.if-total-le-MOST.false c.len.ensures.most c.len-2.ensures.most (q ∙ sym a)
+
+pub even_children-requires-clause-back : goal.even_children-requires-clause-back
+even_children-requires-clause-back g c f =
+    let items = c.args.parts.now.items in
+    let within : c.args.at + 1 < length items = omega (arith, c.requires.within, c.args.parts.now.ok.0) in
+    let a : c.len.result ≡ items_at c.args.at f (seen items) = c.len.ensures.value ∙ ap (λ n. n.2) c.deref.ensures ∙ sym (ap (λ p. p.1.2) (seen_at items c.args.at c.index.result.now f (omega (arith, within)) c.index.ensures)) in
+    let b : c.len-2.result ≡ items_at (c.args.at + 1) f (seen items) = c.len-2.ensures.value ∙ ap (λ n. n.2) c.deref-2.ensures ∙ sym (ap (λ p. p.1.2) (seen_at items (c.args.at + 1) c.index-2.result.now f within c.index-2.ensures)) in
+    rw (← a, ← b) (omega (arith, c.if-total-le-MOST.false))
+
+pub even_children-requires-clause-back_most : goal.even_children-requires-clause-back_most
+even_children-requires-clause-back_most g c f =
+    let items = c.args.parts.now.items in
+    let within : c.args.at + 1 < length items = omega (arith, c.requires.within, c.args.parts.now.ok.0) in
+    let a : c.len.result ≡ items_at c.args.at f (seen items) = c.len.ensures.value ∙ ap (λ n. n.2) c.deref.ensures ∙ sym (ap (λ p. p.1.2) (seen_at items c.args.at c.index.result.now f (omega (arith, within)) c.index.ensures)) in
+    let b : c.len-2.result ≡ items_at (c.args.at + 1) f (seen items) = c.len-2.ensures.value ∙ ap (λ n. n.2) c.deref-2.ensures ∙ sym (ap (λ p. p.1.2) (seen_at items (c.args.at + 1) c.index-2.result.now f within c.index-2.ensures)) in
+    rw (← a, ← b) (omega (arith, c.len.ensures.most, c.len-2.ensures.most))
+
+pub join_children-requires-clause-room : goal.join_children-requires-clause-room
+join_children-requires-clause-room g c f =
+    let items = c.args.parts.now.items in
+    let within : c.args.at + 1 < length items = omega (arith, c.requires.within, c.args.parts.now.ok.0) in
+    let a : c.len.result ≡ items_at c.args.at f (seen items) = c.len.ensures.value ∙ ap (λ n. n.2) c.deref.ensures ∙ sym (ap (λ p. p.1.2) (seen_at items c.args.at c.index.result.now f (omega (arith, within)) c.index.ensures)) in
+    let b : c.len-2.result ≡ items_at (c.args.at + 1) f (seen items) = c.len-2.ensures.value ∙ ap (λ n. n.2) c.deref-2.ensures ∙ sym (ap (λ p. p.1.2) (seen_at items (c.args.at + 1) c.index-2.result.now f within c.index-2.ensures)) in
+    rw (← a, ← b) c.if-total-le-MOST.true

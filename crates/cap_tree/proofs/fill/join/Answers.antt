@@ -1,4 +1,5 @@
-use Rattle.std.proofs.Common.{arith, refl, ap, ◌∙◌}
+use Rattle.std.proofs.Common.{◌≡◌, arith, length, length-append, sym, subst, ap, ◌∙◌}
+use Rattle.cap_tree.specs.Shape.{seen, entries_of, IsParts}
 use Rattle.cap_tree.proofs.PartLemmas.{high}
 use Rattle.cap_tree.proofs.fill.join.Goals as goal
 
@@ -23,3 +24,30 @@ returns-in-Inner-link-2-clause-whole g c =
     let front = rw c.in-Inner.is at c.front.view_is in
     let back = rw c.in-Inner-link-2.is at c.back.view_is in
     rw (← front, ← back) c.in_ok-join_parts-in-Inner-link-2.ensures.whole
+
+pub join_parts-requires : goal.join_parts-requires
+join_parts-requires g c =
+    let nf = rw c.in-Inner.is at c.front.invariant in
+    let nb = rw c.in-Inner-link-2.is at c.back.invariant in
+    let front = rw c.in-Inner.is at c.front.view_is in
+    let back = rw c.in-Inner-link-2.is at c.back.view_is in
+    let level : c.in-Inner-link-2.field-0 ≡ c.in-Inner.height = ap (λ n. n.1) back ∙ sym c.requires.level ∙ sym (ap (λ n. n.1) front) in
+    record {
+      some = nb.0;
+      front_parts = nf.2;
+      back_parts = subst (λ h. IsParts g.K.Ord.cmp h (seen c.in-Inner-link-2.others.items)) level nb.2;
+      front_fit = nf.3;
+      back_fit = nb.3;
+      below = rw (ap (λ n. n.0) front) c.requires.below;
+      not_below = rw (ap (λ n. n.0) back) c.requires.not_below;
+    }
+
+pub invariant_of-front-in-Inner-link-2 : goal.invariant_of-front-in-Inner-link-2
+invariant_of-front-in-Inner-link-2 g c =
+    let nf = rw c.in-Inner.is at c.front.invariant in
+    let nb = rw c.in-Inner-link-2.is at c.back.invariant in
+    let front = rw c.in-Inner.is at c.front.view_is in
+    let back = rw c.in-Inner-link-2.is at c.back.view_is in
+    let e = c.in_ok-join_parts-in-Inner-link-2.ensures in
+    let len = ap (λ n. n.2) e.whole in
+    (omega (arith, len, nf.0), omega (arith, len, ap (λ n. n.2) front, ap (λ n. n.2) back, c.requires.room), e.parts, e.fit, omega (arith, nf.4, nb.4, ap (λ n. length n.0) e.whole, length-append (entries_of (seen c.in-Inner.parts.items)) (entries_of (seen c.in-Inner-link-2.others.items))))

@@ -1,4 +1,4 @@
-use Rattle.std.proofs.Common.{◌≡◌, ◌+◌, length, arith, refl, ap, ◌∙◌}
+use Rattle.std.proofs.Common.{◌≡◌, ◌+◌, length, arith, refl, sym, ap, ◌∙◌}
 use Rattle.std.proofs.lemmas.List.{append-nil}
 use Rattle.cap_tree.specs.Shape.{IsChild, IsFit, IsFilled, EachBelow, NoneBelow}
 use Rattle.cap_tree.proofs.HeightLemmas.{fed}
@@ -21,3 +21,14 @@ invariant_of-whole g c =
     let below : EachBelow g.K.Ord.cmp back.least c.swap.new.x.0 = rw is e.below in
     let two : c.push-2.new.self.len ≡ 2 = omega (arith, c.in-Ok-push.ensures.len, c.in-Ok.ensures.len, c.in_ok-parts.ensures.len) in
     (omega (arith, two), omega (arith, two), rw (c.in-Ok-push.ensures.items, c.in-Ok.ensures.items, c.in_ok-parts.ensures.items) (front_child, low, (below, tt), (back_child, e.not_below, tt, tt)), rw (c.in-Ok-push.ensures.items, c.in-Ok.ensures.items, c.in_ok-parts.ensures.items) (front_fit, (back_fit, tt)), rw (c.in-Ok-push.ensures.items, c.in-Ok.ensures.items, c.in_ok-parts.ensures.items) (c.count-count.ensures ∙ ap length (e.entries ∙ rw (is, append-nil) refl)))
+
+pub returns : goal.returns
+returns g c =
+    let is : c.swap.new.x ≡ c.split.new.self = c.swap.ensures.x_after in
+    let e = c.in_ok-back.ensures.cut in
+    let two : c.push-2.new.self.len ≡ 2 = omega (arith, c.in-Ok-push.ensures.len, c.in-Ok.ensures.len, c.in_ok-parts.ensures.len) in
+    record {
+      entries = rw (c.in-Ok-push.ensures.items, c.in-Ok.ensures.items, c.in_ok-parts.ensures.items) (rw (is, append-nil) (sym e.entries));
+      two = omega (arith, two);
+      room = omega (arith, two);
+    }

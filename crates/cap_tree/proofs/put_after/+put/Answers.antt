@@ -1,7 +1,7 @@
 use Rattle.std.proofs.Common.{◌≡◌, ◌+◌, ◌*◌, ◌<◌, ◌^◌, length, arith, rules, sym, ap, ◌∙◌}
 use Rattle.cap_tree.specs.Tree.{IsOrdered, put_entry, get}
 use Rattle.cap_tree.specs.Shape.{IsFit, seen, entries_of}
-use Rattle.cap_tree.proofs.PutLemmas.{err_of, ok_of, answer_of, child_is, child_fit, child_has, child_count, child_still, child_ordered, fit_still, put_child, put_child_err, put_child_ok, put_child_replaced, put_child_count}
+use Rattle.cap_tree.proofs.PutLemmas.{on_err, err_of, ok_of, answer_of, child_is, child_fit, child_has, child_count, child_still, child_ordered, fit_still, put_child, put_child_err, put_child_ok, put_child_replaced, put_child_count}
 use Rattle.cap_tree.proofs.put_after.+put.Goals as goal
 
 pub put_after-put_in_child-replaced-requires : goal.put_after-put_in_child-replaced-requires
@@ -70,3 +70,58 @@ put_after-returns-in-Inner g t c =
       ok = ok_of (λ l. put_entry g.K.Ord.cmp l c.args.key c.args.value) _ _ whole r _ (put_child_ok g.K.Ord.cmp items at part within is x e.least g.met.K.Ord.total c.args.key c.args.value c.in-Inner.height parts c.in_ok-at-in-Inner.ensures.place r e.ok);
       replaced = answer_of (λ l. get g.K.Ord.cmp l c.args.key) _ _ whole r (put_child_replaced g.K.Ord.cmp items at part within is x e.least g.met.K.Ord.total c.args.key c.args.value c.in-Inner.height parts c.in_ok-at-in-Inner.ensures.place r e.replaced);
     }
+
+pub put_after-invariant_of-node : goal.put_after-invariant_of-node
+put_after-invariant_of-node g t c =
+    let view = rw c.in-Leaf.is at c.node.view_is in
+    omega (arith, c.put_in_leaf_after.ensures.one_more, c.requires.room, ap (λ n. n.2) view)
+
+pub put_after-returns-in-Leaf : goal.put_after-returns-in-Leaf
+put_after-returns-in-Leaf g t c =
+    let view = rw c.in-Leaf.is at c.node.view_is in
+    let e = c.put_in_leaf_after.ensures in
+    record {
+      confirmed = e.confirmed;
+      refused = e.refused;
+      grown = record {
+        height = ap (λ n. n.1) view;
+        not_less = omega (arith, ap (λ n. n.2) view, e.not_less);
+        one_more = omega (arith, ap (λ n. n.2) view, e.one_more);
+      };
+      err = rw (← ap (λ n. n.0) view) e.err;
+      ok = rw (← ap (λ n. n.0) view) e.ok;
+      replaced = rw (← ap (λ n. n.0) view) e.replaced;
+    }
+
+pub put_after-make_room-requires : goal.put_after-make_room-requires
+put_after-make_room-requires g t c =
+    let n = rw c.in-Inner.is at c.node.invariant in
+    let view = rw c.in-Inner.is at c.node.view_is in
+    record { some = n.0; parts = n.2; fit = n.3; ordered = rw (ap (λ n. n.0) view) c.requires.ordered }
+
+pub put_after-invariant_of-node-in_err-at-in-Inner : goal.put_after-invariant_of-node-in_err-at-in-Inner
+put_after-invariant_of-node-in_err-at-in-Inner g t c =
+    let n = rw c.in-Inner.is at c.node.invariant in
+    let view = rw c.in-Inner.is at c.node.view_is in
+    let e = c.make_room.ensures in
+    (omega (arith, n.0, e.not_less), omega (arith, ap (λ n. n.2) view, c.requires.room, e.one_more), e.parts, e.fit, n.4 ∙ ap length (sym e.entries))
+
+pub put_after-returns-in_err-at-in-Inner-clause-grown : goal.put_after-returns-in_err-at-in-Inner-clause-grown
+put_after-returns-in_err-at-in-Inner-clause-grown g t c =
+    let view = rw c.in-Inner.is at c.node.view_is in
+    record {
+      height = ap (λ n. n.1) view;
+      not_less = omega (arith, ap (λ n. n.2) view, c.make_room.ensures.not_less);
+      one_more = omega (arith, ap (λ n. n.2) view, c.make_room.ensures.one_more);
+    }
+
+pub put_after-returns-in_err-at-in-Inner-clause-err : goal.put_after-returns-in_err-at-in-Inner-clause-err
+put_after-returns-in_err-at-in-Inner-clause-err g t c =
+    let view = rw c.in-Inner.is at c.node.view_is in
+    on_err c.from_residual.result (c.make_room.ensures.entries ∙ ap (λ n. n.0) view)
+
+pub put_after-count_put-requires : goal.put_after-count_put-requires
+put_after-count_put-requires g t c =
+    let n = rw c.in-Inner.is at c.node.invariant in
+    let view = rw c.in-Inner.is at c.node.view_is in
+    record { fits = omega (arith, n.4, ap (λ n. length n.0) view, c.requires.fits) }

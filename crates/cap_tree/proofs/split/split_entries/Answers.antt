@@ -1,4 +1,4 @@
-use Rattle.std.proofs.Common.{◌≡◌, ◌+◌, ◌<◌, ◌++◌, length, vec_len, take, drop, arith, refl, ◌∙◌}
+use Rattle.std.proofs.Common.{◌≡◌, ◌+◌, ◌<◌, ◌++◌, length, vec_len, arith}
 use Rattle.std.proofs.lemmas.List.{append-nil}
 use Rattle.cap_tree.proofs.CutLemmas.{leaf_cut}
 use Rattle.cap_tree.proofs.split.split_entries.Goals as goal

@@ -1,4 +1,4 @@
-use Rattle.std.proofs.Common.{◌≡◌, ◌+◌, ◌<◌, ◌++◌, length, vec_len, take, drop, arith, refl, ◌∙◌}
+use Rattle.std.proofs.Common.{◌≡◌, ◌+◌, ◌<◌, ◌++◌, length, vec_len, arith, refl, ◌∙◌}
 use Rattle.std.proofs.lemmas.List.{append-nil}
 use Rattle.cap_tree.proofs.SplitLemmas.{inner_front, inner_back, inner_fit_front, inner_fit_back, inner_count}
 use Rattle.cap_tree.proofs.CutLemmas.{inner_cut}

@@ -1,10 +1,10 @@
 use Rattle.std.proofs.Common.{◌≡◌, ◌+◌, ◌*◌, ◌<◌, length, arith, rules, sym, ap, ◌∙◌}
 use Rattle.cap_tree.specs.Tree.{IsOrdered, take_entry, get}
 use Rattle.cap_tree.specs.Shape.{IsFit, seen, entries_of}
-use Rattle.cap_tree.proofs.EntryLemmas.{take_entry-absent, get-some-length}
+use Rattle.cap_tree.proofs.EntryLemmas.{take_entry-absent}
 use Rattle.cap_tree.proofs.PartLemmas.{high}
 use Rattle.cap_tree.proofs.PlaceLemmas.{get_none}
-use Rattle.cap_tree.proofs.PutLemmas.{err_of, ok_of, answer_of, on_ok, child_is, child_fit, child_has, child_still, child_ordered, fit_still, take_child, take_child_err, take_child_ok, take_child_removed, take_child_count, some_there}
+use Rattle.cap_tree.proofs.PutLemmas.{on_err, err_of, ok_of, answer_of, on_ok, child_is, child_fit, child_has, child_still, child_ordered, fit_still, take_child, take_child_err, take_child_ok, take_child_removed, take_child_count, some_there}
 use Rattle.cap_tree.proofs.take_after.+take.Goals as goal
 
 pub take_after-returns-then-place-eq0-clause-ok : goal.take_after-returns-then-place-eq0-clause-ok
@@ -133,3 +133,56 @@ take_after-returns-in-Inner g t c =
       ok = ok_of (λ l. take_entry g.K.Ord.cmp l c.args.key.now) _ _ whole r _ (take_child_ok g.K.Ord.cmp items at part within is x e.least g.met.K.Ord.total c.args.key.now c.in-Inner.height parts c.in_ok-at-in-Inner.ensures.place r e.ok);
       removed = answer_of (λ l. get g.K.Ord.cmp l c.args.key.now) _ _ whole r (take_child_removed g.K.Ord.cmp items at part within is x e.least g.met.K.Ord.total c.args.key.now c.in-Inner.height parts c.in_ok-at-in-Inner.ensures.place r e.removed);
     }
+
+pub take_after-invariant_of-node : goal.take_after-invariant_of-node
+take_after-invariant_of-node g t c =
+    let n = rw c.in-Leaf.is at c.node.invariant in
+    omega (arith, c.take_from_leaf_after.ensures.not_more, n)
+
+pub take_after-returns-in-Leaf : goal.take_after-returns-in-Leaf
+take_after-returns-in-Leaf g t c =
+    let view = rw c.in-Leaf.is at c.node.view_is in
+    let e = c.take_from_leaf_after.ensures in
+    record {
+      confirmed = e.confirmed;
+      refused = e.refused;
+      shrunk = record {
+        height = ap (λ n. n.1) view;
+        not_more = omega (arith, ap (λ n. n.2) view, e.not_more);
+        one_less = omega (arith, ap (λ n. n.2) view, e.one_less);
+      };
+      err = rw (← ap (λ n. n.0) view) e.err;
+      ok = rw (← ap (λ n. n.0) view) e.ok;
+      removed = rw (← ap (λ n. n.0) view) e.removed;
+    }
+
+pub take_after-invariant_of-node-then-place-eq0 : goal.take_after-invariant_of-node-then-place-eq0
+take_after-invariant_of-node-then-place-eq0 g t c = rw c.in-Inner.is at c.node.invariant
+
+pub take_after-returns-then-place-eq0-clause-shrunk : goal.take_after-returns-then-place-eq0-clause-shrunk
+take_after-returns-then-place-eq0-clause-shrunk g t c =
+    let view = rw c.in-Inner.is at c.node.view_is in
+    record {
+      height = ap (λ n. n.1) view;
+      not_more = omega (arith, ap (λ n. n.2) view);
+      one_less = omega (arith, ap (λ n. n.2) view);
+    }
+
+pub take_after-returns-then-place-eq0-clause-err : goal.take_after-returns-then-place-eq0-clause-err
+take_after-returns-then-place-eq0-clause-err g t c =
+    let view = rw c.in-Inner.is at c.node.view_is in
+    on_err c.ask_for_none.result (ap (λ n. n.0) view)
+
+pub take_after-returns-in_err-at-in-Inner-clause-shrunk : goal.take_after-returns-in_err-at-in-Inner-clause-shrunk
+take_after-returns-in_err-at-in-Inner-clause-shrunk g t c =
+    let view = rw c.in-Inner.is at c.node.view_is in
+    record {
+      height = ap (λ n. n.1) view;
+      not_more = omega (arith, ap (λ n. n.2) view, c.make_spare.ensures.not_more);
+      one_less = omega (arith, ap (λ n. n.2) view, c.make_spare.ensures.one_less);
+    }
+
+pub take_after-returns-in_err-at-in-Inner-clause-err : goal.take_after-returns-in_err-at-in-Inner-clause-err
+take_after-returns-in_err-at-in-Inner-clause-err g t c =
+    let view = rw c.in-Inner.is at c.node.view_is in
+    on_err c.from_residual.result (c.make_spare.ensures.entries ∙ ap (λ n. n.0) view)

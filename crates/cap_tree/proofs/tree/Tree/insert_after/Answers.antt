@@ -1,5 +1,13 @@
+use Rattle.std.proofs.Common.{[], arith}
+use Rattle.cap_tree.proofs.EntryLemmas.{ordered_put, sorted_nil}
 use Rattle.cap_tree.proofs.TreeLemmas.{put_ordered}
 use Rattle.cap_tree.proofs.tree.Tree.insert_after.Goals as goal
 
-pub invariant_of-self : goal.invariant_of-self
-invariant_of-self g c = put_ordered g.K.Ord.cmp g.met.K.Ord.total c.args.key c.self.inside.root c.put_after.new.self c.self.invariant c.args.value c.put_after.result c.put_after.ensures.err c.put_after.ensures.ok
+pub invariant_of-self-in-None : goal.invariant_of-self-in-None
+invariant_of-self-in-None g c =
+    rw c.in_ok-leaf-in-None.ensures (λ high. absurd (omega (arith, high)), ordered_put g.K.Ord.cmp g.met.K.Ord.total c.args.key c.args.value [] (sorted_nil g.K.Ord.cmp))
+
+pub invariant_of-self-in-Some : goal.invariant_of-self-in-Some
+invariant_of-self-in-Some g c =
+    let before = rw c.in-Some.is at c.self.invariant in
+    (λ high. omega (arith, c.put_below.ensures.two high), put_ordered g.K.Ord.cmp g.met.K.Ord.total c.args.key c.in-Some.node.value.0 c.put_below.new.root.value.0 before.1 c.args.value c.put_below.result c.put_below.ensures.err c.put_below.ensures.ok)

@@ -13,4 +13,4 @@ pub returns-clause-values_run : goal.returns-clause-values_run
 returns-clause-values_run g c = from_front (TakesFirst deref_pair) (λ x. (deref_pair x).1) values_of (λ s t h. ap (λ l. length (values_of l)) h.0) (λ s x t h. ap values_of h)
 
 pub returns-clause-found : goal.returns-clause-found
-returns-clause-found g c = each_found g.K.Ord.cmp g.met.K.Ord.total c.args.self.now (rw (← c.self.view_is) c.self.invariant)
+returns-clause-found g c = each_found g.K.Ord.cmp g.met.K.Ord.total c.args.self.now (rw (← c.self.view_is) c.self.invariant.1)

@@ -1,6 +1,6 @@
 use Rattle.std.proofs.Common.{arith, sym, ◌∙◌}
-use Rattle.cap_tree.proofs.BesideLemmas.{passed_ordered, no_more, first_alone, second_alone, first_below, second_below, both_there}
-use Rattle.cap_tree.proofs.beside.BesideIterator.next.Goals as goal
+use Rattle.cap_compare.proofs.BesideLemmas.{passed_ordered, no_more, first_alone, second_alone, first_below, second_below, both_there}
+use Rattle.cap_compare.proofs.beside.BesideIterator.next.Goals as goal
 
 pub invariant_of-self : goal.invariant_of-self
 invariant_of-self g c = (c.self.invariant.0, rw c.pass.ensures (passed_ordered g.K.Ord.cmp g.met.K.Ord.total c.self.inside.seconds c.self.invariant.1))

@@ -1,5 +1,5 @@
-use Rattle.cap_tree.proofs.BesideLemmas.{beside-ordered, beside-get}
-use Rattle.cap_tree.proofs.beside.entries_stand_beside.Goals as goal
+use Rattle.cap_compare.proofs.BesideLemmas.{beside-ordered, beside-get}
+use Rattle.cap_compare.proofs.beside.entries_stand_beside.Goals as goal
 
 pub returns-clause-ordered : goal.returns-clause-ordered
 returns-clause-ordered g c first second = beside-ordered g.K.Ord.cmp g.met.K.Ord.total first second

@@ -1,6 +1,6 @@
 use Rattle.std.proofs.Common.{◌<◌, length, arith}
 use Rattle.cap_tree.proofs.RootLemmas.{few_levels}
-use Rattle.cap_tree.proofs.root.levels.Goals as goal
+use Rattle.cap_tree.proofs.tree.levels.Goals as goal
 
 pub returns-clause-digits : goal.returns-clause-digits
 returns-clause-digits g c = λ digits fits.
