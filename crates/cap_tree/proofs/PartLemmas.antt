@@ -4,7 +4,8 @@ use Rattle.std.proofs.lemmas.List.{append-nil, take_more, map-append, map-set, g
 use Rattle.std.proofs.lemmas.Option.{get_or_from_slice_get}
 use Rattle.std.specs.Prelude.{Some, slice_get, ◌≢◌}
 use Rattle.std.specs.declared.cmp.Ordering.{Ordering}
-use Rattle.std.specs.declared.cmp.Ordering.TheVariants.{Less}
+use Rattle.std.specs.declared.cmp.Ordering.TheVariants.{Less, Equal, Greater}
+use Rattle.std.specs.Ordering.{match_ordering}
 use Rattle.std.specs.Cmp.{IsTotalOrder}
 use Rattle.cap_tree.specs.declared.node.Part.{Part}
 use Rattle.cap_tree.specs.Shape.{seen, entries_of, AreFit, IsParts, place}
@@ -51,6 +52,34 @@ module _ {K V Z : Type 0} where
       let within : length (p ∷ ps) - 1 < length (p ∷ ps) = omega arith in
       let there = at_seen (p ∷ ps) (length (p ∷ ps) - 1) x within (sym (get_or_from_slice_get (p ∷ ps) (length (p ∷ ps) - 1) x x is)) in
       place_last cmp o k height (seen (p ∷ ps)) (length (p ∷ ps) - 1) (x.least, x.node.value) h (omega (arith, length_seen (p ∷ ps))) (rw there not) ∙ length_seen (p ∷ ps)
+
+  -- how many of the parts from the one at i on are not above k
+  module _ (cmp : K → K → Ordering) (k : K) where
+    pub place_above : (parts : List (Part K V Z)) (i : ℕ) (d : Part K V Z) → i < length parts → cmp k (get_or parts i d).least ≡ Less → place cmp k (seen (drop i parts)) ≡ 0
+    place_above [] i d within less = absurd (omega arith)
+    place_above (p ∷ ps) zero d within less = rw less refl
+    place_above (p ∷ ps) (suc i) d within less = place_above ps i d (omega arith) less
+
+    pub place_from : (parts : List (Part K V Z)) (i : ℕ) (d : Part K V Z) → i < length parts → cmp k (get_or parts i d).least ≢ Less → place cmp k (seen (drop i parts)) ≡ place cmp k (seen (drop (i + 1) parts)) + 1
+    place_from parts i d within not =
+        let next : i + 1 ≡ suc i = omega arith in
+        rw next (step parts i within not)
+      where
+        step : (parts : List (Part K V Z)) (i : ℕ) → i < length parts → cmp k (get_or parts i d).least ≢ Less → place cmp k (seen (drop i parts)) ≡ place cmp k (seen (drop (suc i) parts)) + 1
+        step [] i within not = absurd (omega arith)
+        step (p ∷ ps) zero within not =
+            elim (cmp k p.least) as (λ r. r ≢ Less → match_ordering r 0 (place cmp k (seen ps) + 1) (place cmp k (seen ps) + 1) ≡ place cmp k (seen ps) + 1) [
+              | Less ↦ λ n. absurd (n refl)
+              | Equal ↦ λ n. refl
+              | Greater ↦ λ n. refl
+            ] not
+        step (p ∷ ps) (suc i) within not = step ps i (omega arith) not
+
+    pub place_end : (parts : List (Part K V Z)) (i : ℕ) → length parts ≤ i → place cmp k (seen (drop i parts)) ≡ 0
+    place_end [] zero past = refl
+    place_end [] (suc i) past = refl
+    place_end (p ∷ ps) zero past = absurd (omega arith)
+    place_end (p ∷ ps) (suc i) past = place_end ps i (omega arith)
 
   -- a node with children is no leaf
   pub high : (cmp : K → K → Ordering) (height : ℕ) (parts : List (Part K V Z)) → 0 < length parts → IsParts cmp height (seen parts) → 0 < height

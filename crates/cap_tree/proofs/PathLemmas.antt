@@ -153,3 +153,8 @@ module _ {K V Z : Type 0} where
       step [] i within is = absurd (omega arith)
       step (p ∷ ps) zero within is = rw is (omega (arith, length-append (pending ps) (entries_of (seen p.now))))
       step (p ∷ ps) (suc i) within is = step ps i (omega arith) is
+
+  -- where the leaf is at its end, the path leads to all that is still to come
+  pub next_up : (leaf : List (K × V)) (path : List (Bor (List (Part K V Z)))) (whole : List (K × V)) → length leaf ≡ 0 → leaf ++ pending path ≡ whole → pending path ≡ whole
+  next_up [] path whole none all = all
+  next_up (x ∷ xs) path whole none all = absurd (omega arith)

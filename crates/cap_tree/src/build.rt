@@ -6,6 +6,7 @@ ghost use Rattle.cap_tree.specs.Root.{root_entries, IsRoot};
 ghost use Rattle.cap_tree.specs.Tree.{IsOrdered};
 
 use crate::node::{Link, MOST, Node, Part};
+use crate::room::insert_in_room;
 use crate::shift::shift_back;
 use cap_value::{AllocHandle, Exact};
 use std::alloc::AllocError;
@@ -130,9 +131,7 @@ fn last_parts<K: Ord + Exact + Drop, V: Drop, A: AllocHandle>(
     while rest > 0 {
         let size = last_share(rest, share);
         let part = last_part(alloc, entries, height - 1, share / 16, size)?;
-        let Ok(()) = parts.insert(0, part) else {
-            unreachable!()
-        };
+        insert_in_room(&mut parts, 0, part);
         rest -= size;
     }
     Ok(parts)

@@ -5,7 +5,7 @@ ghost use Rattle.cap_value.specs.Memory.{MatchFault};
 ghost use Rattle.cap_tree.specs.Tree.{IsOrdered, get, put_entry, take_entry};
 
 use crate::confirm::Confirm;
-use crate::grow::grow;
+use crate::grow::make_root_room;
 use crate::node::{Link, MOST, Node, Part};
 use crate::put_after::put_after;
 use crate::take_after::take_after;
@@ -55,10 +55,7 @@ pub(crate) fn put_below<K: Ord + Exact + Drop, V: Exact + Drop, A: AllocHandle, 
         return Err(Fault::OutOfMemory);
     }
     let node = Arc::make_mut(root)?;
-    if node.len() == MOST {
-        let at = node.cut_for(&key);
-        grow(node, alloc, at)?;
-    }
+    make_root_room(node, alloc, &key)?;
     put_after(node, key, value, confirm)
 }
 

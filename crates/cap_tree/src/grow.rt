@@ -1,10 +1,13 @@
 //! A full root becomes two nodes below a new root.
-ghost use Rattle.std.specs.Prelude.{◌≡◌, ◌<◌, ◌≤◌, OnOk, IfOk, length};
-ghost use Rattle.cap_tree.specs.Shape.{NoneBelow};
+ghost use Rattle.std.specs.Prelude.{◌≡◌, ◌<◌, ◌≤◌, OnOk, OnErr, IfOk, length};
+ghost use Rattle.std.specs.Arc.{arc_value};
+ghost use Rattle.cap_tree.specs.Shape.{NoneBelow, IsFilled};
+ghost use Rattle.cap_tree.specs.Cut.{IsCut};
 ghost use Rattle.cap_tree.specs.Tree.{IsOrdered};
 
 use crate::node::{Link, MOST, Node, Part};
 use crate::path::depth;
+use crate::room::insert_in_room;
 use cap_value::{AllocHandle, Exact};
 use std::alloc::AllocError;
 use std::mem;
@@ -30,8 +33,35 @@ impl<K: Ord + Exact, V, A: AllocHandle> Node<K, V, A> {
     }
 }
 
+// Cuts a full node in two, and answers the two as children. The first of them has `at` items.
+fn halves<K: Ord + Exact + Drop, V: Drop, A: AllocHandle>(
+    node: &mut Node<K, V, A>,
+    alloc: A,
+    at: usize,
+) -> Result<(Part<K, V, A>, Part<K, V, A>), AllocError>
+    requires front { 0 < at }
+    requires back { at < node.old.2 }
+    requires ordered { IsOrdered K.cmp node.old.0 }
+    ensures err { OnErr result (node.new ≡ node.old) }
+    ensures least { IfOk result (λ r. NoneBelow K.cmp r.0.least node.old.0) }
+    ensures cut { IfOk result (λ r. IsCut K.cmp at node.old (arc_value r.0.node) (arc_value r.1.node) r.1.least) }
+    ensures filled { IfOk result (λ r. IsFilled (arc_value r.0.node)) }
+    ensures back_filled { IfOk result (λ r. IsFilled (arc_value r.1.node)) }
+{
+    let least = node.least()?;
+    let mut front = Arc::new(alloc, Node::empty(alloc))?;
+    let Some(empty) = Arc::get_mut(&mut front) else {
+        return Err(AllocError);
+    };
+    let back = node.split(at)?;
+    mem::swap(empty, node);
+    // The lengths show how many entries there are.
+    let _lengths = (front.len(), back.node.len());
+    Ok((Part { least, node: front }, back))
+}
+
 // Cuts a full node in two, and puts a node over the two in its place. The first of them has `at` items.
-pub(crate) fn grow<K: Ord + Exact + Drop, V: Exact + Drop, A: AllocHandle>(
+fn grow<K: Ord + Exact + Drop, V: Exact + Drop, A: AllocHandle>(
     node: &mut Node<K, V, A>,
     alloc: A,
     at: usize,
@@ -45,26 +75,33 @@ pub(crate) fn grow<K: Ord + Exact + Drop, V: Exact + Drop, A: AllocHandle>(
     ensures room { OnOk result (node.new.2 < 16) }
 {
     let count = node.count();
-    let least = node.least()?;
     let height = depth(node) + 1;
     let mut parts = Vec::with_capacity(alloc, MOST)?;
-    let mut front = Arc::new(alloc, Node::empty(alloc))?;
-    let Some(empty) = Arc::get_mut(&mut front) else {
-        return Err(AllocError);
-    };
-    let back = node.split(at)?;
-    // The lengths show how many entries there are.
-    let _lengths = (node.len(), back.node.len());
-    mem::swap(empty, node);
-    let Ok(()) = parts.push(Part { least, node: front }) else {
-        unreachable!()
-    };
-    let Ok(()) = parts.push(back) else {
-        unreachable!()
-    };
+    let (front, back) = halves(node, alloc, at)?;
+    insert_in_room(&mut parts, 0, back);
+    insert_in_room(&mut parts, 0, front);
     let whole = Node {
         link: Link::Inner(height, count, parts),
     };
     *node = whole;
     Ok(())
+}
+
+// Sees to it that a root node into which the key is to be put is not full.
+pub(crate) fn make_root_room<K: Ord + Exact + Drop, V: Exact + Drop, A: AllocHandle>(
+    node: &mut Node<K, V, A>,
+    alloc: A,
+    key: &K,
+) -> Result<(), AllocError>
+    requires ordered { IsOrdered K.cmp node.old.0 }
+    requires two { 0 < node.old.1 → 1 < node.old.2 }
+    ensures entries { node.new.0 ≡ node.old.0 }
+    ensures two { 0 < node.new.1 → 1 < node.new.2 }
+    ensures room { OnOk result (node.new.2 < 16) }
+{
+    if node.len() < MOST {
+        return Ok(());
+    }
+    let at = node.cut_for(key);
+    grow(node, alloc, at)
 }

@@ -8,8 +8,7 @@ ghost use Rattle.cap_tree.specs.Tree.{IsOrdered};
 ghost use Rattle.std.specs.Map.Iter.{TakesFirst, deref_pair};
 
 use crate::node::{Node, Part};
-use crate::path::{count_of_path, depth, descend, next_leaf, seek, start};
-use crate::stack::Stack;
+use crate::path::{Path, count_of_path, depth, descend, next_leaf, seek, start};
 use cap_value::AllocHandle;
 use std::iter::{ExactSizeIterator, FusedIterator};
 use std::marker::Model;
@@ -20,7 +19,7 @@ use std::sync::Arc;
 pub struct Iter<'a, K: Ord, V, A: AllocHandle> {
     // Those of the leaf that was reached, and after them those of the path.
     leaf: &'a [(K, V)],
-    path: Stack<&'a [Part<K, V, A>]>,
+    path: Path<'a, K, V, A>,
 }
 
 impl<'a, K: Ord, V, A: AllocHandle> Model for Iter<'a, K, V, A> {
@@ -30,9 +29,9 @@ impl<'a, K: Ord, V, A: AllocHandle> Model for Iter<'a, K, V, A> {
 
     ghost use Rattle.cap_tree.specs.Path.{pending, IsPath};
 
-    ghost view = { λ s. s.leaf.now ++ pending s.path };
+    ghost view = { λ s. s.leaf.now ++ pending s.path.items };
 
-    ghost invariant = { λ s. IsPath 32 s.path × (length (s.leaf.now ++ pending s.path) < 2 ^ 64) };
+    ghost invariant = { λ s. IsPath 32 s.path.items × (length (s.leaf.now ++ pending s.path.items) < 2 ^ 64) };
 }
 
 impl<'a, K: Ord, V, A: AllocHandle> Iter<'a, K, V, A> {
@@ -68,7 +67,7 @@ impl<'a, K: Ord, V, A: AllocHandle> Iter<'a, K, V, A> {
     fn left(&self) -> usize
         ensures { result ≡ length self.now }
     {
-        self.leaf.len() + count_of_path(self.path.items())
+        self.leaf.len() + count_of_path(self.path.as_slice())
     }
 }
 

@@ -5,6 +5,7 @@ ghost use Rattle.std.specs.Vec.{vec_capacity};
 ghost use Rattle.cap_tree.specs.Tree.{IsOrdered, get, put_entry, take_entry};
 ghost use Rattle.cap_tree.specs.Shape.{EachBelow};
 
+use crate::room::insert_in_room;
 use cap_value::AllocHandle;
 use std::cmp::Ordering;
 use std::mem;
@@ -73,9 +74,7 @@ pub(crate) fn put_in_leaf<K: Ord + Drop, V: Drop, A: AllocHandle>(
             Some(replaced)
         }
         Err(at) => {
-            let Ok(()) = entries.insert(at, (key, value)) else {
-                unreachable!()
-            };
+            insert_in_room(entries, at, (key, value));
             None
         }
     }

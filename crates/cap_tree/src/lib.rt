@@ -16,9 +16,9 @@ mod node;
 mod part;
 mod path;
 mod put_after;
+mod room;
 mod shift;
 mod split;
-mod stack;
 mod take_after;
 mod tree;
 

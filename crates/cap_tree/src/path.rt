@@ -7,9 +7,16 @@ ghost use Rattle.cap_tree.specs.Path.{pending, IsPath, FitInto};
 use crate::find::child_for;
 use crate::node::{Link, Node, Part};
 use crate::part::count_of;
-use crate::stack::{ROOM, Stack};
+use arrayvec::ArrayVec;
 use cap_value::AllocHandle;
 use std::cmp::Ordering;
+
+/// The most levels of inner nodes that a path has room for. No tree has as many: each node has four children, but for
+/// the root, and a length has 64 binary digits.
+pub(crate) const ROOM: usize = 32;
+
+/// The children that are still to come of each inner node on the way down, the highest node first.
+pub(crate) type Path<'a, K, V, A> = ArrayVec<&'a [Part<K, V, A>], ROOM>;
 
 // How many levels there are below the node: fewer than a path has room for.
 pub(crate) fn depth<K: Ord, V, A: AllocHandle>(node: &Node<K, V, A>) -> u64
@@ -24,22 +31,21 @@ pub(crate) fn depth<K: Ord, V, A: AllocHandle>(node: &Node<K, V, A>) -> u64
 }
 
 // A path on which nothing is to come.
-pub(crate) fn start<'a, K: Ord, V, A: AllocHandle>() -> Stack<&'a [Part<K, V, A>]>
-    ensures { result ≡ [] }
+pub(crate) fn start<'a, K: Ord, V, A: AllocHandle>() -> Path<'a, K, V, A>
+    ensures { result.items ≡ [] }
 {
-    let none: &'a [Part<K, V, A>] = &[];
-    Stack::new(none)
+    ArrayVec::new()
 }
 
 // Goes down to the first leaf of the node, whose entries come next, and pushes what follows it.
 pub(crate) fn descend<'a, K: Ord, V, A: AllocHandle>(
-    path: &mut Stack<&'a [Part<K, V, A>]>,
+    path: &mut Path<'a, K, V, A>,
     node: &'a Node<K, V, A>,
 ) -> &'a [(K, V)]
-    requires path { IsPath ROOM path.old }
-    requires fits { length path.old + node.now.1 ≤ ROOM }
-    ensures pending { result.now ++ pending path.new ≡ node.now.0 ++ pending path.old }
-    ensures path { IsPath ROOM path.new }
+    requires path { IsPath ROOM path.old.items }
+    requires fits { length path.old.items + node.now.1 ≤ ROOM }
+    ensures pending { result.now ++ pending path.new.items ≡ node.now.0 ++ pending path.old.items }
+    ensures path { IsPath ROOM path.new.items }
     ensures some { 0 < length node.now.0 → 0 < length result.now }
 {
     match &node.link {
@@ -56,12 +62,12 @@ pub(crate) fn descend<'a, K: Ord, V, A: AllocHandle>(
 
 // The leaf that comes next, after which the path leads to what follows it.
 pub(crate) fn next_leaf<'a, K: Ord, V, A: AllocHandle>(
-    path: &mut Stack<&'a [Part<K, V, A>]>,
+    path: &mut Path<'a, K, V, A>,
 ) -> Option<&'a [(K, V)]>
-    requires { IsPath ROOM path.old }
-    ensures path { IsPath ROOM path.new }
-    ensures gives { MatchOption result ((pending path.old ≡ []) × (pending path.new ≡ []))
-        (λ leaf. (pending path.old ≡ leaf.now ++ pending path.new) × (0 < length leaf.now)) }
+    requires { IsPath ROOM path.old.items }
+    ensures path { IsPath ROOM path.new.items }
+    ensures gives { MatchOption result ((pending path.old.items ≡ []) × (pending path.new.items ≡ []))
+        (λ leaf. (pending path.old.items ≡ leaf.now ++ pending path.new.items) × (0 < length leaf.now)) }
 {
     while let Some(parts) = path.pop() {
         if let Some((child, behind)) = parts.split_first() {
@@ -89,16 +95,16 @@ fn entries_not_below<'a, K: Ord, V>(entries: &'a [(K, V)], key: &K) -> &'a [(K, 
 
 // Goes down to the first entry whose key is not below this one, and pushes what follows its leaf.
 pub(crate) fn seek<'a, K: Ord, V, A: AllocHandle>(
-    path: &mut Stack<&'a [Part<K, V, A>]>,
+    path: &mut Path<'a, K, V, A>,
     node: &'a Node<K, V, A>,
     key: &K,
 ) -> &'a [(K, V)]
     requires ordered { IsOrdered K.cmp node.now.0 }
-    requires path { IsPath ROOM path.old }
-    requires fits { length path.old + node.now.1 ≤ ROOM }
-    ensures pending { result.now ++ pending path.new
-        ≡ entries_from (K.cmp key.now) node.now.0 ++ pending path.old }
-    ensures path { IsPath ROOM path.new }
+    requires path { IsPath ROOM path.old.items }
+    requires fits { length path.old.items + node.now.1 ≤ ROOM }
+    ensures pending { result.now ++ pending path.new.items
+        ≡ entries_from (K.cmp key.now) node.now.0 ++ pending path.old.items }
+    ensures path { IsPath ROOM path.new.items }
 {
     match &node.link {
         Link::Leaf(entries) => return entries_not_below(entries.as_slice(), key),

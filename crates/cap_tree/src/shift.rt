@@ -2,6 +2,7 @@
 ghost use Rattle.std.specs.Prelude.{◌≡◌, ◌+◌, ◌<◌, ◌≤◌, ◌++◌, length, vec_len, take, drop, slice_index_or, OnOk};
 ghost use Rattle.std.specs.Vec.{vec_capacity};
 
+use crate::room::insert_in_room;
 use cap_value::AllocHandle;
 use std::alloc::AllocError;
 
@@ -22,9 +23,7 @@ pub(crate) fn shift_back<T: Drop, A: AllocHandle>(
         let Some(item) = front.pop() else {
             unreachable!()
         };
-        let Ok(()) = back.insert(0, item) else {
-            unreachable!()
-        };
+        insert_in_room(back, 0, item);
     }
 }
 

@@ -7,6 +7,7 @@ ghost use Rattle.cap_tree.specs.Cut.{IsCut, of_entries, of_parts};
 
 use crate::node::{Link, MOST, Node, Part};
 use crate::part::{count_of, part_for};
+use crate::room::insert_in_room;
 use crate::shift::shift_back;
 use cap_value::{AllocHandle, Exact};
 use std::alloc::AllocError;
@@ -186,9 +187,7 @@ fn split_child<K: Ord + Exact + Drop, V: Exact + Drop, A: AllocHandle>(
     let part = &mut parts[at];
     let next = split_part(part, cut)?;
     let below = key.cmp(&next.least);
-    let Ok(()) = parts.insert(at + 1, next) else {
-        unreachable!()
-    };
+    insert_in_room(parts, at + 1, next);
     match below {
         Ordering::Less => Ok(at),
         Ordering::Equal | Ordering::Greater => Ok(at + 1),

@@ -34,7 +34,7 @@ last_part-returns-clause-below g t c =
     let e = c.in_ok-node.ensures.entries in
     let at : i ≡ length front = omega (arith, ap length e, length-append front back, c.in_ok-node.ensures.count, c.len.ensures, c.args.entries.now.ok.0, c.requires.within) in
     let within : i < length es = omega (arith, c.len.ensures, c.args.entries.now.ok.0, c.requires.some, c.requires.within) in
-    let least = g.met.K.Exact.exact _ _ c.in_ok-least.ensures.cases in
+    let least = g.met.K.Exact.exact c.index.result.now.0 c.in_ok-least.least c.in_ok-least.ensures.cases in
     subst (λ l. EachBelow g.K.Ord.cmp c.in_ok-least.least l) (ap (take i) e ∙ (cut_is front back i at).0) (leaf_below g.K.Ord.cmp g.met.K.Ord.total es i c.index.result.now c.in_ok-least.least within c.index.ensures least c.requires.ordered)
 
 pub last_part-returns-clause-not_below : goal.last_part-returns-clause-not_below
@@ -46,7 +46,7 @@ last_part-returns-clause-not_below g t c =
     let e = c.in_ok-node.ensures.entries in
     let at : i ≡ length front = omega (arith, ap length e, length-append front back, c.in_ok-node.ensures.count, c.len.ensures, c.args.entries.now.ok.0, c.requires.within) in
     let within : i < length es = omega (arith, c.len.ensures, c.args.entries.now.ok.0, c.requires.some, c.requires.within) in
-    let least = g.met.K.Exact.exact _ _ c.in_ok-least.ensures.cases in
+    let least = g.met.K.Exact.exact c.index.result.now.0 c.in_ok-least.least c.in_ok-least.ensures.cases in
     rw c.in_ok-node-2.ensures.ok (subst (λ l. NoneBelow g.K.Ord.cmp c.in_ok-least.least l) (ap (drop i) e ∙ (cut_is front back i at).1) (leaf_above g.K.Ord.cmp g.met.K.Ord.total es i c.index.result.now c.in_ok-least.least within c.index.ensures least c.requires.ordered))
 
 pub last_parts-loop-rest-init : goal.last_parts-loop-rest-init
@@ -82,11 +82,11 @@ last_parts-last_part-requires g t c =
     let level : 3 * (c.args.height - 1) + 3 < 3 * c.args.height + 1 = omega (arith, c.requires.inner) in
     λ κs h. search rules
 
-pub last_parts-unreachable-requires : goal.last_parts-unreachable-requires
-last_parts-unreachable-requires g t c =
+pub last_parts-insert_in_room-requires-clause-room : goal.last_parts-insert_in_room-requires-clause-room
+last_parts-insert_in_room-requires-clause-room g t c =
     let i = c.loop-rest.invariant in
     let fewer : vec_len c.loop-rest.parts < 16 = lt_of_mul-lt-mul_right c.args.share (omega (arith, i.room, c.loop-rest-test.true)) in
-    omega (arith, fewer, i.capacity, c.in_default.ensures.full)
+    omega (arith, fewer, i.capacity)
 
 pub last_parts-loop-rest-preserved : goal.last_parts-loop-rest-preserved
 last_parts-loop-rest-preserved g t c =
@@ -97,8 +97,8 @@ last_parts-loop-rest-preserved g t c =
     let part = c.in_ok-part.part in
     let front = c.last_part.new.entries.items in
     let size = c.last_share-size.result in
-    let is : c.insert.new.self.items ≡ part ∷ parts = c.in-Ok.ensures.items in
-    let len = c.in-Ok.ensures.len in
+    let is : c.insert_in_room.new.items.items ≡ part ∷ parts = c.insert_in_room.ensures.items in
+    let len = c.insert_in_room.ensures.len in
     let child : IsChild c.args.height part.node.value = (omega (arith, e.height, c.requires.inner), omega (arith, e.count, s.some)) in
     let more = more_count parts part size e.count in
     let both = below_both g.K.Ord.cmp (seen parts) front part.node.value.0 (rw e.entries at i.below) in
@@ -111,7 +111,7 @@ last_parts-loop-rest-preserved g t c =
       half = λ some. s.rest_half (omega (arith, some));
       room = rw len (s.count (vec_len c.loop-rest.parts) i.room);
       covered = rw (is, len) (omega (arith, more, i.covered, s.most));
-      capacity = omega (arith, c.in-Ok.ensures.capacity, i.capacity);
+      capacity = omega (arith, c.insert_in_room.ensures.capacity, i.capacity);
     }
 
 pub last_parts-returns-clause-entries : goal.last_parts-returns-clause-entries

@@ -1,26 +1,33 @@
-use Rattle.std.proofs.Common.{arith, length, ap, ◌∙◌}
-use Rattle.cap_tree.proofs.PutLemmas.{either_way}
+use Rattle.std.proofs.Common.{refl, arith, length, ap, ◌∙◌}
+use Rattle.cap_tree.specs.Tree.{get, put_entry}
+use Rattle.cap_tree.proofs.PutLemmas.{answer_of, either_way, on_err_turn, on_ok_turn}
 use Rattle.cap_tree.proofs.change.put_below.Goals as goal
-use Rattle.cap_tree.proofs.change.put_below.Goals.{then-len-eq-MOST+in_ok-grow, else-len-eq-MOST}
 
 pub put_after-requires : goal.put_after-requires
 put_after-requires g c =
     let same = either_way c.in_ok-node.ensures.value in
     let count = c.count.ensures ∙ ap (λ n. length n.0) c.deref.ensures in
-    elim c.if-len-eq-MOST.branch [
-      | then-len-eq-MOST+in_ok-grow w ↦
-          let e = w.in_ok-grow.ensures in
-          rw w.node-is (record {
-            can_confirm = c.requires.can_confirm;
-            ordered = rw (e.entries, same) c.requires.ordered;
-            room = e.room;
-            fits = rw (e.entries, same) (omega (arith, count, c.count.type_inv, c.if-count-eq18446744073709551615.false));
-          })
-      | else-len-eq-MOST w ↦
-          rw w.node-is (record {
-            can_confirm = c.requires.can_confirm;
-            ordered = rw same c.requires.ordered;
-            room = omega (arith, c.len.ensures.value, c.len.ensures.most, w.if-len-eq-MOST.false);
-            fits = rw same (omega (arith, count, c.count.type_inv, c.if-count-eq18446744073709551615.false));
-          })
-    ]
+    let e = c.in_ok-make_root_room.ensures in
+    record {
+      can_confirm = c.requires.can_confirm;
+      ordered = rw (e.entries, same) c.requires.ordered;
+      room = e.room;
+      fits = rw (e.entries, same) (omega (arith, count, c.count.type_inv, c.if-count-eq18446744073709551615.false));
+    }
+
+pub returns : goal.returns
+returns g c =
+    let same = either_way c.in_ok-node.ensures.value in
+    let kept = c.make_mut.follows.holds c.put_after.new.node (rw c.in_ok-node.was refl) in
+    let m = c.in_ok-make_root_room.ensures in
+    let r = c.put_after.result in
+    let e = c.put_after.ensures in
+    let whole = m.entries ∙ ap (λ n. n.0) same in
+    record {
+      confirmed = e.confirmed;
+      refused = e.refused;
+      two = rw kept (λ up. let two = m.two (omega (arith, up, e.grown.height)) in omega (arith, two, e.grown.not_less));
+      err = on_err_turn r (λ q. ap (λ n. n.0) kept ∙ q ∙ whole) e.err;
+      ok = on_ok_turn r (λ q. ap (λ n. n.0) kept ∙ q ∙ ap (λ l. put_entry g.K.Ord.cmp l c.args.key c.args.value) whole) e.ok;
+      replaced = answer_of (λ l. get g.K.Ord.cmp l c.args.key) _ _ whole r e.replaced;
+    }

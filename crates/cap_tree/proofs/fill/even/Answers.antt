@@ -64,3 +64,22 @@ invariant_of-back-in-Inner-link-2 g c =
     let level : c.in-Inner.height ≡ c.in-Inner-link-2.field-0 = ap (λ n. n.1) front ∙ c.requires.level ∙ sym (ap (λ n. n.1) back) in
     let e = c.in_ok-next-in-Inner-link-2.ensures in
     (omega (arith, e.cut.back_len, ap (λ n. n.2) front, ap (λ n. n.2) back, c.requires.within), omega (arith, e.cut.back_len, ap (λ n. n.2) front, ap (λ n. n.2) back, c.requires.back_most), subst (λ h. IsParts g.K.Ord.cmp h (seen c.even_parts.new.back.items)) level e.back_parts, e.back_fit, e.behind)
+
+pub even_entries-requires : goal.even_entries-requires
+even_entries-requires g c =
+    let nf = rw c.in-Leaf.is at c.front.invariant in
+    let nb = rw c.in-Leaf-link.is at c.back.invariant in
+    let front = rw c.in-Leaf.is at c.front.view_is in
+    let back = rw c.in-Leaf-link.is at c.back.view_is in
+    record {
+      front_small = nf;
+      back_small = nb;
+      within = omega (arith, ap (λ n. n.2) front, ap (λ n. n.2) back, c.requires.within);
+      ordered = rw (ap (λ n. n.0) front, ap (λ n. n.0) back) c.requires.ordered;
+    }
+
+pub returns-in-Leaf-link-clause-cut : goal.returns-in-Leaf-link-clause-cut
+returns-in-Leaf-link-clause-cut g c =
+    let front = rw c.in-Leaf.is at c.front.view_is in
+    let back = rw c.in-Leaf-link.is at c.back.view_is in
+    rw (← front, ← back) c.even_entries.ensures.cut

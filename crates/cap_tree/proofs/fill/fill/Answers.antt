@@ -45,3 +45,31 @@ join_children-requires-clause-room g c f =
     let a : c.len.result ≡ items_at c.args.at f (seen items) = c.len.ensures.value ∙ ap (λ n. n.2) c.deref.ensures ∙ sym (ap (λ p. p.1.2) (seen_at items c.args.at c.index.result.now f (omega (arith, within)) c.index.ensures)) in
     let b : c.len-2.result ≡ items_at (c.args.at + 1) f (seen items) = c.len-2.ensures.value ∙ ap (λ n. n.2) c.deref-2.ensures ∙ sym (ap (λ p. p.1.2) (seen_at items (c.args.at + 1) c.index-2.result.now f within c.index-2.ensures)) in
     rw (← a, ← b) c.if-total-le-MOST.true
+
+pub returns-then-total-le-MOST : goal.returns-then-total-le-MOST
+returns-then-total-le-MOST g c =
+    let e = c.in_ok-join_children.ensures in
+    record {
+      entries = e.entries;
+      parts = e.parts;
+      fit = e.fit;
+      not_more = omega (arith, e.len);
+      one_less = omega (arith, e.len);
+      within = omega (arith, e.len, c.requires.within);
+      place = e.place c.args.key.now c.requires.place;
+      spare = λ d. omega (arith, e.spare d);
+    }
+
+pub returns : goal.returns
+returns g c =
+    let e = c.even_children.ensures in
+    record {
+      entries = e.entries;
+      parts = e.parts;
+      fit = e.fit;
+      not_more = omega (arith, e.len);
+      one_less = omega (arith, e.len);
+      within = e.within;
+      place = e.place;
+      spare = e.spare;
+    }

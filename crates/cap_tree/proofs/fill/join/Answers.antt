@@ -1,4 +1,4 @@
-use Rattle.std.proofs.Common.{◌≡◌, arith, length, length-append, sym, subst, ap, ◌∙◌}
+use Rattle.std.proofs.Common.{refl, ◌≡◌, arith, length, length-append, sym, subst, ap, ◌∙◌}
 use Rattle.cap_tree.specs.Shape.{seen, entries_of, IsParts}
 use Rattle.cap_tree.proofs.PartLemmas.{high}
 use Rattle.cap_tree.proofs.fill.join.Goals as goal
@@ -51,3 +51,10 @@ invariant_of-front-in-Inner-link-2 g c =
     let e = c.in_ok-join_parts-in-Inner-link-2.ensures in
     let len = ap (λ n. n.2) e.whole in
     (omega (arith, len, nf.0), omega (arith, len, ap (λ n. n.2) front, ap (λ n. n.2) back, c.requires.room), e.parts, e.fit, omega (arith, nf.4, nb.4, ap (λ n. length n.0) e.whole, length-append (entries_of (seen c.in-Inner.parts.items)) (entries_of (seen c.in-Inner-link-2.others.items))))
+
+pub returns-in-Leaf-link-clause-whole : goal.returns-in-Leaf-link-clause-whole
+returns-in-Leaf-link-clause-whole g c =
+    let front = rw c.in-Leaf.is at c.front.view_is in
+    let back = rw c.in-Leaf-link.is at c.back.view_is in
+    let e = c.in_ok-append-in-Leaf-link.ensures in
+    rw (← front, ← back, e.items, e.len) refl

@@ -13,12 +13,12 @@ returns-in-Ok g c =
       one_more = omega arith;
     }
 
-pub returns-in-Ok-insert : goal.returns-in-Ok-insert
-returns-in-Ok-insert g c =
+pub returns-in-Err : goal.returns-in-Err
+returns-in-Err g c =
     let same = c.as_slice.ensures.value in
     let put = rw same at (c.in-Err.ensures.put c.args.value) in
     let get = rw same at c.in-Err.ensures.get in
-    let e = c.in-Ok-insert.ensures in
+    let e = c.insert_in_room.ensures in
     record {
       put = e.items ∙ sym put;
       replaced = sym get;

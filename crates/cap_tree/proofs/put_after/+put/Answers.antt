@@ -1,7 +1,7 @@
-use Rattle.std.proofs.Common.{◌≡◌, ◌+◌, ◌*◌, ◌<◌, ◌^◌, length, arith, rules, sym, ap, ◌∙◌}
+use Rattle.std.proofs.Common.{◌≡◌, ◌+◌, ◌*◌, ◌<◌, ◌^◌, length, arith, rules, refl, sym, ap, ◌∙◌}
 use Rattle.cap_tree.specs.Tree.{IsOrdered, put_entry, get}
 use Rattle.cap_tree.specs.Shape.{IsFit, seen, entries_of}
-use Rattle.cap_tree.proofs.PutLemmas.{on_err, err_of, ok_of, answer_of, child_is, child_fit, child_has, child_count, child_still, child_ordered, fit_still, put_child, put_child_err, put_child_ok, put_child_replaced, put_child_count}
+use Rattle.cap_tree.proofs.PutLemmas.{on_err, either_way, on_err_turn, on_ok_turn, err_of, ok_of, answer_of, child_is, child_fit, child_has, child_count, child_still, child_ordered, fit_still, put_child, put_child_err, put_child_ok, put_child_replaced, put_child_count}
 use Rattle.cap_tree.proofs.put_after.+put.Goals as goal
 
 pub put_after-put_in_child-replaced-requires : goal.put_after-put_in_child-replaced-requires
@@ -125,3 +125,31 @@ put_after-count_put-requires g t c =
     let n = rw c.in-Inner.is at c.node.invariant in
     let view = rw c.in-Inner.is at c.node.view_is in
     record { fits = omega (arith, n.4, ap (λ n. length n.0) view, c.requires.fits) }
+
+pub put_in_child-put_after-replaced-requires : goal.put_in_child-put_after-replaced-requires
+put_in_child-put_after-replaced-requires g t c =
+    let same = either_way c.in_ok-child.ensures.value in
+    let r = c.requires in
+    let ordered : IsOrdered g.K.Ord.cmp c.in_ok-child.child.now.0 = rw same r.ordered in
+    let room : c.in_ok-child.child.now.2 < 16 = rw same r.room in
+    let fits : length c.in_ok-child.child.now.0 + 1 < 2 ^ 64 = rw same r.fits in
+    let can = r.can_confirm in
+    λ κs h. search rules
+
+pub put_in_child-returns : goal.put_in_child-returns
+put_in_child-returns g t c =
+    let same = either_way c.in_ok-child.ensures.value in
+    let kept = c.make_mut.follows.holds c.put_after-replaced.new.node (rw c.in_ok-child.was refl) in
+    let r = c.put_after-replaced.result in
+    let e = c.put_after-replaced.ensures in
+    let l = c.len-length.ensures in
+    record {
+      confirmed = e.confirmed;
+      refused = e.refused;
+      least = refl;
+      height = ap (λ n. n.1) kept ∙ e.grown.height ∙ ap (λ n. n.1) same;
+      fit = rw kept (omega (arith, ap (λ n. n.2) same, c.requires.fit.0, e.grown.not_less), omega (arith, l.value, l.most), l.filled);
+      err = on_err_turn r (λ q. ap (λ n. n.0) kept ∙ q ∙ ap (λ n. n.0) same) e.err;
+      ok = on_ok_turn r (λ q. ap (λ n. n.0) kept ∙ q ∙ ap (λ n. put_entry g.K.Ord.cmp n.0 c.args.key c.args.value) same) e.ok;
+      replaced = answer_of (λ n. get g.K.Ord.cmp n.0 c.args.key) _ _ same r e.replaced;
+    }

@@ -66,14 +66,14 @@ returns-in-Less g c =
     let fit_y : IsFit y.node.value = (omega (arith, cut.back_len, full, c.requires.back), omega (arith, cut.back_len, full), e.back_filled) in
     let child_x : IsChild c.args.height x.node.value = (omega (arith, shape.0, cut.height), fed x.node.value (omega (arith, fit_x.0)) fit_x.2) in
     let child_y : IsChild c.args.height y.node.value = (omega (arith, shape.0, cut.back_height), fed y.node.value (omega (arith, fit_y.0)) fit_y.2) in
-    let inserted = c.in-Ok.ensures.items in
+    let inserted = c.insert_in_room.ensures.items in
     record {
       entries = rw inserted (two_entries g.K.Ord.cmp g.met.K.Ord.total c.args.height c.try_reserve.new.self.items c.args.at part x y within is e.least child_x child_y cut.below cut.not_below cut.entries ∙ ap (λ l. entries_of (seen l)) items);
       parts = rw inserted (two_parts g.K.Ord.cmp g.met.K.Ord.total c.args.height c.try_reserve.new.self.items c.args.at part x y within is e.least child_x child_y cut.below cut.not_below cut.entries h);
       fit = rw inserted (two_fit g.K.Ord.cmp g.met.K.Ord.total c.args.height c.try_reserve.new.self.items c.args.at part x y within is e.least child_x child_y cut.below cut.not_below cut.entries fit fit_x fit_y);
-      not_less = omega (arith, c.in-Ok.ensures.len, c.in_ok-try_reserve.ensures.len);
-      one_more = omega (arith, c.in-Ok.ensures.len, c.in_ok-try_reserve.ensures.len);
-      within = omega (arith, c.in-Ok.ensures.len, c.in_ok-try_reserve.ensures.len, c.requires.within);
+      not_less = omega (arith, c.insert_in_room.ensures.len, c.in_ok-try_reserve.ensures.len);
+      one_more = omega (arith, c.insert_in_room.ensures.len, c.in_ok-try_reserve.ensures.len);
+      within = omega (arith, c.insert_in_room.ensures.len, c.in_ok-try_reserve.ensures.len, c.requires.within);
       place = rw inserted (two_place_first g.K.Ord.cmp g.met.K.Ord.total c.args.height c.try_reserve.new.self.items c.args.at part x y within is e.least child_x child_y cut.below cut.not_below cut.entries c.args.key.now (rw items c.requires.place) (sym c.cmp-below.ensures ∙ c.in-Less.is));
       room = λ d. rw inserted (two_first g.K.Ord.cmp g.met.K.Ord.total c.args.height c.try_reserve.new.self.items c.args.at part x y within is e.least child_x child_y cut.below cut.not_below cut.entries d (omega (arith, cut.len, c.requires.back)));
     }
@@ -96,14 +96,14 @@ returns-in-Equal g c =
     let fit_y : IsFit y.node.value = (omega (arith, cut.back_len, full, c.requires.back), omega (arith, cut.back_len, full), e.back_filled) in
     let child_x : IsChild c.args.height x.node.value = (omega (arith, shape.0, cut.height), fed x.node.value (omega (arith, fit_x.0)) fit_x.2) in
     let child_y : IsChild c.args.height y.node.value = (omega (arith, shape.0, cut.back_height), fed y.node.value (omega (arith, fit_y.0)) fit_y.2) in
-    let inserted = c.in-Ok.ensures.items in
+    let inserted = c.insert_in_room.ensures.items in
     record {
       entries = rw inserted (two_entries g.K.Ord.cmp g.met.K.Ord.total c.args.height c.try_reserve.new.self.items c.args.at part x y within is e.least child_x child_y cut.below cut.not_below cut.entries ∙ ap (λ l. entries_of (seen l)) items);
       parts = rw inserted (two_parts g.K.Ord.cmp g.met.K.Ord.total c.args.height c.try_reserve.new.self.items c.args.at part x y within is e.least child_x child_y cut.below cut.not_below cut.entries h);
       fit = rw inserted (two_fit g.K.Ord.cmp g.met.K.Ord.total c.args.height c.try_reserve.new.self.items c.args.at part x y within is e.least child_x child_y cut.below cut.not_below cut.entries fit fit_x fit_y);
-      not_less = omega (arith, c.in-Ok.ensures.len, c.in_ok-try_reserve.ensures.len);
-      one_more = omega (arith, c.in-Ok.ensures.len, c.in_ok-try_reserve.ensures.len);
-      within = omega (arith, c.in-Ok.ensures.len, c.in_ok-try_reserve.ensures.len, c.requires.within);
+      not_less = omega (arith, c.insert_in_room.ensures.len, c.in_ok-try_reserve.ensures.len);
+      one_more = omega (arith, c.insert_in_room.ensures.len, c.in_ok-try_reserve.ensures.len);
+      within = omega (arith, c.insert_in_room.ensures.len, c.in_ok-try_reserve.ensures.len, c.requires.within);
       place = rw inserted (two_place_second g.K.Ord.cmp g.met.K.Ord.total c.args.height c.try_reserve.new.self.items c.args.at part x y within is e.least child_x child_y cut.below cut.not_below cut.entries c.args.key.now (rw items c.requires.place) (rw (← c.cmp-below.ensures) (is_not_less c.cmp-below.result c.in-Equal.is)));
       room = λ d. rw inserted (two_second g.K.Ord.cmp g.met.K.Ord.total c.args.height c.try_reserve.new.self.items c.args.at part x y within is e.least child_x child_y cut.below cut.not_below cut.entries d (omega (arith, cut.back_len, full, c.requires.front)));
     }

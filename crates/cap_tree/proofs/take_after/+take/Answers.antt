@@ -1,10 +1,10 @@
-use Rattle.std.proofs.Common.{◌≡◌, ◌+◌, ◌*◌, ◌<◌, length, arith, rules, sym, ap, ◌∙◌}
+use Rattle.std.proofs.Common.{◌≡◌, ◌+◌, ◌*◌, ◌<◌, length, arith, rules, refl, sym, ap, ◌∙◌}
 use Rattle.cap_tree.specs.Tree.{IsOrdered, take_entry, get}
 use Rattle.cap_tree.specs.Shape.{IsFit, seen, entries_of}
 use Rattle.cap_tree.proofs.EntryLemmas.{take_entry-absent}
 use Rattle.cap_tree.proofs.PartLemmas.{high}
 use Rattle.cap_tree.proofs.PlaceLemmas.{get_none}
-use Rattle.cap_tree.proofs.PutLemmas.{on_err, err_of, ok_of, answer_of, on_ok, child_is, child_fit, child_has, child_still, child_ordered, fit_still, take_child, take_child_err, take_child_ok, take_child_removed, take_child_count, some_there}
+use Rattle.cap_tree.proofs.PutLemmas.{on_err, either_way, on_err_turn, on_ok_turn, err_of, ok_of, answer_of, on_ok, child_is, child_fit, child_has, child_still, child_ordered, fit_still, take_child, take_child_err, take_child_ok, take_child_removed, take_child_count, some_there}
 use Rattle.cap_tree.proofs.take_after.+take.Goals as goal
 
 pub take_after-returns-then-place-eq0-clause-ok : goal.take_after-returns-then-place-eq0-clause-ok
@@ -186,3 +186,31 @@ pub take_after-returns-in_err-at-in-Inner-clause-err : goal.take_after-returns-i
 take_after-returns-in_err-at-in-Inner-clause-err g t c =
     let view = rw c.in-Inner.is at c.node.view_is in
     on_err c.from_residual.result (c.make_spare.ensures.entries ∙ ap (λ n. n.0) view)
+
+pub take_from_child-take_after-removed-requires : goal.take_from_child-take_after-removed-requires
+take_from_child-take_after-removed-requires g t c =
+    let same = either_way c.in_ok-child.ensures.value in
+    let r = c.requires in
+    let ordered : IsOrdered g.K.Ord.cmp c.in_ok-child.child.now.0 = rw same r.ordered in
+    let spare : 4 < c.in_ok-child.child.now.2 = rw same r.spare in
+    let two : 0 < c.in_ok-child.child.now.1 → 1 < c.in_ok-child.child.now.2 = λ _. omega (arith, spare) in
+    let can = r.can_confirm in
+    λ κs h. search rules
+
+pub take_from_child-returns : goal.take_from_child-returns
+take_from_child-returns g t c =
+    let same = either_way c.in_ok-child.ensures.value in
+    let kept = c.make_mut.follows.holds c.take_after-removed.new.node (rw c.in_ok-child.was refl) in
+    let r = c.take_after-removed.result in
+    let e = c.take_after-removed.ensures in
+    let l = c.len-length.ensures in
+    record {
+      confirmed = e.confirmed;
+      refused = e.refused;
+      least = refl;
+      height = ap (λ n. n.1) kept ∙ e.shrunk.height ∙ ap (λ n. n.1) same;
+      fit = rw kept (omega (arith, ap (λ n. n.2) same, c.requires.spare, e.shrunk.one_less), omega (arith, l.value, l.most), l.filled);
+      err = on_err_turn r (λ q. ap (λ n. n.0) kept ∙ q ∙ ap (λ n. n.0) same) e.err;
+      ok = on_ok_turn r (λ q. ap (λ n. n.0) kept ∙ q ∙ ap (λ n. take_entry g.K.Ord.cmp n.0 c.args.key.now) same) e.ok;
+      removed = answer_of (λ n. get g.K.Ord.cmp n.0 c.args.key.now) _ _ same r e.removed;
+    }
