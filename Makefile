@@ -1,19 +1,28 @@
 PROGRAM = crates/changecap/out/changecap
 
+# The code that the program may be made of: that of every crate but those that test or measure it.
+SOURCES = $(filter-out crates/cap_test_% crates/cap_bench_%, $(wildcard crates/*/src))
+
 .PHONY: run build test format clean
 
-# The first example, by the optimised program where `make build` or `make test` left one. Else the program runs before
-# any proof, with checks in place of the proofs.
+# The replies to the first example, by the optimised program where `make build` or `make test` left one. Else the sources
+# run before any proof, with checks in place of the proofs, and what `rt try` says of that is shown where it fails.
 run:
 	@if [ -x $(PROGRAM) ]; then \
+	    if [ -n "$$(find $(SOURCES) -newer $(PROGRAM) -print -quit)" ]; then \
+	        echo 'make run: $(PROGRAM) is older than the sources; `make build` makes it anew' >&2; \
+	    fi; \
 	    $(PROGRAM) run < examples/first.workload; \
 	else \
-	    cd crates/changecap && rt try -- run < ../../examples/first.workload; \
+	    said=$$(mktemp) && trap 'rm -f "$$said"' EXIT && cd crates/changecap && \
+	    { rt try -- run < ../../examples/first.workload 2> "$$said" || { status=$$?; cat "$$said" >&2; exit $$status; }; }; \
 	fi
 
-# Proves every crate that the program stands on, and makes the optimised program.
+# Proves every crate that the program stands on, makes the optimised program and runs it once.
 build:
-	cd crates/changecap && rt run -- run < stdin
+	@cd crates/changecap && rt run -- run < stdin
+	@touch -c $(PROGRAM)
+	@echo 'The program is $(PROGRAM).'
 
 # Every proof from nothing, every must-fail edit, every test, and then the examples through the optimised program. What
 # each crate cost stands before the last line, which counts them all.

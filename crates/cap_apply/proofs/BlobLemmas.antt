@@ -8,9 +8,9 @@ use Rattle.cap_changes.specs.Patch.{patch_list_of, patch_of}
 use Rattle.cap_codec.specs.declared.read.Contents.TheVariants.{Changes, Patches}
 use Rattle.cap_apply.specs.Applied.{AppliedState}
 use Rattle.cap_apply.specs.Apply.{and_then, changes_applied, group_applied, groups_applied, nothing_applied, skipped_unless}
-use Rattle.cap_apply.specs.Asked.{Asked, asked_by_change, asked_by_patch, asked_in}
+use Rattle.cap_apply.specs.Requested.{Requested, requested_by_change, requested_by_patch, requested_in}
 use Rattle.cap_apply.specs.Captured.{AllAfter, AllBefore, AreOthers, GivesAllRowsNow, TableRows, changes_of, total}
-use Rattle.cap_apply.specs.Difference.{Difference, RowsAfter, RowsBefore, asked_by_changes, asked_by_patches}
+use Rattle.cap_apply.specs.Difference.{Difference, RowsAfter, RowsBefore, requested_by_changes, requested_by_patches}
 use Rattle.cap_apply.specs.Report.{ReportState}
 use Rattle.cap_apply.specs.Target.{fitting, target}
 use Rattle.cap_apply.specs.declared.policy.Policy.{Policy}
@@ -50,17 +50,17 @@ module _ {A : Type 0} where
   }
 
   -- what the groups leave
-  abbrev AllLeft : Policy → ℕ → ℕ → List (TableRows A) → List (TableEntries (Asked A)) → AppliedState A → Type 0
+  abbrev AllLeft : Policy → ℕ → ℕ → List (TableRows A) → List (TableEntries (Requested A)) → AppliedState A → Type 0
   AllLeft policy place number ts groups state =
       (left : AppliedState A) × (groups_applied policy place number groups state ≡ Ok left) × AllAfter ts left.database
       × ((other : List ℕ) → AreOthers other ts → table_of left.database other ≡ table_of state.database other)
       × (left.report ≡ record state.report { applied = state.report.applied + total ts })
 
   -- groups that ask of each table what gives its rows now
-  module _ (policy : Policy) (asks : TableRows A → List (Asked A))
+  module _ (policy : Policy) (asks : TableRows A → List (Requested A))
       (give : (t : TableRows A) (number : ℕ) (state : AppliedState A) → RowsBefore t.name t.table t.differences state.database →
       Left policy number t.name t.table.schema t.table t.differences (asks t) state) where
-    abbrev group_of : TableRows A → TableEntries (Asked A)
+    abbrev group_of : TableRows A → TableEntries (Requested A)
     group_of t = record { table = t.name; schema = t.table.schema; changes = asks t }
 
     groups_give : (ts : List (TableRows A)) (place number : ℕ) (state : AppliedState A) → AllBefore ts state.database → AllLeft policy place number ts (map group_of ts) state
@@ -84,36 +84,36 @@ module _ {A : Type 0} where
 
   -- ---- a changeset, and its patchset
 
-  change_asks : (flags : List Bool) (ds : List (Difference A)) → map (asked_by_change flags) (map (λ (d : Difference A). d.change) ds) ≡ asked_by_changes flags ds
+  change_asks : (flags : List Bool) (ds : List (Difference A)) → map (requested_by_change flags) (map (λ (d : Difference A). d.change) ds) ≡ requested_by_changes flags ds
   change_asks flags [] = refl
-  change_asks flags (d ∷ ds) = ap (λ (l : List (Asked A)). asked_by_change flags d.change ∷ l) (change_asks flags ds)
+  change_asks flags (d ∷ ds) = ap (λ (l : List (Requested A)). requested_by_change flags d.change ∷ l) (change_asks flags ds)
 
-  patch_asks : (flags : List Bool) (ds : List (Difference A)) → map (asked_by_patch flags) (map (patch_of flags) (map (λ (d : Difference A). d.change) ds)) ≡ asked_by_patches flags ds
+  patch_asks : (flags : List Bool) (ds : List (Difference A)) → map (requested_by_patch flags) (map (patch_of flags) (map (λ (d : Difference A). d.change) ds)) ≡ requested_by_patches flags ds
   patch_asks flags [] = refl
-  patch_asks flags (d ∷ ds) = ap (λ (l : List (Asked A)). asked_by_patch flags (patch_of flags d.change) ∷ l) (patch_asks flags ds)
+  patch_asks flags (d ∷ ds) = ap (λ (l : List (Requested A)). requested_by_patch flags (patch_of flags d.change) ∷ l) (patch_asks flags ds)
 
-  change_groups : (ts : List (TableRows A)) → map (asked_in asked_by_change) (map changes_of ts)
-      ≡ map (λ (t : TableRows A). record { table = t.name; schema = t.table.schema; changes = asked_by_changes t.table.schema t.differences }) ts
+  change_groups : (ts : List (TableRows A)) → map (requested_in requested_by_change) (map changes_of ts)
+      ≡ map (λ (t : TableRows A). record { table = t.name; schema = t.table.schema; changes = requested_by_changes t.table.schema t.differences }) ts
   change_groups [] = refl
   change_groups (t ∷ ts) =
       λ i. record { table = t.name; schema = t.table.schema; changes = change_asks t.table.schema t.differences i } ∷ change_groups ts i
 
-  patch_groups : (ts : List (TableRows A)) → map (asked_in asked_by_patch) (patch_list_of (map changes_of ts))
-      ≡ map (λ (t : TableRows A). record { table = t.name; schema = t.table.schema; changes = asked_by_patches t.table.schema t.differences }) ts
+  patch_groups : (ts : List (TableRows A)) → map (requested_in requested_by_patch) (patch_list_of (map changes_of ts))
+      ≡ map (λ (t : TableRows A). record { table = t.name; schema = t.table.schema; changes = requested_by_patches t.table.schema t.differences }) ts
   patch_groups [] = refl
   patch_groups (t ∷ ts) =
       λ i. record { table = t.name; schema = t.table.schema; changes = patch_asks t.table.schema t.differences i } ∷ patch_groups ts i
 
   pub changeset_gives : (policy : Policy) (ts : List (TableRows A)) (database : Tables A) → AllBefore ts database → GivesAllRowsNow policy ts (Changes (map changes_of ts)) database
   changeset_gives policy ts database before =
-      let all = groups_give policy (λ (t : TableRows A). asked_by_changes t.table.schema t.differences)
+      let all = groups_give policy (λ (t : TableRows A). requested_by_changes t.table.schema t.differences)
       (λ t number state h. changes_give policy number t.name t.table t.differences state h.there h.ordered h.rows) ts 0 0 (nothing_applied database) before in
       let count : 0 + total ts ≡ total ts = omega arith in
       (all.0, ap (λ groups. groups_applied policy 0 0 groups (nothing_applied database)) (change_groups ts) ∙ all.1, all.2, all.3, all.4 ∙ ap all_counted count)
 
   pub patchset_gives : (policy : Policy) (ts : List (TableRows A)) (database : Tables A) → AllBefore ts database → GivesAllRowsNow policy ts (Patches (patch_list_of (map changes_of ts))) database
   patchset_gives policy ts database before =
-      let all = groups_give policy (λ (t : TableRows A). asked_by_patches t.table.schema t.differences)
+      let all = groups_give policy (λ (t : TableRows A). requested_by_patches t.table.schema t.differences)
       (λ t number state h. patches_give policy number t.name t.table t.differences state h.there h.ordered h.rows) ts 0 0 (nothing_applied database) before in
       let count : 0 + total ts ≡ total ts = omega arith in
       (all.0, ap (λ groups. groups_applied policy 0 0 groups (nothing_applied database)) (patch_groups ts) ∙ all.1, all.2, all.3, all.4 ∙ ap all_counted count)

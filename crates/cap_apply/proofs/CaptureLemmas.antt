@@ -15,14 +15,14 @@ use Rattle.cap_changes.specs.Change.{change_of, full_record, new_field, old_fiel
 use Rattle.cap_changes.specs.Column.{by_column}
 use Rattle.cap_changes.specs.Invert.{inverse_of}
 use Rattle.cap_changes.specs.Patch.{patch_of, update_record}
-use Rattle.cap_changes.specs.Record.{RecordFields}
-use Rattle.cap_changes.specs.declared.change.Change.{Change}
-use Rattle.cap_changes.specs.declared.change.Change.TheVariants.{Insert, Update, Delete}
+use Rattle.cap_changes.specs.FieldRecord.{RecordFields}
+use Rattle.cap_changes.specs.declared.row_change.RowChange.{RowChange}
+use Rattle.cap_changes.specs.declared.row_change.RowChange.TheVariants.{Insert, Update, Delete}
 use Rattle.cap_apply.specs.Applied.{AppliedState}
 use Rattle.cap_apply.specs.Apply.{change_applied, counted, with_row_in}
-use Rattle.cap_apply.specs.Asked.{Asked, asked_by_change, asked_by_patch}
+use Rattle.cap_apply.specs.Requested.{Requested, requested_by_change, requested_by_patch}
 use Rattle.cap_apply.specs.Difference.{Difference, IsDifference, IsUnder, turned}
-use Rattle.cap_apply.specs.Row.{agrees, agrees_at, conflict_of, key_record_of, key_values, missed, new_row, row_after, set_fields}
+use Rattle.cap_apply.specs.Row.{has_old_values, has_old_value, conflict_of, key_record_of, key_values, missed, new_row, row_after, set_fields}
 use Rattle.cap_apply.specs.Target.{columns_fit, fitting}
 use Rattle.cap_apply.specs.declared.conflict.ConflictKind.TheVariants.{Data}
 use Rattle.cap_apply.specs.declared.policy.Policy.{Policy}
@@ -66,13 +66,13 @@ module _ {A : Type 0} where
   same_value : (value : Value A) → value_eq value value ≡ true
   same_value value = (value_eq_decides value value).1 refl
 
-  full_agrees : (flags : List Bool) (row : Fields A) → agrees flags (full_record row) row ≡ true
+  full_agrees : (flags : List Bool) (row : Fields A) → has_old_values flags (full_record row) row ≡ true
   full_agrees [] row = refl
   full_agrees (flag ∷ flags) [] = refl
   full_agrees (flag ∷ flags) (value ∷ row) = and_from (flag || value_eq value value) _ (or_true flag _ (same_value value)) (full_agrees flags row)
 
-  -- a patchset tells nothing that could differ
-  nothing_told : (flags : List Bool) (row : Fields A) → agrees flags [] row ≡ true
+  -- a patchset has no old values that could differ
+  nothing_told : (flags : List Bool) (row : Fields A) → has_old_values flags [] row ≡ true
   nothing_told [] row = refl
   nothing_told (flag ∷ flags) row = refl
 
@@ -90,17 +90,17 @@ module _ {A : Type 0} where
         | false ↦ between_key flags image now (cc) (cc)
       ]
 
-  old_agrees_at : (key same : Bool) (old : Value A) → agrees_at key (cond (key || (not key && not same)) (Some old) None) old ≡ true
+  old_agrees_at : (key same : Bool) (old : Value A) → has_old_value key (cond (key || (not key && not same)) (Some old) None) old ≡ true
   old_agrees_at true same old = refl
   old_agrees_at false true old = refl
   old_agrees_at false false old = same_value old
 
-  between_agrees : (flags : List Bool) (image now : Fields A) → agrees flags (by_column old_field flags image now) image ≡ true
+  between_agrees : (flags : List Bool) (image now : Fields A) → has_old_values flags (by_column old_field flags image now) image ≡ true
   between_agrees [] image now = refl
   between_agrees (flag ∷ flags) [] now = refl
   between_agrees (flag ∷ flags) (old ∷ image) [] = refl
   between_agrees (flag ∷ flags) (old ∷ image) (new ∷ now) =
-      and_from (agrees_at flag (old_field flag old new) old) _ (old_agrees_at flag (value_eq old new) old) (between_agrees flags image now)
+      and_from (has_old_value flag (old_field flag old new) old) _ (old_agrees_at flag (value_eq old new) old) (between_agrees flags image now)
 
   same_first : {a b : Value A} {xs ys : Fields A} → (a ∷ xs) ≡ (b ∷ ys) → (a ≡ b) × (xs ≡ ys)
   same_first e = (cc, cc)
@@ -131,22 +131,22 @@ module _ {A : Type 0} where
   key_is : (flags : List Bool) (row key : Fields A) → key_of flags row ≡ Some key → key_fields flags row ≡ key
   key_is flags row key e = its_values (is_key (key_fields flags row)) (key_fields flags row) key e
 
-  -- what a change asks for, by the rows that it stands for
-  pub record AsksFor (flags : List Bool) (asked : Asked A) (key : Fields A) (before after : Option (Fields A)) : Type 0 where
-    pub names : key_values flags (key_record_of asked.patch) ≡ key
-    pub met : conflict_of flags asked.old asked.patch before ≡ None
-    pub leaves : row_after (length flags) asked.patch before ≡ after
+  -- the requested change, by the rows before and now
+  pub record AsksFor (flags : List Bool) (requested : Requested A) (key : Fields A) (before after : Option (Fields A)) : Type 0 where
+    pub names : key_values flags (key_record_of requested.patch) ≡ key
+    pub met : conflict_of flags requested.old requested.patch before ≡ None
+    pub leaves : row_after (length flags) requested.patch before ≡ after
 
-  pub asks_by_change : (flags : List Bool) (indirect : Bool) (key : Fields A) (before after : Option (Fields A)) (change : Change A) →
-      IsUnder flags key before → IsUnder flags key after → change_of flags indirect before after ≡ Some change → AsksFor flags (asked_by_change flags change) key before after
+  pub asks_by_change : (flags : List Bool) (indirect : Bool) (key : Fields A) (before after : Option (Fields A)) (change : RowChange A) →
+      IsUnder flags key before → IsUnder flags key after → change_of flags indirect before after ≡ Some change → AsksFor flags (requested_by_change flags change) key before after
   asks_by_change flags indirect key None None change p q e = cc
   asks_by_change flags indirect key None (Some now) change p q e =
       let same : Insert indirect (full_record now) ≡ change = cc in
-      subst (λ (c : Change A). AsksFor flags (asked_by_change flags c) key None (Some now)) same
+      subst (λ (c : RowChange A). AsksFor flags (requested_by_change flags c) key None (Some now)) same
       (record { names = full_key flags now ∙ key_is flags now key q.1; met = refl; leaves = ap Some (full_row (length flags) now q.0) })
   asks_by_change flags indirect key (Some image) None change p q e =
       let same : Delete indirect (full_record image) ≡ change = cc in
-      subst (λ (c : Change A). AsksFor flags (asked_by_change flags c) key (Some image) None) same
+      subst (λ (c : RowChange A). AsksFor flags (requested_by_change flags c) key (Some image) None) same
       (record {
         names = record_key flags (full_record image) ∙ full_key flags image ∙ key_is flags image key p.1;
         met = ap (λ b. cond b None (Some Data)) (full_agrees flags image);
@@ -155,11 +155,11 @@ module _ {A : Type 0} where
   asks_by_change flags indirect key (Some image) (Some now) change p q e = differ (fields_eq image now) e
     where
       differ : (b : Bool) → cond b None (Some (Update indirect (by_column old_field flags image now) (by_column new_field flags image now))) ≡ Some change →
-          AsksFor flags (asked_by_change flags change) key (Some image) (Some now)
+          AsksFor flags (requested_by_change flags change) key (Some image) (Some now)
       differ true e = cc
       differ false e =
           let same : Update indirect (by_column old_field flags image now) (by_column new_field flags image now) ≡ change = cc in
-          subst (λ (c : Change A). AsksFor flags (asked_by_change flags c) key (Some image) (Some now)) same
+          subst (λ (c : RowChange A). AsksFor flags (requested_by_change flags c) key (Some image) (Some now)) same
           (record {
             names = between_key flags image now p.0 q.0 ∙ key_is flags image key p.1;
             met = ap (λ b. cond b None (Some Data)) (between_agrees flags image now);
@@ -170,9 +170,9 @@ module _ {A : Type 0} where
   told_or_not flags old None e = cc
   told_or_not flags old (Some row) e = ap (λ b. cond b None (Some Data)) (nothing_told flags row)
 
-  -- the patch of a change asks for the same, and tells no old field
-  pub asks_by_patch : (flags : List Bool) (key : Fields A) (before after : Option (Fields A)) (change : Change A) →
-      AsksFor flags (asked_by_change flags change) key before after → AsksFor flags (asked_by_patch flags (patch_of flags change)) key before after
+  -- the patch of a change requests the same, without old fields
+  pub asks_by_patch : (flags : List Bool) (key : Fields A) (before after : Option (Fields A)) (change : RowChange A) →
+      AsksFor flags (requested_by_change flags change) key before after → AsksFor flags (requested_by_patch flags (patch_of flags change)) key before after
   asks_by_patch flags key before after (Insert indirect new) h = record { names = h.names; met = h.met; leaves = h.leaves }
   asks_by_patch flags key before after (Update indirect old new) h = record { names = h.names; met = told_or_not flags old before h.met; leaves = h.leaves }
   asks_by_patch flags key before after (Delete indirect old) h = record { names = h.names; met = told_or_not flags old before h.met; leaves = h.leaves }
@@ -184,12 +184,12 @@ module _ {A : Type 0} where
       let fit : columns_fit flags table.schema ≡ true = ap (columns_fit flags) columns ∙ fit_self flags in
       record { table = table; there = there; fit = fit; is = ap (fitting flags) there ∙ ap (λ b. cond b (Some table) None) fit }
 
-  pub captured_one : (policy : Policy) (number : ℕ) (name : List ℕ) (flags : List Bool) (asked : Asked A) (state : AppliedState A) (table : TableState A) (key : Fields A) (before after : Option (Fields A)) →
-      table_of state.database name ≡ Some table → table.schema ≡ flags → get fields_cmp table.keyed key ≡ before → AsksFor flags asked key before after →
-      change_applied policy number name flags asked state ≡ Ok (counted (with_row_in name table key before after state))
-  captured_one policy number name flags asked state table key before after there columns found h =
-      applied_at policy number name flags asked state (own_target state name flags table there columns) before None (ap (get fields_cmp table.keyed) h.names ∙ found) h.met
-      ∙ (λ i. Ok (counted (with_row_in name table (h.names i) before (row_after (length (columns i)) asked.patch before) state)))
+  pub captured_one : (policy : Policy) (number : ℕ) (name : List ℕ) (flags : List Bool) (requested : Requested A) (state : AppliedState A) (table : TableState A) (key : Fields A) (before after : Option (Fields A)) →
+      table_of state.database name ≡ Some table → table.schema ≡ flags → get fields_cmp table.keyed key ≡ before → AsksFor flags requested key before after →
+      change_applied policy number name flags requested state ≡ Ok (counted (with_row_in name table key before after state))
+  captured_one policy number name flags requested state table key before after there columns found h =
+      applied_at policy number name flags requested state (own_target state name flags table there columns) before None (ap (get fields_cmp table.keyed) h.names ∙ found) h.met
+      ∙ (λ i. Ok (counted (with_row_in name table (h.names i) before (row_after (length (columns i)) requested.patch before) state)))
       ∙ ap (λ (row : Option (Fields A)). Ok (counted (with_row_in name table key before row state))) h.leaves
 
   -- ---- the other way round
@@ -217,13 +217,13 @@ module _ {A : Type 0} where
       let rest = turned_record flags image now (cc) (cc) keys in
       (λ i. cond (not (same i)) (Some new) None ∷ rest.0 i, λ i. cond (not (same i)) (Some old) None ∷ rest.1 i)
 
-  turned_change : (flags : List Bool) (indirect : Bool) (key : Fields A) (before after : Option (Fields A)) (change : Change A) →
+  turned_change : (flags : List Bool) (indirect : Bool) (key : Fields A) (before after : Option (Fields A)) (change : RowChange A) →
       IsUnder flags key before → IsUnder flags key after → change_of flags indirect before after ≡ Some change → change_of flags indirect after before ≡ Some (inverse_of flags change)
   turned_change flags indirect key None None change p q e = cc
   turned_change flags indirect key None (Some now) change p q e =
-      let same : Insert indirect (full_record now) ≡ change = cc in ap (λ (c : Change A). Some (inverse_of flags c)) same
+      let same : Insert indirect (full_record now) ≡ change = cc in ap (λ (c : RowChange A). Some (inverse_of flags c)) same
   turned_change flags indirect key (Some image) None change p q e =
-      let same : Delete indirect (full_record image) ≡ change = cc in ap (λ (c : Change A). Some (inverse_of flags c)) same
+      let same : Delete indirect (full_record image) ≡ change = cc in ap (λ (c : RowChange A). Some (inverse_of flags c)) same
   turned_change flags indirect key (Some image) (Some now) change p q e = differ (fields_eq image now) refl e
     where
       differ : (b : Bool) → fields_eq image now ≡ b → cond b None (Some (Update indirect (by_column old_field flags image now) (by_column new_field flags image now))) ≡ Some change →
@@ -234,7 +234,7 @@ module _ {A : Type 0} where
           let back = turned_record flags image now p.0 q.0 (key_is flags image key p.1 ∙ sym (key_is flags now key q.1)) in
           ap (λ b. cond b None (Some (Update indirect (by_column old_field flags now image) (by_column new_field flags now image)))) (fields_eq-symmetric now image ∙ is)
           ∙ (λ i. Some (Update indirect (sym back.0 i) (sym back.1 i)))
-          ∙ ap (λ (c : Change A). Some (inverse_of flags c)) same
+          ∙ ap (λ (c : RowChange A). Some (inverse_of flags c)) same
 
   pub turned_difference : (flags : List Bool) (d : Difference A) → IsDifference flags d → IsDifference flags (turned flags d)
   turned_difference flags d h =

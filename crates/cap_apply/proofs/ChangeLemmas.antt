@@ -1,4 +1,4 @@
--- One change: what the operations of the code make is what the change asks for.
+-- One change: the operations of the code make the requested change.
 use Rattle.std.proofs.Common.{◌≡◌, ℕ, ◌≤◌, Bool, true, false, cond, Option, Some, None, Result, Ok, Err, List, [], ◌∷◌, ◌++◌, length, map, refl, sym, ap, ◌∙◌, arith}
 use Rattle.std.specs.Prelude.{IfSome, is_some}
 use Rattle.std.specs.Borrow.{Bor}
@@ -22,14 +22,14 @@ use Rattle.cap_txn.specs.Tables.{Tables, table_of}
 use Rattle.cap_txn.specs.declared.cause.Cause.TheVariants.{Direct}
 use Rattle.cap_txn.specs.declared.op.Action.TheVariants.{Insert, Update, Delete}
 use Rattle.cap_txn.specs.declared.op.Op.{Op}
-use Rattle.cap_changes.specs.Demands.{demands, meet}
+use Rattle.cap_changes.specs.Requirements.{requirements, satisfy}
 use Rattle.cap_changes.specs.Patch.{key_record}
-use Rattle.cap_changes.specs.Record.{RecordFields}
+use Rattle.cap_changes.specs.FieldRecord.{RecordFields}
 use Rattle.cap_changes.specs.declared.patch.Patch.TheVariants as patched
-use Rattle.cap_changes.specs.declared.rule.Rule.TheVariants as rules
+use Rattle.cap_changes.specs.declared.record_kind.RecordKind.TheVariants as record_kinds
 use Rattle.cap_apply.specs.Applied.{AppliedState}
 use Rattle.cap_apply.specs.Apply.{change_applied, change_at, change_in, change_under, concluded, counted, left_out, noted, with_row_in}
-use Rattle.cap_apply.specs.Asked.{Asked}
+use Rattle.cap_apply.specs.Requested.{Requested}
 use Rattle.cap_apply.specs.Operated.{operated}
 use Rattle.cap_apply.specs.Policy.{is_made, made_anyway}
 use Rattle.cap_apply.specs.Row.{assigned_from, conflict_of, key_record_of, key_values, missed, new_row, row_after, set_fields}
@@ -69,14 +69,14 @@ module _ {A : Type 0} where
   has_target database name flags e = found_table database name flags (table_of database name) refl e
 
   -- a change whose conflict is known
-  pub applied_at : (policy : Policy) (number : ℕ) (name : List ℕ) (flags : List Bool) (asked : Asked A) (state : AppliedState A) (h : HasTarget state.database name flags)
+  pub applied_at : (policy : Policy) (number : ℕ) (name : List ℕ) (flags : List Bool) (requested : Requested A) (state : AppliedState A) (h : HasTarget state.database name flags)
       (before : Option (Fields A)) (conflict : Option ConflictKind) →
-      get fields_cmp h.table.keyed (key_values flags (key_record_of asked.patch)) ≡ before → conflict_of flags asked.old asked.patch before ≡ conflict →
-      change_applied policy number name flags asked state ≡ change_at policy number name asked h.table (key_values flags (key_record_of asked.patch)) before conflict state
-  applied_at policy number name flags asked state h before conflict found met =
-      ap (λ t. change_in policy number name flags asked t state) h.is
-      ∙ ap (λ b. change_under policy number name flags asked h.table (key_values flags (key_record_of asked.patch)) b state) found
-      ∙ ap (λ k. change_at policy number name asked h.table (key_values flags (key_record_of asked.patch)) before k state) met
+      get fields_cmp h.table.keyed (key_values flags (key_record_of requested.patch)) ≡ before → conflict_of flags requested.old requested.patch before ≡ conflict →
+      change_applied policy number name flags requested state ≡ change_at policy number name requested h.table (key_values flags (key_record_of requested.patch)) before conflict state
+  applied_at policy number name flags requested state h before conflict found met =
+      ap (λ t. change_in policy number name flags requested t state) h.is
+      ∙ ap (λ b. change_under policy number name flags requested h.table (key_values flags (key_record_of requested.patch)) b state) found
+      ∙ ap (λ k. change_at policy number name requested h.table (key_values flags (key_record_of requested.patch)) before k state) met
 
   pub noted_there : (policy : Policy) (number : ℕ) (conflict : Option ConflictKind) (state : AppliedState A) (name : List ℕ) (table : TableState A) →
       table_of state.database name ≡ Some table → table_of (noted policy number conflict state).database name ≡ Some table
@@ -155,34 +155,34 @@ module _ {A : Type 0} where
     abbrev pub judged : Option ConflictKind → Bool → AppliedState A
     judged conflict made = cond made (noted policy number conflict state) (left_out number (noted policy number conflict state))
 
-    -- a change made by an operation: what the operation leaves, and that it is what is asked for
-    abbrev pub MadeBy : Asked A → AppliedState A → Op A → Type 0
-    MadeBy asked mid op = (x : AppliedState A) × (operated mid op ≡ Ok x) × (change_applied policy number name flags asked state ≡ Ok (counted x))
+    -- a change made by an operation: what the operation leaves, and that it is the requested change
+    abbrev pub MadeBy : Requested A → AppliedState A → Op A → Type 0
+    MadeBy requested mid op = (x : AppliedState A) × (operated mid op ≡ Ok x) × (change_applied policy number name flags requested state ≡ Ok (counted x))
 
-    module _ (asked : Asked A) (before : Option (Fields A)) (conflict : Option ConflictKind)
-        (found : get fields_cmp h.table.keyed (key_values flags (key_record_of asked.patch)) ≡ before) (met : conflict_of flags asked.old asked.patch before ≡ conflict) where
-      pub change_refused : (why : Refusal) → is_made policy number conflict ≡ Err why → change_applied policy number name flags asked state ≡ Err why
+    module _ (requested : Requested A) (before : Option (Fields A)) (conflict : Option ConflictKind)
+        (found : get fields_cmp h.table.keyed (key_values flags (key_record_of requested.patch)) ≡ before) (met : conflict_of flags requested.old requested.patch before ≡ conflict) where
+      pub change_refused : (why : Refusal) → is_made policy number conflict ≡ Err why → change_applied policy number name flags requested state ≡ Err why
       change_refused why e =
-          applied_at policy number name flags asked state h before conflict found met
-          ∙ ap (λ m. concluded m (counted (with_row_in name h.table (key_values flags (key_record_of asked.patch)) before (row_after (length h.table.schema) asked.patch before) (noted policy number conflict state))) (left_out number (noted policy number conflict state))) e
+          applied_at policy number name flags requested state h before conflict found met
+          ∙ ap (λ m. concluded m (counted (with_row_in name h.table (key_values flags (key_record_of requested.patch)) before (row_after (length h.table.schema) requested.patch before) (noted policy number conflict state))) (left_out number (noted policy number conflict state))) e
 
       pub change_omitted : (made : Bool) (next : AppliedState A) → made ≡ false → is_made policy number conflict ≡ Ok made → next ≡ judged conflict made →
-          change_applied policy number name flags asked state ≡ Ok next
+          change_applied policy number name flags requested state ≡ Ok next
       change_omitted true next left e is = cc
       change_omitted false next left e is =
-          applied_at policy number name flags asked state h before conflict found met
-          ∙ ap (λ m. concluded m (counted (with_row_in name h.table (key_values flags (key_record_of asked.patch)) before (row_after (length h.table.schema) asked.patch before) (noted policy number conflict state))) (left_out number (noted policy number conflict state))) e
+          applied_at policy number name flags requested state h before conflict found met
+          ∙ ap (λ m. concluded m (counted (with_row_in name h.table (key_values flags (key_record_of requested.patch)) before (row_after (length h.table.schema) requested.patch before) (noted policy number conflict state))) (left_out number (noted policy number conflict state))) e
           ∙ ap Ok (sym is)
 
-      change_made : is_made policy number conflict ≡ Ok true → change_applied policy number name flags asked state
-          ≡ Ok (counted (with_row_in name h.table (key_values flags (key_record_of asked.patch)) before (row_after (length h.table.schema) asked.patch before) (noted policy number conflict state)))
+      change_made : is_made policy number conflict ≡ Ok true → change_applied policy number name flags requested state
+          ≡ Ok (counted (with_row_in name h.table (key_values flags (key_record_of requested.patch)) before (row_after (length h.table.schema) requested.patch before) (noted policy number conflict state)))
       change_made e =
-          applied_at policy number name flags asked state h before conflict found met
-          ∙ ap (λ m. concluded m (counted (with_row_in name h.table (key_values flags (key_record_of asked.patch)) before (row_after (length h.table.schema) asked.patch before) (noted policy number conflict state))) (left_out number (noted policy number conflict state))) e
+          applied_at policy number name flags requested state h before conflict found met
+          ∙ ap (λ m. concluded m (counted (with_row_in name h.table (key_values flags (key_record_of requested.patch)) before (row_after (length h.table.schema) requested.patch before) (noted policy number conflict state))) (left_out number (noted policy number conflict state))) e
 
     module _ (keyed : has_key flags ≡ true) (indirect : Bool) where
       pub update_made : (old new : RecordFields A) (before : Option (Fields A)) (conflict : Option ConflictKind) (made : Bool) (mid : AppliedState A) (op : Op A) →
-          meet (demands rules.Keyed flags) new ≡ true → get fields_cmp h.table.keyed (key_values flags new) ≡ before →
+          satisfy (requirements record_kinds.Keyed flags) new ≡ true → get fields_cmp h.table.keyed (key_values flags new) ≡ before →
           ((row : Fields A) → before ≡ Some row → length row ≡ length h.table.schema) → missed flags old before ≡ conflict → made ≡ true →
           is_made policy number conflict ≡ Ok made → mid ≡ judged conflict made → op ≡ directly name (Update (Key (key_values flags new)) (assigned_from 0 new)) →
           MadeBy (record { old = old; patch = patched.Update indirect new }) mid op
@@ -200,7 +200,7 @@ module _ {A : Type 0} where
           )
 
       pub overwrite_made : (new : RecordFields A) (row before : Fields A) (made : Bool) (mid : AppliedState A) (op : Op A) →
-          meet (demands rules.Keyed flags) new ≡ true → row ≡ new_row (length h.table.schema) new → get fields_cmp h.table.keyed (key_values flags new) ≡ Some before →
+          satisfy (requirements record_kinds.Keyed flags) new ≡ true → row ≡ new_row (length h.table.schema) new → get fields_cmp h.table.keyed (key_values flags new) ≡ Some before →
           length before ≡ length h.table.schema → made ≡ true → is_made policy number (Some Conflict) ≡ Ok made → mid ≡ judged (Some Conflict) made →
           op ≡ directly name (Update (Key (key_values flags new)) (assigned_from 0 (map Some row))) →
           MadeBy (record { old = []; patch = patched.Insert indirect new }) mid op
@@ -218,7 +218,7 @@ module _ {A : Type 0} where
             change_made (record { old = []; patch = patched.Insert indirect new }) (Some before) (Some Conflict) found refl e,
           )
 
-      module _ (new : RecordFields A) (row : Fields A) (op : Op A) (fits : meet (demands rules.Keyed flags) new ≡ true) (row_is : row ≡ new_row (length h.table.schema) new)
+      module _ (new : RecordFields A) (row : Fields A) (op : Op A) (fits : satisfy (requirements record_kinds.Keyed flags) new ≡ true) (row_is : row ≡ new_row (length h.table.schema) new)
           (op_is : op ≡ directly name (Insert row)) where
         op_whole : op ≡ directly name (Insert (new_row (length h.table.schema) new))
         op_whole = op_is ∙ ap (λ (r : Fields A). directly name (Insert r)) row_is
@@ -270,7 +270,7 @@ module _ {A : Type 0} where
           change_made (record { old = old; patch = patched.Delete indirect key }) (Some present.0) conflict there (ap (missed flags old) (sym present.1) ∙ met) e,
         )
 
-    -- a delete asks for the same whether its record has the key fields alone or all of them
+    -- a delete requests the same whether its record has the key fields only or all of them
     delete_in : (indirect : Bool) (old : RecordFields A) (found : Option (TableState A)) →
         change_in policy number name flags (record { old = old; patch = patched.Delete indirect old }) found state
         ≡ change_in policy number name flags (record { old = old; patch = patched.Delete indirect (key_record flags old) }) found state
@@ -284,7 +284,7 @@ module _ {A : Type 0} where
         ≡ change_applied policy number name flags (record { old = old; patch = patched.Delete indirect (key_record flags old) }) state
     delete_asked indirect old = delete_in indirect old (target state.database name flags)
 
--- the width of a row that is lent
+-- the width of a row by reference
 pub wide_row : {A : Type 0} (found : Option (Bor (Fields A))) (n : ℕ) → IfSome found (λ row. length row.now ≡ n) → (row : Fields A) → option_copied found ≡ Some row → length row ≡ n
 wide_row None n wide row is = cc
 wide_row (Some lent) n wide row is = let same : lent.now ≡ row = cc in ap length (sym same) ∙ wide

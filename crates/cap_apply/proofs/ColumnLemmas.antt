@@ -13,7 +13,7 @@ use Rattle.cap_changes.specs.Entries.{TableEntries}
 use Rattle.cap_codec.specs.declared.read.Contents.{Contents}
 use Rattle.cap_apply.specs.Applied.{AppliedState}
 use Rattle.cap_apply.specs.Apply.{and_then, apply, change_applied, change_in, changes_applied, concluded, counted, group_applied, groups_applied, left_out, noted, nothing_applied, skipped_unless, with_row, with_row_in}
-use Rattle.cap_apply.specs.Asked.{Asked, asked_of}
+use Rattle.cap_apply.specs.Requested.{Requested, requested_of}
 use Rattle.cap_apply.specs.Policy.{is_made}
 use Rattle.cap_apply.specs.Row.{conflict_of, key_record_of, key_values, row_after}
 use Rattle.cap_apply.specs.Target.{columns_fit, fitting, target}
@@ -60,23 +60,23 @@ module _ {A : Type 0} where
       ap (λ (tables : Tables A). schema_of (put_entry bytes_cmp tables name (with_row table key after)) other) (noted-database policy number conflict state)
       ∙ schema_of-put state.database name table (with_row table key after) there (with_row-columns table key after) other
 
-  change-columns : (policy : Policy) (number : ℕ) (name : List ℕ) (flags : List Bool) (asked : Asked A) (state : AppliedState A) (found : Option (TableState A)) → target state.database name flags ≡ found
-      → IfOk (change_in policy number name flags asked found state) (SameColumns state.database)
-  change-columns policy number name flags asked state None is = λ other. refl
-  change-columns policy number name flags asked state (Some table) is =
-      let key = key_values flags (key_record_of asked.patch) in
+  change-columns : (policy : Policy) (number : ℕ) (name : List ℕ) (flags : List Bool) (requested : Requested A) (state : AppliedState A) (found : Option (TableState A)) → target state.database name flags ≡ found
+      → IfOk (change_in policy number name flags requested found state) (SameColumns state.database)
+  change-columns policy number name flags requested state None is = λ other. refl
+  change-columns policy number name flags requested state (Some table) is =
+      let key = key_values flags (key_record_of requested.patch) in
       let before = get fields_cmp table.keyed key in
-      let conflict = conflict_of flags asked.old asked.patch before in
-      let after = row_after (length table.schema) asked.patch before in
+      let conflict = conflict_of flags requested.old requested.patch before in
+      let after = row_after (length table.schema) requested.patch before in
       concluded-columns state.database (is_made policy number conflict) (counted (with_row_in name table key before after (noted policy number conflict state))) (left_out number (noted policy number conflict state))
       (row-columns policy number name table key before after conflict state (fitting-there flags (table_of state.database name) table is))
       (λ other. ap (λ (tables : Tables A). schema_of tables other) (noted-database policy number conflict state))
 
-  changes-columns : (policy : Policy) (number : ℕ) (name : List ℕ) (flags : List Bool) (changes : List (Asked A)) (state : AppliedState A) → IfOk (changes_applied policy number name flags changes state) (SameColumns state.database)
+  changes-columns : (policy : Policy) (number : ℕ) (name : List ℕ) (flags : List Bool) (changes : List (Requested A)) (state : AppliedState A) → IfOk (changes_applied policy number name flags changes state) (SameColumns state.database)
   changes-columns policy number name flags [] state = λ other. refl
-  changes-columns policy number name flags (asked ∷ changes) state =
-      both-columns state.database (change_applied policy number name flags asked state) (λ next. changes_applied policy (number + 1) name flags changes next)
-      (change-columns policy number name flags asked state (target state.database name flags) refl) (λ next. changes-columns policy (number + 1) name flags changes next)
+  changes-columns policy number name flags (requested ∷ changes) state =
+      both-columns state.database (change_applied policy number name flags requested state) (λ next. changes_applied policy (number + 1) name flags changes next)
+      (change-columns policy number name flags requested state (target state.database name flags) refl) (λ next. changes-columns policy (number + 1) name flags changes next)
 
   -- ---- groups
 
@@ -84,7 +84,7 @@ module _ {A : Type 0} where
   skipped-database true place state = refl
   skipped-database false place state = refl
 
-  group-columns : (policy : Policy) (place number : ℕ) (group : TableEntries (Asked A)) (state : AppliedState A) → IfOk (group_applied policy place number group state) (SameColumns state.database)
+  group-columns : (policy : Policy) (place number : ℕ) (group : TableEntries (Requested A)) (state : AppliedState A) → IfOk (group_applied policy place number group state) (SameColumns state.database)
   group-columns policy place number group state =
       let there = is_some (target state.database group.table group.schema) in
       inner (changes_applied policy number group.table group.schema group.changes (skipped_unless there place state)) (skipped_unless there place state) (skipped-database there place state)
@@ -94,11 +94,11 @@ module _ {A : Type 0} where
       inner (Ok left) from same kept = λ other. kept other ∙ ap (λ (tables : Tables A). schema_of tables other) same
       inner (Err why) from same kept = tt
 
-  groups-columns : (policy : Policy) (place number : ℕ) (groups : List (TableEntries (Asked A))) (state : AppliedState A) → IfOk (groups_applied policy place number groups state) (SameColumns state.database)
+  groups-columns : (policy : Policy) (place number : ℕ) (groups : List (TableEntries (Requested A))) (state : AppliedState A) → IfOk (groups_applied policy place number groups state) (SameColumns state.database)
   groups-columns policy place number [] state = λ other. refl
   groups-columns policy place number (group ∷ groups) state =
       both-columns state.database (group_applied policy place number group state) (λ next. groups_applied policy (place + 1) (number + length group.changes) groups next)
       (group-columns policy place number group state) (λ next. groups-columns policy (place + 1) (number + length group.changes) groups next)
 
   pub blob-columns : (tables : Tables A) (blob : Contents A) (policy : Policy) → IfOk (apply tables blob policy) (λ left. (name : List ℕ) → schema_of left.database name ≡ schema_of tables name)
-  blob-columns tables blob policy = groups-columns policy 0 0 (asked_of blob) (nothing_applied tables)
+  blob-columns tables blob policy = groups-columns policy 0 0 (requested_of blob) (nothing_applied tables)

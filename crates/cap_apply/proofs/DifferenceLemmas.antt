@@ -12,7 +12,7 @@ use Rattle.cap_txn.proofs.PlaceLemmas.{ordered_put}
 use Rattle.cap_changes.specs.Patch.{patch_of}
 use Rattle.cap_apply.specs.Applied.{AppliedState}
 use Rattle.cap_apply.specs.Apply.{and_then, changes_applied, counted, with_row, with_row_in}
-use Rattle.cap_apply.specs.Asked.{Asked, asked_by_change, asked_by_patch}
+use Rattle.cap_apply.specs.Requested.{Requested, requested_by_change, requested_by_patch}
 use Rattle.cap_apply.specs.Difference.{AllApplied, AreApart, Difference, IsDifference, OtherTables, RowsAfter, StandAfter, StandBefore, turned}
 use Rattle.cap_apply.specs.declared.policy.Policy.{Policy}
 use Rattle.cap_apply.proofs.CaptureLemmas.{AsksFor, asks_by_change, asks_by_patch, captured_one, turned_difference}
@@ -57,7 +57,7 @@ module _ {A : Type 0} where
   other_table database name other table apart =
       get_put_other bytes_cmp (λ x y. (bytes_cmp-Equal x y).0) name table other (unequal (bytes_cmp other name) (λ e. apart ((bytes_cmp-Equal other name).0 e))) database
 
-  -- the others still stand as they did
+  -- the others are unchanged
   stand_still : (flags : List Bool) (table next : TableState A) (key : Fields A) (ds : List (Difference A)) →
       ((other : Fields A) → (other ≡ key → ⊥) → get fields_cmp next.keyed other ≡ get fields_cmp table.keyed other) →
       AreApart key ds → StandBefore flags table ds → StandBefore flags next ds
@@ -68,12 +68,12 @@ module _ {A : Type 0} where
   -- ---- all of them
 
   -- what applying differences leaves
-  abbrev pub Left : Policy → ℕ → List ℕ → List Bool → TableState A → List (Difference A) → List (Asked A) → AppliedState A → Type 0
+  abbrev pub Left : Policy → ℕ → List ℕ → List Bool → TableState A → List (Difference A) → List (Requested A) → AppliedState A → Type 0
   Left policy number name flags table ds asks state =
       (left : AppliedState A) × (changes_applied policy number name flags asks state ≡ Ok left) × RowsAfter name table ds left.database
       × OtherTables name state.database left.database × AllApplied ds state left
 
-  module _ (policy : Policy) (name : List ℕ) (flags : List Bool) (f : Difference A → Asked A) (asks : (d : Difference A) → IsDifference flags d → AsksFor flags (f d) d.key d.before d.after) where
+  module _ (policy : Policy) (name : List ℕ) (flags : List Bool) (f : Difference A → Requested A) (asks : (d : Difference A) → IsDifference flags d → AsksFor flags (f d) d.key d.before d.after) where
     pub apply_all : (ds : List (Difference A)) (number : ℕ) (table : TableState A) (state : AppliedState A) → table_of state.database name ≡ Some table → table.schema ≡ flags →
         IsOrdered fields_cmp table.keyed → StandBefore flags table ds → Left policy number name flags table ds (map f ds) state
     apply_all [] number table state there columns ordered stand =
@@ -119,16 +119,16 @@ module _ {A : Type 0} where
         )
 
   pub changes_give : (policy : Policy) (number : ℕ) (name : List ℕ) (table : TableState A) (ds : List (Difference A)) (state : AppliedState A) → table_of state.database name ≡ Some table →
-      IsOrdered fields_cmp table.keyed → StandBefore table.schema table ds → Left policy number name table.schema table ds (map (λ (d : Difference A). asked_by_change table.schema d.change) ds) state
+      IsOrdered fields_cmp table.keyed → StandBefore table.schema table ds → Left policy number name table.schema table ds (map (λ (d : Difference A). requested_by_change table.schema d.change) ds) state
   changes_give policy number name table ds state there ordered stand =
-      apply_all policy name table.schema (λ (d : Difference A). asked_by_change table.schema d.change)
+      apply_all policy name table.schema (λ (d : Difference A). requested_by_change table.schema d.change)
       (λ d h. asks_by_change table.schema h.change.0 d.key d.before d.after d.change h.before h.after h.change.1) ds number table state there refl ordered stand
 
   pub patches_give : (policy : Policy) (number : ℕ) (name : List ℕ) (table : TableState A) (ds : List (Difference A)) (state : AppliedState A) → table_of state.database name ≡ Some table →
       IsOrdered fields_cmp table.keyed → StandBefore table.schema table ds →
-      Left policy number name table.schema table ds (map (λ (d : Difference A). asked_by_patch table.schema (patch_of table.schema d.change)) ds) state
+      Left policy number name table.schema table ds (map (λ (d : Difference A). requested_by_patch table.schema (patch_of table.schema d.change)) ds) state
   patches_give policy number name table ds state there ordered stand =
-      apply_all policy name table.schema (λ (d : Difference A). asked_by_patch table.schema (patch_of table.schema d.change))
+      apply_all policy name table.schema (λ (d : Difference A). requested_by_patch table.schema (patch_of table.schema d.change))
       (λ d h. asks_by_patch table.schema d.key d.before d.after d.change (asks_by_change table.schema h.change.0 d.key d.before d.after d.change h.before h.after h.change.1))
       ds number table state there refl ordered stand
 
@@ -147,10 +147,10 @@ module _ {A : Type 0} where
   stand_turned flags table found (d ∷ ds) stand rows =
       (turned_difference flags d stand.0, rows.0, apart_turned flags d.key ds stand.2, stand_turned flags table found ds stand.3 rows.1)
 
-  map_turned : (flags : List Bool) (ds : List (Difference A)) → map (λ (d : Difference A). asked_by_change flags d.change) (map (turned flags) ds)
-      ≡ map (λ (d : Difference A). asked_by_change flags (turned flags d).change) ds
+  map_turned : (flags : List Bool) (ds : List (Difference A)) → map (λ (d : Difference A). requested_by_change flags d.change) (map (turned flags) ds)
+      ≡ map (λ (d : Difference A). requested_by_change flags (turned flags d).change) ds
   map_turned flags [] = refl
-  map_turned flags (d ∷ ds) = ap (λ (l : List (Asked A)). asked_by_change flags (turned flags d).change ∷ l) (map_turned flags ds)
+  map_turned flags (d ∷ ds) = ap (λ (l : List (Requested A)). requested_by_change flags (turned flags d).change ∷ l) (map_turned flags ds)
 
   as_many : (flags : List Bool) (ds : List (Difference A)) → length (map (turned flags) ds) ≡ length ds
   as_many flags [] = refl
@@ -158,15 +158,15 @@ module _ {A : Type 0} where
 
   pub inverse_gives : (policy : Policy) (number : ℕ) (name : List ℕ) (table : TableState A) (ds : List (Difference A)) (state : AppliedState A) → table_of state.database name ≡ Some table →
       IsOrdered fields_cmp table.keyed → StandBefore table.schema table ds → (left : AppliedState A) × (again : AppliedState A)
-      × (changes_applied policy number name table.schema (map (λ (d : Difference A). asked_by_change table.schema d.change) ds) state ≡ Ok left)
-      × (changes_applied policy number name table.schema (map (λ (d : Difference A). asked_by_change table.schema (turned table.schema d).change) ds) left ≡ Ok again)
+      × (changes_applied policy number name table.schema (map (λ (d : Difference A). requested_by_change table.schema d.change) ds) state ≡ Ok left)
+      × (changes_applied policy number name table.schema (map (λ (d : Difference A). requested_by_change table.schema (turned table.schema d).change) ds) left ≡ Ok again)
       × RowsAfter name table (map (turned table.schema) ds) again.database × OtherTables name state.database again.database × AllApplied ds left again
   inverse_gives policy number name table ds state there ordered stand =
       let flags = table.schema in
       let there_and = changes_give policy number name table ds state there ordered stand in
       let left = there_and.0 in
       let rows = there_and.2 in
-      let back = apply_all policy name flags (λ (d : Difference A). asked_by_change flags d.change)
+      let back = apply_all policy name flags (λ (d : Difference A). requested_by_change flags d.change)
       (λ d h. asks_by_change flags h.change.0 d.key d.before d.after d.change h.before h.after h.change.1) (map (turned flags) ds) number rows.found left rows.there rows.columns rows.ordered
       (stand_turned flags table rows.found ds stand rows.rows) in
       let last = back.2 in (

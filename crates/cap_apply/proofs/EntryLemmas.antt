@@ -1,4 +1,4 @@
--- A list of entries in order, after one is put and after one is taken: what stands at each key.
+-- A list of entries in order, after one is put and after one is taken: the value at each key.
 use Rattle.std.proofs.Common.{◌≡◌, true, false, cond, Some, None, List, [], ◌∷◌, refl, sym, ap, ◌∙◌}
 use Rattle.std.specs.declared.cmp.Ordering.{Ordering}
 use Rattle.std.specs.declared.cmp.Ordering.TheVariants.{Less, Equal, Greater}

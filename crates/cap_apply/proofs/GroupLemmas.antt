@@ -17,7 +17,7 @@ use Rattle.cap_txn.specs.Tables.{Tables}
 use Rattle.cap_changes.specs.Entries.{TableEntries}
 use Rattle.cap_apply.specs.Applied.{AppliedState}
 use Rattle.cap_apply.specs.Apply.{and_then, change_applied, change_in, changes_applied, concluded, counted, group_applied, groups_applied, left_out, noted, skipped, skipped_unless, with_row, with_row_in}
-use Rattle.cap_apply.specs.Asked.{Asked, asked_in}
+use Rattle.cap_apply.specs.Requested.{Requested, requested_in}
 use Rattle.cap_apply.specs.Policy.{is_made}
 use Rattle.cap_apply.specs.Row.{conflict_of, key_record_of, key_values, row_after}
 use Rattle.cap_apply.specs.Target.{columns_fit, fitting, target}
@@ -63,25 +63,25 @@ module _ {A : Type 0} where
       let same : omitted ≡ next = cc in subst (λ (s : AppliedState A). is_some (target s.database name flags) ≡ true) same q
   concluded_target name flags (Err why) made omitted next e p q = cc
 
-  pub target_stays : (policy : Policy) (number : ℕ) (name : List ℕ) (flags : List Bool) (asked : Asked A) (state next : AppliedState A) →
-      is_some (target state.database name flags) ≡ true → change_applied policy number name flags asked state ≡ Ok next →
+  pub target_stays : (policy : Policy) (number : ℕ) (name : List ℕ) (flags : List Bool) (requested : Requested A) (state next : AppliedState A) →
+      is_some (target state.database name flags) ≡ true → change_applied policy number name flags requested state ≡ Ok next →
       is_some (target next.database name flags) ≡ true
-  target_stays policy number name flags asked state next e ok =
+  target_stays policy number name flags requested state next e ok =
       let h = has_target state.database name flags e in
-      let key = key_values flags (key_record_of asked.patch) in
+      let key = key_values flags (key_record_of requested.patch) in
       let before = get fields_cmp h.table.keyed key in
-      let conflict = conflict_of flags asked.old asked.patch before in
-      let after = row_after (length h.table.schema) asked.patch before in
+      let conflict = conflict_of flags requested.old requested.patch before in
+      let after = row_after (length h.table.schema) requested.patch before in
       let kept = noted policy number conflict state in
       let fit : columns_fit flags (with_row h.table key after).schema ≡ true = ap (columns_fit flags) (same_columns h.table key after) ∙ h.fit in
       concluded_target name flags (is_made policy number conflict) (counted (with_row_in name h.table key before after kept)) (left_out number kept) next
-      (sym (applied_at policy number name flags asked state h before conflict refl refl) ∙ ok)
+      (sym (applied_at policy number name flags requested state h before conflict refl refl) ∙ ok)
       (put_target kept.database name flags (with_row h.table key after) fit)
       (noted_target policy number conflict state name flags e)
 
   -- ---- changes
 
-  module _ {X : Type 0} (policy : Policy) (name : List ℕ) (flags : List Bool) (number : ℕ) (f : X → Asked A) (xs : List X) (i : ℕ) (x : X) (within : i < length xs) (is : x ≡ get_or xs i x) (state : AppliedState A) where
+  module _ {X : Type 0} (policy : Policy) (name : List ℕ) (flags : List Bool) (number : ℕ) (f : X → Requested A) (xs : List X) (i : ℕ) (x : X) (within : i < length xs) (is : x ≡ get_or xs i x) (state : AppliedState A) where
     changes_from : changes_applied policy (number + i) name flags (map f (drop i xs)) state
         ≡ and_then (change_applied policy (number + i) name flags (f x) state) (λ next. changes_applied policy (number + i + 1) name flags (map f (drop (i + 1) xs)) next)
     changes_from = ap (λ l. changes_applied policy (number + i) name flags (map f l) state) (drop_here xs i x within is)
@@ -98,41 +98,41 @@ module _ {A : Type 0} where
     changes_end why err = changes_from ∙ ap (λ r. and_then r (λ s. changes_applied policy (number + i + 1) name flags (map f (drop (i + 1) xs)) s)) err
 
   -- the changes of a skipped group do nothing
-  pub changes_skipped : (policy : Policy) (name : List ℕ) (flags : List Bool) (number : ℕ) (asks : List (Asked A)) (state : AppliedState A) →
+  pub changes_skipped : (policy : Policy) (name : List ℕ) (flags : List Bool) (number : ℕ) (asks : List (Requested A)) (state : AppliedState A) →
       is_some (target state.database name flags) ≡ false → changes_applied policy number name flags asks state ≡ Ok state
   changes_skipped policy name flags number [] state none = refl
-  changes_skipped policy name flags number (asked ∷ asks) state none =
+  changes_skipped policy name flags number (requested ∷ asks) state none =
       ap (λ r. and_then r (λ s. changes_applied policy (number + 1) name flags asks s)) (nothing_done (target state.database name flags) none)
       ∙ changes_skipped policy name flags (number + 1) asks state none
     where
-      nothing_done : (found : Option (TableState A)) → is_some found ≡ false → change_in policy number name flags asked found state ≡ Ok state
+      nothing_done : (found : Option (TableState A)) → is_some found ≡ false → change_in policy number name flags requested found state ≡ Ok state
       nothing_done None e = refl
       nothing_done (Some table) e = cc
 
   -- ---- groups
 
-  module _ {X : Type 0} (policy : Policy) (f : List Bool → X → Asked A) (number : ℕ) (group : TableEntries X) (i : ℕ) (state : AppliedState A) where
+  module _ {X : Type 0} (policy : Policy) (f : List Bool → X → Requested A) (number : ℕ) (group : TableEntries X) (i : ℕ) (state : AppliedState A) where
     pub group_there : is_some (target state.database group.table group.schema) ≡ true →
-        group_applied policy i number (asked_in f group) state ≡ changes_applied policy number group.table group.schema (map (f group.schema) group.changes) state
+        group_applied policy i number (requested_in f group) state ≡ changes_applied policy number group.table group.schema (map (f group.schema) group.changes) state
     group_there e = ap (λ b. changes_applied policy number group.table group.schema (map (f group.schema) group.changes) (skipped_unless b i state)) e
 
-    pub group_skipped : is_some (target state.database group.table group.schema) ≡ false → group_applied policy i number (asked_in f group) state ≡ Ok (skipped i state)
+    pub group_skipped : is_some (target state.database group.table group.schema) ≡ false → group_applied policy i number (requested_in f group) state ≡ Ok (skipped i state)
     group_skipped e =
         ap (λ b. changes_applied policy number group.table group.schema (map (f group.schema) group.changes) (skipped_unless b i state)) e
         ∙ changes_skipped policy group.table group.schema number (map (f group.schema) group.changes) (skipped i state) e
 
     module _ (groups : List (TableEntries X)) (within : i < length groups) (is : group ≡ get_or groups i group) where
-      groups_from : groups_applied policy i number (map (asked_in f) (drop i groups)) state
-          ≡ and_then (group_applied policy i number (asked_in f group) state) (λ next. groups_applied policy (i + 1) (number + length (map (f group.schema) group.changes)) (map (asked_in f) (drop (i + 1) groups)) next)
-      groups_from = ap (λ l. groups_applied policy i number (map (asked_in f) l) state) (drop_here groups i group within is)
+      groups_from : groups_applied policy i number (map (requested_in f) (drop i groups)) state
+          ≡ and_then (group_applied policy i number (requested_in f group) state) (λ next. groups_applied policy (i + 1) (number + length (map (f group.schema) group.changes)) (map (requested_in f) (drop (i + 1) groups)) next)
+      groups_from = ap (λ l. groups_applied policy i number (map (requested_in f) l) state) (drop_here groups i group within is)
 
-      pub groups_more : (next : AppliedState A) → group_applied policy i number (asked_in f group) state ≡ Ok next →
-          groups_applied policy i number (map (asked_in f) (drop i groups)) state ≡ groups_applied policy (i + 1) (number + length group.changes) (map (asked_in f) (drop (i + 1) groups)) next
+      pub groups_more : (next : AppliedState A) → group_applied policy i number (requested_in f group) state ≡ Ok next →
+          groups_applied policy i number (map (requested_in f) (drop i groups)) state ≡ groups_applied policy (i + 1) (number + length group.changes) (map (requested_in f) (drop (i + 1) groups)) next
       groups_more next ok =
-          groups_from ∙ ap (λ r. and_then r (λ s. groups_applied policy (i + 1) (number + length (map (f group.schema) group.changes)) (map (asked_in f) (drop (i + 1) groups)) s)) ok
-          ∙ ap (λ n. groups_applied policy (i + 1) (number + n) (map (asked_in f) (drop (i + 1) groups)) next) (length-map group.changes (f group.schema))
+          groups_from ∙ ap (λ r. and_then r (λ s. groups_applied policy (i + 1) (number + length (map (f group.schema) group.changes)) (map (requested_in f) (drop (i + 1) groups)) s)) ok
+          ∙ ap (λ n. groups_applied policy (i + 1) (number + n) (map (requested_in f) (drop (i + 1) groups)) next) (length-map group.changes (f group.schema))
 
-      pub groups_end : (why : Refusal) → group_applied policy i number (asked_in f group) state ≡ Err why →
-          groups_applied policy i number (map (asked_in f) (drop i groups)) state ≡ Err why
+      pub groups_end : (why : Refusal) → group_applied policy i number (requested_in f group) state ≡ Err why →
+          groups_applied policy i number (map (requested_in f) (drop i groups)) state ≡ Err why
       groups_end why err =
-          groups_from ∙ ap (λ r. and_then r (λ s. groups_applied policy (i + 1) (number + length (map (f group.schema) group.changes)) (map (asked_in f) (drop (i + 1) groups)) s)) err
+          groups_from ∙ ap (λ r. and_then r (λ s. groups_applied policy (i + 1) (number + length (map (f group.schema) group.changes)) (map (requested_in f) (drop (i + 1) groups)) s)) err

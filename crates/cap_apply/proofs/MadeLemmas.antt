@@ -1,4 +1,4 @@
--- A change as the code makes it: what its steps leave is what the change asks for.
+-- A change as the code makes it: its steps make the requested change.
 use Rattle.std.proofs.Common.{◌≡◌, ℕ, Bool, true, false, cond, Option, Some, None, Ok, List, [], ◌∷◌, ◌++◌, length, refl, sym, ap, subst, ◌∙◌}
 use Rattle.std.specs.Prelude.{option_and_then}
 use Rattle.std.specs.Option.{option_map}
@@ -14,16 +14,16 @@ use Rattle.cap_txn.specs.Operation.{changes_to}
 use Rattle.cap_txn.specs.Read.{row_at}
 use Rattle.cap_txn.specs.Tables.{Tables, table_of}
 use Rattle.cap_txn.specs.declared.cause.Cause.TheVariants.{Direct}
-use Rattle.cap_changes.specs.Demands.{demands, meet}
-use Rattle.cap_changes.specs.Record.{RecordFields}
+use Rattle.cap_changes.specs.Requirements.{requirements, satisfy}
+use Rattle.cap_changes.specs.FieldRecord.{RecordFields}
 use Rattle.cap_changes.specs.declared.patch.Patch.TheVariants as patched
-use Rattle.cap_changes.specs.declared.rule.Rule.TheVariants as rules
+use Rattle.cap_changes.specs.declared.record_kind.RecordKind.TheVariants as record_kinds
 use Rattle.cap_apply.specs.Applied.{AppliedState}
 use Rattle.cap_apply.specs.Apply.{change_applied, concluded, counted, keys_with, left_out, noted, with_row, with_row_in}
-use Rattle.cap_apply.specs.Asked.{Asked}
+use Rattle.cap_apply.specs.Requested.{Requested}
 use Rattle.cap_apply.specs.Policy.{is_made}
 use Rattle.cap_apply.specs.Row.{conflict_of, key_record_of, key_values, missed, new_row, row_after, set_fields}
-use Rattle.cap_apply.specs.Steps.{placed, told}
+use Rattle.cap_apply.specs.Steps.{placed, with_changes}
 use Rattle.cap_apply.specs.declared.conflict.ConflictKind.{ConflictKind}
 use Rattle.cap_apply.specs.declared.conflict.ConflictKind.TheVariants.{Conflict}
 use Rattle.cap_apply.specs.declared.policy.Policy.{Policy}
@@ -86,44 +86,44 @@ module _ {A : Type 0} where
 
     -- the steps of a change that is made
     made_is : (s : AppliedState A) → table_of s.database name ≡ Some h.table → (key : Fields A) (before after : Option (Fields A)) →
-        told name (keys_with key before ++ keys_with key after) (placed name key after s) ≡ with_row_in name h.table key before after s
+        with_changes name (keys_with key before ++ keys_with key after) (placed name key after s) ≡ with_row_in name h.table key before after s
     made_is s there key before after =
         ap (λ (d : Tables A). record s { database = d; changes = s.changes ++ changes_to name Direct (keys_with key before ++ keys_with key after) })
         (ap (set_in s.database name key after) there ∙ ap (put_entry bytes_cmp s.database name) (same_row h.table key after))
 
-    module _ (asked : Asked A) (before : Option (Fields A)) (conflict : Option ConflictKind)
-        (found : get fields_cmp h.table.keyed (key_values flags (key_record_of asked.patch)) ≡ before) (met : conflict_of flags asked.old asked.patch before ≡ conflict) where
+    module _ (requested : Requested A) (before : Option (Fields A)) (conflict : Option ConflictKind)
+        (found : get fields_cmp h.table.keyed (key_values flags (key_record_of requested.patch)) ≡ before) (met : conflict_of flags requested.old requested.patch before ≡ conflict) where
       abbrev key_is : Fields A
-      key_is = key_values flags (key_record_of asked.patch)
+      key_is = key_values flags (key_record_of requested.patch)
 
       abbrev after_is : Option (Fields A)
-      after_is = row_after (length h.table.schema) asked.patch before
+      after_is = row_after (length h.table.schema) requested.patch before
 
-      concludes : (made : Bool) → is_made policy number conflict ≡ Ok made → change_applied policy number name flags asked state
+      concludes : (made : Bool) → is_made policy number conflict ≡ Ok made → change_applied policy number name flags requested state
           ≡ concluded (Ok made) (counted (with_row_in name h.table key_is before after_is (noted policy number conflict state))) (left_out number (noted policy number conflict state))
       concludes made e =
-          applied_at policy number name flags asked state h before conflict found met
+          applied_at policy number name flags requested state h before conflict found met
           ∙ ap (λ m. concluded m (counted (with_row_in name h.table key_is before after_is (noted policy number conflict state))) (left_out number (noted policy number conflict state))) e
 
       -- it is made by its steps
       makes : is_made policy number conflict ≡ Ok true → (keys : List (Option (Fields A))) (after : Option (Fields A)) (next : AppliedState A) → keys ≡ keys_with key_is before ++ keys_with key_is after_is →
-          after ≡ after_is → next ≡ counted (told name keys (placed name key_is after (noted policy number conflict state))) → change_applied policy number name flags asked state ≡ Ok next
+          after ≡ after_is → next ≡ counted (with_changes name keys (placed name key_is after (noted policy number conflict state))) → change_applied policy number name flags requested state ≡ Ok next
       makes e keys after next keys_are after_are is =
           concludes true e
           ∙ ap (λ (s : AppliedState A). Ok (counted s)) (sym (made_is (noted policy number conflict state) (noted_there policy number conflict state name h.table h.there) key_is before after_is))
-          ∙ (λ i. Ok (counted (told name (sym keys_are i) (placed name key_is (sym after_are i) (noted policy number conflict state)))))
+          ∙ (λ i. Ok (counted (with_changes name (sym keys_are i) (placed name key_is (sym after_are i) (noted policy number conflict state)))))
           ∙ ap Ok (sym is)
 
       -- it is left out, and what was under its key is back
       leaves : is_made policy number conflict ≡ Ok false → (next : AppliedState A) → next ≡ left_out number (noted policy number conflict state) →
-          change_applied policy number name flags asked state ≡ Ok next
+          change_applied policy number name flags requested state ≡ Ok next
       leaves e next is = concludes false e ∙ ap Ok (sym is)
 
     -- ---- an insert
 
-    module _ (keyed : has_key flags ≡ true) (indirect : Bool) (new : RecordFields A) (fits : meet (demands rules.Keyed flags) new ≡ true) (key row : Fields A)
+    module _ (keyed : has_key flags ≡ true) (indirect : Bool) (new : RecordFields A) (fits : satisfy (requirements record_kinds.Keyed flags) new ≡ true) (key row : Fields A)
         (key_is : key ≡ key_values flags new) (row_is : row ≡ new_row (length h.table.schema) new) where
-      abbrev inserts : Asked A
+      abbrev inserts : Requested A
       inserts = record { old = []; patch = patched.Insert indirect new }
 
       pub insert_own : IsOwnRow state.database name key row
@@ -134,21 +134,21 @@ module _ {A : Type 0} where
       pub insert_found : (before : Option (Fields A)) → before ≡ row_at state.database name key → get fields_cmp h.table.keyed (key_values flags new) ≡ before
       insert_found before is = ap (get fields_cmp h.table.keyed) (sym key_is) ∙ sym (at_is key) ∙ sym is
 
-      pub insert_free : (put told_it next : AppliedState A) → None ≡ row_at state.database name key → put ≡ placed name key (Some row) state → told_it ≡ told name (Some key ∷ []) put → next ≡ counted told_it →
+      pub insert_free : (put told_it next : AppliedState A) → None ≡ row_at state.database name key → put ≡ placed name key (Some row) state → told_it ≡ with_changes name (Some key ∷ []) put → next ≡ counted told_it →
           change_applied policy number name flags inserts state ≡ Ok next
       insert_free put told_it next none put_is told_is is =
           makes inserts None None (insert_found None none) refl refl (Some (key_values flags new) ∷ []) (Some (new_row (length h.table.schema) new)) next refl refl
-          (is ∙ ap counted (told_is ∙ ap (told name (Some key ∷ [])) put_is ∙ (λ i. told name (Some (key_is i) ∷ []) (placed name (key_is i) (Some (row_is i)) state))))
+          (is ∙ ap counted (told_is ∙ ap (with_changes name (Some key ∷ [])) put_is ∙ (λ i. with_changes name (Some (key_is i) ∷ []) (placed name (key_is i) (Some (row_is i)) state))))
 
       module _ (taken : Fields A) (at : Some taken ≡ row_at state.database name key) (put judged : AppliedState A) (made : Bool) (put_is : put ≡ placed name key (Some row) state)
           (judged_is : judged ≡ judged_on put (Some Conflict) made) (e : is_made policy number (Some Conflict) ≡ Ok made) where
-        pub insert_over : (told_it next : AppliedState A) → made ≡ true → told_it ≡ told name (Some key ∷ Some key ∷ []) judged → next ≡ counted told_it →
+        pub insert_over : (told_it next : AppliedState A) → made ≡ true → told_it ≡ with_changes name (Some key ∷ Some key ∷ []) judged → next ≡ counted told_it →
             change_applied policy number name flags inserts state ≡ Ok next
         insert_over told_it next agreed told_is is =
             makes inserts (Some taken) (Some Conflict) (insert_found (Some taken) at) refl (e ∙ ap Ok agreed) (Some (key_values flags new) ∷ Some (key_values flags new) ∷ []) (Some (new_row (length h.table.schema) new)) next refl refl
             (is ∙ ap counted (told_is
-            ∙ ap (told name (Some key ∷ Some key ∷ [])) (judged_is ∙ ap (judged_on put (Some Conflict)) agreed ∙ ap (noted policy number (Some Conflict)) put_is)
-            ∙ (λ i. told name (Some (key_is i) ∷ Some (key_is i) ∷ []) (noted policy number (Some Conflict) (placed name (key_is i) (Some (row_is i)) state)))))
+            ∙ ap (with_changes name (Some key ∷ Some key ∷ [])) (judged_is ∙ ap (judged_on put (Some Conflict)) agreed ∙ ap (noted policy number (Some Conflict)) put_is)
+            ∙ (λ i. with_changes name (Some (key_is i) ∷ Some (key_is i) ∷ []) (noted policy number (Some Conflict) (placed name (key_is i) (Some (row_is i)) state)))))
 
         pub insert_left : (next : AppliedState A) → made ≡ false → GoesBack state.database put.database name key taken → next ≡ placed name key (Some taken) judged →
             change_applied policy number name flags inserts state ≡ Ok next
@@ -161,11 +161,11 @@ module _ {A : Type 0} where
 
     -- ---- an update
 
-    module _ (keyed : has_key flags ≡ true) (indirect : Bool) (old new : RecordFields A) (fits : meet (demands rules.Keyed flags) new ≡ true) (key row : Fields A)
+    module _ (keyed : has_key flags ≡ true) (indirect : Bool) (old new : RecordFields A) (fits : satisfy (requirements record_kinds.Keyed flags) new ≡ true) (key row : Fields A)
         (key_is : key ≡ key_values flags new) (before : Option (Fields A)) (found : get fields_cmp h.table.keyed (key_values flags new) ≡ before) (conflict : Option ConflictKind)
         (met : missed flags old before ≡ conflict) (row_is : Some row ≡ option_map (set_fields new) before) (made : Bool) (e : is_made policy number conflict ≡ Ok made) (agreed : made ≡ true)
         (judged : AppliedState A) (judged_is : judged ≡ judged_on state conflict made) where
-      abbrev updates : Asked A
+      abbrev updates : Requested A
       updates = record { old = old; patch = patched.Update indirect new }
 
       present : (r : Fields A) × (before ≡ Some r)
@@ -179,19 +179,19 @@ module _ {A : Type 0} where
           own_row judged.database key row (judged_there judged conflict made judged_is) (ap length set_is ∙ length-set_fields new present.0 ∙ wide present.0 present.1)
           (ap (key_of h.table.schema) set_is ∙ key_of-set_fields flags h.table.schema new h.fit keyed fits present.0 (wide present.0 present.1) ∙ ap Some (sym key_is))
 
-      pub update_put : (put told_it next : AppliedState A) → put ≡ placed name key (Some row) judged → told_it ≡ told name (Some key ∷ Some key ∷ []) put → next ≡ counted told_it →
+      pub update_put : (put told_it next : AppliedState A) → put ≡ placed name key (Some row) judged → told_it ≡ with_changes name (Some key ∷ Some key ∷ []) put → next ≡ counted told_it →
           change_applied policy number name flags updates state ≡ Ok next
       update_put put told_it next put_is told_is is =
           makes updates (Some present.0) conflict (found ∙ present.1) (ap (missed flags old) (sym present.1) ∙ met) (e ∙ ap Ok agreed) (Some (key_values flags new) ∷ Some (key_values flags new) ∷ []) (Some (set_fields new present.0)) next refl refl
           (is ∙ ap counted (told_is
-          ∙ ap (told name (Some key ∷ Some key ∷ [])) (put_is ∙ ap (placed name key (Some row)) (judged_is ∙ ap (judged_on state conflict) agreed))
-          ∙ (λ i. told name (Some (key_is i) ∷ Some (key_is i) ∷ []) (placed name (key_is i) (Some (set_is i)) (noted policy number conflict state)))))
+          ∙ ap (with_changes name (Some key ∷ Some key ∷ [])) (put_is ∙ ap (placed name key (Some row)) (judged_is ∙ ap (judged_on state conflict) agreed))
+          ∙ (λ i. with_changes name (Some (key_is i) ∷ Some (key_is i) ∷ []) (placed name (key_is i) (Some (set_is i)) (noted policy number conflict state)))))
 
     -- ---- a delete
 
     module _ (indirect : Bool) (old fields : RecordFields A) (key : Fields A) (key_is : key ≡ key_values flags fields) (before : Option (Fields A)) (at : before ≡ row_at state.database name key)
         (conflict : Option ConflictKind) (met : missed flags old before ≡ conflict) where
-      abbrev deletes : Asked A
+      abbrev deletes : Requested A
       deletes = record { old = old; patch = patched.Delete indirect fields }
 
       pub delete_found : get fields_cmp h.table.keyed (key_values flags fields) ≡ before
@@ -199,14 +199,14 @@ module _ {A : Type 0} where
 
       module _ (taken judged : AppliedState A) (made : Bool) (taken_is : taken ≡ placed name key None state) (judged_is : judged ≡ judged_on taken conflict made)
           (e : is_made policy number conflict ≡ Ok made) where
-        pub delete_gone : (told_it next : AppliedState A) → made ≡ true → told_it ≡ told name (Some key ∷ []) judged → next ≡ counted told_it →
+        pub delete_gone : (told_it next : AppliedState A) → made ≡ true → told_it ≡ with_changes name (Some key ∷ []) judged → next ≡ counted told_it →
             change_applied policy number name flags deletes state ≡ Ok next
         delete_gone told_it next agreed told_is is =
             let present = missed_made policy number flags old before (ap (is_made policy number) met ∙ e ∙ ap Ok agreed) in
             makes deletes (Some present.0) conflict (delete_found ∙ present.1) (ap (missed flags old) (sym present.1) ∙ met) (e ∙ ap Ok agreed) (Some (key_values flags fields) ∷ []) None next refl refl
             (is ∙ ap counted (told_is
-            ∙ ap (told name (Some key ∷ [])) (judged_is ∙ ap (judged_on taken conflict) agreed ∙ ap (noted policy number conflict) taken_is ∙ noted_placed policy number conflict name key None state)
-            ∙ (λ i. told name (Some (key_is i) ∷ []) (placed name (key_is i) None (noted policy number conflict state)))))
+            ∙ ap (with_changes name (Some key ∷ [])) (judged_is ∙ ap (judged_on taken conflict) agreed ∙ ap (noted policy number conflict) taken_is ∙ noted_placed policy number conflict name key None state)
+            ∙ (λ i. with_changes name (Some (key_is i) ∷ []) (placed name (key_is i) None (noted policy number conflict state)))))
 
         judged_left : made ≡ false → judged ≡ left_out number (noted policy number conflict (placed name key None state))
         judged_left agreed = judged_is ∙ ap (judged_on taken conflict) agreed ∙ ap (λ (s : AppliedState A). left_out number (noted policy number conflict s)) taken_is

@@ -1,4 +1,4 @@
--- Names, keys and ids still rise, and rows stand where they belong, whatever blob that can be written is applied.
+-- Names, keys and ids still rise, and rows are under their own keys, after any blob that can be written is applied.
 use Rattle.std.proofs.Common.{◌≡◌, ℕ, ◌+◌, ◌≤◌, Bool, true, false, cond, Option, Some, None, Result, Ok, Err, List, [], ◌∷◌, map, length, refl, sym, ap, ◌∙◌, arith, subst, nat_eq}
 use Rattle.std.specs.Prelude.{IfOk, is_some}
 use Rattle.std.specs.List.{AllByRecursion, list_all}
@@ -21,24 +21,24 @@ use Rattle.cap_txn.specs.Operation as operation
 use Rattle.cap_txn.specs.Tables.{AreRising, Tables, table_of}
 use Rattle.cap_txn.specs.declared.op.Action.TheVariants.{Delete, Insert, Update}
 use Rattle.cap_txn.specs.declared.op.Op.{Op}
-use Rattle.cap_changes.specs.Demands.{demands, meet, new_demands}
+use Rattle.cap_changes.specs.Requirements.{requirements, satisfy, new_requirements}
 use Rattle.cap_changes.specs.Entries.{TableEntries}
 use Rattle.cap_changes.specs.Fits.{change_fits, patch_fits}
 use Rattle.cap_changes.specs.Group.{TableChanges}
 use Rattle.cap_changes.specs.PatchGroup.{TablePatches}
-use Rattle.cap_changes.specs.Record.{RecordFields}
-use Rattle.cap_changes.specs.declared.change.Change.{Change}
-use Rattle.cap_changes.specs.declared.change.Change.TheVariants as changed
+use Rattle.cap_changes.specs.FieldRecord.{RecordFields}
+use Rattle.cap_changes.specs.declared.row_change.RowChange.{RowChange}
+use Rattle.cap_changes.specs.declared.row_change.RowChange.TheVariants as changed
 use Rattle.cap_changes.specs.declared.patch.Patch.{Patch}
 use Rattle.cap_changes.specs.declared.patch.Patch.TheVariants as patched
-use Rattle.cap_changes.specs.declared.rule.Rule.TheVariants as rules
+use Rattle.cap_changes.specs.declared.record_kind.RecordKind.TheVariants as record_kinds
 use Rattle.cap_changes.proofs.PatchLemmas.{update_fits}
 use Rattle.cap_codec.specs.Writable.{IsGroup, IsPatchGroup, IsWritable}
 use Rattle.cap_codec.specs.declared.read.Contents.{Contents}
 use Rattle.cap_codec.specs.declared.read.Contents.TheVariants.{Changes, Patches}
 use Rattle.cap_apply.specs.Applied.{AppliedState}
 use Rattle.cap_apply.specs.Apply.{and_then, apply, change_applied, change_in, changes_applied, concluded, counted, group_applied, groups_applied, left_out, noted, nothing_applied, skipped_unless, with_row_in}
-use Rattle.cap_apply.specs.Asked.{Asked, asked_by_change, asked_by_patch, asked_in, asked_of}
+use Rattle.cap_apply.specs.Requested.{Requested, requested_by_change, requested_by_patch, requested_in, requested_of}
 use Rattle.cap_apply.specs.Operated.{operated, operated_by}
 use Rattle.cap_apply.specs.Policy.{is_made}
 use Rattle.cap_apply.specs.Row.{assigned_from, conflict_of, key_record_of, key_values, new_row, row_after, set_fields}
@@ -97,17 +97,17 @@ module _ {A : Type 0} where
   is_left : (answer : Result (AppliedState A) Refusal) (left : AppliedState A) → answer ≡ Ok left → IfOk answer Rises → Rises left
   is_left answer left is rise = subst (λ r. IfOk r Rises) is rise
 
-  -- ---- what a patch asks for stands under its key
+  -- ---- the row that a patch requests is under its key
 
   abbrev pub Keyed : List Bool → Patch A → Type 0
-  Keyed flags (patched.Insert indirect new) = meet (demands rules.Keyed flags) new ≡ true
-  Keyed flags (patched.Update indirect new) = meet (demands rules.Keyed flags) new ≡ true
+  Keyed flags (patched.Insert indirect new) = satisfy (requirements record_kinds.Keyed flags) new ≡ true
+  Keyed flags (patched.Update indirect new) = satisfy (requirements record_kinds.Keyed flags) new ≡ true
   Keyed flags (patched.Delete indirect key) = Unit {0}
 
-  change-keyed : (flags : List Bool) (change : Change A) → change_fits flags change ≡ true → Keyed flags (asked_by_change flags change).patch
+  change-keyed : (flags : List Bool) (change : RowChange A) → change_fits flags change ≡ true → Keyed flags (requested_by_change flags change).patch
   change-keyed flags (changed.Insert indirect new) fits = full_keyed flags new fits
   change-keyed flags (changed.Update indirect old new) fits =
-      let parts = and_parts (meet (demands rules.Keyed flags) old) (meet (new_demands flags old) new) fits in update_fits flags old new parts.0 parts.1
+      let parts = and_parts (satisfy (requirements record_kinds.Keyed flags) old) (satisfy (new_requirements flags old) new) fits in update_fits flags old new parts.0 parts.1
   change-keyed flags (changed.Delete indirect old) fits = tt
 
   patch-keyed : (flags : List Bool) (patch : Patch A) → patch_fits flags patch ≡ true → Keyed flags patch
@@ -116,37 +116,37 @@ module _ {A : Type 0} where
   patch-keyed flags (patched.Delete indirect key) fits = tt
 
   -- a group whose changes all do
-  pub record IsKeyedGroup (group : TableEntries (Asked A)) : Type 0 where
+  pub record IsKeyedGroup (group : TableEntries (Requested A)) : Type 0 where
     pub keyed : has_key group.schema ≡ true
-    pub each : AllByRecursion (λ asked. Keyed group.schema asked.patch) group.changes
+    pub each : AllByRecursion (λ requested. Keyed group.schema requested.patch) group.changes
 
-  each-mapped : {X : Type 0} (P : X → Type 0) (Q : Asked A → Type 0) (f : X → Asked A) → ((x : X) → P x → Q (f x)) → (xs : List X) → AllByRecursion P xs → AllByRecursion Q (map f xs)
+  each-mapped : {X : Type 0} (P : X → Type 0) (Q : Requested A → Type 0) (f : X → Requested A) → ((x : X) → P x → Q (f x)) → (xs : List X) → AllByRecursion P xs → AllByRecursion Q (map f xs)
   each-mapped P Q f says [] all = tt
   each-mapped P Q f says (x ∷ xs) all = (says x all.0, each-mapped P Q f says xs all.1)
 
-  change_groups-keyed : (groups : List (TableChanges A)) → AllByRecursion IsGroup groups → AllByRecursion IsKeyedGroup (map (asked_in asked_by_change) groups)
+  change_groups-keyed : (groups : List (TableChanges A)) → AllByRecursion IsGroup groups → AllByRecursion IsKeyedGroup (map (requested_in requested_by_change) groups)
   change_groups-keyed [] all = tt
   change_groups-keyed (group ∷ groups) all = (
     record {
       keyed = all.0.table.keyed;
-      each = each-mapped (λ change. change_fits group.schema change ≡ true) (λ asked. Keyed group.schema asked.patch) (asked_by_change group.schema) (change-keyed group.schema) group.changes
+      each = each-mapped (λ change. change_fits group.schema change ≡ true) (λ requested. Keyed group.schema requested.patch) (requested_by_change group.schema) (change-keyed group.schema) group.changes
           (recursion_from_All (λ change. change_fits group.schema change ≡ true) group.changes all.0.fit);
     },
     change_groups-keyed groups all.1,
   )
 
-  patch_groups-keyed : (groups : List (TablePatches A)) → AllByRecursion IsPatchGroup groups → AllByRecursion IsKeyedGroup (map (asked_in asked_by_patch) groups)
+  patch_groups-keyed : (groups : List (TablePatches A)) → AllByRecursion IsPatchGroup groups → AllByRecursion IsKeyedGroup (map (requested_in requested_by_patch) groups)
   patch_groups-keyed [] all = tt
   patch_groups-keyed (group ∷ groups) all = (
     record {
       keyed = all.0.table.keyed;
-      each = each-mapped (λ patch. patch_fits group.schema patch ≡ true) (λ asked. Keyed group.schema asked.patch) (asked_by_patch group.schema) (patch-keyed group.schema) group.changes
+      each = each-mapped (λ patch. patch_fits group.schema patch ≡ true) (λ requested. Keyed group.schema requested.patch) (requested_by_patch group.schema) (patch-keyed group.schema) group.changes
           (recursion_from_All (λ patch. patch_fits group.schema patch ≡ true) group.changes all.0.fit);
     },
     patch_groups-keyed groups all.1,
   )
 
-  blob-keyed : (blob : Contents A) → IsWritable blob → AllByRecursion IsKeyedGroup (asked_of blob)
+  blob-keyed : (blob : Contents A) → IsWritable blob → AllByRecursion IsKeyedGroup (requested_of blob)
   blob-keyed (Changes groups) all = change_groups-keyed groups (recursion_from_All IsGroup groups all)
   blob-keyed (Patches groups) all = patch_groups-keyed groups (recursion_from_All IsPatchGroup groups all)
 
@@ -219,40 +219,40 @@ module _ {A : Type 0} where
             (delete_is kept name h.table (there (conflict_of flags old (patched.Delete indirect key) (Some row))) (key_values flags key) row (found ∙ present.1))
             (operated-rises kept op (noted-rises policy number (conflict_of flags old (patched.Delete indirect key) (Some row)) state rise)))
 
-        at_target : (asked : Asked A) → Keyed flags asked.patch → IfOk (change_applied policy number name flags asked state) Rises
-        at_target asked fits =
-            let key = key_values flags (key_record_of asked.patch) in
+        at_target : (requested : Requested A) → Keyed flags requested.patch → IfOk (change_applied policy number name flags requested state) Rises
+        at_target requested fits =
+            let key = key_values flags (key_record_of requested.patch) in
             let before = get fields_cmp h.table.keyed key in
-            let conflict = conflict_of flags asked.old asked.patch before in
-            subst (λ r. IfOk r Rises) (sym (applied_at policy number name flags asked state h before conflict refl refl))
+            let conflict = conflict_of flags requested.old requested.patch before in
+            subst (λ r. IfOk r Rises) (sym (applied_at policy number name flags requested state h before conflict refl refl))
             (concluded-rises (is_made policy number conflict)
-            (counted (with_row_in name h.table key before (row_after (length h.table.schema) asked.patch before) (noted policy number conflict state)))
+            (counted (with_row_in name h.table key before (row_after (length h.table.schema) requested.patch before) (noted policy number conflict state)))
             (left_out number (noted policy number conflict state))
-            (λ made. made-rises asked.old asked.patch before fits refl made)
+            (λ made. made-rises requested.old requested.patch before fits refl made)
             (noted-rises policy number conflict state rise))
 
-      change-rises : (asked : Asked A) → Keyed flags asked.patch → IfOk (change_applied policy number name flags asked state) Rises
-      change-rises asked fits =
-          elim (target state.database name flags) as (λ t. target state.database name flags ≡ t → IfOk (change_in policy number name flags asked t state) Rises) [
+      change-rises : (requested : Requested A) → Keyed flags requested.patch → IfOk (change_applied policy number name flags requested state) Rises
+      change-rises requested fits =
+          elim (target state.database name flags) as (λ t. target state.database name flags ≡ t → IfOk (change_in policy number name flags requested t state) Rises) [
             | None ↦ λ _. rise
-            | Some table ↦ λ is. subst (λ t. IfOk (change_in policy number name flags asked t state) Rises) is (at_target (has_target state.database name flags (ap is_some is)) asked fits)
+            | Some table ↦ λ is. subst (λ t. IfOk (change_in policy number name flags requested t state) Rises) is (at_target (has_target state.database name flags (ap is_some is)) requested fits)
           ] refl
 
     -- ---- changes, groups and a blob
 
-    changes-rise : (policy : Policy) (name : List ℕ) (flags : List Bool) → has_key flags ≡ true → (asks : List (Asked A)) (number : ℕ) (state : AppliedState A)
-        → AllByRecursion (λ asked. Keyed flags asked.patch) asks → Rises state → IfOk (changes_applied policy number name flags asks state) Rises
+    changes-rise : (policy : Policy) (name : List ℕ) (flags : List Bool) → has_key flags ≡ true → (asks : List (Requested A)) (number : ℕ) (state : AppliedState A)
+        → AllByRecursion (λ requested. Keyed flags requested.patch) asks → Rises state → IfOk (changes_applied policy number name flags asks state) Rises
     changes-rise policy name flags keyed [] number state all rise = rise
-    changes-rise policy name flags keyed (asked ∷ asks) number state all rise =
-        both-rise (change_applied policy number name flags asked state) (λ next. changes_applied policy (number + 1) name flags asks next)
-        (change-rises policy number name flags keyed state rise asked all.0)
+    changes-rise policy name flags keyed (requested ∷ asks) number state all rise =
+        both-rise (change_applied policy number name flags requested state) (λ next. changes_applied policy (number + 1) name flags asks next)
+        (change-rises policy number name flags keyed state rise requested all.0)
         (λ next more. changes-rise policy name flags keyed asks (number + 1) next all.1 more)
 
     skipped-rises : (there : Bool) (place : ℕ) (state : AppliedState A) → Rises state → Rises (skipped_unless there place state)
     skipped-rises true place state rise = rise
     skipped-rises false place state rise = rise
 
-    groups-rise : (policy : Policy) (groups : List (TableEntries (Asked A))) (place number : ℕ) (state : AppliedState A) → AllByRecursion IsKeyedGroup groups → Rises state
+    groups-rise : (policy : Policy) (groups : List (TableEntries (Requested A))) (place number : ℕ) (state : AppliedState A) → AllByRecursion IsKeyedGroup groups → Rises state
         → IfOk (groups_applied policy place number groups state) Rises
     groups-rise policy [] place number state all rise = rise
     groups-rise policy (group ∷ groups) place number state all rise =
@@ -262,4 +262,4 @@ module _ {A : Type 0} where
         (λ next more. groups-rise policy groups (place + 1) (number + length group.changes) next all.1 more)
 
     pub apply-rises : (tables : Tables A) (blob : Contents A) (policy : Policy) → AreRising tables → IsWritable blob → IfOk (apply tables blob policy) (λ left. AreRising left.database)
-    apply-rises tables blob policy rise writable = groups-rise policy (asked_of blob) 0 0 (nothing_applied tables) (blob-keyed blob writable) rise
+    apply-rises tables blob policy rise writable = groups-rise policy (requested_of blob) 0 0 (nothing_applied tables) (blob-keyed blob writable) rise

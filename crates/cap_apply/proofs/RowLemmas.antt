@@ -1,4 +1,4 @@
--- The rows and keys of a change whose fields are as they are asked to be, in a table whose columns fit.
+-- The rows and keys of a change whose fields satisfy their requirements, in a table whose columns fit.
 use Rattle.std.proofs.Common.{◌≡◌, ℕ, suc, ◌+◌, ◌-◌, ◌<◌, ◌≤◌, Bool, true, false, cond, not, ◌||◌, Some, None, List, [], ◌∷◌, ◌++◌, length, map, replicate, refl, ap, ◌∙◌, arith, nat_le, ◌==◌, nat_eq, length-append}
 use Rattle.std.specs.Prelude.{nat_lt}
 use Rattle.std.specs.Option.{unwrap_or}
@@ -13,11 +13,11 @@ use Rattle.cap_row.specs.Fields.{Fields}
 use Rattle.cap_row.specs.Key.{is_key, key_fields, key_from, key_of}
 use Rattle.cap_row.specs.Row.{are_columns, columns_of, new_value, row_with}
 use Rattle.cap_row.specs.Schema.{has_key}
-use Rattle.cap_changes.specs.Demands.{demands, meets, meet}
+use Rattle.cap_changes.specs.Requirements.{requirements, satisfies, satisfy}
 use Rattle.cap_changes.specs.Patch.{key_record, update_record}
-use Rattle.cap_changes.specs.Record.{RecordFields}
-use Rattle.cap_changes.specs.declared.demand.Demand.TheVariants as asks
-use Rattle.cap_changes.specs.declared.rule.Rule.TheVariants as rules
+use Rattle.cap_changes.specs.FieldRecord.{RecordFields}
+use Rattle.cap_changes.specs.declared.field_requirement.FieldRequirement.TheVariants as asks
+use Rattle.cap_changes.specs.declared.record_kind.RecordKind.TheVariants as record_kinds
 use Rattle.cap_apply.specs.Row.{assigned_from, key_values, new_row, set_fields}
 use Rattle.cap_apply.specs.Target.{columns_fit}
 
@@ -49,33 +49,33 @@ fit_length (false ∷ flags) (true ∷ schema) fit = cc
 fit_length (false ∷ flags) (false ∷ schema) fit = omega (arith, fit_length flags schema fit)
 
 module _ {A : Type 0} where
-  -- the key fields of fields that are as a change asks
-  pub full_keyed : (flags : List Bool) (fields : RecordFields A) → meet (demands rules.Full flags) fields ≡ true → meet (demands rules.Keyed flags) fields ≡ true
+  -- the key fields of fields that satisfy the requirements of a change
+  pub full_keyed : (flags : List Bool) (fields : RecordFields A) → satisfy (requirements record_kinds.Full flags) fields ≡ true → satisfy (requirements record_kinds.Keyed flags) fields ≡ true
   full_keyed [] [] met = refl
   full_keyed [] (field ∷ fields) met = cc
   full_keyed (flag ∷ flags) [] met = cc
   full_keyed (true ∷ flags) (field ∷ fields) met =
-      let parts = and_parts (meets asks.Key field) (meet (demands rules.Full flags) fields) met in
-      and_from (meets asks.Key field) _ parts.0 (full_keyed flags fields parts.1)
+      let parts = and_parts (satisfies asks.Key field) (satisfy (requirements record_kinds.Full flags) fields) met in
+      and_from (satisfies asks.Key field) _ parts.0 (full_keyed flags fields parts.1)
   full_keyed (false ∷ flags) (field ∷ fields) met =
-      full_keyed flags fields (and_parts (meets asks.Defined field) (meet (demands rules.Full flags) fields) met).1
+      full_keyed flags fields (and_parts (satisfies asks.Defined field) (satisfy (requirements record_kinds.Full flags) fields) met).1
 
-  pub alone_keyed : (flags : List Bool) (fields : RecordFields A) → meet (demands rules.KeyAlone flags) fields ≡ true → meet (demands rules.Keyed flags) fields ≡ true
+  pub alone_keyed : (flags : List Bool) (fields : RecordFields A) → satisfy (requirements record_kinds.KeyAlone flags) fields ≡ true → satisfy (requirements record_kinds.Keyed flags) fields ≡ true
   alone_keyed [] [] met = refl
   alone_keyed [] (field ∷ fields) met = cc
   alone_keyed (flag ∷ flags) [] met = cc
   alone_keyed (true ∷ flags) (field ∷ fields) met =
-      let parts = and_parts (meets asks.Key field) (meet (demands rules.KeyAlone flags) fields) met in
-      and_from (meets asks.Key field) _ parts.0 (alone_keyed flags fields parts.1)
+      let parts = and_parts (satisfies asks.Key field) (satisfy (requirements record_kinds.KeyAlone flags) fields) met in
+      and_from (satisfies asks.Key field) _ parts.0 (alone_keyed flags fields parts.1)
   alone_keyed (false ∷ flags) (field ∷ fields) met =
-      alone_keyed flags fields (and_parts (meets asks.Omitted field) (meet (demands rules.KeyAlone flags) fields) met).1
+      alone_keyed flags fields (and_parts (satisfies asks.Omitted field) (satisfy (requirements record_kinds.KeyAlone flags) fields) met).1
 
-  pub keyed_length : (flags : List Bool) (fields : RecordFields A) → meet (demands rules.Keyed flags) fields ≡ true → length fields ≡ length flags
+  pub keyed_length : (flags : List Bool) (fields : RecordFields A) → satisfy (requirements record_kinds.Keyed flags) fields ≡ true → length fields ≡ length flags
   keyed_length [] [] met = refl
   keyed_length [] (field ∷ fields) met = cc
   keyed_length (flag ∷ flags) [] met = cc
   keyed_length (true ∷ flags) (field ∷ fields) met =
-      ap suc (keyed_length flags fields (and_parts (meets asks.Key field) (meet (demands rules.Keyed flags) fields) met).1)
+      ap suc (keyed_length flags fields (and_parts (satisfies asks.Key field) (satisfy (requirements record_kinds.Keyed flags) fields) met).1)
   keyed_length (false ∷ flags) (field ∷ fields) met = ap suc (keyed_length flags fields met)
 
   -- ---- keys
@@ -86,7 +86,7 @@ module _ {A : Type 0} where
   no_key (true ∷ schema) (value ∷ row) e = cc
   no_key (false ∷ schema) (value ∷ row) e = no_key schema row e
 
-  set_key : (flags schema : List Bool) (fields : RecordFields A) (row : Fields A) → columns_fit flags schema ≡ true → meet (demands rules.Keyed flags) fields ≡ true →
+  set_key : (flags schema : List Bool) (fields : RecordFields A) (row : Fields A) → columns_fit flags schema ≡ true → satisfy (requirements record_kinds.Keyed flags) fields ≡ true →
       length row ≡ length schema → key_fields schema (set_fields fields row) ≡ key_values flags fields
   set_key [] schema [] row fit met wide = no_key schema row fit
   set_key [] schema (field ∷ fields) row fit met wide = cc
@@ -95,13 +95,13 @@ module _ {A : Type 0} where
   set_key (flag ∷ flags) (own ∷ schema) (field ∷ fields) [] fit met wide = cc
   set_key (true ∷ flags) (own ∷ schema) (None ∷ fields) (value ∷ row) fit met wide = cc
   set_key (true ∷ flags) (true ∷ schema) (Some new ∷ fields) (value ∷ row) fit met wide =
-      ap (λ (k : Fields A). new ∷ k) (set_key flags schema fields row fit (and_parts (not (is_null new)) (meet (demands rules.Keyed flags) fields) met).1 (cc))
+      ap (λ (k : Fields A). new ∷ k) (set_key flags schema fields row fit (and_parts (not (is_null new)) (satisfy (requirements record_kinds.Keyed flags) fields) met).1 (cc))
   set_key (true ∷ flags) (false ∷ schema) (Some new ∷ fields) (value ∷ row) fit met wide = cc
   set_key (false ∷ flags) (true ∷ schema) (field ∷ fields) (value ∷ row) fit met wide = cc
   set_key (false ∷ flags) (false ∷ schema) (None ∷ fields) (value ∷ row) fit met wide = set_key flags schema fields row fit met (cc)
   set_key (false ∷ flags) (false ∷ schema) (Some new ∷ fields) (value ∷ row) fit met wide = set_key flags schema fields row fit met (cc)
 
-  new_key : (flags schema : List Bool) (fields : RecordFields A) (n : ℕ) → columns_fit flags schema ≡ true → meet (demands rules.Keyed flags) fields ≡ true →
+  new_key : (flags schema : List Bool) (fields : RecordFields A) (n : ℕ) → columns_fit flags schema ≡ true → satisfy (requirements record_kinds.Keyed flags) fields ≡ true →
       key_fields schema (map (λ field. unwrap_or field Null) fields ++ replicate n Null) ≡ key_values flags fields
   new_key [] schema [] n fit met = no_key schema (replicate n Null) fit
   new_key [] schema (field ∷ fields) n fit met = cc
@@ -109,23 +109,23 @@ module _ {A : Type 0} where
   new_key (flag ∷ flags) (own ∷ schema) [] n fit met = cc
   new_key (true ∷ flags) (own ∷ schema) (None ∷ fields) n fit met = cc
   new_key (true ∷ flags) (true ∷ schema) (Some new ∷ fields) n fit met =
-      ap (λ (k : Fields A). new ∷ k) (new_key flags schema fields n fit (and_parts (not (is_null new)) (meet (demands rules.Keyed flags) fields) met).1)
+      ap (λ (k : Fields A). new ∷ k) (new_key flags schema fields n fit (and_parts (not (is_null new)) (satisfy (requirements record_kinds.Keyed flags) fields) met).1)
   new_key (true ∷ flags) (false ∷ schema) (Some new ∷ fields) n fit met = cc
   new_key (false ∷ flags) (true ∷ schema) (field ∷ fields) n fit met = cc
   new_key (false ∷ flags) (false ∷ schema) (None ∷ fields) n fit met = new_key flags schema fields n fit met
   new_key (false ∷ flags) (false ∷ schema) (Some new ∷ fields) n fit met = new_key flags schema fields n fit met
 
-  no_null : (flags : List Bool) (fields : RecordFields A) → meet (demands rules.Keyed flags) fields ≡ true → list_any is_null (key_values flags fields) ≡ false
+  no_null : (flags : List Bool) (fields : RecordFields A) → satisfy (requirements record_kinds.Keyed flags) fields ≡ true → list_any is_null (key_values flags fields) ≡ false
   no_null [] fields met = refl
   no_null (flag ∷ flags) [] met = cc
   no_null (true ∷ flags) (None ∷ fields) met = cc
   no_null (true ∷ flags) (Some value ∷ fields) met =
-      let parts = and_parts (not (is_null value)) (meet (demands rules.Keyed flags) fields) met in
+      let parts = and_parts (not (is_null value)) (satisfy (requirements record_kinds.Keyed flags) fields) met in
       or_from (is_null value) _ parts.0 (no_null flags fields parts.1)
   no_null (false ∷ flags) (None ∷ fields) met = no_null flags fields met
   no_null (false ∷ flags) (Some value ∷ fields) met = no_null flags fields met
 
-  some_key : (flags : List Bool) (fields : RecordFields A) → has_key flags ≡ true → meet (demands rules.Keyed flags) fields ≡ true → nat_le 1 (length (key_values flags fields)) ≡ true
+  some_key : (flags : List Bool) (fields : RecordFields A) → has_key flags ≡ true → satisfy (requirements record_kinds.Keyed flags) fields ≡ true → nat_le 1 (length (key_values flags fields)) ≡ true
   some_key [] fields key met = cc
   some_key (flag ∷ flags) [] key met = cc
   some_key (true ∷ flags) (None ∷ fields) key met = cc
@@ -133,14 +133,14 @@ module _ {A : Type 0} where
   some_key (false ∷ flags) (None ∷ fields) key met = some_key flags fields key met
   some_key (false ∷ flags) (Some value ∷ fields) key met = some_key flags fields key met
 
-  pub is_key-key_values : (flags : List Bool) (fields : RecordFields A) → has_key flags ≡ true → meet (demands rules.Keyed flags) fields ≡ true → is_key (key_values flags fields) ≡ true
+  pub is_key-key_values : (flags : List Bool) (fields : RecordFields A) → has_key flags ≡ true → satisfy (requirements record_kinds.Keyed flags) fields ≡ true → is_key (key_values flags fields) ≡ true
   is_key-key_values flags fields key met =
       and_from (nat_le 1 (length (key_values flags fields))) _ (some_key flags fields key met) (ap not (no_null flags fields met))
 
   its_key : (values : Fields A) → is_key values ≡ true → key_from values ≡ Some values
   its_key values e = ap (λ b. cond b (Some values) None) e
 
-  module _ (flags schema : List Bool) (fields : RecordFields A) (fit : columns_fit flags schema ≡ true) (key : has_key flags ≡ true) (met : meet (demands rules.Keyed flags) fields ≡ true) where
+  module _ (flags schema : List Bool) (fields : RecordFields A) (fit : columns_fit flags schema ≡ true) (key : has_key flags ≡ true) (met : satisfy (requirements record_kinds.Keyed flags) fields ≡ true) where
     pub key_of-set_fields : (row : Fields A) → length row ≡ length schema → key_of schema (set_fields fields row) ≡ Some (key_values flags fields)
     key_of-set_fields row wide = ap key_from (set_key flags schema fields row fit met wide) ∙ its_key (key_values flags fields) (is_key-key_values flags fields key met)
 
@@ -168,25 +168,25 @@ module _ {A : Type 0} where
   set_all (value ∷ row) [] wide = cc
   set_all (value ∷ row) (old ∷ before) wide = ap (λ (k : Fields A). value ∷ k) (set_all row before (cc))
 
-  pub update_key : (flags : List Bool) (key new : RecordFields A) → meet (demands rules.Keyed flags) (update_record flags key new) ≡ true →
+  pub update_key : (flags : List Bool) (key new : RecordFields A) → satisfy (requirements record_kinds.Keyed flags) (update_record flags key new) ≡ true →
       key_values flags (update_record flags key new) ≡ key_values flags key
   update_key [] key new met = refl
   update_key (flag ∷ flags) [] new met = cc
   update_key (flag ∷ flags) (old ∷ key) [] met = cc
   update_key (true ∷ flags) (None ∷ key) (field ∷ new) met = cc
   update_key (true ∷ flags) (Some value ∷ key) (field ∷ new) met =
-      ap (λ (k : Fields A). value ∷ k) (update_key flags key new (and_parts (not (is_null value)) (meet (demands rules.Keyed flags) (update_record flags key new)) met).1)
+      ap (λ (k : Fields A). value ∷ k) (update_key flags key new (and_parts (not (is_null value)) (satisfy (requirements record_kinds.Keyed flags) (update_record flags key new)) met).1)
   update_key (false ∷ flags) (None ∷ key) (None ∷ new) met = update_key flags key new met
   update_key (false ∷ flags) (None ∷ key) (Some value ∷ new) met = update_key flags key new met
   update_key (false ∷ flags) (Some old ∷ key) (None ∷ new) met = update_key flags key new met
   update_key (false ∷ flags) (Some old ∷ key) (Some value ∷ new) met = update_key flags key new met
 
-  pub update_same : (flags : List Bool) (new : RecordFields A) → meet (demands rules.Keyed flags) new ≡ true → update_record flags new new ≡ new
+  pub update_same : (flags : List Bool) (new : RecordFields A) → satisfy (requirements record_kinds.Keyed flags) new ≡ true → update_record flags new new ≡ new
   update_same [] [] met = refl
   update_same [] (field ∷ new) met = cc
   update_same (flag ∷ flags) [] met = cc
   update_same (true ∷ flags) (field ∷ new) met =
-      ap (λ (k : RecordFields A). field ∷ k) (update_same flags new (and_parts (meets asks.Key field) (meet (demands rules.Keyed flags) new) met).1)
+      ap (λ (k : RecordFields A). field ∷ k) (update_same flags new (and_parts (satisfies asks.Key field) (satisfy (requirements record_kinds.Keyed flags) new) met).1)
   update_same (false ∷ flags) (field ∷ new) met = ap (λ (k : RecordFields A). field ∷ k) (update_same flags new met)
 
   pub record_key : (flags : List Bool) (old : RecordFields A) → key_values flags (key_record flags old) ≡ key_values flags old

@@ -1,4 +1,4 @@
--- What applying a blob leaves.
+-- The result of applying a blob.
 use Rattle.std.specs.Prelude.{List}
 use Rattle.cap_txn.specs.Tables.{Tables}
 use Rattle.cap_txn.specs.declared.change.Change.{Change}

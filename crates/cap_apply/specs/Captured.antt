@@ -9,7 +9,7 @@ use Rattle.cap_apply.specs.Apply.{apply}
 use Rattle.cap_apply.specs.Difference.{Difference, RowsAfter, RowsBefore}
 use Rattle.cap_apply.specs.declared.policy.Policy.{Policy}
 
--- a table's name, the table as it was first, and how it differs now
+-- a table's name, the table before, and its differences now
 pub record TableRows (A : Type 0) : Type 0 where
   pub name : List ℕ
   pub table : TableState A
@@ -18,19 +18,24 @@ pub record TableRows (A : Type 0) : Type 0 where
 module _ {A : Type 0} where
   -- the changes of one table in the changeset
   abbrev pub changes_of : TableRows A → TableChanges A
-  changes_of t = record { table = t.name; schema = t.table.schema; changes = map (λ (d : Difference A). d.change) t.differences }
+  changes_of t = record {
+    table = t.name;
+    schema = t.table.schema;
+    changes = map (λ (d : Difference A). d.change) t.differences;
+  }
 
   -- no table has the name
   abbrev pub AreOthers : List ℕ → List (TableRows A) → Type 0
   AreOthers name [] = Unit {0}
   AreOthers name (t ∷ ts) = (name ≡ t.name → ⊥) × AreOthers name ts
 
-  -- no name comes twice, and a database has each table with the rows that were there first
+  -- no name comes twice, and a database has each table with the rows before
   abbrev pub AllBefore : List (TableRows A) → Tables A → Type 0
   AllBefore [] database = Unit {0}
-  AllBefore (t ∷ ts) database = RowsBefore t.name t.table t.differences database × AreOthers t.name ts × AllBefore ts database
+  AllBefore (t ∷ ts) database =
+      RowsBefore t.name t.table t.differences database × AreOthers t.name ts × AllBefore ts database
 
-  -- and has each with the rows that are there now
+  -- a database has each table with the rows now
   abbrev pub AllAfter : List (TableRows A) → Tables A → Type 0
   AllAfter [] database = Unit {0}
   AllAfter (t ∷ ts) database = RowsAfter t.name t.table t.differences database × AllAfter ts database
@@ -40,8 +45,8 @@ module _ {A : Type 0} where
   total [] = 0
   total (t ∷ ts) = length t.differences + total ts
 
-  -- the blob gives the rows that are there now, leaves all other tables, and counts each change as applied, with no conflict and
-  -- nothing omitted or skipped
+  -- the blob gives the rows now, leaves all other tables, and counts each change as applied, with no conflict
+  -- and nothing omitted or skipped
   abbrev pub GivesAllRowsNow : Policy → List (TableRows A) → Contents A → Tables A → Type 0
   GivesAllRowsNow policy ts blob database =
       (left : AppliedState A) × (apply database blob policy ≡ Ok left) × AllAfter ts left.database

@@ -1,4 +1,4 @@
--- How the rows of a table differ from what they were: what a capture of the table says.
+-- The differences of a table's rows that a capture records.
 use Rattle.std.specs.Prelude.{◌≡◌, ℕ, ◌+◌, Bool, Option, Some, None, Ok, List, [], ◌∷◌, length, map}
 use Rattle.cap_row.specs.Fields.{Fields}
 use Rattle.cap_row.specs.Key.{fields_cmp, key_of}
@@ -8,18 +8,18 @@ use Rattle.cap_txn.specs.Tables.{Tables, table_of}
 use Rattle.cap_changes.specs.Change.{change_of}
 use Rattle.cap_changes.specs.Invert.{inverse_of}
 use Rattle.cap_changes.specs.Patch.{patch_of}
-use Rattle.cap_changes.specs.declared.change.Change.{Change}
+use Rattle.cap_changes.specs.declared.row_change.RowChange.{RowChange}
 use Rattle.cap_apply.specs.Applied.{AppliedState}
 use Rattle.cap_apply.specs.Apply.{changes_applied}
-use Rattle.cap_apply.specs.Asked.{Asked, asked_by_change, asked_by_patch}
+use Rattle.cap_apply.specs.Requested.{Requested, requested_by_change, requested_by_patch}
 use Rattle.cap_apply.specs.declared.policy.Policy.{Policy}
 
--- a key, the row that was under it, the row that is, and the change between them
+-- a key, the row before, the row now, and the change between them
 pub record Difference (A : Type 0) : Type 0 where
   pub key : Fields A
   pub before : Option (Fields A)
   pub after : Option (Fields A)
-  pub change : Change A
+  pub change : RowChange A
 
 module _ {A : Type 0} where
   -- a row of a table with these columns that has the key, or none
@@ -27,7 +27,7 @@ module _ {A : Type 0} where
   IsUnder flags key None = Unit {0}
   IsUnder flags key (Some row) = (length row ≡ length flags) × (key_of flags row ≡ Some key)
 
-  -- the change is the one that a capture has of these rows, direct or indirect
+  -- the change is the one that a capture has for these rows, direct or indirect
   pub record IsDifference (flags : List Bool) (d : Difference A) : Type 0 where
     pub before : IsUnder flags d.key d.before
     pub after : IsUnder flags d.key d.after
@@ -38,57 +38,66 @@ module _ {A : Type 0} where
   AreApart key [] = Unit {0}
   AreApart key (d ∷ ds) = (key ≡ d.key → ⊥) × AreApart key ds
 
-  -- no key comes twice, and the table has at each the row that was there first
+  -- no key comes twice, and the table has the row before at each
   abbrev pub StandBefore : List Bool → TableState A → List (Difference A) → Type 0
   StandBefore flags table [] = Unit {0}
-  StandBefore flags table (d ∷ ds) = IsDifference flags d × (get fields_cmp table.keyed d.key ≡ d.before) × AreApart d.key ds × StandBefore flags table ds
+  StandBefore flags table (d ∷ ds) =
+      IsDifference flags d × (get fields_cmp table.keyed d.key ≡ d.before) × AreApart d.key ds
+      × StandBefore flags table ds
 
-  -- a database has the table of the name, and in it the rows that were there first
-  pub record RowsBefore (name : List ℕ) (table : TableState A) (ds : List (Difference A)) (database : Tables A) : Type 0 where
+  -- a database has the table of the name with the rows before
+  pub record RowsBefore (name : List ℕ) (table : TableState A) (ds : List (Difference A))
+      (database : Tables A) : Type 0 where
     pub there : table_of database name ≡ Some table
     pub rows : StandBefore table.schema table ds
     pub ordered : IsOrdered fields_cmp table.keyed
 
-  -- the table has at each key the row that is there now
+  -- the table has the row now at each key
   abbrev pub StandAfter : TableState A → List (Difference A) → Type 0
   StandAfter table [] = Unit {0}
   StandAfter table (d ∷ ds) = (get fields_cmp table.keyed d.key ≡ d.after) × StandAfter table ds
 
-  -- a database has in the table of the name the rows that are there now, and all else of the table as it was
-  pub record RowsAfter (name : List ℕ) (table : TableState A) (ds : List (Difference A)) (database : Tables A) : Type 0 where
+  -- a database has the table of the name with the rows now; all else of the table is unchanged
+  pub record RowsAfter (name : List ℕ) (table : TableState A) (ds : List (Difference A))
+      (database : Tables A) : Type 0 where
     pub found : TableState A
     pub there : table_of database name ≡ Some found
     pub rows : StandAfter found ds
-    pub other_rows : (key : Fields A) → AreApart key ds → get fields_cmp found.keyed key ≡ get fields_cmp table.keyed key
+    pub other_rows : (key : Fields A) → AreApart key ds
+        → get fields_cmp found.keyed key ≡ get fields_cmp table.keyed key
     pub loose : found.loose ≡ table.loose
     pub columns : found.schema ≡ table.schema
     pub next_id : found.next_id ≡ table.next_id
     pub ordered : IsOrdered fields_cmp found.keyed
 
-  -- the tables of other names are as they were
+  -- the tables of other names are unchanged
   abbrev pub OtherTables : List ℕ → Tables A → Tables A → Type 0
-  OtherTables name start left = (other : List ℕ) → (other ≡ name → ⊥) → table_of left other ≡ table_of start other
+  OtherTables name start left =
+      (other : List ℕ) → (other ≡ name → ⊥) → table_of left other ≡ table_of start other
 
-  -- each change counts as applied, none met a conflict, and nothing was omitted or skipped
+  -- each change counts as applied, without a conflict, and nothing is omitted or skipped
   abbrev pub AllApplied : List (Difference A) → AppliedState A → AppliedState A → Type 0
   AllApplied ds state left = left.report ≡ record state.report { applied = state.report.applied + length ds }
 
-  -- the same rows the other way round, with the inverse change
+  -- the rows before and now swapped, with the inverse change
   abbrev pub turned : List Bool → Difference A → Difference A
-  turned flags d = record { key = d.key; before = d.after; after = d.before; change = inverse_of flags d.change }
+  turned flags d =
+      record { key = d.key; before = d.after; after = d.before; change = inverse_of flags d.change }
 
-  -- what a changeset of the changes asks for, and its patchset, and its inverse
-  abbrev pub asked_by_changes : List Bool → List (Difference A) → List (Asked A)
-  asked_by_changes flags ds = map (λ d. asked_by_change flags d.change) ds
+  -- the changes that a changeset requests, and its patchset, and its inverse
+  abbrev pub requested_by_changes : List Bool → List (Difference A) → List (Requested A)
+  requested_by_changes flags ds = map (λ d. requested_by_change flags d.change) ds
 
-  abbrev pub asked_by_patches : List Bool → List (Difference A) → List (Asked A)
-  asked_by_patches flags ds = map (λ d. asked_by_patch flags (patch_of flags d.change)) ds
+  abbrev pub requested_by_patches : List Bool → List (Difference A) → List (Requested A)
+  requested_by_patches flags ds = map (λ d. requested_by_patch flags (patch_of flags d.change)) ds
 
-  abbrev pub asked_by_inverses : List Bool → List (Difference A) → List (Asked A)
-  asked_by_inverses flags ds = map (λ d. asked_by_change flags (inverse_of flags d.change)) ds
+  abbrev pub requested_by_inverses : List Bool → List (Difference A) → List (Requested A)
+  requested_by_inverses flags ds = map (λ d. requested_by_change flags (inverse_of flags d.change)) ds
 
-  -- these changes of the table give the rows that are there now
-  abbrev pub GivesRowsNow : Policy → ℕ → List ℕ → TableState A → List (Difference A) → List (Asked A) → AppliedState A → Type 0
-  GivesRowsNow policy number name table ds asks state =
-      (left : AppliedState A) × (changes_applied policy number name table.schema asks state ≡ Ok left)
-      × RowsAfter name table ds left.database × OtherTables name state.database left.database × AllApplied ds state left
+  -- these changes of the table give the rows now
+  abbrev pub GivesRowsNow : Policy → ℕ → List ℕ → TableState A → List (Difference A) → List (Requested A) →
+      AppliedState A → Type 0
+  GivesRowsNow policy number name table ds requested state =
+      (left : AppliedState A) × (changes_applied policy number name table.schema requested state ≡ Ok left)
+      × RowsAfter name table ds left.database × OtherTables name state.database left.database
+      × AllApplied ds state left

@@ -1,6 +1,6 @@
 pub mod Applied
 pub mod Apply
-pub mod Asked
+pub mod Requested
 pub mod Captured
 pub mod Difference
 pub mod Operated

@@ -1,4 +1,4 @@
--- What is done about a change that meets a conflict (The Session Extension, "sqlite3changeset_apply").
+-- The policy's answer to conflicts (The Session Extension, "sqlite3changeset_apply").
 use Rattle.std.specs.Prelude.{ℕ, Bool, true, false, Option, Some, None, Result, Ok, Err}
 use Rattle.cap_value.specs.declared.refusal.Refusal.{Refusal}
 use Rattle.cap_value.specs.declared.refusal.Refusal.TheVariants.{Aborted, Misuse}
@@ -14,8 +14,8 @@ answer_to policy Data = policy.on_data
 answer_to policy NotFound = policy.on_notfound
 answer_to policy Conflict = policy.on_conflict
 
--- whether a change that meets a conflict is made all the same, or what ends all of it: there is nothing to replace where
--- no row was found
+-- whether a change with a conflict is applied all the same, or the refusal of the blob: there is nothing to
+-- replace where there is no row
 abbrev pub made_anyway : ℕ → ConflictKind → Answer → Result Bool Refusal
 made_anyway number kind Omit = Ok false
 made_anyway number kind Abort = Err (Aborted number)
@@ -23,7 +23,7 @@ made_anyway number NotFound Replace = Err (Misuse number)
 made_anyway number Data Replace = Ok true
 made_anyway number Conflict Replace = Ok true
 
--- whether a change is made, by the conflict that it meets, if any
+-- whether a change is applied, by its conflict, if any
 abbrev pub is_made : Policy → ℕ → Option ConflictKind → Result Bool Refusal
 is_made policy number None = Ok true
 is_made policy number (Some kind) = made_anyway number kind (answer_to policy kind)

@@ -1,4 +1,4 @@
--- The steps by which a change is made of what was applied before it: a row comes under a key or goes, and is told.
+-- The steps of applying a change: a row is put or taken, and its change is added.
 use Rattle.std.specs.Prelude.{ℕ, ◌++◌, Option, List}
 use Rattle.cap_row.specs.Fields.{Fields}
 use Rattle.cap_txn.specs.Keyed.{row_set}
@@ -11,6 +11,6 @@ module _ {A : Type 0} where
   abbrev pub placed : List ℕ → Fields A → Option (Fields A) → AppliedState A → AppliedState A
   placed name key row state = record state { database = row_set state.database name key row }
 
-  -- these keys are told to have changed
-  abbrev pub told : List ℕ → List (Option (Fields A)) → AppliedState A → AppliedState A
-  told name keys state = record state { changes = state.changes ++ changes_to name Direct keys }
+  -- the changes of these keys are added
+  abbrev pub with_changes : List ℕ → List (Option (Fields A)) → AppliedState A → AppliedState A
+  with_changes name keys state = record state { changes = state.changes ++ changes_to name Direct keys }

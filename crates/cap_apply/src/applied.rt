@@ -1,22 +1,24 @@
-ghost use Rattle.std.specs.Prelude.{◌≡◌, [], ◌∷◌, Some, None, IfOk, IfSome, IfNone, IsTrue, OnOk, is_some, if◌then◌else◌};
+//! The result of applying a blob, and its steps.
+ghost use Rattle.std.specs.Prelude.{◌≡◌, [], ◌∷◌, Some, None, IfOk, IfSome, IfNone, IsTrue, OnOk, is_some};
+ghost use Rattle.std.specs.Prelude.{if◌then◌else◌};
 ghost use Rattle.cap_value.specs.Memory.{AnswersUnlessMemory};
 ghost use Rattle.cap_txn.specs.Keyed.{GoesBack, IsOwnRow};
 ghost use Rattle.cap_txn.specs.Read.{row_at};
 ghost use Rattle.cap_txn.specs.Tables.{table_of};
 ghost use Rattle.cap_apply.specs.Apply.{counted, left_out, noted, nothing_applied, skipped};
 ghost use Rattle.cap_apply.specs.Policy.{is_made};
-ghost use Rattle.cap_apply.specs.Steps.{placed, told};
+ghost use Rattle.cap_apply.specs.Steps.{placed, with_changes};
 ghost use Rattle.cap_apply.specs.Target.{target};
 
+use crate::decision::Decision;
 use crate::target::has_target;
-use crate::turn::Turn;
 use crate::{ConflictKind, Report};
 use cap_row::{Key, Row, Schema};
 use cap_txn::{Cause, Change, Database};
 use cap_value::{AllocHandle, Fault, Name, OutOfMemory, Refusal};
 use std::marker::Model;
 
-/// What applying a blob leaves: the database, the changes to its rows, in order, and the report.
+/// The result of applying a blob: the database, the changes to its rows, in order, and the report.
 pub struct Applied<A: AllocHandle> {
     alloc: A,
     database: Database<A>,
@@ -45,7 +47,7 @@ impl<A: AllocHandle> Drop for Applied<A> {
 }
 
 impl<A: AllocHandle> Applied<A> {
-    // Nothing was applied yet.
+    // Nothing is applied yet.
     pub(crate) fn new(alloc: A, database: Database<A>) -> Self
         ensures { result ≡ nothing_applied database }
     {
@@ -64,15 +66,14 @@ impl<A: AllocHandle> Applied<A> {
         &self.database
     }
 
-    /// The changes to the database's rows, in order: one for an insert or a delete, and two for an update or an
-    /// insert that replaced a row.
+    /// The changes to the database's rows, in order: one for an insert or a delete, and two for an update or
+    /// an insert that replaced a row.
     pub fn changes(&self) -> &[Change<A>]
         ensures { result.now ≡ self.now.changes }
     {
         self.changes.as_slice()
     }
 
-    /// What became of the blob's changes.
     pub fn report(&self) -> &Report<A>
         ensures { result.now ≡ self.now.report }
     {
@@ -98,52 +99,52 @@ impl<A: AllocHandle> Applied<A> {
         self.alloc
     }
 
-    // Whether the database has a table for a group of this name and with these columns.
+    // Whether the database has a table for a group with this name and these columns.
     pub(crate) fn has_target(&self, name: &Name<A>, columns: &Schema<A>) -> bool
         ensures { result ≡ is_some (target self.now.database name.now columns.now) }
     {
         has_target(&self.database, name, columns)
     }
 
-    // Notes a group that is skipped.
+    // Reports a skipped group.
     pub(crate) fn skip(&mut self, group: u64) -> Result<(), OutOfMemory>
         ensures { OnOk result (self.new ≡ skipped group self.old) }
     {
         self.report.skip(group)
     }
 
-    // One change more was made.
+    // Reports an applied change.
     pub(crate) fn count(&mut self) -> Result<(), OutOfMemory>
         ensures { OnOk result (self.new ≡ counted self.old) }
     {
         self.report.count()
     }
 
-    // Notes the conflict that a change meets, if any, and tells whether the change is made.
+    // Reports the conflict of a change, if any, and answers whether the change is applied.
     pub(crate) fn judge(
         &mut self,
-        turn: Turn,
+        decision: Decision,
         conflict: Option<ConflictKind>,
     ) -> Result<bool, Fault<Refusal>>
-        ensures made { AnswersUnlessMemory result (is_made turn.policy turn.number conflict) }
+        ensures made { AnswersUnlessMemory result (is_made decision.policy decision.number conflict) }
         ensures noted { IfOk result (λ made. self.new ≡ (if made
-            then noted turn.policy turn.number conflict self.old
-            else left_out turn.number (noted turn.policy turn.number conflict self.old))) }
+            then noted decision.policy decision.number conflict self.old
+            else left_out decision.number (noted decision.policy decision.number conflict self.old))) }
     {
-        let made = match turn.is_made(conflict) {
+        let made = match decision.is_made(conflict) {
             Ok(made) => made,
             Err(why) => return Err(Fault::Refused(why)),
         };
         if let Some(kind) = conflict {
-            self.report.note(turn.conflict(kind))?;
+            self.report.note(decision.conflict(kind))?;
         }
         if !made {
-            self.report.omit(turn.number)?;
+            self.report.omit(decision.number)?;
         }
         Ok(made)
     }
 
-    // Puts a row under its key, and answers the row that was there, which may go back.
+    // Puts a row under its key and answers the replaced row, which may be put back.
     pub(crate) fn put(
         &mut self,
         table: &Name<A>,
@@ -160,7 +161,7 @@ impl<A: AllocHandle> Applied<A> {
         self.database.put_row(table, key, row)
     }
 
-    // Takes the row of a key out, and answers it; it may go back.
+    // Takes the row of a key out and answers it. It may be put back.
     pub(crate) fn take(
         &mut self,
         table: &Name<A>,
@@ -176,9 +177,9 @@ impl<A: AllocHandle> Applied<A> {
         self.database.take_row(table, key)
     }
 
-    // Tells that a row came under a key, or went.
-    pub(crate) fn tell(&mut self, table: &Name<A>, key: Key<A>) -> Result<(), OutOfMemory>
-        ensures { OnOk result (self.new ≡ told table.now (Some key ∷ []) self.old) }
+    // Adds the change of an inserted or deleted row.
+    pub(crate) fn add_change(&mut self, table: &Name<A>, key: Key<A>) -> Result<(), OutOfMemory>
+        ensures { OnOk result (self.new ≡ with_changes table.now (Some key ∷ []) self.old) }
     {
         self.changes.push(Change {
             table: table.copy()?,
@@ -188,11 +189,15 @@ impl<A: AllocHandle> Applied<A> {
         Ok(())
     }
 
-    // Tells that a row went, and another came under its key.
-    pub(crate) fn tell_both(&mut self, table: &Name<A>, key: Key<A>) -> Result<(), OutOfMemory>
-        ensures { OnOk result (self.new ≡ told table.now (Some key ∷ Some key ∷ []) self.old) }
+    // Adds the two changes of a replaced row.
+    pub(crate) fn add_replacement(
+        &mut self,
+        table: &Name<A>,
+        key: Key<A>,
+    ) -> Result<(), OutOfMemory>
+        ensures { OnOk result (self.new ≡ with_changes table.now (Some key ∷ Some key ∷ []) self.old) }
     {
-        self.tell(table, key.copy()?)?;
-        self.tell(table, key)
+        self.add_change(table, key.copy()?)?;
+        self.add_change(table, key)
     }
 }

@@ -4,7 +4,7 @@ ghost use Rattle.std.specs.Option.{option_copied, option_map, unwrap_or};
 ghost use Rattle.cap_value.specs.declared.value.Value.TheVariants.{Null};
 ghost use Rattle.cap_row.specs.Key.{is_key};
 ghost use Rattle.cap_changes.specs.Patch.{update_record};
-ghost use Rattle.cap_apply.specs.Row.{agrees, agrees_at, key_values, new_row, set_fields};
+ghost use Rattle.cap_apply.specs.Row.{has_old_values, has_old_value, key_values, new_row, set_fields};
 
 use cap_row::{Key, Row};
 use cap_value::{AllocHandle, OutOfMemory, Value};
@@ -42,7 +42,7 @@ fn key_values<A: AllocHandle>(
     Ok(values)
 }
 
-// The row of an insert: NULL in the columns beyond those of the change.
+// The row of an insert, with NULL in the columns beyond those of the change.
 pub(crate) fn new_row<A: AllocHandle>(
     alloc: A,
     width: usize,
@@ -69,8 +69,7 @@ fn value_or_null<A: AllocHandle>(field: &Option<Value<A>>) -> Result<Value<A>, O
     }
 }
 
-// The row after an update, where there is a row: the key fields are as they are told, and of the others those that are
-// defined.
+// The row after an update, where there is a row: the key fields and the defined other fields are set.
 pub(crate) fn updated<A: AllocHandle>(
     alloc: A,
     flags: &[bool],
@@ -89,7 +88,7 @@ pub(crate) fn updated<A: AllocHandle>(
     Ok(Some(Row::new(values)?))
 }
 
-// Puts the values of the row last, with the fields set.
+// Appends the values of the row, with the fields set.
 fn set_fields<A: AllocHandle>(
     values: &mut Vec<Value<A>, A>,
     flags: &[bool],
@@ -103,7 +102,7 @@ fn set_fields<A: AllocHandle>(
     let Some((flag, flags)) = flags.split_first() else {
         return copies(values, row);
     };
-    let Some((told, key)) = key.split_first() else {
+    let Some((kept, key)) = key.split_first() else {
         return copies(values, row);
     };
     let Some((set, new)) = new.split_first() else {
@@ -112,7 +111,7 @@ fn set_fields<A: AllocHandle>(
     let Some((value, row)) = row.split_first() else {
         return Ok(());
     };
-    values.push(value_or(if *flag { told } else { set }, value)?)?;
+    values.push(value_or(if *flag { kept } else { set }, value)?)?;
     set_fields(values, flags, key, new, row)
 }
 
@@ -140,22 +139,22 @@ fn value_or<A: AllocHandle>(
     }
 }
 
-// Whether the row has each value outside the key that the change tells.
-pub(crate) fn agrees<A: AllocHandle>(
+// Whether the row has each old value of the change outside the key.
+pub(crate) fn has_old_values<A: AllocHandle>(
     flags: &[bool],
     old: &[Option<Value<A>>],
     row: &[Value<A>],
 ) -> bool
-    ensures { result ≡ agrees flags.now old.now row.now }
+    ensures { result ≡ has_old_values flags.now old.now row.now }
 {
     flags
         .iter()
         .zip(old.iter().zip(row))
-        .all(|(key, (old, value))| agrees_at(*key, old, value))
+        .all(|(key, (old, value))| has_old_value(*key, old, value))
 }
 
-fn agrees_at<A: AllocHandle>(key: bool, old: &Option<Value<A>>, value: &Value<A>) -> bool
-    ensures { result ≡ agrees_at key old.now value.now }
+fn has_old_value<A: AllocHandle>(key: bool, old: &Option<Value<A>>, value: &Value<A>) -> bool
+    ensures { result ≡ has_old_value key old.now value.now }
 {
     match old {
         Some(old) => key || old == value,

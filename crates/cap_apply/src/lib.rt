@@ -1,18 +1,18 @@
-//! Changesets and patchsets applied to a database under a policy.
+//! The applier: changesets and patchsets applied to a database under a policy.
 #![tactic(auto)]
 
 mod applied;
 mod apply_blob;
+mod apply_change;
 mod conflict;
+mod decision;
 mod entry;
 mod fields;
-mod found;
 mod laws;
-mod one;
 mod policy;
+mod present_row;
 mod report;
 mod target;
-mod turn;
 
 pub use applied::Applied;
 pub use apply_blob::apply;

@@ -1,26 +1,28 @@
+//! The policy that answers conflicts.
 ghost use Rattle.std.specs.Prelude.{◌≡◌};
 
 use crate::ConflictKind;
 
-/// What is done about a conflict (The Session Extension, "sqlite3changeset_apply").
+/// The answer to a conflict (The Session Extension, "sqlite3changeset_apply").
 #[derive(Clone, Copy, Debug, PartialEq, Eq, Drop)]
 pub enum Answer {
-    /// The change is left out, and the others go on.
+    /// The change is omitted, and the blob goes on.
     Omit,
-    /// The change is made all the same. Where no row was found, this is a misuse, which undoes all.
+    /// The change is applied all the same. Where there is no row, this is a misuse, which rolls back the
+    /// blob.
     Replace,
-    /// All that was made is undone.
+    /// The whole blob is rolled back.
     Abort,
 }
 
-/// What is done about each kind of conflict: it stands in place of a conflict handler.
+/// The answer to each kind of conflict, in place of a conflict handler.
 #[derive(Clone, Copy, Debug, PartialEq, Eq, Drop)]
 pub struct Policy {
-    /// Where the row has other values than the change tells.
+    /// The row has other values than the old values of the change.
     pub on_data: Answer,
-    /// Where there is no row to change.
+    /// There is no row to update or delete.
     pub on_notfound: Answer,
-    /// Where the key of a new row is taken.
+    /// The key of an inserted row is taken.
     pub on_conflict: Answer,
 }
 

@@ -1,11 +1,12 @@
+//! The report of an applied blob.
 ghost use Rattle.std.specs.Prelude.{◌≡◌, ◌+◌, ◌++◌, ◌∷◌, [], OnOk};
 
 use crate::Conflict;
 use cap_value::{AllocHandle, OutOfMemory};
 use std::marker::Model;
 
-/// What became of the changes of a blob. Changes and groups have numbers, counted from 0 over the whole blob;
-/// the changes of skipped groups keep theirs.
+/// The report of an applied blob. Changes and groups are numbered from 0 over the whole blob, the changes of
+/// skipped groups among them.
 pub struct Report<A: AllocHandle> {
     applied: u64,
     conflicts: Vec<Conflict, A>,
@@ -39,7 +40,7 @@ impl<A: AllocHandle> Drop for Report<A> {
 }
 
 impl<A: AllocHandle> Report<A> {
-    // The report of no change. It takes no memory.
+    // The report of an empty blob. Takes no memory.
     pub(crate) fn new(alloc: A) -> Self
         ensures { result ≡ record { applied = 0; conflicts = []; omitted = []; skipped = [] } }
     {
@@ -51,35 +52,35 @@ impl<A: AllocHandle> Report<A> {
         }
     }
 
-    /// How many changes were made, those made in spite of a conflict among them.
+    /// The number of applied changes, those applied in spite of a conflict among them.
     pub fn applied(&self) -> u64
         ensures { result ≡ self.now.applied }
     {
         self.applied
     }
 
-    /// The conflicts that were met, in order.
+    /// The conflicts, in order.
     pub fn conflicts(&self) -> &[Conflict]
         ensures { result.now ≡ self.now.conflicts }
     {
         self.conflicts.as_slice()
     }
 
-    /// The numbers of the changes that were left out because of a conflict.
+    /// The numbers of the changes that were omitted because of a conflict.
     pub fn omitted(&self) -> &[u64]
         ensures { result.now ≡ self.now.omitted }
     {
         self.omitted.as_slice()
     }
 
-    /// The numbers of the groups that were skipped, since the database has no table for them.
+    /// The numbers of the skipped groups, for which the database has no table.
     pub fn skipped(&self) -> &[u64]
         ensures { result.now ≡ self.now.skipped }
     {
         self.skipped.as_slice()
     }
 
-    // One change more was made. The count never reaches its end before memory does.
+    // Counts an applied change. Memory runs out before the count does.
     pub(crate) fn count(&mut self) -> Result<(), OutOfMemory>
         ensures { OnOk result (self.new ≡ record self.old { applied = self.old.applied + 1 }) }
     {

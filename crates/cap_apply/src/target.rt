@@ -1,3 +1,4 @@
+//! The table that a group is applied to.
 ghost use Rattle.std.specs.Prelude.{◌≡◌, is_some};
 ghost use Rattle.cap_row.specs.Schema.{has_key};
 ghost use Rattle.cap_apply.specs.Target.{columns_fit, target};
@@ -6,7 +7,7 @@ use cap_row::Schema;
 use cap_txn::Database;
 use cap_value::{AllocHandle, Name};
 
-// Whether a group of this name and with these columns has a table here.
+// Whether the database has a table for a group with this name and these columns.
 pub(crate) fn has_target<A: AllocHandle>(
     database: &Database<A>,
     name: &Name<A>,

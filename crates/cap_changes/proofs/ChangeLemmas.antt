@@ -9,12 +9,12 @@ use Rattle.cap_value.specs.declared.value.Value.{Value}
 use Rattle.cap_value.specs.Value.{is_null, value_eq, value_eq_decides}
 use Rattle.cap_row.specs.Fields.{Fields}
 use Rattle.cap_row.specs.Key.{key_of, key_fields, is_key, fields_cmp, fields_cmp-Equal}
-use Rattle.cap_changes.specs.Demands.{demands, new_demands, new_demand, meets, meet}
+use Rattle.cap_changes.specs.Requirements.{requirements, new_requirements, new_requirement, satisfies, satisfy}
 use Rattle.cap_changes.specs.Fits.{change_fits}
 use Rattle.cap_changes.specs.Column.{by_column}
 use Rattle.cap_changes.specs.Change.{IsKeyedRow, full_record, old_field, new_field, change_of}
-use Rattle.cap_changes.specs.declared.change.Change.TheVariants.{Update}
-use Rattle.cap_changes.specs.declared.rule.Rule.TheVariants as rules
+use Rattle.cap_changes.specs.declared.row_change.RowChange.TheVariants.{Update}
+use Rattle.cap_changes.specs.declared.record_kind.RecordKind.TheVariants as record_kinds
 
 kept_if : {X : Type 0} (some_key has_null : Bool) (x : X) → is_some (cond (some_key && not has_null) (Some x) None) ≡ true → has_null ≡ false
 kept_if true true x e = cc
@@ -44,7 +44,7 @@ module _ {A : Type 0} where
   no_null_key flags row e = kept_if (nat_le 1 (length (key_fields flags row))) (list_any is_null (key_fields flags row)) (key_fields flags row) e
 
   full_fits_from : (flags : List Bool) (row : Fields A) → length row ≡ length flags → list_any is_null (key_fields flags row) ≡ false →
-      meet (demands rules.Full flags) (full_record row) ≡ true
+      satisfy (requirements record_kinds.Full flags) (full_record row) ≡ true
   full_fits_from [] [] wide keyed = refl
   full_fits_from [] (value ∷ row) wide keyed = cc
   full_fits_from (key ∷ flags) [] wide keyed = cc
@@ -53,11 +53,11 @@ module _ {A : Type 0} where
       (full_fits_from flags row (cc) (rest_from (is_null value) _ keyed))
   full_fits_from (false ∷ flags) (value ∷ row) wide keyed = full_fits_from flags row (cc) keyed
 
-  pub full_fits : (flags : List Bool) (row : Fields A) → IsKeyedRow flags row → meet (demands rules.Full flags) (full_record row) ≡ true
+  pub full_fits : (flags : List Bool) (row : Fields A) → IsKeyedRow flags row → satisfy (requirements record_kinds.Full flags) (full_record row) ≡ true
   full_fits flags row h = full_fits_from flags row h.wide (no_null_key flags row h.keyed)
 
   old_fits_from : (flags : List Bool) (image now : Fields A) → length image ≡ length flags → length now ≡ length flags →
-      list_any is_null (key_fields flags image) ≡ false → meet (demands rules.Keyed flags) (by_column old_field flags image now) ≡ true
+      list_any is_null (key_fields flags image) ≡ false → satisfy (requirements record_kinds.Keyed flags) (by_column old_field flags image now) ≡ true
   old_fits_from [] [] [] wide wide' keyed = refl
   old_fits_from [] (old ∷ image) now wide wide' keyed = cc
   old_fits_from [] [] (new ∷ now) wide wide' keyed = cc
@@ -69,12 +69,12 @@ module _ {A : Type 0} where
   old_fits_from (false ∷ flags) (old ∷ image) (new ∷ now) wide wide' keyed = old_fits_from flags image now (cc) (cc) keyed
 
   other_field_fits : (same : Bool) (old new : Value A) {rest : Bool} → rest ≡ true →
-      (meets (new_demand (false, cond (not same) (Some old) None)) (cond (not same) (Some new) None) && rest) ≡ true
+      (satisfies (new_requirement (false, cond (not same) (Some old) None)) (cond (not same) (Some new) None) && rest) ≡ true
   other_field_fits true old new h = h
   other_field_fits false old new h = h
 
   new_fits_from : (flags : List Bool) (image now : Fields A) → length image ≡ length flags → length now ≡ length flags →
-      meet (new_demands flags (by_column old_field flags image now)) (by_column new_field flags image now) ≡ true
+      satisfy (new_requirements flags (by_column old_field flags image now)) (by_column new_field flags image now) ≡ true
   new_fits_from [] [] [] wide wide' = refl
   new_fits_from [] (old ∷ image) now wide wide' = cc
   new_fits_from [] [] (new ∷ now) wide wide' = cc
@@ -87,7 +87,7 @@ module _ {A : Type 0} where
   pub update_fits : (flags : List Bool) (indirect : Bool) (image now : Fields A) → IsKeyedRow flags image → IsKeyedRow flags now →
       change_fits flags (Update indirect (by_column old_field flags image now) (by_column new_field flags image now)) ≡ true
   update_fits flags indirect image now h h' =
-      and_from (meet (demands rules.Keyed flags) (by_column old_field flags image now)) _
+      and_from (satisfy (requirements record_kinds.Keyed flags) (by_column old_field flags image now)) _
       (old_fits_from flags image now h.wide h'.wide (no_null_key flags image h.keyed))
       (new_fits_from flags image now h.wide h'.wide)
 

@@ -1,17 +1,19 @@
--- The change of one touched key, by its row when it was first touched and its row now (The Session Extension, "sqlite3session_changeset").
-use Rattle.std.specs.Prelude.{◌≡◌, Bool, true, List, Option, Some, None, length, map, is_some, IsSome, not, ◌&&◌, ◌||◌, if◌then◌else◌}
+-- The change of one touched key, by its first image and its row now (The Session Extension,
+-- "sqlite3session_changeset").
+use Rattle.std.specs.Prelude.{◌≡◌, Bool, true, List, Option, Some, None, length, map, is_some, IsSome, not}
+use Rattle.std.specs.Prelude.{◌&&◌, ◌||◌, if◌then◌else◌}
 use Rattle.std.specs.List.{list_any}
 use Rattle.cap_value.specs.declared.value.Value.{Value}
 use Rattle.cap_value.specs.Value.{value_eq}
 use Rattle.cap_row.specs.Fields.{Fields}
 use Rattle.cap_row.specs.Key.{key_of, fields_eq}
 use Rattle.cap_changes.specs.Column.{by_column}
-use Rattle.cap_changes.specs.Record.{RecordFields}
-use Rattle.cap_changes.specs.declared.change.Change.{Change}
-use Rattle.cap_changes.specs.declared.change.Change.TheVariants.{Insert, Update, Delete}
+use Rattle.cap_changes.specs.FieldRecord.{RecordFields}
+use Rattle.cap_changes.specs.declared.row_change.RowChange.{RowChange}
+use Rattle.cap_changes.specs.declared.row_change.RowChange.TheVariants.{Insert, Update, Delete}
 
 module _ {A : Type 0} where
-  -- a row of a table with these key flags that can be recorded: one value a column, and a key
+  -- a row that can be recorded in a table with these key flags: one value for each column, and a key
   pub record IsKeyedRow (flags : List Bool) (row : Fields A) : Type 0 where
     pub wide : length row ≡ length flags
     pub keyed : IsSome (key_of flags row)
@@ -36,7 +38,7 @@ module _ {A : Type 0} where
   abbrev pub new_field : Bool → Value A → Value A → Option (Value A)
   new_field key image now = if is_modified key image now then Some now else None
 
-  abbrev pub change_of : List Bool → Bool → Option (Fields A) → Option (Fields A) → Option (Change A)
+  abbrev pub change_of : List Bool → Bool → Option (Fields A) → Option (Fields A) → Option (RowChange A)
   change_of flags indirect None None = None
   change_of flags indirect None (Some now) = Some (Insert indirect (full_record now))
   change_of flags indirect (Some image) None = Some (Delete indirect (full_record image))
@@ -46,7 +48,7 @@ module _ {A : Type 0} where
       else Some (Update indirect (by_column old_field flags image now) (by_column new_field flags image now))
 
   -- an INSERT, a DELETE, or an UPDATE with a modified field
-  abbrev pub is_some_change : Change A → Bool
+  abbrev pub is_some_change : RowChange A → Bool
   is_some_change (Insert indirect new) = true
   is_some_change (Update indirect old new) = list_any is_some new
   is_some_change (Delete indirect old) = true

@@ -7,6 +7,6 @@ pub record TableEntries (X : Type 0) : Type 0 where
   pub schema : List Bool
   pub changes : List X
 
--- each may stand in a table with these key flags
+-- each fits a table with these key flags
 abbrev pub AllFit : {X : Type 0} → (List Bool → X → Bool) → List Bool → List X → Type 0
 AllFit fits flags xs = All (λ x. IsTrue (fits flags x)) xs

@@ -1,21 +1,26 @@
--- The change list that takes a change list back (The Session Extension, "sqlite3changeset_invert").
+-- The inverse of a changeset (The Session Extension, "sqlite3changeset_invert").
 use Rattle.std.specs.Prelude.{Bool, List, map}
 use Rattle.cap_changes.specs.Patch.{update_record}
 use Rattle.cap_changes.specs.Group.{TableChanges}
-use Rattle.cap_changes.specs.declared.change.Change.{Change}
-use Rattle.cap_changes.specs.declared.change.Change.TheVariants.{Insert, Update, Delete}
+use Rattle.cap_changes.specs.declared.row_change.RowChange.{RowChange}
+use Rattle.cap_changes.specs.declared.row_change.RowChange.TheVariants.{Insert, Update, Delete}
 
 module _ {A : Type 0} where
-  -- an INSERT takes back a DELETE and a DELETE an INSERT; an UPDATE has the modified fields of its two records swapped, and
-  -- the key fields stay in the old one; each keeps its mark
-  abbrev pub inverse_of : List Bool → Change A → Change A
+  -- An INSERT for a DELETE and a DELETE for an INSERT; an UPDATE has the modified fields of its two records
+  -- swapped, and the key fields stay in the old one. The indirect flag stays.
+  abbrev pub inverse_of : List Bool → RowChange A → RowChange A
   inverse_of flags (Insert indirect new) = Delete indirect new
-  inverse_of flags (Update indirect old new) = Update indirect (update_record flags old new) (update_record flags new old)
+  inverse_of flags (Update indirect old new) =
+      Update indirect (update_record flags old new) (update_record flags new old)
   inverse_of flags (Delete indirect old) = Insert indirect old
 
-  -- each change's inverse, in the same order
+  -- the inverse of each change, in the same order
   abbrev pub inverses_of : TableChanges A → TableChanges A
-  inverses_of group = record { table = group.table; schema = group.schema; changes = map (inverse_of group.schema) group.changes }
+  inverses_of group = record {
+    table = group.table;
+    schema = group.schema;
+    changes = map (inverse_of group.schema) group.changes;
+  }
 
   abbrev pub inverse_list_of : List (TableChanges A) → List (TableChanges A)
   inverse_list_of groups = map inverses_of groups

@@ -1,10 +1,10 @@
 pub mod Change
 pub mod Column
-pub mod Demands
+pub mod Requirements
 pub mod Entries
 pub mod Fits
 pub mod Group
 pub mod Invert
 pub mod Patch
 pub mod PatchGroup
-pub mod Record
+pub mod FieldRecord

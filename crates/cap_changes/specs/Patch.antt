@@ -1,12 +1,12 @@
--- A changeset as a patchset (The Session Extension, "sqlite3session_patchset").
+-- The patchset of a changeset (The Session Extension, "sqlite3session_patchset").
 use Rattle.std.specs.Prelude.{Bool, List, None, map, if◌then◌else◌}
 use Rattle.std.specs.List.{zip}
 use Rattle.cap_changes.specs.Column.{by_column}
-use Rattle.cap_changes.specs.Record.{RecordFields}
+use Rattle.cap_changes.specs.FieldRecord.{RecordFields}
 use Rattle.cap_changes.specs.Group.{TableChanges}
 use Rattle.cap_changes.specs.PatchGroup.{TablePatches}
-use Rattle.cap_changes.specs.declared.change.Change.{Change}
-use Rattle.cap_changes.specs.declared.change.Change.TheVariants as changed
+use Rattle.cap_changes.specs.declared.row_change.RowChange.{RowChange}
+use Rattle.cap_changes.specs.declared.row_change.RowChange.TheVariants as changed
 use Rattle.cap_changes.specs.declared.patch.Patch.{Patch}
 use Rattle.cap_changes.specs.declared.patch.Patch.TheVariants as patched
 
@@ -15,18 +15,22 @@ module _ {A : Type 0} where
   abbrev pub update_record : List Bool → RecordFields A → RecordFields A → RecordFields A
   update_record flags old new = by_column (λ key before after. if key then before else after) flags old new
 
-  -- the key fields alone
+  -- the key fields only
   abbrev pub key_record : List Bool → RecordFields A → RecordFields A
   key_record flags old = map (λ column. if column.0 then column.1 else None) (zip flags old)
 
-  abbrev pub patch_of : List Bool → Change A → Patch A
+  abbrev pub patch_of : List Bool → RowChange A → Patch A
   patch_of flags (changed.Insert indirect new) = patched.Insert indirect new
   patch_of flags (changed.Update indirect old new) = patched.Update indirect (update_record flags old new)
   patch_of flags (changed.Delete indirect old) = patched.Delete indirect (key_record flags old)
 
-  -- each change's patch, in the same order
+  -- the patch of each change, in the same order
   abbrev pub patches_of : TableChanges A → TablePatches A
-  patches_of group = record { table = group.table; schema = group.schema; changes = map (patch_of group.schema) group.changes }
+  patches_of group = record {
+    table = group.table;
+    schema = group.schema;
+    changes = map (patch_of group.schema) group.changes;
+  }
 
   abbrev pub patch_list_of : List (TableChanges A) → List (TablePatches A)
   patch_list_of groups = map patches_of groups

@@ -1,17 +1,18 @@
+//! The change between two rows of one key.
 ghost use Rattle.std.specs.Prelude.{◌≡◌, ◌||◌, IsTrue, IfOk, IfSome, if◌then◌else◌};
 ghost use Rattle.std.specs.Option.{option_copied, ForSome};
 ghost use Rattle.cap_changes.specs.Change as touched;
 ghost use Rattle.cap_changes.specs.Column.{by_column};
 ghost use Rattle.cap_changes.specs.Fits.{change_fits};
 
-use crate::{Change, Record};
+use crate::{FieldRecord, RowChange};
 use cap_row::{Row, Schema};
 use cap_value::{AllocHandle, OutOfMemory, Value};
 
-/// The change of one touched key: `image` is its row when it was first touched, `now` its row now, each none
-/// where there was or is no row. None where nothing has changed.
+/// The change of one touched key, `None` where its row is unchanged: `image` is its first image, `now` its
+/// row now, each `None` where there is no row.
 ///
-/// An update's modified fields are just those outside the key that differ (The Session Extension,
+/// The modified fields of an update are exactly those outside the key that differ (The Session Extension,
 /// "sqlite3session_changeset").
 pub fn change_between<A: AllocHandle>(
     alloc: A,
@@ -19,7 +20,7 @@ pub fn change_between<A: AllocHandle>(
     indirect: bool,
     image: Option<&Row<A>>,
     now: Option<&Row<A>>,
-) -> Result<Option<Change<A>>, OutOfMemory>
+) -> Result<Option<RowChange<A>>, OutOfMemory>
     requires image_keyed { ForSome (option_copied image) (touched.IsKeyedRow schema.now) }
     requires now_keyed { ForSome (option_copied now) (touched.IsKeyedRow schema.now) }
     requires same_key { ForSome (option_copied image) (λ before.
@@ -33,30 +34,30 @@ pub fn change_between<A: AllocHandle>(
         (None, None) => Ok(None),
         (None, Some(now)) => {
             let new = full_record(alloc, now.fields())?;
-            Ok(Some(Change::Insert { indirect, new }))
+            Ok(Some(RowChange::Insert { indirect, new }))
         }
         (Some(image), None) => {
             let old = full_record(alloc, image.fields())?;
-            Ok(Some(Change::Delete { indirect, old }))
+            Ok(Some(RowChange::Delete { indirect, old }))
         }
         (Some(image), Some(now)) => {
             if image.same(now) {
                 return Ok(None);
             }
             let (old, new) = update_records(alloc, schema.flags(), image.fields(), now.fields())?;
-            Ok(Some(Change::Update { indirect, old, new }))
+            Ok(Some(RowChange::Update { indirect, old, new }))
         }
     }
 }
 
-fn full_record<A: AllocHandle>(alloc: A, row: &[Value<A>]) -> Result<Record<A>, OutOfMemory>
+fn full_record<A: AllocHandle>(alloc: A, row: &[Value<A>]) -> Result<FieldRecord<A>, OutOfMemory>
     ensures { IfOk result (λ full. full ≡ touched.full_record row.now) }
 {
     let mut fields = Vec::with_capacity(alloc, row.len())?;
     for value in row {
         fields.push(Some(value.copy()?))?;
     }
-    Ok(Record::new(fields))
+    Ok(FieldRecord::new(fields))
 }
 
 fn update_records<A: AllocHandle>(
@@ -64,7 +65,7 @@ fn update_records<A: AllocHandle>(
     flags: &[bool],
     image: &[Value<A>],
     now: &[Value<A>],
-) -> Result<(Record<A>, Record<A>), OutOfMemory>
+) -> Result<(FieldRecord<A>, FieldRecord<A>), OutOfMemory>
     ensures old { IfOk result (λ made. made.0 ≡ by_column touched.old_field flags.now image.now now.now) }
     ensures new { IfOk result (λ made. made.1 ≡ by_column touched.new_field flags.now image.now now.now) }
 {
@@ -75,10 +76,11 @@ fn update_records<A: AllocHandle>(
         old.push(copy_if(*key || modified, image)?)?;
         new.push(copy_if(modified, now)?)?;
     }
-    Ok((Record::new(old), Record::new(new)))
+    Ok((FieldRecord::new(old), FieldRecord::new(new)))
 }
 
-fn is_modified<A: AllocHandle>(key: bool, image: &Value<A>, now: &Value<A>) -> bool
+/// Whether a column is modified: it is not in the key, and its values differ.
+pub fn is_modified<A: AllocHandle>(key: bool, image: &Value<A>, now: &Value<A>) -> bool
     ensures { result ≡ touched.is_modified key image.now now.now }
 {
     !key && image != now

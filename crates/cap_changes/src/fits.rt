@@ -1,35 +1,35 @@
+//! Whether the records of a change fit a schema.
 ghost use Rattle.std.specs.Prelude.{◌≡◌, ◌&&◌, length};
-ghost use Rattle.cap_changes.specs.Demands as asked;
-ghost use Rattle.cap_changes.specs.declared.rule.Rule.TheVariants as rules;
+ghost use Rattle.cap_changes.specs.Requirements as required;
+ghost use Rattle.cap_changes.specs.declared.record_kind.RecordKind.TheVariants as record_kinds;
 
-use crate::{Rule, demand_beside};
+use crate::{RecordKind, requirement_beside};
 use cap_value::{AllocHandle, Value};
 
-/// Whether there is a field a column, each as the rule asks.
+// Whether there is one field for each column, as the record kind requires.
 pub(crate) fn is_record<A: AllocHandle>(
-    rule: Rule,
+    record_kind: RecordKind,
     flags: &[bool],
     fields: &[Option<Value<A>>],
 ) -> bool
-    ensures { result ≡ asked.meet (asked.demands rule flags.now) fields.now }
+    ensures { result ≡ required.satisfy (required.requirements record_kind flags.now) fields.now }
 {
     flags.len() == fields.len()
-        && flags
-            .iter()
-            .zip(fields)
-            .all(|(key, field)| rule.demand(*key).is_met_by(field))
+        && flags.iter().zip(fields).all(|(key, field)| record_kind
+            .requirement(*key)
+            .is_satisfied_by(field))
 }
 
-/// Whether there is a field a column in both, each of the new record as its old field asks.
+// Whether both records have one field for each column, those of the new record as their old fields require.
 pub(crate) fn is_update<A: AllocHandle>(
     flags: &[bool],
     old: &[Option<Value<A>>],
     new: &[Option<Value<A>>],
 ) -> bool
-    ensures { result ≡ asked.meet (asked.demands rules.Keyed flags.now) old.now
-        && asked.meet (asked.new_demands flags.now old.now) new.now }
+    ensures { result ≡ required.satisfy (required.requirements record_kinds.Keyed flags.now) old.now
+        && required.satisfy (required.new_requirements flags.now old.now) new.now }
 {
-    is_record(Rule::Keyed, flags, old) && is_new_record(flags, old, new)
+    is_record(RecordKind::Keyed, flags, old) && is_new_record(flags, old, new)
 }
 
 fn is_new_record<A: AllocHandle>(
@@ -38,7 +38,7 @@ fn is_new_record<A: AllocHandle>(
     new: &[Option<Value<A>>],
 ) -> bool
     requires { length flags.now ≡ length old.now }
-    ensures { result ≡ asked.meet (asked.new_demands flags.now old.now) new.now }
+    ensures { result ≡ required.satisfy (required.new_requirements flags.now old.now) new.now }
 {
     flags.len() == new.len()
         && flags
@@ -49,7 +49,7 @@ fn is_new_record<A: AllocHandle>(
 }
 
 fn is_new_field<A: AllocHandle>(key: bool, old: &Option<Value<A>>, new: &Option<Value<A>>) -> bool
-    ensures { result ≡ asked.meets (asked.new_demand (key, old.now)) new.now }
+    ensures { result ≡ required.satisfies (required.new_requirement (key, old.now)) new.now }
 {
-    demand_beside(key, old).is_met_by(new)
+    requirement_beside(key, old).is_satisfied_by(new)
 }

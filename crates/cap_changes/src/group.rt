@@ -1,14 +1,15 @@
+//! Groups: the changes of one table.
 ghost use Rattle.std.specs.Prelude.{◌≡◌, ◌++◌, ◌∷◌, [], IsTrue, OnOk, OnErr};
 ghost use Rattle.cap_row.specs.Schema.{has_key};
 ghost use Rattle.cap_changes.specs.Entries.{AllFit};
 
-use crate::{Change, Entry, Patch};
+use crate::{Entry, Patch, RowChange};
 use cap_row::Schema;
 use cap_value::{AllocHandle, Name, OutOfMemory};
 use std::marker::Model;
 
 /// The changes of one table in a changeset.
-pub type Group<A> = TableGroup<Change<A>, A>;
+pub type Group<A> = TableGroup<RowChange<A>, A>;
 
 /// The changes of one table in a patchset.
 pub type PatchGroup<A> = TableGroup<Patch<A>, A>;
@@ -36,7 +37,7 @@ impl<C: Entry, A: AllocHandle> Model for TableGroup<C, A> {
 }
 
 impl<C: Entry, A: AllocHandle> TableGroup<C, A> {
-    /// A group of this table without changes. It takes no memory.
+    /// A group without changes. Takes no memory.
     pub fn new(alloc: A, table: Name<A>, schema: Schema<A>) -> Self
         requires { IsTrue (has_key schema) }
         ensures { result ≡ record { table = table; schema = schema; changes = [] } }
@@ -48,7 +49,7 @@ impl<C: Entry, A: AllocHandle> TableGroup<C, A> {
         }
     }
 
-    /// Puts a change last. Where there is no memory, the group stays as it was.
+    /// Appends a change. On `OutOfMemory` the group is unchanged.
     pub fn push(&mut self, change: C) -> Result<(), OutOfMemory>
     where
         C: Drop,
@@ -60,14 +61,13 @@ impl<C: Entry, A: AllocHandle> TableGroup<C, A> {
         Ok(())
     }
 
-    /// The table's name.
     pub fn table(&self) -> &Name<A>
         ensures { result.now ≡ self.now.table }
     {
         &self.table
     }
 
-    /// The table's columns. One at least is in the primary key.
+    /// The table's columns. At least one is in the primary key.
     pub fn schema(&self) -> &Schema<A>
         ensures schema { result.now ≡ self.now.schema }
         ensures keyed { IsTrue (has_key self.now.schema) }
@@ -75,7 +75,7 @@ impl<C: Entry, A: AllocHandle> TableGroup<C, A> {
         &self.schema
     }
 
-    /// The changes, in the order in which they were put.
+    /// The changes, in order.
     pub fn changes(&self) -> &[C]
         ensures changes { result.now ≡ self.now.changes }
         ensures fit { AllFit C.fits_in self.now.schema self.now.changes }

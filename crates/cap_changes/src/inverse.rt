@@ -1,14 +1,15 @@
+//! The inverse of a changeset.
 ghost use Rattle.std.specs.Prelude.{◌≡◌, IsTrue, IfOk};
 ghost use Rattle.cap_changes.specs.Fits.{change_fits};
 ghost use Rattle.cap_changes.specs.Invert.{inverse_of, inverses_of, inverse_list_of};
 
 use crate::patches::{copy_record, update_record};
-use crate::{Change, ChangeList, Group};
+use crate::{ChangeList, Group, RowChange};
 use cap_row::Schema;
 use cap_value::{AllocHandle, OutOfMemory};
 
-/// The changes that take these back: an insert for each delete and a delete for each insert, and an update with
-/// the values of its old and its new record swapped. Order and marks stay (The Session Extension,
+/// The changes that undo these: a delete for each insert, an insert for each delete, and for each update one
+/// with the old and the new values swapped. The order and the indirect flags stay (The Session Extension,
 /// "sqlite3changeset_invert").
 pub fn invert<A: AllocHandle>(alloc: A, list: &ChangeList<A>) -> Result<ChangeList<A>, OutOfMemory>
     ensures inverse { IfOk result (λ inverse. inverse ≡ inverse_list_of list.now) }
@@ -36,33 +37,33 @@ fn inverses_of<A: AllocHandle>(alloc: A, group: &Group<A>) -> Result<Group<A>, O
 fn inverse_of<A: AllocHandle>(
     alloc: A,
     schema: &Schema<A>,
-    change: &Change<A>,
-) -> Result<Change<A>, OutOfMemory>
+    change: &RowChange<A>,
+) -> Result<RowChange<A>, OutOfMemory>
     requires { IsTrue (change_fits schema.now change.now) }
     ensures inverse { IfOk result (λ inverse. inverse ≡ inverse_of schema.now change.now) }
     ensures back { IfOk result (λ inverse. inverse_of schema.now inverse ≡ change.now) }
     ensures fits { IfOk result (λ inverse. IsTrue (change_fits schema.now inverse)) }
 {
     match change {
-        Change::Insert { indirect, new } => {
+        RowChange::Insert { indirect, new } => {
             let old = copy_record(alloc, new.fields())?;
-            Ok(Change::Delete {
+            Ok(RowChange::Delete {
                 indirect: *indirect,
                 old,
             })
         }
-        Change::Update { indirect, old, new } => {
+        RowChange::Update { indirect, old, new } => {
             let before = update_record(alloc, schema.flags(), old.fields(), new.fields())?;
             let after = update_record(alloc, schema.flags(), new.fields(), old.fields())?;
-            Ok(Change::Update {
+            Ok(RowChange::Update {
                 indirect: *indirect,
                 old: before,
                 new: after,
             })
         }
-        Change::Delete { indirect, old } => {
+        RowChange::Delete { indirect, old } => {
             let new = copy_record(alloc, old.fields())?;
-            Ok(Change::Insert {
+            Ok(RowChange::Insert {
                 indirect: *indirect,
                 new,
             })

@@ -1,16 +1,17 @@
+//! Changesets and patchsets as lists of groups.
 ghost use Rattle.std.specs.Prelude.{◌≡◌, ◌++◌, ◌∷◌, [], OnOk, OnErr};
 
-use crate::{Change, Entry, Patch, TableGroup};
+use crate::{Entry, Patch, RowChange, TableGroup};
 use cap_value::{AllocHandle, OutOfMemory};
 use std::marker::Model;
 
-/// A changeset: groups of changes, one after the other.
-pub type ChangeList<A> = GroupList<Change<A>, A>;
+/// A changeset: groups of changes.
+pub type ChangeList<A> = GroupList<RowChange<A>, A>;
 
-/// A patchset: groups of its changes, one after the other.
+/// A patchset: groups of its changes.
 pub type PatchList<A> = GroupList<Patch<A>, A>;
 
-/// Groups, one after the other: a changeset or a patchset.
+/// A list of groups: a changeset or a patchset.
 #[derive(Drop)]
 pub struct GroupList<C: Entry, A: AllocHandle> {
     groups: Vec<TableGroup<C, A>, A>,
@@ -26,7 +27,7 @@ impl<C: Entry, A: AllocHandle> Model for GroupList<C, A> {
 }
 
 impl<C: Entry, A: AllocHandle> GroupList<C, A> {
-    /// The list without groups. It takes no memory.
+    /// The empty list. Takes no memory.
     pub fn new(alloc: A) -> Self
         ensures { result ≡ [] }
     {
@@ -35,7 +36,7 @@ impl<C: Entry, A: AllocHandle> GroupList<C, A> {
         }
     }
 
-    /// Puts a group last. Where there is no memory, the list stays as it was.
+    /// Appends a group. On `OutOfMemory` the list is unchanged.
     pub fn push(&mut self, group: TableGroup<C, A>) -> Result<(), OutOfMemory>
     where
         C: Drop,
@@ -46,7 +47,7 @@ impl<C: Entry, A: AllocHandle> GroupList<C, A> {
         Ok(())
     }
 
-    /// The groups, in the order in which they were put.
+    /// The groups, in order.
     pub fn groups(&self) -> &[TableGroup<C, A>]
         ensures { result.now ≡ self.now }
     {

@@ -1,14 +1,14 @@
+//! The patchset of a changeset.
 ghost use Rattle.std.specs.Prelude.{◌≡◌, IsTrue, IfOk, None, if◌then◌else◌};
 ghost use Rattle.cap_changes.specs.Fits.{change_fits, patch_fits};
 ghost use Rattle.cap_changes.specs.Patch as made;
 
-use crate::{Change, ChangeList, Group, Patch, PatchGroup, PatchList, Record};
+use crate::{ChangeList, FieldRecord, Group, Patch, PatchGroup, PatchList, RowChange};
 use cap_row::Schema;
 use cap_value::{AllocHandle, OutOfMemory, Value};
 
-/// The patchset of a changeset: an insert stays as it is, an update keeps the key fields and the new values
-/// of its modified fields, and a delete keeps the key fields (The Session Extension,
-/// "sqlite3session_patchset").
+/// The patchset of a changeset: an insert is unchanged, an update keeps the key fields and the new values of
+/// its modified fields, and a delete keeps the key fields (The Session Extension, "sqlite3session_patchset").
 pub fn to_patches<A: AllocHandle>(
     alloc: A,
     list: &ChangeList<A>,
@@ -36,28 +36,28 @@ fn patches_of<A: AllocHandle>(alloc: A, group: &Group<A>) -> Result<PatchGroup<A
 fn patch_of<A: AllocHandle>(
     alloc: A,
     schema: &Schema<A>,
-    change: &Change<A>,
+    change: &RowChange<A>,
 ) -> Result<Patch<A>, OutOfMemory>
     requires { IsTrue (change_fits schema.now change.now) }
     ensures patch { IfOk result (λ patch. patch ≡ made.patch_of schema.now change.now) }
     ensures fits { IfOk result (λ patch. IsTrue (patch_fits schema.now patch)) }
 {
     match change {
-        Change::Insert { indirect, new } => {
+        RowChange::Insert { indirect, new } => {
             let new = copy_record(alloc, new.fields())?;
             Ok(Patch::Insert {
                 indirect: *indirect,
                 new,
             })
         }
-        Change::Update { indirect, old, new } => {
+        RowChange::Update { indirect, old, new } => {
             let new = update_record(alloc, schema.flags(), old.fields(), new.fields())?;
             Ok(Patch::Update {
                 indirect: *indirect,
                 new,
             })
         }
-        Change::Delete { indirect, old } => {
+        RowChange::Delete { indirect, old } => {
             let key = key_record(alloc, schema.flags(), old.fields())?;
             Ok(Patch::Delete {
                 indirect: *indirect,
@@ -70,14 +70,14 @@ fn patch_of<A: AllocHandle>(
 pub(crate) fn copy_record<A: AllocHandle>(
     alloc: A,
     fields: &[Option<Value<A>>],
-) -> Result<Record<A>, OutOfMemory>
+) -> Result<FieldRecord<A>, OutOfMemory>
     ensures { IfOk result (λ copy. copy ≡ fields.now) }
 {
     let mut copies = Vec::with_capacity(alloc, fields.len())?;
     for field in fields {
         copies.push(copy_field(field)?)?;
     }
-    Ok(Record::new(copies))
+    Ok(FieldRecord::new(copies))
 }
 
 pub(crate) fn update_record<A: AllocHandle>(
@@ -85,28 +85,28 @@ pub(crate) fn update_record<A: AllocHandle>(
     flags: &[bool],
     old: &[Option<Value<A>>],
     new: &[Option<Value<A>>],
-) -> Result<Record<A>, OutOfMemory>
+) -> Result<FieldRecord<A>, OutOfMemory>
     ensures { IfOk result (λ update. update ≡ made.update_record flags.now old.now new.now) }
 {
     let mut fields = Vec::with_capacity(alloc, flags.len())?;
     for (key, (old, new)) in flags.iter().zip(old.iter().zip(new)) {
         fields.push(copy_field(if *key { old } else { new })?)?;
     }
-    Ok(Record::new(fields))
+    Ok(FieldRecord::new(fields))
 }
 
 fn key_record<A: AllocHandle>(
     alloc: A,
     flags: &[bool],
     old: &[Option<Value<A>>],
-) -> Result<Record<A>, OutOfMemory>
+) -> Result<FieldRecord<A>, OutOfMemory>
     ensures { IfOk result (λ key. key ≡ made.key_record flags.now old.now) }
 {
     let mut fields = Vec::with_capacity(alloc, flags.len())?;
     for (key, field) in flags.iter().zip(old) {
         fields.push(key_field(*key, field)?)?;
     }
-    Ok(Record::new(fields))
+    Ok(FieldRecord::new(fields))
 }
 
 fn key_field<A: AllocHandle>(

@@ -10,8 +10,8 @@ use Rattle.cap_row.specs.Schema.{has_key}
 use Rattle.cap_changes.specs.Fits.{change_fits, patch_fits}
 use Rattle.cap_changes.specs.Group.{TableChanges}
 use Rattle.cap_changes.specs.PatchGroup.{TablePatches}
-use Rattle.cap_changes.specs.declared.change.Change.{Change}
-use Rattle.cap_changes.specs.declared.change.Change.TheVariants as changed
+use Rattle.cap_changes.specs.declared.row_change.RowChange.{RowChange}
+use Rattle.cap_changes.specs.declared.row_change.RowChange.TheVariants as changed
 use Rattle.cap_changes.specs.declared.patch.Patch.{Patch}
 use Rattle.cap_changes.specs.declared.patch.Patch.TheVariants as patched
 use Rattle.cap_codec.specs.declared.fault.BlobFault.{BlobFault}
@@ -19,7 +19,7 @@ use Rattle.cap_codec.specs.declared.key_flags.KeyFlags.{KeyFlags}
 use Rattle.cap_codec.specs.declared.key_flags.KeyFlags.TheVariants.{Ones}
 use Rattle.cap_codec.specs.declared.read.Contents.{Contents}
 use Rattle.cap_codec.specs.declared.read.Contents.TheVariants.{Changes, Patches}
-use Rattle.cap_codec.specs.Changeset.{mark, flags_bytes, header_bytes, change_bytes, changes_under, group_bytes}
+use Rattle.cap_codec.specs.Changeset.{flag_byte, flags_bytes, header_bytes, change_bytes, changes_under, group_bytes}
 use Rattle.cap_codec.specs.HeaderReading.{is_zero, is_set, count_at, flags_at, name_at, header_at}
 use Rattle.cap_codec.specs.Patchset.{patch_bytes, patch_group_bytes, patch_list_bytes_with}
 use Rattle.cap_codec.specs.Varint.{varint_bytes}
@@ -228,20 +228,20 @@ by_entries key_flags kind bytes one table schema [] spelled = inl (refl, refl)
 by_entries key_flags kind bytes one table schema (first ∷ others) spelled = inr (refl, spelled)
 
 module _ {A : Type 0} where
-  change_written : (flags : List Bool) (change : Change A) → IsTrue (change_fits flags change) → HasValues change → SpellsChange flags change (change_bytes change)
-  change_written flags (changed.Insert indirect new) fits values = (fits, values, (mark indirect, set_is indirect, refl))
-  change_written flags (changed.Update indirect old new) fits values = (fits, values, (mark indirect, set_is indirect, refl))
-  change_written flags (changed.Delete indirect old) fits values = (fits, values, (mark indirect, set_is indirect, refl))
+  change_written : (flags : List Bool) (change : RowChange A) → IsTrue (change_fits flags change) → HasValues change → SpellsChange flags change (change_bytes change)
+  change_written flags (changed.Insert indirect new) fits values = (fits, values, (flag_byte indirect, set_is indirect, refl))
+  change_written flags (changed.Update indirect old new) fits values = (fits, values, (flag_byte indirect, set_is indirect, refl))
+  change_written flags (changed.Delete indirect old) fits values = (fits, values, (flag_byte indirect, set_is indirect, refl))
 
-  changes_written : (flags : List Bool) (changes : List (Change A)) → AllByRecursion (λ change. IsTrue (change_fits flags change)) changes → AllByRecursion HasValues changes
+  changes_written : (flags : List Bool) (changes : List (RowChange A)) → AllByRecursion (λ change. IsTrue (change_fits flags change)) changes → AllByRecursion HasValues changes
       → AllByRecursion (λ change. SpellsChange flags change (change_bytes change)) changes
   changes_written flags [] fit values = tt
   changes_written flags (change ∷ changes) fit values = (change_written flags change fit.0 values.0, changes_written flags changes fit.1 values.1)
 
   patch_written : (flags : List Bool) (patch : Patch A) → IsTrue (patch_fits flags patch) → PatchHasValues patch → SpellsPatch flags patch (patch_bytes patch)
-  patch_written flags (patched.Insert indirect new) fits values = (fits, values, (mark indirect, set_is indirect, refl))
-  patch_written flags (patched.Update indirect new) fits values = (fits, values, (mark indirect, set_is indirect, refl))
-  patch_written flags (patched.Delete indirect key) fits values = (fits, values, (mark indirect, set_is indirect, refl))
+  patch_written flags (patched.Insert indirect new) fits values = (fits, values, (flag_byte indirect, set_is indirect, refl))
+  patch_written flags (patched.Update indirect new) fits values = (fits, values, (flag_byte indirect, set_is indirect, refl))
+  patch_written flags (patched.Delete indirect key) fits values = (fits, values, (flag_byte indirect, set_is indirect, refl))
 
   patches_written : (flags : List Bool) (patches : List (Patch A)) → AllByRecursion (λ patch. IsTrue (patch_fits flags patch)) patches → AllByRecursion PatchHasValues patches
       → AllByRecursion (λ patch. SpellsPatch flags patch (patch_bytes patch)) patches

@@ -7,11 +7,10 @@ use Rattle.std.proofs.lemmas.Str.{is_utf8-from_IsUtf8}
 use Rattle.byteorder.specs.Numbers.{length-bytes_high_first}
 use Rattle.cap_value.specs.declared.value.Value.{Value}
 use Rattle.cap_value.specs.declared.value.Value.TheVariants.{Null, Int, Text, Blob}
-use Rattle.cap_value.specs.declared.text.TheConstants.{BYTES_MAX}
 use Rattle.cap_value.specs.Value.{IsValue}
-use Rattle.cap_changes.specs.Demands.{meets}
-use Rattle.cap_changes.specs.declared.demand.Demand.{Demand}
-use Rattle.cap_changes.specs.declared.demand.Demand.TheVariants as asks
+use Rattle.cap_changes.specs.Requirements.{satisfies}
+use Rattle.cap_changes.specs.declared.field_requirement.FieldRequirement.{FieldRequirement}
+use Rattle.cap_changes.specs.declared.field_requirement.FieldRequirement.TheVariants as required
 use Rattle.cap_codec.specs.declared.fault.BlobFault.{BlobFault}
 use Rattle.cap_codec.specs.Reading.{◌>>=◌, place, byte_at, bytes_at, varint_from, varint_at}
 use Rattle.cap_codec.specs.Varint.{varint_bytes}
@@ -114,7 +113,7 @@ number_again total n rest fits =
 sized_again : (total at : ℕ) (bytes rest : List ℕ) → length bytes ≤ 1000000000 → sized_at total at (sized_bytes bytes ++ rest) ≡ Ok (bytes, rest)
 unfolding sized_at
 sized_again total at bytes rest fits =
-    let small : nat_lt BYTES_MAX (length bytes) ≡ false = le-ltb _ _ fits in
+    let small : nat_lt 1000000000 (length bytes) ≡ false = le-ltb _ _ fits in
     ap (sized_at total at) (append_assoc (varint_bytes (length bytes)) bytes rest)
     ∙ rw (varint_again total (length bytes) (bytes ++ rest) (omega arith), small) (bytes_again total (length bytes) bytes rest refl)
 
@@ -132,46 +131,46 @@ module _ {A : Type 0} where
   type_byte (Some (Text t)) = 3
   type_byte (Some (Blob b)) = 4
 
-  is_allowed : (demand : Demand) (field : Option (Value A)) → meets demand field ≡ true → allows demand (type_byte field) ≡ true
-  is_allowed asks.Any field met = refl
-  is_allowed asks.Undefined None met = refl
-  is_allowed asks.Undefined (Some value) met = absurd cc
-  is_allowed asks.Omitted None met = refl
-  is_allowed asks.Omitted (Some value) met = absurd cc
-  is_allowed asks.Defined None met = absurd cc
-  is_allowed asks.Defined (Some Null) met = refl
-  is_allowed asks.Defined (Some (Int n)) met = refl
-  is_allowed asks.Defined (Some (Text t)) met = refl
-  is_allowed asks.Defined (Some (Blob b)) met = refl
-  is_allowed asks.Key None met = absurd cc
-  is_allowed asks.Key (Some Null) met = absurd cc
-  is_allowed asks.Key (Some (Int n)) met = refl
-  is_allowed asks.Key (Some (Text t)) met = refl
-  is_allowed asks.Key (Some (Blob b)) met = refl
+  is_allowed : (requirement : FieldRequirement) (field : Option (Value A)) → satisfies requirement field ≡ true → allows requirement (type_byte field) ≡ true
+  is_allowed required.Any field met = refl
+  is_allowed required.Undefined None met = refl
+  is_allowed required.Undefined (Some value) met = absurd cc
+  is_allowed required.Omitted None met = refl
+  is_allowed required.Omitted (Some value) met = absurd cc
+  is_allowed required.Defined None met = absurd cc
+  is_allowed required.Defined (Some Null) met = refl
+  is_allowed required.Defined (Some (Int n)) met = refl
+  is_allowed required.Defined (Some (Text t)) met = refl
+  is_allowed required.Defined (Some (Blob b)) met = refl
+  is_allowed required.Key None met = absurd cc
+  is_allowed required.Key (Some Null) met = absurd cc
+  is_allowed required.Key (Some (Int n)) met = refl
+  is_allowed required.Key (Some (Text t)) met = refl
+  is_allowed required.Key (Some (Blob b)) met = refl
 
-  typed_again : (total at : ℕ) (demand : Demand) (field : Option (Value A)) (rest : List ℕ) → allows demand (type_byte field) ≡ true → IfSome field IsValue
-      → (byte_at total (field_bytes field ++ rest) >>= (λ kind. typed_at total at demand kind.0 kind.1)) ≡ Ok (field, rest)
+  typed_again : (total at : ℕ) (requirement : FieldRequirement) (field : Option (Value A)) (rest : List ℕ) → allows requirement (type_byte field) ≡ true → IfSome field IsValue
+      → (byte_at total (field_bytes field ++ rest) >>= (λ kind. typed_at total at requirement kind.0 kind.1)) ≡ Ok (field, rest)
   unfolding content_at
-  typed_again total at demand None rest allowed fits = rw allowed refl
-  typed_again total at demand (Some Null) rest allowed fits = rw allowed refl
-  typed_again total at demand (Some (Int n)) rest allowed fits = rw (allowed, number_again total n rest fits) refl
-  typed_again total at demand (Some (Text t)) rest allowed fits = rw (allowed, text_again total at t rest fits.0 fits.2) refl
-  typed_again total at demand (Some (Blob b)) rest allowed fits = rw (allowed, sized_again total at b rest fits.1) refl
+  typed_again total at requirement None rest allowed fits = rw allowed refl
+  typed_again total at requirement (Some Null) rest allowed fits = rw allowed refl
+  typed_again total at requirement (Some (Int n)) rest allowed fits = rw (allowed, number_again total n rest fits) refl
+  typed_again total at requirement (Some (Text t)) rest allowed fits = rw (allowed, text_again total at t rest fits.0 fits.2) refl
+  typed_again total at requirement (Some (Blob b)) rest allowed fits = rw (allowed, sized_again total at b rest fits.1) refl
 
-  -- the bytes of a field of which this is asked
-  abbrev pub asked_bytes : Demand → Option (Value A) → List ℕ
-  asked_bytes asks.Omitted field = []
-  asked_bytes asks.Key field = field_bytes field
-  asked_bytes asks.Defined field = field_bytes field
-  asked_bytes asks.Any field = field_bytes field
-  asked_bytes asks.Undefined field = field_bytes field
+  -- the bytes of a field with this requirement
+  abbrev pub asked_bytes : FieldRequirement → Option (Value A) → List ℕ
+  asked_bytes required.Omitted field = []
+  asked_bytes required.Key field = field_bytes field
+  asked_bytes required.Defined field = field_bytes field
+  asked_bytes required.Any field = field_bytes field
+  asked_bytes required.Undefined field = field_bytes field
 
-  pub field_again : (total : ℕ) (demand : Demand) (field : Option (Value A)) (rest : List ℕ) → meets demand field ≡ true → IfSome field IsValue
-      → field_at total demand (asked_bytes demand field ++ rest) ≡ Ok (field, rest)
+  pub field_again : (total : ℕ) (requirement : FieldRequirement) (field : Option (Value A)) (rest : List ℕ) → satisfies requirement field ≡ true → IfSome field IsValue
+      → field_at total requirement (asked_bytes requirement field ++ rest) ≡ Ok (field, rest)
   unfolding field_at
-  field_again total asks.Omitted None rest met fits = refl
-  field_again total asks.Omitted (Some value) rest met fits = absurd cc
-  field_again total asks.Key field rest met fits = typed_again total (place total (field_bytes field ++ rest)) asks.Key field rest (is_allowed asks.Key field met) fits
-  field_again total asks.Defined field rest met fits = typed_again total (place total (field_bytes field ++ rest)) asks.Defined field rest (is_allowed asks.Defined field met) fits
-  field_again total asks.Any field rest met fits = typed_again total (place total (field_bytes field ++ rest)) asks.Any field rest (is_allowed asks.Any field met) fits
-  field_again total asks.Undefined field rest met fits = typed_again total (place total (field_bytes field ++ rest)) asks.Undefined field rest (is_allowed asks.Undefined field met) fits
+  field_again total required.Omitted None rest met fits = refl
+  field_again total required.Omitted (Some value) rest met fits = absurd cc
+  field_again total required.Key field rest met fits = typed_again total (place total (field_bytes field ++ rest)) required.Key field rest (is_allowed required.Key field met) fits
+  field_again total required.Defined field rest met fits = typed_again total (place total (field_bytes field ++ rest)) required.Defined field rest (is_allowed required.Defined field met) fits
+  field_again total required.Any field rest met fits = typed_again total (place total (field_bytes field ++ rest)) required.Any field rest (is_allowed required.Any field met) fits
+  field_again total required.Undefined field rest met fits = typed_again total (place total (field_bytes field ++ rest)) required.Undefined field rest (is_allowed required.Undefined field met) fits

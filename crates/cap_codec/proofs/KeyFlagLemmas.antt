@@ -9,14 +9,14 @@ use Rattle.std.proofs.lemmas.List.Sums.{count_by_more_yes, count_by_more_no}
 use Rattle.std.proofs.lemmas.Simd.{map-map}
 use Rattle.cap_codec.specs.declared.key_flags.KeyFlags.{KeyFlags}
 use Rattle.cap_codec.specs.declared.key_flags.KeyFlags.TheVariants.{Ones, Places}
-use Rattle.cap_codec.specs.Changeset.{mark, key_place, flags_bytes}
+use Rattle.cap_codec.specs.Changeset.{flag_byte, key_place, flags_bytes}
 use Rattle.cap_codec.specs.HeaderReading.{is_set}
 
-pub set_is : (flag : Bool) → is_set (mark flag) ≡ flag
+pub set_is : (flag : Bool) → is_set (flag_byte flag) ≡ flag
 set_is true = refl
 set_is false = refl
 
-ones_set : (schema : List Bool) → map is_set (map mark schema) ≡ schema
+ones_set : (schema : List Bool) → map is_set (map flag_byte schema) ≡ schema
 ones_set [] = refl
 ones_set (key ∷ schema) = rw (set_is key, ones_set schema) refl
 

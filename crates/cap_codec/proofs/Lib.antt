@@ -15,3 +15,4 @@ pub mod Looking
 pub mod LookingSteps
 pub mod StreamLemmas
 pub mod WritableLemmas
+pub mod BeginLemmas

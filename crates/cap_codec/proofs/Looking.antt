@@ -5,7 +5,7 @@ use Rattle.cap_codec.specs.declared.fault.BlobFault.{BlobFault}
 use Rattle.cap_codec.specs.declared.read.Contents.TheVariants.{Changes, Patches}
 use Rattle.cap_codec.specs.declared.kind.Kind.{Kind}
 use Rattle.cap_codec.specs.declared.kind.Kind.TheVariants as kinds
-use Rattle.cap_codec.specs.declared.within.Within.{Within}
+use Rattle.cap_codec.specs.declared.change_cursor.ChangeCursor.{ChangeCursor}
 use Rattle.cap_codec.specs.ChangeLeft.{tail_at, past_at, IsEntered}
 use Rattle.cap_codec.specs.HeaderReading.{Header, header_at}
 use Rattle.cap_codec.specs.Pieces.{is_cut, lasting, outcome, columns_at, kind_byte, GoesOn, GoesOnAs, Leads}
@@ -235,8 +235,8 @@ module _ (A : Type 0) where
   unfolding patch_group_at
   patches_reading = (λ header patches. record { table = header.table; schema = header.flags; changes = patches }, λ total bytes. refl)
 
-  -- The next change or header in a group of these columns, behind its first byte, which stands at `at`: the columns
-  -- from there on, and what stands behind it.
+  -- The next change or header in a group of these columns, behind its first byte, which is at `at`: the columns from
+  -- there on, and the bytes behind it.
   abbrev pub part_at : Kind → ℕ → List Bool → ℕ → ℕ → List ℕ → Result (List Bool × List ℕ) BlobFault
   part_at kinds.Changes total flags at first bytes = part (change_at {A = A}) (group_at {A = A}) 0x54 total flags at first bytes
   part_at kinds.Patches total flags at first bytes = part (patch_at {A = A}) (patch_group_at {A = A}) 0x50 total flags at first bytes
@@ -268,7 +268,7 @@ module _ (A : Type 0) where
 
   -- ---- what leads on
 
-  now : (bytes : List ℕ) (kind : Kind) (flags : List Bool) (within : Option (Within A)) (rest : List ℕ) → Leads A bytes kind flags within rest → GoesOnAs A kind (length bytes) flags within rest (outcome (blob_at {A = A} bytes))
+  now : (bytes : List ℕ) (kind : Kind) (flags : List Bool) (within : Option (ChangeCursor A)) (rest : List ℕ) → Leads A bytes kind flags within rest → GoesOnAs A kind (length bytes) flags within rest (outcome (blob_at {A = A} bytes))
   unfolding Leads
   now bytes kind flags within rest leads =
       subst (λ (all : List ℕ). GoesOnAs A kind (length all) flags within rest (outcome (blob_at {A = A} all))) (append-nil bytes)
@@ -306,7 +306,7 @@ module _ (A : Type 0) where
   unfolding Leads
   first_leads kind bytes = λ more. begins kind (bytes ++ more)
 
-  pub leads_longer : (bytes piece : List ℕ) (kind : Kind) (flags : List Bool) (within : Option (Within A)) (rest : List ℕ) → Leads A bytes kind flags within rest → Leads A (bytes ++ piece) kind flags within (rest ++ piece)
+  pub leads_longer : (bytes piece : List ℕ) (kind : Kind) (flags : List Bool) (within : Option (ChangeCursor A)) (rest : List ℕ) → Leads A bytes kind flags within rest → Leads A (bytes ++ piece) kind flags within (rest ++ piece)
   unfolding Leads
   leads_longer bytes piece kind flags within rest leads = λ more.
       subst (λ (all : List ℕ). GoesOnAs A kind (length all) flags within ((rest ++ piece) ++ more) (outcome (blob_at {A = A} all))) (sym (append_assoc bytes piece more))
@@ -314,26 +314,26 @@ module _ (A : Type 0) where
 
   -- ---- inside a change
 
-  moves_as : (kind : Kind) (total : ℕ) (flags : List Bool) (within within' : Option (Within A)) (rest after : List ℕ) (answer : Option BlobFault)
+  moves_as : (kind : Kind) (total : ℕ) (flags : List Bool) (within within' : Option (ChangeCursor A)) (rest after : List ℕ) (answer : Option BlobFault)
       → tail_at within total flags rest ≡ tail_at within' total flags after → length after ≤ length rest → GoesOnAs A kind total flags within rest answer → GoesOnAs A kind total flags within' after answer
   moves_as kinds.Changes total flags within within' rest after answer same shorter goes_on = moves change_at group_at 0x54 total flags rest after (tail_at within total flags rest) (tail_at within' total flags after) answer same shorter goes_on
   moves_as kinds.Patches total flags within within' rest after answer same shorter goes_on = moves patch_at patch_group_at 0x50 total flags rest after (tail_at within total flags rest) (tail_at within' total flags after) answer same shorter goes_on
 
-  fails_as : (kind : Kind) (total : ℕ) (flags : List Bool) (within : Option (Within A)) (rest : List ℕ) (f : BlobFault) (answer : Option BlobFault)
+  fails_as : (kind : Kind) (total : ℕ) (flags : List Bool) (within : Option (ChangeCursor A)) (rest : List ℕ) (f : BlobFault) (answer : Option BlobFault)
       → tail_at within total flags rest ≡ Err f → GoesOnAs A kind total flags within rest answer → answer ≡ Some f
   fails_as kinds.Changes total flags within rest f answer failed goes_on = fails change_at group_at 0x54 total flags rest (tail_at within total flags rest) f answer failed goes_on
   fails_as kinds.Patches total flags within rest f answer failed goes_on = fails patch_at patch_group_at 0x50 total flags rest (tail_at within total flags rest) f answer failed goes_on
 
-  enters_as : (kind : Kind) (total : ℕ) (flags : List Bool) (within : Within A) (op mark : ℕ) (bytes : List ℕ) (answer : Option BlobFault) → is_operation op ≡ true → IsEntered A kind op within
-      → GoesOnAs A kind total flags None (op ∷ mark ∷ bytes) answer → GoesOnAs A kind total flags (Some within) bytes answer
-  enters_as kinds.Changes total flags within op mark bytes answer operation entered goes_on =
-      moves change_at group_at 0x54 total flags (mark ∷ bytes) bytes (past_at A kinds.Changes total flags op (mark ∷ bytes)) (tail_at (Some within) total flags bytes) answer (sym (entered total flags mark bytes)) (omega arith)
-      (enters change_at group_at 0x54 total flags op (mark ∷ bytes) answer operation goes_on)
-  enters_as kinds.Patches total flags within op mark bytes answer operation entered goes_on =
-      moves patch_at patch_group_at 0x50 total flags (mark ∷ bytes) bytes (past_at A kinds.Patches total flags op (mark ∷ bytes)) (tail_at (Some within) total flags bytes) answer (sym (entered total flags mark bytes)) (omega arith)
-      (enters patch_at patch_group_at 0x50 total flags op (mark ∷ bytes) answer operation goes_on)
+  enters_as : (kind : Kind) (total : ℕ) (flags : List Bool) (within : ChangeCursor A) (op flag_byte : ℕ) (bytes : List ℕ) (answer : Option BlobFault) → is_operation op ≡ true → IsEntered A kind op within
+      → GoesOnAs A kind total flags None (op ∷ flag_byte ∷ bytes) answer → GoesOnAs A kind total flags (Some within) bytes answer
+  enters_as kinds.Changes total flags within op flag_byte bytes answer operation entered goes_on =
+      moves change_at group_at 0x54 total flags (flag_byte ∷ bytes) bytes (past_at A kinds.Changes total flags op (flag_byte ∷ bytes)) (tail_at (Some within) total flags bytes) answer (sym (entered total flags flag_byte bytes)) (omega arith)
+      (enters change_at group_at 0x54 total flags op (flag_byte ∷ bytes) answer operation goes_on)
+  enters_as kinds.Patches total flags within op flag_byte bytes answer operation entered goes_on =
+      moves patch_at patch_group_at 0x50 total flags (flag_byte ∷ bytes) bytes (past_at A kinds.Patches total flags op (flag_byte ∷ bytes)) (tail_at (Some within) total flags bytes) answer (sym (entered total flags flag_byte bytes)) (omega arith)
+      (enters patch_at patch_group_at 0x50 total flags op (flag_byte ∷ bytes) answer operation goes_on)
 
-  pub leads_move : (bytes : List ℕ) (kind : Kind) (flags : List Bool) (within within' : Option (Within A)) (rest after : List ℕ)
+  pub leads_move : (bytes : List ℕ) (kind : Kind) (flags : List Bool) (within within' : Option (ChangeCursor A)) (rest after : List ℕ)
       → ((more : List ℕ) → tail_at within (length bytes + length more) flags (rest ++ more) ≡ tail_at within' (length bytes + length more) flags (after ++ more)) → length after ≤ length rest
       → Leads A bytes kind flags within rest → Leads A bytes kind flags within' after
   unfolding Leads
@@ -342,15 +342,15 @@ module _ (A : Type 0) where
       (subst (λ (total : ℕ). tail_at within total flags (rest ++ more) ≡ tail_at within' total flags (after ++ more)) (sym (length-append bytes more)) (same more))
       (omega (arith, length-append rest more, length-append after more)) (leads more)
 
-  pub leads_fault : (bytes : List ℕ) (kind : Kind) (flags : List Bool) (within : Option (Within A)) (rest : List ℕ) (f : BlobFault) → tail_at within (length bytes) flags rest ≡ Err f
+  pub leads_fault : (bytes : List ℕ) (kind : Kind) (flags : List Bool) (within : Option (ChangeCursor A)) (rest : List ℕ) (f : BlobFault) → tail_at within (length bytes) flags rest ≡ Err f
       → Leads A bytes kind flags within rest → outcome (blob_at {A = A} bytes) ≡ Some f
   leads_fault bytes kind flags within rest f failed leads = fails_as kind (length bytes) flags within rest f (outcome (blob_at {A = A} bytes)) failed (now bytes kind flags within rest leads)
 
-  pub leads_into : (bytes : List ℕ) (kind : Kind) (flags : List Bool) (within : Within A) (op mark : ℕ) (inside : List ℕ) → is_operation op ≡ true → IsEntered A kind op within
-      → Leads A bytes kind flags None (op ∷ mark ∷ inside) → Leads A bytes kind flags (Some within) inside
+  pub leads_into : (bytes : List ℕ) (kind : Kind) (flags : List Bool) (within : ChangeCursor A) (op flag_byte : ℕ) (inside : List ℕ) → is_operation op ≡ true → IsEntered A kind op within
+      → Leads A bytes kind flags None (op ∷ flag_byte ∷ inside) → Leads A bytes kind flags (Some within) inside
   unfolding Leads
-  leads_into bytes kind flags within op mark inside operation entered leads = λ more.
-      enters_as kind (length (bytes ++ more)) flags within op mark (inside ++ more) (outcome (blob_at {A = A} (bytes ++ more))) operation entered (leads more)
+  leads_into bytes kind flags within op flag_byte inside operation entered leads = λ more.
+      enters_as kind (length (bytes ++ more)) flags within op flag_byte (inside ++ more) (outcome (blob_at {A = A} (bytes ++ more))) operation entered (leads more)
 
   -- ---- a fault that lasts
 

@@ -3,11 +3,11 @@ use Rattle.std.proofs.Common.{◌≡◌, ℕ, zero, suc, ◌+◌, ◌<◌, ◌�
 use Rattle.std.specs.Prelude.{Option}
 use Rattle.std.proofs.lemmas.List.{append-nil, drop_all}
 use Rattle.cap_value.specs.declared.value.Value.{Value}
-use Rattle.cap_changes.specs.Record.{RecordFields}
-use Rattle.cap_changes.specs.declared.demand.Demand.{Demand}
+use Rattle.cap_changes.specs.FieldRecord.{RecordFields}
+use Rattle.cap_changes.specs.declared.field_requirement.FieldRequirement.{FieldRequirement}
 use Rattle.cap_codec.specs.declared.fault.BlobFault.{BlobFault}
-use Rattle.cap_changes.specs.declared.rule.Rule.{Rule}
-use Rattle.cap_changes.specs.Demands.{demand_of, demands, new_demand, new_demands}
+use Rattle.cap_changes.specs.declared.record_kind.RecordKind.{RecordKind}
+use Rattle.cap_changes.specs.Requirements.{requirement_of, requirements, new_requirement, new_requirements}
 use Rattle.cap_codec.specs.Reading.{◌>>=◌, place}
 use Rattle.cap_codec.specs.BlobReading.{is_operation, wrong_kind, changes_at, groups_at}
 use Rattle.cap_codec.specs.FieldReading.{field_at}
@@ -21,39 +21,39 @@ regroup : {X : Type 0} (front : List X) (x : X) (read : Result (List X × List �
 regroup front x (Ok y) = ap (λ xs. Ok (xs, y.1)) (sym (append_assoc front (x ∷ []) y.0))
 regroup front x (Err f) = refl
 
-pub field_goes_on : {A : Type 0} (front : RecordFields A) (total : ℕ) (demand : Demand) (demands others : List Demand) (bytes after : List ℕ) (field : Option (Value A)) (all : Result (RecordFields A × List ℕ) BlobFault)
-    → demands ≡ demand ∷ others → field_at total demand bytes ≡ Ok (field, after) → with_front front (record_at total demands bytes) ≡ all
+pub field_goes_on : {A : Type 0} (front : RecordFields A) (total : ℕ) (requirement : FieldRequirement) (requirements others : List FieldRequirement) (bytes after : List ℕ) (field : Option (Value A)) (all : Result (RecordFields A × List ℕ) BlobFault)
+    → requirements ≡ requirement ∷ others → field_at total requirement bytes ≡ Ok (field, after) → with_front front (record_at total requirements bytes) ≡ all
     → with_front (front ++ field ∷ []) (record_at total others after) ≡ all
 unfolding record_at
-field_goes_on front total demand demands others bytes after field all parts read so_far =
+field_goes_on front total requirement requirements others bytes after field all parts read so_far =
     sym (rw (parts, read) (regroup front field (record_at total others after))) ∙ so_far
 
-pub field_fails : {A : Type 0} (front : RecordFields A) (total : ℕ) (demand : Demand) (demands others : List Demand) (bytes : List ℕ) (f : BlobFault) (all : Result (RecordFields A × List ℕ) BlobFault)
-    → demands ≡ demand ∷ others → field_at {A = A} total demand bytes ≡ Err f → with_front front (record_at total demands bytes) ≡ all
+pub field_fails : {A : Type 0} (front : RecordFields A) (total : ℕ) (requirement : FieldRequirement) (requirements others : List FieldRequirement) (bytes : List ℕ) (f : BlobFault) (all : Result (RecordFields A × List ℕ) BlobFault)
+    → requirements ≡ requirement ∷ others → field_at {A = A} total requirement bytes ≡ Err f → with_front front (record_at total requirements bytes) ≡ all
     → all ≡ Err f
 unfolding record_at
-field_fails {A = A} front total demand demands others bytes f all parts read so_far =
-    let one : with_front {X = Option (Value A)} front (record_at total demands bytes) ≡ Err f = rw (parts, read) refl in sym so_far ∙ one
+field_fails {A = A} front total requirement requirements others bytes f all parts read so_far =
+    let one : with_front {X = Option (Value A)} front (record_at total requirements bytes) ≡ Err f = rw (parts, read) refl in sym so_far ∙ one
 
-pub record_is_done : {A : Type 0} (front : RecordFields A) (total : ℕ) (demands : List Demand) (bytes : List ℕ) (all : Result (RecordFields A × List ℕ) BlobFault)
-    → demands ≡ [] → with_front front (record_at total demands bytes) ≡ all → all ≡ Ok (front, bytes)
+pub record_is_done : {A : Type 0} (front : RecordFields A) (total : ℕ) (requirements : List FieldRequirement) (bytes : List ℕ) (all : Result (RecordFields A × List ℕ) BlobFault)
+    → requirements ≡ [] → with_front front (record_at total requirements bytes) ≡ all → all ≡ Ok (front, bytes)
 unfolding record_at
-record_is_done {A = A} front total demands bytes all none so_far =
-    let one : with_front {X = Option (Value A)} front (record_at total demands bytes) ≡ Ok (front, bytes) = rw none (ap (λ (xs : RecordFields A). Ok (xs, bytes)) (append-nil front)) in sym so_far ∙ one
+record_is_done {A = A} front total requirements bytes all none so_far =
+    let one : with_front {X = Option (Value A)} front (record_at total requirements bytes) ≡ Ok (front, bytes) = rw none (ap (λ (xs : RecordFields A). Ok (xs, bytes)) (append-nil front)) in sym so_far ∙ one
 
-pub demands-cons : (rule : Rule) (flags : List Bool) (i : ℕ) (demand : Demand) → i < length flags → demand ≡ demand_of rule (get_or flags i false)
-    → demands rule (drop i flags) ≡ demand ∷ demands rule (drop (i + 1) flags)
-demands-cons rule flags i demand lt e = rw (e, add-one, drop-cons flags i false) refl
+pub requirements-cons : (record_kind : RecordKind) (flags : List Bool) (i : ℕ) (requirement : FieldRequirement) → i < length flags → requirement ≡ requirement_of record_kind (get_or flags i false)
+    → requirements record_kind (drop i flags) ≡ requirement ∷ requirements record_kind (drop (i + 1) flags)
+requirements-cons record_kind flags i requirement lt e = rw (e, add-one, drop-cons flags i false) refl
 
-pub demands-past : (rule : Rule) (flags : List Bool) (i : ℕ) → length flags ≤ i → demands rule (drop i flags) ≡ []
-demands-past rule flags i le = rw (drop_all i flags le) refl
+pub requirements-past : (record_kind : RecordKind) (flags : List Bool) (i : ℕ) → length flags ≤ i → requirements record_kind (drop i flags) ≡ []
+requirements-past record_kind flags i le = rw (drop_all i flags le) refl
 
-pub new_demands-cons : {A : Type 0} (flags : List Bool) (old : RecordFields A) (i : ℕ) (demand : Demand) (field : Option (Value A)) → i < length flags → i < length old → field ≡ get_or old i field → demand ≡ new_demand (get_or flags i false, field)
-    → new_demands (drop i flags) (drop i old) ≡ demand ∷ new_demands (drop (i + 1) flags) (drop (i + 1) old)
-new_demands-cons flags old i demand field lt le is e = rw (e, add-one, drop-cons flags i false, drop-cons old i field, ← is) refl
+pub new_requirements-cons : {A : Type 0} (flags : List Bool) (old : RecordFields A) (i : ℕ) (requirement : FieldRequirement) (field : Option (Value A)) → i < length flags → i < length old → field ≡ get_or old i field → requirement ≡ new_requirement (get_or flags i false, field)
+    → new_requirements (drop i flags) (drop i old) ≡ requirement ∷ new_requirements (drop (i + 1) flags) (drop (i + 1) old)
+new_requirements-cons flags old i requirement field lt le is e = rw (e, add-one, drop-cons flags i false, drop-cons old i field, ← is) refl
 
-pub new_demands-past : {A : Type 0} (flags : List Bool) (old : RecordFields A) (i : ℕ) → length flags ≤ i → new_demands (drop i flags) (drop i old) ≡ []
-new_demands-past flags old i le = rw (drop_all i flags le) refl
+pub new_requirements-past : {A : Type 0} (flags : List Bool) (old : RecordFields A) (i : ℕ) → length flags ≤ i → new_requirements (drop i flags) (drop i old) ≡ []
+new_requirements-past flags old i le = rw (drop_all i flags le) refl
 
 -- ---- the changes of a group, of which at most `most` are left to read
 

@@ -10,14 +10,13 @@ use Rattle.std.proofs.lemmas.Nat.{be_bytes_8}
 use Rattle.std.proofs.lemmas.Str.{IsUtf8-from_is_utf8}
 use Rattle.byteorder.specs.Endian.{big_bytes}
 use borrow.Author.Gap.{read_sfits}
-use Rattle.cap_value.specs.declared.text.TheConstants.{BYTES_MAX}
 use Rattle.cap_value.specs.declared.value.Value.{Value}
 use Rattle.cap_value.specs.declared.value.Value.TheVariants.{Null, Int, Text, Blob}
 use Rattle.cap_value.specs.Bytes.{AreBytes}
 use Rattle.cap_value.specs.Value.{IsValue}
-use Rattle.cap_changes.specs.Record.{RecordFields}
-use Rattle.cap_changes.specs.declared.demand.Demand.{Demand}
-use Rattle.cap_changes.specs.declared.demand.Demand.TheVariants as asks
+use Rattle.cap_changes.specs.FieldRecord.{RecordFields}
+use Rattle.cap_changes.specs.declared.field_requirement.FieldRequirement.{FieldRequirement}
+use Rattle.cap_changes.specs.declared.field_requirement.FieldRequirement.TheVariants as required
 use Rattle.cap_codec.specs.Reading.{◌>>=◌, place, byte_at, bytes_at, varint_from, varint_at}
 use Rattle.cap_codec.specs.Varint.{varint_bytes}
 use Rattle.cap_codec.specs.Field.{number_bytes, sized_bytes, field_bytes}
@@ -101,7 +100,7 @@ digits_5 n f d c a b is some low lt lt' lt'' last_low =
     let last : n % 128 ≡ b = omega arith in
     rw (ne_eqb (n / 268435456) 0 (λ e. omega arith), ne_eqb (n / 2097152) 0 (λ e. omega arith), ne_eqb (n / 16384) 0 (λ e. omega arith), ne_eqb (n / 128) 0 (λ e. omega arith), first, second, third, fourth, last) refl
 
--- a number and what stands behind it
+-- a number and the bytes behind it
 abbrev pub IsNumber : List ℕ → ℕ × List ℕ → Type 0
 IsNumber bytes x = (x.0 < 2 ^ 35) × (bytes ≡ varint_bytes x.0 ++ x.1)
 
@@ -221,10 +220,10 @@ unfolding sized_at
 sized_spelled total at bytes x low e =
     let count = bind_ok (varint_at total bytes) _ x e in
     let number = varint_spelled total bytes count.0 low count.1 in
-    let small = guard_ok (nat_lt BYTES_MAX count.0.0) _ _ x count.2 in
+    let small = guard_ok (nat_lt 1000000000 count.0.0) _ _ x count.2 in
     let parts = bytes_spelled total count.0.0 count.0.1 x small.1 in
     let low' = low_front x.0 x.1 (subst AreLow parts.0 (low_behind bytes (varint_bytes count.0.0) count.0.1 number.1 low)) in
-    let limit : count.0.0 ≤ 1000000000 = ltb-false BYTES_MAX count.0.0 small.0 in (
+    let limit : count.0.0 ≤ 1000000000 = ltb-false 1000000000 count.0.0 small.0 in (
       (are_bytes x.0 low', subst (λ (k : ℕ). k ≤ 1000000000) (sym parts.1) limit),
       number.1 ∙ ap (λ (r : List ℕ). varint_bytes count.0.0 ++ r) parts.0 ∙ sym (append_assoc (varint_bytes count.0.0) x.0 x.1) ∙ ap (λ (k : ℕ). (varint_bytes k ++ x.0) ++ x.1) (sym parts.1),
     )
@@ -272,41 +271,41 @@ module _ {A : Type 0} where
         ]
       ]
 
-  typed_spelled : (total at : ℕ) (demand : Demand) (kind : ℕ) (bytes : List ℕ) (x : Option (Value A) × List ℕ) → AreLow bytes → typed_at total at demand kind bytes ≡ Ok x → IsField (kind ∷ bytes) x
-  typed_spelled total at demand kind bytes x low e =
+  typed_spelled : (total at : ℕ) (requirement : FieldRequirement) (kind : ℕ) (bytes : List ℕ) (x : Option (Value A) × List ℕ) → AreLow bytes → typed_at total at requirement kind bytes ≡ Ok x → IsField (kind ∷ bytes) x
+  typed_spelled total at requirement kind bytes x low e =
       let a = guard_ok (kind == 2) _ _ x e in
       let b = guard_ok (nat_lt 5 kind) _ _ x a.1 in
-      let c = guard_ok (not (allows demand kind)) _ _ x b.1 in
+      let c = guard_ok (not (allows requirement kind)) _ _ x b.1 in
       content_spelled total at kind bytes x a.0 b.0 low c.1
 
-  present_spelled : (total : ℕ) (demand : Demand) (bytes : List ℕ) (x : Option (Value A) × List ℕ) → AreLow bytes
-      → (byte_at total bytes >>= (λ kind. typed_at total (place total bytes) demand kind.0 kind.1)) ≡ Ok x → IsField bytes x
-  present_spelled total demand [] x low e = absurd cc
-  present_spelled total demand (kind ∷ bytes) x low e = typed_spelled total (place total (kind ∷ bytes)) demand kind bytes x low.1 e
+  present_spelled : (total : ℕ) (requirement : FieldRequirement) (bytes : List ℕ) (x : Option (Value A) × List ℕ) → AreLow bytes
+      → (byte_at total bytes >>= (λ kind. typed_at total (place total bytes) requirement kind.0 kind.1)) ≡ Ok x → IsField bytes x
+  present_spelled total requirement [] x low e = absurd cc
+  present_spelled total requirement (kind ∷ bytes) x low e = typed_spelled total (place total (kind ∷ bytes)) requirement kind bytes x low.1 e
 
-  abbrev pub IsAskedField : Demand → List ℕ → Option (Value A) × List ℕ → Type 0
-  IsAskedField demand bytes x = (bytes ≡ asked_bytes demand x.0 ++ x.1) × IfSome x.0 IsValue
+  abbrev pub IsAskedField : FieldRequirement → List ℕ → Option (Value A) × List ℕ → Type 0
+  IsAskedField requirement bytes x = (bytes ≡ asked_bytes requirement x.0 ++ x.1) × IfSome x.0 IsValue
 
-  pub field_spelled : (total : ℕ) (demand : Demand) (bytes : List ℕ) (x : Option (Value A) × List ℕ) → AreLow bytes → field_at total demand bytes ≡ Ok x → IsAskedField demand bytes x
+  pub field_spelled : (total : ℕ) (requirement : FieldRequirement) (bytes : List ℕ) (x : Option (Value A) × List ℕ) → AreLow bytes → field_at total requirement bytes ≡ Ok x → IsAskedField requirement bytes x
   unfolding field_at
-  field_spelled total asks.Omitted bytes x low e = subst (IsAskedField asks.Omitted bytes) (ok_is (None, bytes) x e) (refl, tt)
-  field_spelled total asks.Key bytes x low e = present_spelled total asks.Key bytes x low e
-  field_spelled total asks.Defined bytes x low e = present_spelled total asks.Defined bytes x low e
-  field_spelled total asks.Any bytes x low e = present_spelled total asks.Any bytes x low e
-  field_spelled total asks.Undefined bytes x low e = present_spelled total asks.Undefined bytes x low e
+  field_spelled total required.Omitted bytes x low e = subst (IsAskedField required.Omitted bytes) (ok_is (None, bytes) x e) (refl, tt)
+  field_spelled total required.Key bytes x low e = present_spelled total required.Key bytes x low e
+  field_spelled total required.Defined bytes x low e = present_spelled total required.Defined bytes x low e
+  field_spelled total required.Any bytes x low e = present_spelled total required.Any bytes x low e
+  field_spelled total required.Undefined bytes x low e = present_spelled total required.Undefined bytes x low e
 
   -- ---- records
 
-  abbrev pub IsAskedRecord : List Demand → List ℕ → RecordFields A × List ℕ → Type 0
-  IsAskedRecord demands bytes x = (bytes ≡ asked_record demands x.0 ++ x.1) × AllByRecursion (λ field. IfSome field IsValue) x.0
+  abbrev pub IsAskedRecord : List FieldRequirement → List ℕ → RecordFields A × List ℕ → Type 0
+  IsAskedRecord requirements bytes x = (bytes ≡ asked_record requirements x.0 ++ x.1) × AllByRecursion (λ field. IfSome field IsValue) x.0
 
-  pub record_spelled : (total : ℕ) (demands : List Demand) (bytes : List ℕ) (x : RecordFields A × List ℕ) → AreLow bytes → record_at total demands bytes ≡ Ok x → IsAskedRecord demands bytes x
+  pub record_spelled : (total : ℕ) (requirements : List FieldRequirement) (bytes : List ℕ) (x : RecordFields A × List ℕ) → AreLow bytes → record_at total requirements bytes ≡ Ok x → IsAskedRecord requirements bytes x
   unfolding record_at
   record_spelled total [] bytes x low e = subst (IsAskedRecord [] bytes) (ok_is ([], bytes) x e) (refl, tt)
-  record_spelled total (demand ∷ demands) bytes x low e =
-      let b = bind_ok (field_at total demand bytes) (λ field. record_at total demands field.1 >>= (λ others. Ok (field.0 ∷ others.0, others.1))) x e in
-      let c = bind_ok (record_at total demands b.0.1) (λ others. Ok (b.0.0 ∷ others.0, others.1)) x b.2 in
-      let field = field_spelled total demand bytes b.0 low b.1 in
-      let others = record_spelled total demands b.0.1 c.0 (low_behind bytes (asked_bytes demand b.0.0) b.0.1 field.0 low) c.1 in
-      subst (IsAskedRecord (demand ∷ demands) bytes) (ok_is (b.0.0 ∷ c.0.0, c.0.1) x c.2)
-      (field.0 ∙ ap (λ (r : List ℕ). asked_bytes demand b.0.0 ++ r) others.0 ∙ sym (append_assoc (asked_bytes demand b.0.0) (asked_record demands c.0.0) c.0.1), (field.1, others.1))
+  record_spelled total (requirement ∷ requirements) bytes x low e =
+      let b = bind_ok (field_at total requirement bytes) (λ field. record_at total requirements field.1 >>= (λ others. Ok (field.0 ∷ others.0, others.1))) x e in
+      let c = bind_ok (record_at total requirements b.0.1) (λ others. Ok (b.0.0 ∷ others.0, others.1)) x b.2 in
+      let field = field_spelled total requirement bytes b.0 low b.1 in
+      let others = record_spelled total requirements b.0.1 c.0 (low_behind bytes (asked_bytes requirement b.0.0) b.0.1 field.0 low) c.1 in
+      subst (IsAskedRecord (requirement ∷ requirements) bytes) (ok_is (b.0.0 ∷ c.0.0, c.0.1) x c.2)
+      (field.0 ∙ ap (λ (r : List ℕ). asked_bytes requirement b.0.0 ++ r) others.0 ∙ sym (append_assoc (asked_bytes requirement b.0.0) (asked_record requirements c.0.0) c.0.1), (field.1, others.1))

@@ -10,20 +10,19 @@ use Rattle.cap_value.specs.declared.memory.Fault.{Fault}
 use Rattle.cap_value.specs.Memory.{AnswersUnlessMemory}
 use Rattle.cap_value.specs.Value.{IsValue}
 use Rattle.cap_value.specs.Bytes.{AreBytes, is_name}
-use Rattle.cap_row.specs.declared.schema.TheConstants.{COLUMNS_MAX}
 use Rattle.cap_changes.specs.Group.{TableChanges}
 use Rattle.cap_changes.specs.PatchGroup.{TablePatches}
-use Rattle.cap_changes.specs.Record.{RecordFields}
-use Rattle.cap_changes.specs.declared.change.Change.{Change}
-use Rattle.cap_changes.specs.declared.change.Change.TheVariants as changed
+use Rattle.cap_changes.specs.FieldRecord.{RecordFields}
+use Rattle.cap_changes.specs.declared.row_change.RowChange.{RowChange}
+use Rattle.cap_changes.specs.declared.row_change.RowChange.TheVariants as changed
 use Rattle.cap_changes.specs.declared.patch.Patch.{Patch}
 use Rattle.cap_changes.specs.declared.patch.Patch.TheVariants as patched
-use Rattle.cap_changes.specs.declared.demand.Demand.{Demand}
+use Rattle.cap_changes.specs.declared.field_requirement.FieldRequirement.{FieldRequirement}
 use Rattle.cap_codec.specs.declared.fault.BlobFault.{BlobFault}
 use Rattle.cap_codec.specs.declared.read.Contents.{Contents}
 use Rattle.cap_codec.specs.declared.read.Contents.TheVariants.{Changes, Patches}
-use Rattle.cap_changes.specs.declared.rule.Rule.TheVariants as rules
-use Rattle.cap_changes.specs.Demands.{demands, new_demands, meet}
+use Rattle.cap_changes.specs.declared.record_kind.RecordKind.TheVariants as record_kinds
+use Rattle.cap_changes.specs.Requirements.{requirements, new_requirements, satisfy}
 use Rattle.cap_codec.specs.Field.{record_bytes, key_bytes}
 use Rattle.cap_codec.specs.HeaderReading.{Header, is_zero, is_set, count_at, flags_at, named_at, name_at, header_at}
 use Rattle.cap_codec.specs.Pieces.{lasting}
@@ -46,27 +45,27 @@ module _ {A : Type 0} where
   abbrev IsRecord : (RecordFields A → List ℕ) → List ℕ → RecordFields A × List ℕ → Type 0
   IsRecord written bytes x = AreValues x.0 × (bytes ≡ written x.0 ++ x.1)
 
-  of_record : (written : RecordFields A → List ℕ) (total : ℕ) (demands : List Demand) (bytes : List ℕ) (x : RecordFields A × List ℕ) → AreLow bytes → record_at total demands bytes ≡ Ok x
-      → asked_record demands x.0 ≡ written x.0 → IsRecord written bytes x
-  of_record written total demands bytes x low e same =
-      let asked = record_spelled total demands bytes x low e in
+  of_record : (written : RecordFields A → List ℕ) (total : ℕ) (requirements : List FieldRequirement) (bytes : List ℕ) (x : RecordFields A × List ℕ) → AreLow bytes → record_at total requirements bytes ≡ Ok x
+      → asked_record requirements x.0 ≡ written x.0 → IsRecord written bytes x
+  of_record written total requirements bytes x low e same =
+      let asked = record_spelled total requirements bytes x low e in
       (All-from_recursion (λ field. IfSome field IsValue) x.0 asked.1, asked.0 ∙ ap (λ (front : List ℕ). front ++ x.1) same)
 
-  full_spelled : (total : ℕ) (flags : List Bool) (bytes : List ℕ) (x : RecordFields A × List ℕ) → AreLow bytes → record_at total (demands rules.Full flags) bytes ≡ Ok x → IsRecord record_bytes bytes x
+  full_spelled : (total : ℕ) (flags : List Bool) (bytes : List ℕ) (x : RecordFields A × List ℕ) → AreLow bytes → record_at total (requirements record_kinds.Full flags) bytes ≡ Ok x → IsRecord record_bytes bytes x
   full_spelled total flags bytes x low e =
-      of_record record_bytes total (demands rules.Full flags) bytes x low e (all_asked rules.Full of_full flags x.0 (record_meets total (demands rules.Full flags) bytes x e))
+      of_record record_bytes total (requirements record_kinds.Full flags) bytes x low e (all_asked record_kinds.Full of_full flags x.0 (record_meets total (requirements record_kinds.Full flags) bytes x e))
 
-  keyed_spelled : (total : ℕ) (flags : List Bool) (bytes : List ℕ) (x : RecordFields A × List ℕ) → AreLow bytes → record_at total (demands rules.Keyed flags) bytes ≡ Ok x → IsRecord record_bytes bytes x
+  keyed_spelled : (total : ℕ) (flags : List Bool) (bytes : List ℕ) (x : RecordFields A × List ℕ) → AreLow bytes → record_at total (requirements record_kinds.Keyed flags) bytes ≡ Ok x → IsRecord record_bytes bytes x
   keyed_spelled total flags bytes x low e =
-      of_record record_bytes total (demands rules.Keyed flags) bytes x low e (all_asked rules.Keyed of_keyed flags x.0 (record_meets total (demands rules.Keyed flags) bytes x e))
+      of_record record_bytes total (requirements record_kinds.Keyed flags) bytes x low e (all_asked record_kinds.Keyed of_keyed flags x.0 (record_meets total (requirements record_kinds.Keyed flags) bytes x e))
 
-  key_spelled : (total : ℕ) (flags : List Bool) (bytes : List ℕ) (x : RecordFields A × List ℕ) → AreLow bytes → record_at total (demands rules.KeyAlone flags) bytes ≡ Ok x → IsRecord key_bytes bytes x
+  key_spelled : (total : ℕ) (flags : List Bool) (bytes : List ℕ) (x : RecordFields A × List ℕ) → AreLow bytes → record_at total (requirements record_kinds.KeyAlone flags) bytes ≡ Ok x → IsRecord key_bytes bytes x
   key_spelled total flags bytes x low e =
-      of_record key_bytes total (demands rules.KeyAlone flags) bytes x low e (keys_asked flags x.0 (record_meets total (demands rules.KeyAlone flags) bytes x e))
+      of_record key_bytes total (requirements record_kinds.KeyAlone flags) bytes x low e (keys_asked flags x.0 (record_meets total (requirements record_kinds.KeyAlone flags) bytes x e))
 
-  new_spelled : (total : ℕ) (flags : List Bool) (old : RecordFields A) (bytes : List ℕ) (x : RecordFields A × List ℕ) → AreLow bytes → record_at total (new_demands flags old) bytes ≡ Ok x → IsRecord record_bytes bytes x
+  new_spelled : (total : ℕ) (flags : List Bool) (old : RecordFields A) (bytes : List ℕ) (x : RecordFields A × List ℕ) → AreLow bytes → record_at total (new_requirements flags old) bytes ≡ Ok x → IsRecord record_bytes bytes x
   new_spelled total flags old bytes x low e =
-      of_record record_bytes total (new_demands flags old) bytes x low e (new_asked flags old x.0 (record_meets total (new_demands flags old) bytes x e))
+      of_record record_bytes total (new_requirements flags old) bytes x low e (new_asked flags old x.0 (record_meets total (new_requirements flags old) bytes x e))
 
 -- ---- changes
 
@@ -80,40 +79,40 @@ abbrev Begins : {X : Type 0} → (X → List ℕ → Type 0) → ℕ → List �
 Begins one op bytes x = (front : List ℕ) × (bytes ≡ front ++ x.1) × one x.0 (op ∷ front)
 
 module _ {A : Type 0} where
-  abbrev one_record : (RecordFields A → Change A) → RecordFields A × List ℕ → Result (Change A × List ℕ) BlobFault
+  abbrev one_record : (RecordFields A → RowChange A) → RecordFields A × List ℕ → Result (RowChange A × List ℕ) BlobFault
   one_record make x = Ok (make x.0, x.1)
 
-  change_spelled : (total : ℕ) (flags : List Bool) (op : ℕ) (bytes : List ℕ) (x : Change A × List ℕ) → AreLow bytes → is_operation op ≡ true → change_at total flags op bytes ≡ Ok x → Begins (SpellsChange flags) op bytes x
+  change_spelled : (total : ℕ) (flags : List Bool) (op : ℕ) (bytes : List ℕ) (x : RowChange A × List ℕ) → AreLow bytes → is_operation op ≡ true → change_at total flags op bytes ≡ Ok x → Begins (SpellsChange flags) op bytes x
   unfolding change_at
   change_spelled total flags op [] x low operation e = absurd cc
-  change_spelled total flags op (mark ∷ bytes) x low operation e = elim (chosen (op == 0x12) _ _ _ e) [
+  change_spelled total flags op (flag_byte ∷ bytes) x low operation e = elim (chosen (op == 0x12) _ _ _ e) [
     | inl (insert, h) ↦
-        let new = bind_ok (record_at total (demands rules.Full flags) bytes) (λ new. Ok (changed.Insert (is_set mark) new.0, new.1)) x h in
+        let new = bind_ok (record_at total (requirements record_kinds.Full flags) bytes) (λ new. Ok (changed.Insert (is_set flag_byte) new.0, new.1)) x h in
         let is = full_spelled total flags bytes new.0 low.1 new.1 in
-        subst (Begins (SpellsChange flags) op (mark ∷ bytes)) (ok_is (changed.Insert (is_set mark) new.0.0, new.0.1) x new.2) (
-          mark ∷ record_bytes new.0.0,
-          ap (λ (b : List ℕ). mark ∷ b) is.1,
-          (record_meets total (demands rules.Full flags) bytes new.0 new.1, is.0, (mark, refl, ap (λ (k : ℕ). k ∷ mark ∷ record_bytes new.0.0) (eqb-true op 0x12 insert))),
+        subst (Begins (SpellsChange flags) op (flag_byte ∷ bytes)) (ok_is (changed.Insert (is_set flag_byte) new.0.0, new.0.1) x new.2) (
+          flag_byte ∷ record_bytes new.0.0,
+          ap (λ (b : List ℕ). flag_byte ∷ b) is.1,
+          (record_meets total (requirements record_kinds.Full flags) bytes new.0 new.1, is.0, (flag_byte, refl, ap (λ (k : ℕ). k ∷ flag_byte ∷ record_bytes new.0.0) (eqb-true op 0x12 insert))),
         )
     | inr (no_insert, h0) ↦ elim (chosen (op == 0x17) _ _ _ h0) [
       | inl (update, h) ↦
-          let old = bind_ok (record_at total (demands rules.Keyed flags) bytes) (λ old. record_at total (new_demands flags old.0) old.1 >>= (λ new. Ok (changed.Update (is_set mark) old.0 new.0, new.1))) x h in
-          let new = bind_ok (record_at total (new_demands flags old.0.0) old.0.1) (λ new. Ok (changed.Update (is_set mark) old.0.0 new.0, new.1)) x old.2 in
+          let old = bind_ok (record_at total (requirements record_kinds.Keyed flags) bytes) (λ old. record_at total (new_requirements flags old.0) old.1 >>= (λ new. Ok (changed.Update (is_set flag_byte) old.0 new.0, new.1))) x h in
+          let new = bind_ok (record_at total (new_requirements flags old.0.0) old.0.1) (λ new. Ok (changed.Update (is_set flag_byte) old.0.0 new.0, new.1)) x old.2 in
           let first = keyed_spelled total flags bytes old.0 low.1 old.1 in
           let second = new_spelled total flags old.0.0 old.0.1 new.0 (low_behind bytes (record_bytes old.0.0) old.0.1 first.1 low.1) new.1 in
-          subst (Begins (SpellsChange flags) op (mark ∷ bytes)) (ok_is (changed.Update (is_set mark) old.0.0 new.0.0, new.0.1) x new.2) (
-            mark ∷ (record_bytes old.0.0 ++ record_bytes new.0.0),
-            ap (λ (b : List ℕ). mark ∷ b) (first.1 ∙ ap (λ (b : List ℕ). record_bytes old.0.0 ++ b) second.1 ∙ sym (append_assoc (record_bytes old.0.0) (record_bytes new.0.0) new.0.1)),
-            (and_from (meet (demands rules.Keyed flags) old.0.0) (meet (new_demands flags old.0.0) new.0.0) (record_meets total (demands rules.Keyed flags) bytes old.0 old.1) (record_meets total (new_demands flags old.0.0) old.0.1 new.0 new.1), (first.0, second.0), (mark, refl, ap (λ (k : ℕ). k ∷ mark ∷ (record_bytes old.0.0 ++ record_bytes new.0.0)) (eqb-true op 0x17 update))),
+          subst (Begins (SpellsChange flags) op (flag_byte ∷ bytes)) (ok_is (changed.Update (is_set flag_byte) old.0.0 new.0.0, new.0.1) x new.2) (
+            flag_byte ∷ (record_bytes old.0.0 ++ record_bytes new.0.0),
+            ap (λ (b : List ℕ). flag_byte ∷ b) (first.1 ∙ ap (λ (b : List ℕ). record_bytes old.0.0 ++ b) second.1 ∙ sym (append_assoc (record_bytes old.0.0) (record_bytes new.0.0) new.0.1)),
+            (and_from (satisfy (requirements record_kinds.Keyed flags) old.0.0) (satisfy (new_requirements flags old.0.0) new.0.0) (record_meets total (requirements record_kinds.Keyed flags) bytes old.0 old.1) (record_meets total (new_requirements flags old.0.0) old.0.1 new.0 new.1), (first.0, second.0), (flag_byte, refl, ap (λ (k : ℕ). k ∷ flag_byte ∷ (record_bytes old.0.0 ++ record_bytes new.0.0)) (eqb-true op 0x17 update))),
           )
       | inr (no_update, h) ↦
-          let old = bind_ok (record_at total (demands rules.Full flags) bytes) (λ old. Ok (changed.Delete (is_set mark) old.0, old.1)) x h in
+          let old = bind_ok (record_at total (requirements record_kinds.Full flags) bytes) (λ old. Ok (changed.Delete (is_set flag_byte) old.0, old.1)) x h in
           let is = full_spelled total flags bytes old.0 low.1 old.1 in
           let delete = third (op == 0x12) (op == 0x17) (op == 0x09) operation no_insert no_update in
-          subst (Begins (SpellsChange flags) op (mark ∷ bytes)) (ok_is (changed.Delete (is_set mark) old.0.0, old.0.1) x old.2) (
-            mark ∷ record_bytes old.0.0,
-            ap (λ (b : List ℕ). mark ∷ b) is.1,
-            (record_meets total (demands rules.Full flags) bytes old.0 old.1, is.0, (mark, refl, ap (λ (k : ℕ). k ∷ mark ∷ record_bytes old.0.0) (eqb-true op 0x09 delete))),
+          subst (Begins (SpellsChange flags) op (flag_byte ∷ bytes)) (ok_is (changed.Delete (is_set flag_byte) old.0.0, old.0.1) x old.2) (
+            flag_byte ∷ record_bytes old.0.0,
+            ap (λ (b : List ℕ). flag_byte ∷ b) is.1,
+            (record_meets total (requirements record_kinds.Full flags) bytes old.0 old.1, is.0, (flag_byte, refl, ap (λ (k : ℕ). k ∷ flag_byte ∷ record_bytes old.0.0) (eqb-true op 0x09 delete))),
           )
     ]
   ]
@@ -121,32 +120,32 @@ module _ {A : Type 0} where
   patch_spelled : (total : ℕ) (flags : List Bool) (op : ℕ) (bytes : List ℕ) (x : Patch A × List ℕ) → AreLow bytes → is_operation op ≡ true → patch_at total flags op bytes ≡ Ok x → Begins (SpellsPatch flags) op bytes x
   unfolding patch_at
   patch_spelled total flags op [] x low operation e = absurd cc
-  patch_spelled total flags op (mark ∷ bytes) x low operation e = elim (chosen (op == 0x12) _ _ _ e) [
+  patch_spelled total flags op (flag_byte ∷ bytes) x low operation e = elim (chosen (op == 0x12) _ _ _ e) [
     | inl (insert, h) ↦
-        let new = bind_ok (record_at total (demands rules.Full flags) bytes) (λ new. Ok (patched.Insert (is_set mark) new.0, new.1)) x h in
+        let new = bind_ok (record_at total (requirements record_kinds.Full flags) bytes) (λ new. Ok (patched.Insert (is_set flag_byte) new.0, new.1)) x h in
         let is = full_spelled total flags bytes new.0 low.1 new.1 in
-        subst (Begins (SpellsPatch flags) op (mark ∷ bytes)) (ok_is (patched.Insert (is_set mark) new.0.0, new.0.1) x new.2) (
-          mark ∷ record_bytes new.0.0,
-          ap (λ (b : List ℕ). mark ∷ b) is.1,
-          (record_meets total (demands rules.Full flags) bytes new.0 new.1, is.0, (mark, refl, ap (λ (k : ℕ). k ∷ mark ∷ record_bytes new.0.0) (eqb-true op 0x12 insert))),
+        subst (Begins (SpellsPatch flags) op (flag_byte ∷ bytes)) (ok_is (patched.Insert (is_set flag_byte) new.0.0, new.0.1) x new.2) (
+          flag_byte ∷ record_bytes new.0.0,
+          ap (λ (b : List ℕ). flag_byte ∷ b) is.1,
+          (record_meets total (requirements record_kinds.Full flags) bytes new.0 new.1, is.0, (flag_byte, refl, ap (λ (k : ℕ). k ∷ flag_byte ∷ record_bytes new.0.0) (eqb-true op 0x12 insert))),
         )
     | inr (no_insert, h0) ↦ elim (chosen (op == 0x17) _ _ _ h0) [
       | inl (update, h) ↦
-          let new = bind_ok (record_at total (demands rules.Keyed flags) bytes) (λ new. Ok (patched.Update (is_set mark) new.0, new.1)) x h in
+          let new = bind_ok (record_at total (requirements record_kinds.Keyed flags) bytes) (λ new. Ok (patched.Update (is_set flag_byte) new.0, new.1)) x h in
           let is = keyed_spelled total flags bytes new.0 low.1 new.1 in
-          subst (Begins (SpellsPatch flags) op (mark ∷ bytes)) (ok_is (patched.Update (is_set mark) new.0.0, new.0.1) x new.2) (
-            mark ∷ record_bytes new.0.0,
-            ap (λ (b : List ℕ). mark ∷ b) is.1,
-            (record_meets total (demands rules.Keyed flags) bytes new.0 new.1, is.0, (mark, refl, ap (λ (k : ℕ). k ∷ mark ∷ record_bytes new.0.0) (eqb-true op 0x17 update))),
+          subst (Begins (SpellsPatch flags) op (flag_byte ∷ bytes)) (ok_is (patched.Update (is_set flag_byte) new.0.0, new.0.1) x new.2) (
+            flag_byte ∷ record_bytes new.0.0,
+            ap (λ (b : List ℕ). flag_byte ∷ b) is.1,
+            (record_meets total (requirements record_kinds.Keyed flags) bytes new.0 new.1, is.0, (flag_byte, refl, ap (λ (k : ℕ). k ∷ flag_byte ∷ record_bytes new.0.0) (eqb-true op 0x17 update))),
           )
       | inr (no_update, h) ↦
-          let key = bind_ok (record_at total (demands rules.KeyAlone flags) bytes) (λ key. Ok (patched.Delete (is_set mark) key.0, key.1)) x h in
+          let key = bind_ok (record_at total (requirements record_kinds.KeyAlone flags) bytes) (λ key. Ok (patched.Delete (is_set flag_byte) key.0, key.1)) x h in
           let is = key_spelled total flags bytes key.0 low.1 key.1 in
           let delete = third (op == 0x12) (op == 0x17) (op == 0x09) operation no_insert no_update in
-          subst (Begins (SpellsPatch flags) op (mark ∷ bytes)) (ok_is (patched.Delete (is_set mark) key.0.0, key.0.1) x key.2) (
-            mark ∷ key_bytes key.0.0,
-            ap (λ (b : List ℕ). mark ∷ b) is.1,
-            (record_meets total (demands rules.KeyAlone flags) bytes key.0 key.1, is.0, (mark, refl, ap (λ (k : ℕ). k ∷ mark ∷ key_bytes key.0.0) (eqb-true op 0x09 delete))),
+          subst (Begins (SpellsPatch flags) op (flag_byte ∷ bytes)) (ok_is (patched.Delete (is_set flag_byte) key.0.0, key.0.1) x key.2) (
+            flag_byte ∷ key_bytes key.0.0,
+            ap (λ (b : List ℕ). flag_byte ∷ b) is.1,
+            (record_meets total (requirements record_kinds.KeyAlone flags) bytes key.0 key.1, is.0, (flag_byte, refl, ap (λ (k : ℕ). k ∷ flag_byte ∷ key_bytes key.0.0) (eqb-true op 0x09 delete))),
           )
     ]
   ]
@@ -184,10 +183,10 @@ count_spelled : (total : ℕ) (bytes : List ℕ) (x : ℕ × List ℕ) → AreLo
 unfolding count_at
 count_spelled total bytes x low e =
     let count = bind_ok (varint_at total bytes) _ x e in
-    let bad = guard_ok ((count.0.0 == 0) || nat_lt COLUMNS_MAX count.0.0) _ _ x count.2 in
-    let parts = or_parts (count.0.0 == 0) (nat_lt COLUMNS_MAX count.0.0) bad.0 in
+    let bad = guard_ok ((count.0.0 == 0) || nat_lt 2000 count.0.0) _ _ x count.2 in
+    let parts = or_parts (count.0.0 == 0) (nat_lt 2000 count.0.0) bad.0 in
     let some = eqb-false count.0.0 0 parts.0 in
-    let few : count.0.0 ≤ 2000 = ltb-false COLUMNS_MAX count.0.0 parts.1 in
+    let few : count.0.0 ≤ 2000 = ltb-false 2000 count.0.0 parts.1 in
     let number = varint_spelled total bytes count.0 low count.1 in
     subst (λ (y : ℕ × List ℕ). (1 ≤ y.0) × (y.0 ≤ 2000) × (bytes ≡ varint_bytes y.0 ++ y.1)) (ok_is count.0 x bad.1) (omega arith, few, number.1)
 
@@ -205,7 +204,7 @@ one_more n = omega arith
 two_more : (n : ℕ) → 1 + n + 1 ≡ suc (n + 1)
 two_more n = omega arith
 
--- the first zero byte, with what stands before and behind it
+-- the first zero byte, with the bytes before and behind it
 zero_at : (most : ℕ) (bytes : List ℕ) → position_or_len is_zero (take most bytes) < length (take most bytes)
     → bytes ≡ take (position_or_len is_zero (take most bytes)) bytes ++ 0 ∷ drop (position_or_len is_zero (take most bytes) + 1) bytes
 zero_at zero bytes lt = absurd (omega arith)

@@ -4,14 +4,12 @@ use Rattle.std.specs.List.{list_any, position_or_len}
 use Rattle.std.specs.Str.{is_utf8}
 use Rattle.std.proofs.lemmas.Bool.{cases_Bool, cases_lt, lt-leb}
 use Rattle.std.proofs.lemmas.List.{take-append-le, drop-append-le}
-use Rattle.cap_value.specs.declared.text.TheConstants.{BYTES_MAX}
-use Rattle.cap_row.specs.declared.schema.TheConstants.{COLUMNS_MAX}
-use Rattle.cap_changes.specs.declared.demand.Demand.{Demand}
-use Rattle.cap_changes.specs.declared.demand.Demand.TheVariants as asks
+use Rattle.cap_changes.specs.declared.field_requirement.FieldRequirement.{FieldRequirement}
+use Rattle.cap_changes.specs.declared.field_requirement.FieldRequirement.TheVariants as required
 use Rattle.cap_codec.specs.declared.fault.BlobFault.{BlobFault}
 use Rattle.cap_codec.specs.declared.fault.FaultKind.TheVariants.{BadName}
-use Rattle.cap_changes.specs.declared.rule.Rule.TheVariants as rules
-use Rattle.cap_changes.specs.Demands.{demands, new_demands}
+use Rattle.cap_changes.specs.declared.record_kind.RecordKind.TheVariants as record_kinds
+use Rattle.cap_changes.specs.Requirements.{requirements, new_requirements}
 use Rattle.cap_codec.specs.FieldReading.{allows, number_at, sized_at, text_at, content_at, typed_at, field_at}
 use Rattle.cap_codec.specs.HeaderReading.{is_zero, is_set, count_at, flags_at, named_at, name_at, header_at}
 use Rattle.cap_codec.specs.Pieces.{is_cut}
@@ -80,7 +78,7 @@ number_stays total bytes more = stays_then bytes more (bytes_at total 8 bytes) (
 sized_stays : (total at : ℕ) (bytes more : List ℕ) → Stays bytes more (sized_at total at bytes) (sized_at (total + length more) at (bytes ++ more))
 unfolding sized_at
 sized_stays total at bytes more = stays_then bytes more (varint_at total bytes) (varint_at (total + length more) (bytes ++ more)) _ _ (varint_stays total bytes more)
-    (λ count. elim (cases_Bool (nat_lt BYTES_MAX count.0)) [ inl large ↦ rw large (λ lasts. refl) | inr fits ↦ rw fits (bytes_stay total count.0 count.1 more) ])
+    (λ count. elim (cases_Bool (nat_lt 1000000000 count.0)) [ inl large ↦ rw large (λ lasts. refl) | inr fits ↦ rw fits (bytes_stay total count.0 count.1 more) ])
 
 text_stays : (total at : ℕ) (bytes more : List ℕ) → Stays bytes more (text_at total at bytes) (text_at (total + length more) at (bytes ++ more))
 unfolding text_at
@@ -104,49 +102,49 @@ module _ (A : Type 0) where
     ]
   ]
 
-  typed_stays : (total at : ℕ) (demand : Demand) (kind : ℕ) (bytes more : List ℕ) → Stays bytes more (typed_at {A = A} total at demand kind bytes) (typed_at (total + length more) at demand kind (bytes ++ more))
-  typed_stays total at demand kind bytes more = elim (cases_Bool (kind == 2)) [
+  typed_stays : (total at : ℕ) (requirement : FieldRequirement) (kind : ℕ) (bytes more : List ℕ) → Stays bytes more (typed_at {A = A} total at requirement kind bytes) (typed_at (total + length more) at requirement kind (bytes ++ more))
+  typed_stays total at requirement kind bytes more = elim (cases_Bool (kind == 2)) [
     | inl e ↦ rw e (λ lasts. refl)
     | inr e2 ↦ elim (cases_Bool (nat_lt 5 kind)) [
       | inl e ↦ rw (e2, e) (λ lasts. refl)
-      | inr e5 ↦ elim (cases_Bool (not (allows demand kind))) [
+      | inr e5 ↦ elim (cases_Bool (not (allows requirement kind))) [
         | inl e ↦ rw (e2, e5, e) (λ lasts. refl)
         | inr e6 ↦ rw (e2, e5, e6) (content_stays total at kind bytes more)
       ]
     ]
   ]
 
-  present_stays : (total : ℕ) (demand : Demand) (bytes more : List ℕ)
-      → Stays bytes more (byte_at total bytes >>= (λ kind. typed_at {A = A} total (place total bytes) demand kind.0 kind.1))
-      (byte_at (total + length more) (bytes ++ more) >>= (λ kind. typed_at {A = A} (total + length more) (place (total + length more) (bytes ++ more)) demand kind.0 kind.1))
-  present_stays total demand bytes more =
-      rw (same_place total bytes more) (stays_then bytes more (byte_at total bytes) (byte_at (total + length more) (bytes ++ more)) _ _ (byte_stays total bytes more) (λ kind. typed_stays total (place total bytes) demand kind.0 kind.1 more))
+  present_stays : (total : ℕ) (requirement : FieldRequirement) (bytes more : List ℕ)
+      → Stays bytes more (byte_at total bytes >>= (λ kind. typed_at {A = A} total (place total bytes) requirement kind.0 kind.1))
+      (byte_at (total + length more) (bytes ++ more) >>= (λ kind. typed_at {A = A} (total + length more) (place (total + length more) (bytes ++ more)) requirement kind.0 kind.1))
+  present_stays total requirement bytes more =
+      rw (same_place total bytes more) (stays_then bytes more (byte_at total bytes) (byte_at (total + length more) (bytes ++ more)) _ _ (byte_stays total bytes more) (λ kind. typed_stays total (place total bytes) requirement kind.0 kind.1 more))
 
-  pub field_stays : (total : ℕ) (demand : Demand) (bytes more : List ℕ) → Stays bytes more (field_at {A = A} total demand bytes) (field_at (total + length more) demand (bytes ++ more))
+  pub field_stays : (total : ℕ) (requirement : FieldRequirement) (bytes more : List ℕ) → Stays bytes more (field_at {A = A} total requirement bytes) (field_at (total + length more) requirement (bytes ++ more))
   unfolding field_at
-  field_stays total asks.Omitted bytes more = (refl, ([], refl))
-  field_stays total asks.Key bytes more = present_stays total asks.Key bytes more
-  field_stays total asks.Defined bytes more = present_stays total asks.Defined bytes more
-  field_stays total asks.Any bytes more = present_stays total asks.Any bytes more
-  field_stays total asks.Undefined bytes more = present_stays total asks.Undefined bytes more
+  field_stays total required.Omitted bytes more = (refl, ([], refl))
+  field_stays total required.Key bytes more = present_stays total required.Key bytes more
+  field_stays total required.Defined bytes more = present_stays total required.Defined bytes more
+  field_stays total required.Any bytes more = present_stays total required.Any bytes more
+  field_stays total required.Undefined bytes more = present_stays total required.Undefined bytes more
 
-  record_stays : (total : ℕ) (demands : List Demand) (bytes more : List ℕ) → Stays bytes more (record_at {A = A} total demands bytes) (record_at (total + length more) demands (bytes ++ more))
+  record_stays : (total : ℕ) (requirements : List FieldRequirement) (bytes more : List ℕ) → Stays bytes more (record_at {A = A} total requirements bytes) (record_at (total + length more) requirements (bytes ++ more))
   unfolding record_at
   record_stays total [] bytes more = (refl, ([], refl))
-  record_stays total (demand ∷ demands) bytes more =
-      stays_then bytes more (field_at total demand bytes) (field_at (total + length more) demand (bytes ++ more)) _ _ (field_stays total demand bytes more)
-      (λ field. stays_then field.1 more (record_at total demands field.1) (record_at (total + length more) demands (field.1 ++ more)) _ _ (record_stays total demands field.1 more) (λ others. (refl, ([], refl))))
+  record_stays total (requirement ∷ requirements) bytes more =
+      stays_then bytes more (field_at total requirement bytes) (field_at (total + length more) requirement (bytes ++ more)) _ _ (field_stays total requirement bytes more)
+      (λ field. stays_then field.1 more (record_at total requirements field.1) (record_at (total + length more) requirements (field.1 ++ more)) _ _ (record_stays total requirements field.1 more) (λ others. (refl, ([], refl))))
 
   pub change_stays : (total : ℕ) (flags : List Bool) (op : ℕ) (bytes more : List ℕ) → Stays bytes more (change_at {A = A} total flags op bytes) (change_at (total + length more) flags op (bytes ++ more))
   unfolding change_at
   change_stays total flags op bytes more =
       stays_then bytes more (byte_at total bytes) (byte_at (total + length more) (bytes ++ more)) _ _ (byte_stays total bytes more)
-      (λ mark. elim (cases_Bool (op == 0x12)) [
-        | inl e ↦ rw e (stays_then mark.1 more (record_at total (demands rules.Full flags) mark.1) (record_at (total + length more) (demands rules.Full flags) (mark.1 ++ more)) _ _ (record_stays total (demands rules.Full flags) mark.1 more) (λ new. (refl, ([], refl))))
+      (λ flag_byte. elim (cases_Bool (op == 0x12)) [
+        | inl e ↦ rw e (stays_then flag_byte.1 more (record_at total (requirements record_kinds.Full flags) flag_byte.1) (record_at (total + length more) (requirements record_kinds.Full flags) (flag_byte.1 ++ more)) _ _ (record_stays total (requirements record_kinds.Full flags) flag_byte.1 more) (λ new. (refl, ([], refl))))
         | inr e ↦ elim (cases_Bool (op == 0x17)) [
-          | inl u ↦ rw (e, u) (stays_then mark.1 more (record_at total (demands rules.Keyed flags) mark.1) (record_at (total + length more) (demands rules.Keyed flags) (mark.1 ++ more)) _ _ (record_stays total (demands rules.Keyed flags) mark.1 more)
-              (λ old. stays_then old.1 more (record_at total (new_demands flags old.0) old.1) (record_at (total + length more) (new_demands flags old.0) (old.1 ++ more)) _ _ (record_stays total (new_demands flags old.0) old.1 more) (λ new. (refl, ([], refl)))))
-          | inr u ↦ rw (e, u) (stays_then mark.1 more (record_at total (demands rules.Full flags) mark.1) (record_at (total + length more) (demands rules.Full flags) (mark.1 ++ more)) _ _ (record_stays total (demands rules.Full flags) mark.1 more) (λ old. (refl, ([], refl))))
+          | inl u ↦ rw (e, u) (stays_then flag_byte.1 more (record_at total (requirements record_kinds.Keyed flags) flag_byte.1) (record_at (total + length more) (requirements record_kinds.Keyed flags) (flag_byte.1 ++ more)) _ _ (record_stays total (requirements record_kinds.Keyed flags) flag_byte.1 more)
+              (λ old. stays_then old.1 more (record_at total (new_requirements flags old.0) old.1) (record_at (total + length more) (new_requirements flags old.0) (old.1 ++ more)) _ _ (record_stays total (new_requirements flags old.0) old.1 more) (λ new. (refl, ([], refl)))))
+          | inr u ↦ rw (e, u) (stays_then flag_byte.1 more (record_at total (requirements record_kinds.Full flags) flag_byte.1) (record_at (total + length more) (requirements record_kinds.Full flags) (flag_byte.1 ++ more)) _ _ (record_stays total (requirements record_kinds.Full flags) flag_byte.1 more) (λ old. (refl, ([], refl))))
         ]
       ])
 
@@ -154,11 +152,11 @@ module _ (A : Type 0) where
   unfolding patch_at
   patch_stays total flags op bytes more =
       stays_then bytes more (byte_at total bytes) (byte_at (total + length more) (bytes ++ more)) _ _ (byte_stays total bytes more)
-      (λ mark. elim (cases_Bool (op == 0x12)) [
-        | inl e ↦ rw e (stays_then mark.1 more (record_at total (demands rules.Full flags) mark.1) (record_at (total + length more) (demands rules.Full flags) (mark.1 ++ more)) _ _ (record_stays total (demands rules.Full flags) mark.1 more) (λ new. (refl, ([], refl))))
+      (λ flag_byte. elim (cases_Bool (op == 0x12)) [
+        | inl e ↦ rw e (stays_then flag_byte.1 more (record_at total (requirements record_kinds.Full flags) flag_byte.1) (record_at (total + length more) (requirements record_kinds.Full flags) (flag_byte.1 ++ more)) _ _ (record_stays total (requirements record_kinds.Full flags) flag_byte.1 more) (λ new. (refl, ([], refl))))
         | inr e ↦ elim (cases_Bool (op == 0x17)) [
-          | inl u ↦ rw (e, u) (stays_then mark.1 more (record_at total (demands rules.Keyed flags) mark.1) (record_at (total + length more) (demands rules.Keyed flags) (mark.1 ++ more)) _ _ (record_stays total (demands rules.Keyed flags) mark.1 more) (λ new. (refl, ([], refl))))
-          | inr u ↦ rw (e, u) (stays_then mark.1 more (record_at total (demands rules.KeyAlone flags) mark.1) (record_at (total + length more) (demands rules.KeyAlone flags) (mark.1 ++ more)) _ _ (record_stays total (demands rules.KeyAlone flags) mark.1 more) (λ key. (refl, ([], refl))))
+          | inl u ↦ rw (e, u) (stays_then flag_byte.1 more (record_at total (requirements record_kinds.Keyed flags) flag_byte.1) (record_at (total + length more) (requirements record_kinds.Keyed flags) (flag_byte.1 ++ more)) _ _ (record_stays total (requirements record_kinds.Keyed flags) flag_byte.1 more) (λ new. (refl, ([], refl))))
+          | inr u ↦ rw (e, u) (stays_then flag_byte.1 more (record_at total (requirements record_kinds.KeyAlone flags) flag_byte.1) (record_at (total + length more) (requirements record_kinds.KeyAlone flags) (flag_byte.1 ++ more)) _ _ (record_stays total (requirements record_kinds.KeyAlone flags) flag_byte.1 more) (λ key. (refl, ([], refl))))
         ]
       ])
 
@@ -167,7 +165,7 @@ module _ (A : Type 0) where
 count_stays : (total : ℕ) (bytes more : List ℕ) → Stays bytes more (count_at total bytes) (count_at (total + length more) (bytes ++ more))
 unfolding count_at
 count_stays total bytes more = rw (same_place total bytes more) (stays_then bytes more (varint_at total bytes) (varint_at (total + length more) (bytes ++ more)) _ _ (varint_stays total bytes more)
-    (λ count. elim (cases_Bool ((count.0 == 0) || nat_lt COLUMNS_MAX count.0)) [ inl bad ↦ rw bad (λ lasts. refl) | inr good ↦ rw good (refl, ([], refl)) ]))
+    (λ count. elim (cases_Bool ((count.0 == 0) || nat_lt 2000 count.0)) [ inl bad ↦ rw bad (λ lasts. refl) | inr good ↦ rw good (refl, ([], refl)) ]))
 
 flags_stay : (total count : ℕ) (bytes more : List ℕ) → Stays bytes more (flags_at total count bytes) (flags_at (total + length more) count (bytes ++ more))
 unfolding flags_at

@@ -9,7 +9,7 @@ use Rattle.cap_codec.specs.declared.fault.BlobFault.{BlobFault}
 use Rattle.cap_codec.specs.declared.read.Contents.{Contents}
 use Rattle.cap_codec.specs.BlobReading.{blob_at}
 use Rattle.cap_codec.specs.Pieces.{lasting}
-use Rattle.cap_codec.specs.Calls.{Calls, AllWent, TellsWrite}
+use Rattle.cap_codec.specs.StreamCalls.{Calls, AllWent, ReportsWrite}
 use Rattle.cap_codec.specs.Stream.{IsBlobOf, EndsReads, read_fault}
 use Rattle.cap_codec.proofs.Looking.{err_lasts, fault_of_lasting}
 
@@ -39,9 +39,9 @@ module _ {X : Type 0} (went failed : X → X → Type 0) where
   all_went least old before new (n, le, calls) last = (suc n, (before, calls, last))
 
   -- a write that took some bytes
-  pub write_took : (E : Type 0) (count : ℕ) (old new : X) → (count ≡ 0 → ⊥) → TellsWrite {E = E} went failed (Ok count) old new → went old new
-  write_took E zero old new some told = absurd (some refl)
-  write_took E (suc count) old new some told = told
+  pub write_took : (E : Type 0) (count : ℕ) (old new : X) → (count ≡ 0 → ⊥) → ReportsWrite {E = E} went failed (Ok count) old new → went old new
+  write_took E zero old new some reported = absurd (some refl)
+  write_took E (suc count) old new some reported = reported
 
   pub ends_err : (Y : Type 0) (fault : Fault BlobFault) (old new : X) → AllWent went old new → EndsReads {X = Y} went failed (Err (read_fault fault)) old new
   ends_err Y (Refused fault) old new all = all

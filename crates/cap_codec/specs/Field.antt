@@ -5,7 +5,7 @@ use Rattle.std.specs.Int.{w64, cast_unsigned}
 use Rattle.byteorder.specs.Endian.{big_bytes}
 use Rattle.cap_value.specs.declared.value.Value.{Value}
 use Rattle.cap_value.specs.declared.value.Value.TheVariants.{Null, Int, Text, Blob}
-use Rattle.cap_changes.specs.Record.{RecordFields}
+use Rattle.cap_changes.specs.FieldRecord.{RecordFields}
 use Rattle.cap_codec.specs.Varint.{varint_bytes}
 
 -- eight bytes of two's complement, the highest first

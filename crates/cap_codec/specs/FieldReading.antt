@@ -1,25 +1,25 @@
 -- Reading the fields of a record.
-use Rattle.std.specs.Prelude.{ℕ, ℤ, ◌≤◌, Bool, true, not, List, length, Option, Some, None, Result, Ok, nat_lt, ◌==◌, ◌&&◌, if◌then◌else◌}
+use Rattle.std.specs.Prelude.{ℕ, ℤ, ◌≤◌, Bool, true, not, List, length, Option, Some, None, Result, Ok}
+use Rattle.std.specs.Prelude.{nat_lt, ◌==◌, ◌&&◌, if◌then◌else◌}
 use Rattle.std.specs.Int.{w64, from_be_bytes, cast_signed}
 use Rattle.std.specs.Str.{is_utf8}
-use Rattle.cap_value.specs.declared.text.TheConstants.{BYTES_MAX}
 use Rattle.cap_value.specs.declared.value.Value.{Value}
 use Rattle.cap_value.specs.declared.value.Value.TheVariants.{Null, Int, Text, Blob}
-use Rattle.cap_changes.specs.declared.demand.Demand.{Demand}
-use Rattle.cap_changes.specs.declared.demand.Demand.TheVariants as asks
+use Rattle.cap_changes.specs.declared.field_requirement.FieldRequirement.{FieldRequirement}
+use Rattle.cap_changes.specs.declared.field_requirement.FieldRequirement.TheVariants as required
 use Rattle.cap_codec.specs.declared.fault.BlobFault.{BlobFault}
 use Rattle.cap_codec.specs.declared.fault.FaultKind.TheVariants.{BadField, Real, BadText, BadRecord}
-use Rattle.cap_codec.specs.declared.lent.Lent.{Lent}
-use Rattle.cap_codec.specs.declared.lent.Lent.TheVariants as lent
+use Rattle.cap_codec.specs.declared.field_ref.FieldRef.{FieldRef}
+use Rattle.cap_codec.specs.declared.field_ref.FieldRef.TheVariants as field_refs
 use Rattle.cap_codec.specs.Reading.{◌>>=◌, fault, place, byte_at, bytes_at, varint_at}
 
--- the type bytes that a field may have of which this is asked: 0 is not defined, and 5 is NULL
-abbrev pub allows : Demand → ℕ → Bool
-allows asks.Key kind = not (kind == 0) && not (kind == 5)
-allows asks.Defined kind = not (kind == 0)
-allows asks.Any kind = true
-allows asks.Undefined kind = kind == 0
-allows asks.Omitted kind = kind == 0
+-- the type bytes that satisfy a requirement: 0 is not defined, and 5 is NULL
+abbrev pub allows : FieldRequirement → ℕ → Bool
+allows required.Key kind = not (kind == 0) && not (kind == 5)
+allows required.Defined kind = not (kind == 0)
+allows required.Any kind = true
+allows required.Undefined kind = kind == 0
+allows required.Omitted kind = kind == 0
 
 -- bytes that are UTF-8
 abbrev pub text_of : List ℕ → Option (List ℕ)
@@ -31,11 +31,11 @@ number_at total bytes = do
   n ← bytes_at total 8 bytes
   Ok (cast_signed w64 (from_be_bytes w64 n.0), n.1)
 
--- a length, and that many bytes; `at` is the place of the field's type byte
+-- a length, and that many bytes; `at` is the offset of the field's type byte
 unfoldable pub sized_at : ℕ → ℕ → List ℕ → Result (List ℕ × List ℕ) BlobFault
 sized_at total at bytes = do
   count ← varint_at total bytes
-  if nat_lt BYTES_MAX count.0 then fault BadField at else bytes_at total count.0 count.1
+  if nat_lt 1000000000 count.0 then fault BadField at else bytes_at total count.0 count.1
 
 unfoldable pub text_at : ℕ → ℕ → List ℕ → Result (List ℕ × List ℕ) BlobFault
 text_at total at bytes = do
@@ -43,23 +43,23 @@ text_at total at bytes = do
   if is_utf8 text.0 then Ok text else fault BadText at
 
 -- within the limit of texts and blobs
-abbrev pub IsWithin : Lent → Type 0
-IsWithin lent.Undefined = Unit {0}
-IsWithin lent.Null = Unit {0}
-IsWithin (lent.Int n) = Unit {0}
-IsWithin (lent.Text text) = length text.now ≤ BYTES_MAX
-IsWithin (lent.Blob bytes) = length bytes.now ≤ BYTES_MAX
+abbrev pub IsWithin : FieldRef → Type 0
+IsWithin field_refs.Undefined = Unit {0}
+IsWithin field_refs.Null = Unit {0}
+IsWithin (field_refs.Int n) = Unit {0}
+IsWithin (field_refs.Text text) = length text.now ≤ 1000000000
+IsWithin (field_refs.Blob bytes) = length bytes.now ≤ 1000000000
 
 module _ {A : Type 0} where
-  -- a field that stands in the blob
-  abbrev pub value_of : Lent → Option (Value A)
-  value_of lent.Undefined = None
-  value_of lent.Null = Some Null
-  value_of (lent.Int n) = Some (Int n)
-  value_of (lent.Text text) = Some (Text text.now)
-  value_of (lent.Blob bytes) = Some (Blob bytes.now)
+  -- the field of a reference
+  abbrev pub value_of : FieldRef → Option (Value A)
+  value_of field_refs.Undefined = None
+  value_of field_refs.Null = Some Null
+  value_of (field_refs.Int n) = Some (Int n)
+  value_of (field_refs.Text text) = Some (Text text.now)
+  value_of (field_refs.Blob bytes) = Some (Blob bytes.now)
 
-  -- what stands behind a type byte from 0 to 5 other than 2
+  -- the value behind a type byte from 0 to 5 other than 2
   unfoldable pub content_at : ℕ → ℕ → ℕ → List ℕ → Result (Option (Value A) × List ℕ) BlobFault
   content_at total at kind bytes =
       if kind == 0 then Ok (None, bytes)
@@ -68,14 +68,15 @@ module _ {A : Type 0} where
       else (if kind == 4 then sized_at total at bytes >>= (λ blob. Ok (Some (Blob blob.0), blob.1))
       else Ok (Some Null, bytes))))
 
-  -- a type byte that may stand there, and what stands behind it
-  abbrev pub typed_at : ℕ → ℕ → Demand → ℕ → List ℕ → Result (Option (Value A) × List ℕ) BlobFault
-  typed_at total at demand kind bytes =
+  -- a type byte that is allowed, and the value behind it
+  abbrev pub typed_at : ℕ → ℕ → FieldRequirement → ℕ → List ℕ → Result (Option (Value A) × List ℕ) BlobFault
+  typed_at total at requirement kind bytes =
       if kind == 2 then fault Real at
       else (if nat_lt 5 kind then fault BadField at
-      else (if not (allows demand kind) then fault BadRecord at
+      else (if not (allows requirement kind) then fault BadRecord at
       else content_at total at kind bytes))
 
-  unfoldable pub field_at : ℕ → Demand → List ℕ → Result (Option (Value A) × List ℕ) BlobFault
-  field_at total asks.Omitted bytes = Ok (None, bytes)
-  field_at total demand bytes = byte_at total bytes >>= (λ kind. typed_at total (place total bytes) demand kind.0 kind.1)
+  unfoldable pub field_at : ℕ → FieldRequirement → List ℕ → Result (Option (Value A) × List ℕ) BlobFault
+  field_at total required.Omitted bytes = Ok (None, bytes)
+  field_at total requirement bytes =
+      byte_at total bytes >>= (λ kind. typed_at total (place total bytes) requirement kind.0 kind.1)

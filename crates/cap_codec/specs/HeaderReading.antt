@@ -1,15 +1,14 @@
 -- Reading the header of a group.
-use Rattle.std.specs.Prelude.{ℕ, ◌+◌, Bool, not, List, length, take, drop, map, position, Option, Some, None, Result, Ok, nat_lt, nat_le, ◌==◌, ◌||◌, ◌&&◌, if◌then◌else◌}
+use Rattle.std.specs.Prelude.{ℕ, ◌+◌, Bool, not, List, length, take, drop, map, position, Option, Some, None}
+use Rattle.std.specs.Prelude.{Result, Ok, nat_lt, nat_le, ◌==◌, ◌||◌, ◌&&◌, if◌then◌else◌}
 use Rattle.std.specs.List.{list_any}
 use Rattle.std.specs.Str.{is_utf8}
-use Rattle.cap_value.specs.declared.name.TheConstants.{NAME_MAX}
-use Rattle.cap_row.specs.declared.schema.TheConstants.{COLUMNS_MAX}
 use Rattle.cap_codec.specs.declared.fault.BlobFault.{BlobFault}
 use Rattle.cap_codec.specs.declared.fault.FaultKind.TheVariants.{Truncated, BadHeader, BadName}
-use Rattle.cap_codec.specs.declared.header.LentHeader.{LentHeader}
+use Rattle.cap_codec.specs.declared.header.HeaderRef.{HeaderRef}
 use Rattle.cap_codec.specs.Reading.{◌>>=◌, fault, place, bytes_at, varint_at}
 
--- a table's name, and a flag a column: in the key or not
+-- a table's name, and a key flag for each column
 pub record Header : Type 0 where
   pub table : List ℕ
   pub flags : List Bool
@@ -21,25 +20,27 @@ is_zero byte = byte == 0
 abbrev pub is_set : ℕ → Bool
 is_set byte = not (byte == 0)
 
--- a header that stands in the blob
-abbrev pub header_of : LentHeader → Header
+-- the header of a reference
+abbrev pub header_of : HeaderRef → Header
 header_of header = record { table = header.table.now; flags = map is_set header.flags.now }
 
 unfoldable pub count_at : ℕ → List ℕ → Result (ℕ × List ℕ) BlobFault
 count_at total bytes = do
   count ← varint_at total bytes
-  if (count.0 == 0) || nat_lt COLUMNS_MAX count.0 then fault BadHeader (place total bytes) else Ok count
+  if (count.0 == 0) || nat_lt 2000 count.0 then fault BadHeader (place total bytes) else Ok count
 
 unfoldable pub flags_at : ℕ → ℕ → List ℕ → Result (List ℕ × List ℕ) BlobFault
 flags_at total count bytes = do
   flags ← bytes_at total count bytes
   if list_any is_set flags.0 then Ok flags else fault BadHeader (place total bytes)
 
--- a name of this length, where a zero byte stands among the first 256
+-- a name of this length, where a zero byte is among the first 256
 abbrev pub named_at : ℕ → List ℕ → Option ℕ → Result (List ℕ × List ℕ) BlobFault
-named_at total bytes None = if nat_le (length bytes) NAME_MAX then fault Truncated total else fault BadName (place total bytes)
+named_at total bytes None =
+    if nat_le (length bytes) 255 then fault Truncated total else fault BadName (place total bytes)
 named_at total bytes (Some len) =
-    if nat_lt 0 len && is_utf8 (take len bytes) then Ok (take len bytes, drop (len + 1) bytes) else fault BadName (place total bytes)
+    if nat_lt 0 len && is_utf8 (take len bytes) then Ok (take len bytes, drop (len + 1) bytes)
+    else fault BadName (place total bytes)
 
 unfoldable pub name_at : ℕ → List ℕ → Result (List ℕ × List ℕ) BlobFault
 name_at total bytes = named_at total bytes (position is_zero (take 256 bytes))

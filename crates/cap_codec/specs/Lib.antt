@@ -12,6 +12,6 @@ pub mod ChangeLeft
 pub mod Writable
 pub mod Spelling
 pub mod Pieces
-pub mod Calls
+pub mod StreamCalls
 pub mod Stream
 pub mod Touched

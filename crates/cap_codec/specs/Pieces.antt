@@ -1,5 +1,6 @@
--- Blobs that come in pieces: what is known of a blob by its front.
-use Rattle.std.specs.Prelude.{◌≡◌, ℕ, ◌<◌, ◌≤◌, Bool, true, false, List, ◌++◌, length, drop, Option, Some, None, Result, Ok, Err, IfSome, if◌then◌else◌}
+-- Blobs in pieces: what is known of a blob by its prefix.
+use Rattle.std.specs.Prelude.{◌≡◌, ℕ, ◌<◌, ◌≤◌, Bool, true, false, List, ◌++◌, length, drop, Option, Some}
+use Rattle.std.specs.Prelude.{None, Result, Ok, Err, IfSome, if◌then◌else◌}
 use Rattle.cap_value.specs.declared.memory.Fault.{Fault}
 use Rattle.cap_value.specs.declared.memory.Fault.TheVariants.{Refused, OutOfMemory}
 use Rattle.cap_codec.specs.declared.fault.BlobFault.{BlobFault}
@@ -7,16 +8,17 @@ use Rattle.cap_codec.specs.declared.fault.FaultKind.{FaultKind}
 use Rattle.cap_codec.specs.declared.fault.FaultKind.TheVariants.{Truncated}
 use Rattle.cap_codec.specs.declared.kind.Kind.{Kind}
 use Rattle.cap_codec.specs.declared.kind.Kind.TheVariants as kinds
-use Rattle.cap_codec.specs.declared.scan.Place.{Place}
-use Rattle.cap_codec.specs.declared.scan.Step.{Step}
-use Rattle.cap_codec.specs.declared.scan.Step.TheVariants.{On, Cut}
-use Rattle.cap_codec.specs.declared.within.Within.{Within}
+use Rattle.cap_codec.specs.declared.scan.ScanPosition.{ScanPosition}
+use Rattle.cap_codec.specs.declared.scan.Advance.{Advance}
+use Rattle.cap_codec.specs.declared.scan.Advance.TheVariants.{On, Cut}
+use Rattle.cap_codec.specs.declared.change_cursor.ChangeCursor.{ChangeCursor}
 use Rattle.cap_codec.specs.Reading.{◌>>=◌}
 use Rattle.cap_codec.specs.HeaderReading.{header_at}
-use Rattle.cap_codec.specs.BlobReading.{change_at, patch_at, changes_at, group_at, patch_group_at, groups_at, blob_at}
+use Rattle.cap_codec.specs.BlobReading.{change_at, patch_at, changes_at, group_at, patch_group_at, groups_at}
+use Rattle.cap_codec.specs.BlobReading.{blob_at}
 use Rattle.cap_codec.specs.ChangeLeft.{tail_at}
 
--- the blob ends too early, which more bytes may mend
+-- the blob ends too early, which further bytes may mend
 abbrev pub is_cut : FaultKind → Bool
 is_cut Truncated = true
 is_cut kind = false
@@ -25,12 +27,12 @@ abbrev pub may_mend : Fault BlobFault → Bool
 may_mend (Refused fault) = is_cut fault.kind
 may_mend OutOfMemory = false
 
--- the fault that no more bytes mend
+-- the fault that no further bytes can mend
 abbrev pub lasting : {X : Type 0} → Result X BlobFault → Result (Unit {0}) BlobFault
 lasting (Ok x) = Ok tt
 lasting (Err fault) = if is_cut fault.kind then Ok tt else Err fault
 
--- what the rest of a blob gives where a part of it gave this
+-- the fault of the rest of a blob, by the reading of a part of it
 abbrev pub outcome : {X : Type 0} → Result X BlobFault → Option BlobFault
 outcome (Ok x) = None
 outcome (Err fault) = Some fault
@@ -44,66 +46,78 @@ kind_byte kinds.Patches = 0x50
 abbrev pub columns_at : ℕ → List ℕ → Result (List Bool × List ℕ) BlobFault
 columns_at total bytes = header_at total bytes >>= (λ header. Ok (header.0.flags, header.1))
 
-module _ {X G : Type 0} (one_at : ℕ → List Bool → ℕ → List ℕ → Result (X × List ℕ) BlobFault) (group_at : ℕ → List ℕ → Result (G × List ℕ) BlobFault) (kind : ℕ) where
-  -- What is left of a change, of the changes of its group behind it, and the groups behind them, have this outcome.
-  -- `tail` is what stands behind the change.
+module _ {X G : Type 0} (one_at : ℕ → List Bool → ℕ → List ℕ → Result (X × List ℕ) BlobFault)
+    (group_at : ℕ → List ℕ → Result (G × List ℕ) BlobFault) (kind : ℕ) where
+  -- The rest of a change, the changes of its group behind it, and the groups behind them have this outcome.
+  -- `tail` is the bytes behind the change.
   abbrev pub GoesOn : ℕ → List Bool → List ℕ → Result (List ℕ) BlobFault → Option BlobFault → Type 0
   GoesOn total flags rest tail answer = (m n : ℕ) × (length rest ≤ m) × (length rest ≤ n)
-      × (outcome (tail >>= (λ after. changes_at one_at m total flags after >>= (λ changes. groups_at group_at kind n total changes.1))) ≡ answer)
+      × (outcome (tail >>= (λ after. changes_at one_at m total flags after
+      >>= (λ changes. groups_at group_at kind n total changes.1))) ≡ answer)
 
 module _ (A : Type 0) where
-  abbrev pub GoesOnAs : Kind → ℕ → List Bool → Option (Within A) → List ℕ → Option BlobFault → Type 0
-  GoesOnAs kinds.Changes total flags within rest answer = GoesOn (change_at {A = A}) (group_at {A = A}) 0x54 total flags rest (tail_at within total flags rest) answer
-  GoesOnAs kinds.Patches total flags within rest answer = GoesOn (patch_at {A = A}) (patch_group_at {A = A}) 0x50 total flags rest (tail_at within total flags rest) answer
+  abbrev pub GoesOnAs : Kind → ℕ → List Bool → Option (ChangeCursor A) → List ℕ → Option BlobFault → Type 0
+  GoesOnAs kinds.Changes total flags within rest answer =
+      GoesOn (change_at {A = A}) (group_at {A = A}) 0x54 total flags rest
+      (tail_at within total flags rest) answer
+  GoesOnAs kinds.Patches total flags within rest answer =
+      GoesOn (patch_at {A = A}) (patch_group_at {A = A}) 0x50 total flags rest
+      (tail_at within total flags rest) answer
 
-  -- Whatever follows these bytes, the outcome is that of what is left of them, in a group of these columns and in
-  -- a change or between two.
-  unfoldable pub Leads : List ℕ → Kind → List Bool → Option (Within A) → List ℕ → Type 0
-  Leads bytes kind flags within rest = (more : List ℕ) → GoesOnAs kind (length (bytes ++ more)) flags within (rest ++ more) (outcome (blob_at {A = A} (bytes ++ more)))
+  -- Whatever follows these bytes, the outcome is that of the rest of them, in a group of these columns,
+  -- inside a change or between two.
+  unfoldable pub Leads : List ℕ → Kind → List Bool → Option (ChangeCursor A) → List ℕ → Type 0
+  Leads bytes kind flags within rest =
+      (more : List ℕ) →
+      GoesOnAs kind (length (bytes ++ more)) flags within (rest ++ more)
+      (outcome (blob_at {A = A} (bytes ++ more)))
 
-  -- A decoder that answered a fault has it. One that found no memory stays as it was.
+  -- A decoder that answered a fault has it. One that is out of memory is unchanged.
   abbrev pub KeepsFault : Result (Unit {0}) (Fault BlobFault) → List ℕ → List ℕ → Type 0
   KeepsFault (Ok x) old new = Unit {0}
   KeepsFault (Err (Refused fault)) old new = lasting (blob_at {A = A} new) ≡ Err fault
   KeepsFault (Err OutOfMemory) old new = new ≡ old
 
 module _ {A : Type 0} where
-  -- the bytes from there on are still to be looked at
-  abbrev pub IsPlace : List ℕ → Place A → Type 0
-  IsPlace bytes place = (place.at ≤ length bytes) × Leads A bytes place.kind place.schema place.within (drop place.at bytes)
+  -- the bytes from the position on are still to be scanned
+  abbrev pub IsPlace : List ℕ → ScanPosition A → Type 0
+  IsPlace bytes place =
+      (place.at ≤ length bytes) × Leads A bytes place.kind place.schema place.within (drop place.at bytes)
 
-  -- Looking went on over the fields of a change, up to its end or to where it is cut.
-  abbrev pub Passes : Result (Place A) (Fault BlobFault) → List ℕ → ℕ → Type 0
-  Passes (Ok place) bytes at = IsPlace bytes place × (at ≤ place.at) × IfSome place.within (λ within. lasting (blob_at {A = A} bytes) ≡ Ok tt)
+  -- The scan passed the fields of a change, up to its end or to where it is cut.
+  abbrev pub Passes : Result (ScanPosition A) (Fault BlobFault) → List ℕ → ℕ → Type 0
+  Passes (Ok place) bytes at =
+      IsPlace bytes place × (at ≤ place.at)
+      × IfSome place.within (λ within. lasting (blob_at {A = A} bytes) ≡ Ok tt)
   Passes (Err (Refused fault)) bytes at = lasting (blob_at {A = A} bytes) ≡ Err fault
   Passes (Err OutOfMemory) bytes at = Unit {0}
 
-  -- Looking went on into a change or over a header, where the bytes are not cut before.
-  abbrev pub Steps : Result (Step A) (Fault BlobFault) → List ℕ → ℕ → Type 0
+  -- The scan entered a change or passed a header, where the bytes are not cut before.
+  abbrev pub Steps : Result (Advance A) (Fault BlobFault) → List ℕ → ℕ → Type 0
   Steps (Ok (On place)) bytes at = IsPlace bytes place × (at < place.at)
   Steps (Ok (Cut place)) bytes at = (lasting (blob_at {A = A} bytes) ≡ Ok tt) × IsPlace bytes place
   Steps (Err (Refused fault)) bytes at = lasting (blob_at {A = A} bytes) ≡ Err fault
   Steps (Err OutOfMemory) bytes at = Unit {0}
 
-  -- Looking went on to this place, or to the fault that lasts.
-  abbrev pub GoesTo : Result (Place A) (Fault BlobFault) → List ℕ → Type 0
+  -- The scan reached this position, or the lasting fault.
+  abbrev pub GoesTo : Result (ScanPosition A) (Fault BlobFault) → List ℕ → Type 0
   GoesTo (Ok place) bytes = (lasting (blob_at {A = A} bytes) ≡ Ok tt) × IsPlace bytes place
   GoesTo (Err (Refused fault)) bytes = lasting (blob_at {A = A} bytes) ≡ Err fault
   GoesTo (Err OutOfMemory) bytes = Unit {0}
 
-  -- There is a first place, or no whole header yet, or a fault that lasts.
-  abbrev pub Begins : Result (Option (Place A)) (Fault BlobFault) → List ℕ → Type 0
+  -- There is a first position, or no complete header yet, or a lasting fault.
+  abbrev pub Begins : Result (Option (ScanPosition A)) (Fault BlobFault) → List ℕ → Type 0
   Begins (Ok None) bytes = lasting (blob_at {A = A} bytes) ≡ Ok tt
   Begins (Ok (Some place)) bytes = IsPlace bytes place
   Begins (Err (Refused fault)) bytes = lasting (blob_at {A = A} bytes) ≡ Err fault
   Begins (Err OutOfMemory) bytes = Unit {0}
 
-  abbrev pub Scans : Result (Option (Place A)) (Fault BlobFault) → List ℕ → Type 0
+  abbrev pub Scans : Result (Option (ScanPosition A)) (Fault BlobFault) → List ℕ → Type 0
   Scans (Ok place) bytes = (lasting (blob_at {A = A} bytes) ≡ Ok tt) × IfSome place (IsPlace bytes)
   Scans (Err (Refused fault)) bytes = lasting (blob_at {A = A} bytes) ≡ Err fault
   Scans (Err OutOfMemory) bytes = Unit {0}
 
-  -- the bytes of a decoder, how far it looked at them, and the fault that it answered
-  abbrev pub IsLookedAt : List ℕ → Option (Place A) → Option BlobFault → Type 0
+  -- the bytes of a decoder, how far they are scanned, and the fault that it answered
+  abbrev pub IsLookedAt : List ℕ → Option (ScanPosition A) → Option BlobFault → Type 0
   IsLookedAt bytes place None = (lasting (blob_at {A = A} bytes) ≡ Ok tt) × IfSome place (IsPlace bytes)
   IsLookedAt bytes place (Some fault) = lasting (blob_at {A = A} bytes) ≡ Err fault

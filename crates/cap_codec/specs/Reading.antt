@@ -1,7 +1,8 @@
--- Reading a blob from left to right, with the first fault that is met and its place. Each reader takes the
--- bytes that are left, and gives a part and the bytes behind it. `total` is the blob's length, so that the
--- place of the first byte that is left is known.
-use Rattle.std.specs.Prelude.{◌≡◌, ℕ, ◌+◌, ◌-◌, ◌*◌, List, [], ◌∷◌, length, take, drop, Result, Ok, Err, nat_lt, ◌==◌, ◌&&◌, ◌||◌, if◌then◌else◌}
+-- Reading a blob from left to right, up to the first fault and its offset. Each reader takes the remaining
+-- bytes, and gives a part and the bytes behind it. `total` is the blob's length, so that the offset of the
+-- first remaining byte is known.
+use Rattle.std.specs.Prelude.{◌≡◌, ℕ, ◌+◌, ◌-◌, ◌*◌, List, [], ◌∷◌, length, take, drop, Result, Ok, Err}
+use Rattle.std.specs.Prelude.{nat_lt, ◌==◌, ◌&&◌, ◌||◌, if◌then◌else◌}
 use Rattle.cap_codec.specs.declared.fault.BlobFault.{BlobFault}
 use Rattle.cap_codec.specs.declared.fault.FaultKind.{FaultKind}
 use Rattle.cap_codec.specs.declared.fault.FaultKind.TheVariants.{Truncated, BadVarint}
@@ -11,7 +12,7 @@ abbrev pub ◌>>=◌ : {A B : Type 0} → Result A BlobFault → (A → Result B
 (Ok x) >>= f = f x
 (Err e) >>= f = Err e
 
--- What a function answered, seen by view, is what reading gives.
+-- What a function answered, by its view, is the reading.
 abbrev pub Reads : {X Y : Type 0} → (X → Y) → Result X BlobFault → Result Y BlobFault → Type 0
 Reads view (Ok x) read = read ≡ Ok (view x)
 Reads view (Err e) read = read ≡ Err e
@@ -19,7 +20,7 @@ Reads view (Err e) read = read ≡ Err e
 abbrev pub fault : {X : Type 0} → FaultKind → ℕ → Result X BlobFault
 fault kind at = Err (record { at = at; kind = kind })
 
--- where the first of the bytes that are left stands
+-- the offset of the first remaining byte
 abbrev pub place : ℕ → List ℕ → ℕ
 place total bytes = total - length bytes
 
@@ -28,9 +29,10 @@ byte_at total [] = fault Truncated total
 byte_at total (byte ∷ rest) = Ok (byte, rest)
 
 abbrev pub bytes_at : ℕ → ℕ → List ℕ → Result (List ℕ × List ℕ) BlobFault
-bytes_at total count bytes = if nat_lt (length bytes) count then fault Truncated total else Ok (take count bytes, drop count bytes)
+bytes_at total count bytes =
+    if nat_lt (length bytes) count then fault Truncated total else Ok (take count bytes, drop count bytes)
 
--- a number of which `read` bytes came before these, and gave `high`
+-- a varint of which `read` bytes came before these, with the value `high`
 abbrev pub varint_from : ℕ → ℕ → ℕ → ℕ → List ℕ → Result (ℕ × List ℕ) BlobFault
 varint_from total at read high [] = fault Truncated total
 varint_from total at read high (byte ∷ rest) =

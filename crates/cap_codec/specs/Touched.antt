@@ -1,4 +1,4 @@
--- Whether a touched key has changed, by its row when it was first touched and its row now.
+-- Whether the row of a touched key has changed, by its first image and its row now.
 use Rattle.std.specs.Prelude.{Bool, true, false, not, Option, Some, None}
 use Rattle.cap_row.specs.Fields.{Fields}
 use Rattle.cap_row.specs.Key.{fields_eq}

@@ -1,14 +1,14 @@
--- What can be written, and what it reads as.
+-- The lists that can be written, and what they are read as.
 use Rattle.std.specs.Prelude.{ℕ, Bool, true, false, List, [], ◌∷◌, IfSome, IsTrue, IsUtf8, All, filter}
 use Rattle.cap_value.specs.Bytes.{is_name}
 use Rattle.cap_value.specs.Value.{IsValue}
 use Rattle.cap_row.specs.Schema.{is_schema, has_key}
-use Rattle.cap_changes.specs.Record.{RecordFields}
+use Rattle.cap_changes.specs.FieldRecord.{RecordFields}
 use Rattle.cap_changes.specs.Group.{TableChanges}
 use Rattle.cap_changes.specs.PatchGroup.{TablePatches}
 use Rattle.cap_changes.specs.Fits.{AllChangesFit, AllPatchesFit}
-use Rattle.cap_changes.specs.declared.change.Change.{Change}
-use Rattle.cap_changes.specs.declared.change.Change.TheVariants as changed
+use Rattle.cap_changes.specs.declared.row_change.RowChange.{RowChange}
+use Rattle.cap_changes.specs.declared.row_change.RowChange.TheVariants as changed
 use Rattle.cap_changes.specs.declared.patch.Patch.{Patch}
 use Rattle.cap_changes.specs.declared.patch.Patch.TheVariants as patched
 use Rattle.cap_codec.specs.declared.key_flags.KeyFlags.{KeyFlags}
@@ -18,7 +18,7 @@ use Rattle.cap_codec.specs.declared.read.Contents.TheVariants.{Changes, Patches}
 use Rattle.cap_codec.specs.Changeset.{list_bytes_with}
 use Rattle.cap_codec.specs.Patchset.{patch_list_bytes_with}
 
--- a table's name and its columns, of which one at least is in the key
+-- a table's name and its columns, of which at least one is in the key
 pub record IsTable (table : List ℕ) (schema : List Bool) : Type 0 where
   pub name : IsTrue (is_name table)
   pub utf8 : IsUtf8 table
@@ -34,7 +34,7 @@ module _ {A : Type 0} where
   abbrev pub AreValues : RecordFields A → Type 0
   AreValues fields = All (λ field. IfSome field IsValue) fields
 
-  abbrev pub HasValues : Change A → Type 0
+  abbrev pub HasValues : RowChange A → Type 0
   HasValues (changed.Insert indirect new) = AreValues new
   HasValues (changed.Update indirect old new) = AreValues old × AreValues new
   HasValues (changed.Delete indirect old) = AreValues old
@@ -71,12 +71,13 @@ module _ {A : Type 0} where
   of_patches [] = Changes []
   of_patches (first ∷ others) = Patches (first ∷ others)
 
-  -- without the groups that have no change
+  -- without the empty groups
   abbrev pub with_some : Contents A → Contents A
   with_some (Changes groups) = Changes (filter (λ group. has_some group.changes) groups)
   with_some (Patches groups) = of_patches (filter (λ group. has_some group.changes) groups)
 
-  -- nothing of it would be left out
+  -- there is no empty group
   abbrev pub HasNoEmptyGroup : Contents A → Type 0
   HasNoEmptyGroup (Changes groups) = All (λ group. IsTrue (has_some group.changes)) groups
-  HasNoEmptyGroup (Patches groups) = IsTrue (has_some groups) × All (λ group. IsTrue (has_some group.changes)) groups
+  HasNoEmptyGroup (Patches groups) =
+      IsTrue (has_some groups) × All (λ group. IsTrue (has_some group.changes)) groups

@@ -1,4 +1,4 @@
-//! Blobs that come in pieces.
+//! An incremental decoder.
 
 ghost use Rattle.std.specs.Prelude.{◌≡◌, ◌++◌, [], Ok, Err, IfOk, OnOk};
 ghost use Rattle.cap_value.specs.declared.memory.Fault.TheVariants.{Refused};
@@ -11,24 +11,24 @@ ghost use Rattle.cap_codec.specs.Pieces.{lasting, KeepsFault};
 
 use crate::fault::BlobFault;
 use crate::read::{Contents, read_blob};
-use crate::scan::{Place, scan};
+use crate::scan::{ScanPosition, scan};
 use cap_value::{AllocHandle, Fault};
 use std::marker::Model;
 
-/// A blob that comes in pieces, of any lengths: it is cut anywhere.
+/// An incremental decoder of a blob in pieces of any lengths.
 ///
-/// It keeps the bytes. `feed` looks at each field of a change once, when it is whole, and copies none; `finish` reads
-/// all bytes once more. What is cut is looked at again with the next piece: of a field its first bytes alone, and a
-/// header, which has at most some 2,300 bytes, from its start.
+/// It keeps the bytes. `feed` scans each complete field of a change once and copies none; `finish` reads all
+/// bytes again. An incomplete field is scanned again with the next piece, and an incomplete header, of at
+/// most some 2,300 bytes, from its start.
 #[derive(Drop)]
 pub struct Decoder<A: AllocHandle> {
     alloc: A,
-    /// The bytes so far. None is added behind a fault.
+    // The bytes so far. None is added behind a fault.
     bytes: Vec<u8, A>,
-    /// How far the bytes were looked at, from the first header on. `None` also after a want of memory: the next piece
-    /// is then looked at together with all bytes before it.
-    place: Option<Place<A>>,
-    /// The fault that was answered.
+    // How far the bytes are scanned, from the first header on. `None` also after `OutOfMemory`: the next
+    // piece is then scanned with all bytes before it.
+    place: Option<ScanPosition<A>>,
+    // The fault that was answered, if any.
     fault: Option<BlobFault>,
 }
 
@@ -44,7 +44,7 @@ impl<A: AllocHandle> Model for Decoder<A> {
 }
 
 impl<A: AllocHandle> Decoder<A> {
-    /// A decoder without bytes. It takes no memory.
+    /// A decoder without bytes. Takes no memory.
     #[tactic(auto, unfolding(crate::specs::BlobReading::blob_at))]
     pub fn new(alloc: A) -> Self
         ensures { result ≡ [] }
@@ -57,11 +57,11 @@ impl<A: AllocHandle> Decoder<A> {
         }
     }
 
-    /// Takes the next piece. Refused with the fault of the bytes so far, where they have one that no more bytes
-    /// mend (any but `Truncated`), and from then on with the same. Its place is counted from the first byte ever fed.
-    /// Where there is no memory, the decoder stays as it was.
+    /// Takes the next piece. Refused with the fault of the bytes so far, where no further bytes can mend it
+    /// (any but `Truncated`), and from then on with the same fault. Its offset is counted from the first byte
+    /// ever fed. On `OutOfMemory` the decoder is unchanged.
     pub fn feed(&mut self, piece: &[u8]) -> Result<(), Fault<BlobFault>>
-        // A fault that no more bytes mend is answered again, and takes no memory.
+        // A fault that no further bytes can mend is answered again, and takes no memory.
         ensures again { (fault : Wrong) → lasting (blob_at {A = A} self.old) ≡ Err fault →
             result ≡ Err (Refused fault) }
         ensures answers { AnswersUnlessMemory result (lasting (blob_at {A = A} (self.old ++ piece.now))) }
@@ -90,12 +90,12 @@ impl<A: AllocHandle> Decoder<A> {
         }
     }
 
-    /// What is in the bytes, all of them, as `read_blob` answers it.
+    /// The contents of all the bytes, as `read_blob` answers.
     pub fn finish(self) -> Result<Contents<A>, Fault<BlobFault>>
-        // A fault that `feed` could tell takes no memory.
+        // A fault that `feed` answers takes no memory.
         ensures again { (fault : Wrong) → lasting (blob_at {A = A} self) ≡ Err fault →
             result ≡ Err (Refused fault) }
-        // As `read_blob` answers of all the bytes.
+        // As `read_blob` answers for all the bytes.
         ensures spelled { IfOk result (λ blob. Spells blob self) }
         ensures read { (blob : Spelled A) → Spells blob self → AnswersUnlessMemory result (Ok blob) }
         ensures answers { AnswersUnlessMemory result (blob_at self) }

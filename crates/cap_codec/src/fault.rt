@@ -1,4 +1,4 @@
-//! Why bytes are no blob.
+//! Faults of malformed blobs.
 
 ghost use Rattle.std.specs.Prelude.{◌≡◌};
 
@@ -6,27 +6,27 @@ use cap_value::Fault;
 use std::error::Error;
 use std::fmt;
 
-/// What is wrong with bytes that are no changeset and no patchset. Its text is its number and name; the
-/// numbers never change.
+/// The kinds of faults. The text of a kind is its number and name; the numbers never change.
 #[derive(Clone, Copy, Debug, PartialEq, Eq, Drop)]
 pub enum FaultKind {
     /// The blob ends inside a group's header or inside a change.
     Truncated,
-    /// The first byte is no kind of group, the column count is 0 or above 2,000, or no column is in the key.
+    /// The first byte is no group kind, the column count is 0 or above 2,000, or no column is in the key.
     BadHeader,
-    /// A number is not in its shortest spelling, or longer than five bytes.
+    /// A varint is not in its shortest form, or longer than five bytes.
     BadVarint,
     /// A table's name is empty, longer than 255 bytes, or not UTF-8.
     BadName,
-    /// After a header or a change comes a byte that begins neither a change nor a group.
+    /// A byte after a header or a change begins neither a change nor a group.
     BadOp,
-    /// A field's type byte has no meaning, or its length is above 1,000,000,000.
+    /// A field's type byte is unknown, or its length is above 1,000,000,000.
     BadField,
     /// A field is a REAL.
     Real,
     /// A text is not UTF-8.
     BadText,
-    /// A field is defined where it must not be, undefined where it must not be, or a key field is NULL.
+    /// A field does not satisfy its requirement: defined or undefined where it must not be, or a NULL key
+    /// field.
     BadRecord,
     /// A changeset's group follows a patchset's, or the other way round.
     Mixed,
@@ -49,12 +49,11 @@ impl fmt::Display for FaultKind {
     }
 }
 
-/// The first part of a blob, from left to right, that cannot be read.
+/// The first fault of a blob, from left to right.
 #[derive(Clone, Copy, Debug, PartialEq, Eq, Drop)]
 pub struct BlobFault {
-    /// The place of a byte, counted from 0: where the part begins, or the blob's length where it ends too early.
+    /// The offset of the part with the fault, or the blob's length where it ends too early.
     pub at: usize,
-    /// What is wrong there.
     pub kind: FaultKind,
 }
 

@@ -1,6 +1,7 @@
-//! The fields of a record as bytes.
+//! Encoding of the fields of a record.
 
-ghost use Rattle.std.specs.Prelude.{◌≡◌, ◌++◌, OnOk};
+ghost use mathlib.Core.List.{IsPrefix};
+ghost use Rattle.std.specs.Prelude.{◌≡◌, ◌++◌, OnErr, OnOk};
 ghost use Rattle.cap_codec.specs.Field.{number_bytes, sized_bytes, value_bytes};
 ghost use Rattle.cap_codec.specs.Field.{field_bytes, record_bytes, key_bytes};
 
@@ -12,7 +13,7 @@ use cap_value::{AllocHandle, OutOfMemory, Value};
 pub const UNDEFINED: u8 = 0x00;
 /// The type byte of an integer.
 pub const INTEGER: u8 = 0x01;
-/// The type byte of a REAL, which is never read.
+/// The type byte of a REAL, which is refused.
 pub const REAL: u8 = 0x02;
 /// The type byte of a text.
 pub const TEXT: u8 = 0x03;
@@ -22,7 +23,8 @@ pub const BLOB: u8 = 0x04;
 pub const NULL: u8 = 0x05;
 
 fn push_number<A: AllocHandle>(out: &mut Vec<u8, A>, number: i64) -> Result<(), OutOfMemory>
-    ensures { OnOk result (out.new.items ≡ out.old.items ++ number_bytes number) }
+    ensures bytes { OnOk result (out.new.items ≡ out.old.items ++ number_bytes number) }
+    ensures begins { OnErr result (IsPrefix out.old.items out.new.items) }
 {
     let mut bytes = [0; 8];
     BigEndian::write_i64(&mut bytes, number);
@@ -31,16 +33,18 @@ fn push_number<A: AllocHandle>(out: &mut Vec<u8, A>, number: i64) -> Result<(), 
 }
 
 fn push_sized<A: AllocHandle>(out: &mut Vec<u8, A>, bytes: &[u8]) -> Result<(), OutOfMemory>
-    ensures { OnOk result (out.new.items ≡ out.old.items ++ sized_bytes bytes.now) }
+    ensures bytes { OnOk result (out.new.items ≡ out.old.items ++ sized_bytes bytes.now) }
+    ensures begins { OnErr result (IsPrefix out.old.items out.new.items) }
 {
     push_varint(out, bytes.len())?;
     out.extend_from_slice(bytes)?;
     Ok(())
 }
 
-/// Puts a value last.
+/// Appends a value.
 pub fn push_value<A: AllocHandle>(out: &mut Vec<u8, A>, value: &Value<A>) -> Result<(), OutOfMemory>
-    ensures { OnOk result (out.new.items ≡ out.old.items ++ value_bytes value.now) }
+    ensures bytes { OnOk result (out.new.items ≡ out.old.items ++ value_bytes value.now) }
+    ensures begins { OnErr result (IsPrefix out.old.items out.new.items) }
 {
     match value {
         Value::Null => out.push(NULL)?,
@@ -73,7 +77,7 @@ fn push_field<A: AllocHandle>(
     Ok(())
 }
 
-/// Puts the fields of a record last, in column order.
+/// Appends the fields of a record, in column order.
 pub fn push_record<A: AllocHandle>(
     out: &mut Vec<u8, A>,
     fields: &[Option<Value<A>>],
@@ -86,7 +90,7 @@ pub fn push_record<A: AllocHandle>(
     Ok(())
 }
 
-/// Puts the fields of a record that are defined last, in column order.
+/// Appends the defined fields of a record, in column order.
 pub fn push_key<A: AllocHandle>(
     out: &mut Vec<u8, A>,
     fields: &[Option<Value<A>>],

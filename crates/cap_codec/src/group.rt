@@ -1,4 +1,4 @@
-//! The groups of a blob.
+//! Decoding of groups.
 
 ghost use Rattle.std.specs.Prelude.{◌≡◌, ◌≤◌, length, map, IfOk, IsTrue};
 ghost use Rattle.cap_value.specs.Bytes.{is_name};
@@ -34,7 +34,7 @@ fn set_flags<A: AllocHandle>(alloc: A, flags: &[u8]) -> Result<Vec<bool, A>, Out
     flags.iter().map(|flag| *flag != 0).collect(alloc)
 }
 
-/// The columns that key flags tell: any byte but zero flags a key column.
+/// The schema with these key flags: any byte but zero flags a key column.
 pub fn own_schema<A: AllocHandle>(alloc: A, flags: &[u8]) -> Result<Schema<A>, Fault<BlobFault>>
     requires some { 1 ≤ length flags.now }
     requires fits { length flags.now ≤ COLUMNS_MAX }
@@ -72,7 +72,7 @@ fn take_changes<'a, C: Decode<A> + Drop, A: AllocHandle>(
     Ok((group, rest))
 }
 
-/// A group behind its kind byte.
+/// The group behind its kind byte.
 pub fn take_group<C: Decode<A> + Drop, A: AllocHandle>(
     alloc: A,
     total: usize,

@@ -9,13 +9,14 @@ ghost use Rattle.cap_codec.specs.HeaderReading.{is_zero, is_set, count_at};
 ghost use Rattle.cap_codec.specs.HeaderReading.{flags_at, name_at, header_at, header_of};
 
 use crate::fault::{BlobFault, FaultKind};
-use crate::lent::{place_of, take_bytes, take_varint, text_in};
+use crate::field_ref::{place_of, take_bytes, take_varint, text_in};
 use cap_row::COLUMNS_MAX;
 use cap_value::NAME_MAX;
 
-/// A header as it stands in a blob: a byte a column, zero where it is not in the key, and the table's name.
+/// A header, as references into a blob: one byte for each column, zero where it is not in the key, and the
+/// table's name.
 #[derive(Clone, Copy)]
-pub struct LentHeader<'a> {
+pub struct HeaderRef<'a> {
     pub flags: &'a [u8],
     pub table: &'a str,
 }
@@ -59,7 +60,7 @@ fn take_flags(total: usize, count: usize, bytes: &[u8]) -> Result<(&[u8], &[u8])
     Ok((flags, rest))
 }
 
-/// The place of the first zero byte, where it stands among the first 256.
+// The offset of the first zero byte, where it is among the first 256.
 fn name_len(bytes: &[u8]) -> Option<usize>
     ensures first { result ≡ position is_zero (take 256 bytes.now) }
     ensures within { IfSome result (λ len. (len < length bytes.now) × (len ≤ NAME_MAX)) }
@@ -94,9 +95,9 @@ fn take_name(total: usize, bytes: &[u8]) -> Result<(&str, &[u8]), BlobFault>
     }
 }
 
-/// A header behind its kind byte.
+/// The header behind its kind byte.
 #[tactic(auto, unfolding(crate::specs::HeaderReading::header_at))]
-pub fn take_header(total: usize, bytes: &[u8]) -> Result<(LentHeader<'_>, &[u8]), BlobFault>
+pub fn take_header(total: usize, bytes: &[u8]) -> Result<(HeaderRef<'_>, &[u8]), BlobFault>
     ensures reads { Reads (λ x. (header_of x.0, x.1.now)) result (header_at total bytes.now) }
     ensures behind { IfOk result (λ x. length x.1.now ≤ length bytes.now) }
     ensures columns { IfOk result (λ x. (1 ≤ length x.0.flags.now) × (length x.0.flags.now ≤ COLUMNS_MAX)) }
@@ -106,5 +107,5 @@ pub fn take_header(total: usize, bytes: &[u8]) -> Result<(LentHeader<'_>, &[u8])
     let (count, rest) = take_count(total, bytes)?;
     let (flags, rest) = take_flags(total, count, rest)?;
     let (table, rest) = take_name(total, rest)?;
-    Ok((LentHeader { flags, table }, rest))
+    Ok((HeaderRef { flags, table }, rest))
 }

@@ -1,4 +1,4 @@
-//! Laws of blobs, over the grammar alone. The functions do nothing.
+//! Laws of blobs, over the grammar alone. The functions do nothing at run time.
 
 ghost use Rattle.std.specs.Prelude.{◌≡◌, ◌++◌, ℕ, List, Ok, Err};
 ghost use Rattle.cap_value.specs.Bytes.{AreBytes};
@@ -8,34 +8,35 @@ ghost use Rattle.cap_codec.specs.BlobReading.{blob_at};
 ghost use Rattle.cap_codec.specs.declared.fault.BlobFault.{BlobFault};
 ghost use Rattle.cap_codec.specs.Pieces.{lasting};
 ghost use Rattle.cap_codec.specs.Spelling.{Spells};
-ghost use Rattle.cap_codec.specs.Writable.{IsWritable, HasNoEmptyGroup, blob_bytes, blob_bytes_with, with_some};
+ghost use Rattle.cap_codec.specs.Writable.{IsWritable, HasNoEmptyGroup, blob_bytes, blob_bytes_with};
+ghost use Rattle.cap_codec.specs.Writable.{with_some};
 
 use cap_value::AllocHandle;
 
-/// Bytes are read as a blob where they spell it, and as no other.
+/// Bytes are read as a blob exactly where they spell it.
 pub fn read_is_spelled<A: AllocHandle>()
     ensures read { (bytes : List ℕ) (blob : Contents A) → Spells blob bytes → blob_at bytes ≡ Ok blob }
     ensures spelled { (bytes : List ℕ) (blob : Contents A) → AreBytes bytes → blob_at bytes ≡ Ok blob →
         Spells blob bytes }
 {}
 
-/// Each byte list spells at most one blob.
+/// Bytes spell at most one blob.
 pub fn no_bytes_spell_two<A: AllocHandle>()
     ensures { (bytes : List ℕ) (a b : Contents A) → Spells a bytes → Spells b bytes → a ≡ b }
 {}
 
-/// What is written for a list spells that list, without its groups that have no change.
+/// The written bytes of a list spell that list, without its empty groups.
 pub fn written_is_spelled<A: AllocHandle>()
     ensures { (blob : Contents A) → IsWritable blob → Spells (with_some blob) (blob_bytes blob) }
 {}
 
-/// What was written for a list reads as that list, without its groups that have no change.
+/// The written bytes of a list are read as that list, without its empty groups.
 pub fn written_is_read_again<A: AllocHandle>()
     ensures { (blob : Contents A) → IsWritable blob → blob_at (blob_bytes blob) ≡ Ok (with_some blob) }
 {}
 
-/// However the key columns are flagged, what was written for a list spells and reads as the same: that list,
-/// without its groups that have no change.
+/// With either key flags, the written bytes of a list spell and are read as that list, without its empty
+/// groups.
 pub fn key_flags_read_alike<A: AllocHandle>()
     ensures spelled { (key_flags : KeyFlags) (blob : Contents A) → IsWritable blob →
         Spells (with_some blob) (blob_bytes_with key_flags blob) }
@@ -43,13 +44,13 @@ pub fn key_flags_read_alike<A: AllocHandle>()
         blob_at (blob_bytes_with key_flags blob) ≡ Ok (with_some blob) }
 {}
 
-/// No two lists of groups with changes have the same bytes, of changesets or of patchsets.
+/// No two lists without empty groups have the same bytes, be they changesets or patchsets.
 pub fn no_two_have_the_same_bytes<A: AllocHandle>()
     ensures { (a b : Contents A) → IsWritable a → IsWritable b → HasNoEmptyGroup a → HasNoEmptyGroup b →
         blob_bytes a ≡ blob_bytes b → a ≡ b }
 {}
 
-/// A fault other than `Truncated` of a blob's front is the fault of the blob, whatever follows that front.
+/// A fault other than `Truncated` of a prefix is the fault of the blob, whatever follows.
 pub fn a_fault_lasts<A: AllocHandle>()
     ensures { (front more : List ℕ) (fault : BlobFault) → lasting (blob_at {A = A} front) ≡ Err fault →
         lasting (blob_at {A = A} (front ++ more)) ≡ Err fault }

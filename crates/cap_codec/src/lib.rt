@@ -1,30 +1,28 @@
-//! Changesets and patchsets as bytes, and bytes as changesets and patchsets (The Session Extension,
-//! "Changeset Format").
+//! Encoding and decoding of changesets and patchsets (The Session Extension, "Changeset Format").
 #![tactic(auto)]
 
-mod calls;
 mod change;
+mod change_cursor;
 mod decoder;
 mod fault;
 mod field;
+mod field_ref;
 mod group;
 mod header;
 mod key_flags;
 mod kind;
 mod laws;
-mod lent;
 mod operation;
 mod read;
 mod record;
 mod scan;
+mod source_and_sink;
 mod stream;
 mod touched;
 mod varint;
-mod within;
 mod writable;
 mod write;
 
-pub use calls::{Sink, Source};
 pub use decoder::Decoder;
 pub use fault::{BlobFault, FaultKind};
 pub use key_flags::KeyFlags;
@@ -33,6 +31,7 @@ pub use laws::{
     read_is_spelled, written_is_read_again, written_is_spelled,
 };
 pub use read::{Contents, read_blob};
+pub use source_and_sink::{Sink, Source};
 pub use stream::{ReadFault, WriteFault, read_from, write_changes_to, write_patches_to};
 pub use touched::{is_changed, push_change_between, push_group_header};
 pub use writable::{changes_are_writable, patches_are_writable};

@@ -7,16 +7,16 @@ ghost use Rattle.cap_codec.specs.Operation.{operation_byte};
 /// What a change does to a row.
 #[derive(Clone, Copy)]
 pub enum Operation {
-    /// Puts a new row in.
+    /// Inserts a row.
     Insert,
     /// Sets fields of a row.
     Update,
-    /// Takes a row out.
+    /// Deletes a row.
     Delete,
 }
 
 impl Operation {
-    /// The operation that the byte begins, none where it begins no change.
+    /// The operation of this byte, `None` where it begins no change.
     pub fn of(byte: u8) -> Option<Self>
         ensures byte { IfSome result (λ operation. byte ≡ operation_byte operation) }
         ensures some { IfSome result (λ _. is_operation byte ≡ true) }

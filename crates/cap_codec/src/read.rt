@@ -1,4 +1,4 @@
-//! Bytes as changesets and patchsets.
+//! Decoding of changesets and patchsets.
 
 ghost use Rattle.std.specs.Prelude.{◌≡◌, length, Ok, IfOk};
 ghost use Rattle.cap_value.specs.Memory.{AnswersUnlessMemory, ShowsUnlessMemory};
@@ -9,22 +9,22 @@ ghost use Rattle.cap_codec.specs.Spelling.{Spells};
 
 use crate::change::Decode;
 use crate::fault::{BlobFault, FaultKind};
+use crate::field_ref::place_of;
 use crate::group::take_group;
-use crate::lent::place_of;
 use crate::write::{CHANGESET, PATCHSET};
 use cap_changes::{ChangeList, GroupList, PatchList};
 use cap_value::{AllocHandle, Fault};
 
-/// What is in a blob.
+/// The contents of a blob.
 #[derive(Drop)]
 pub enum Contents<A: AllocHandle> {
-    /// A changeset, or no bytes at all.
+    /// A changeset. An empty blob is the empty changeset.
     Changes(ChangeList<A>),
     /// A patchset.
     Patches(PatchList<A>),
 }
 
-/// The fault of a byte that neither goes on with a group nor begins one of the blob's kind.
+/// The fault of a byte that neither continues a group nor begins one of the blob's kind.
 pub fn wrong_kind(kind: u8, at: usize) -> BlobFault
     ensures { result ≡ blob.wrong_kind kind at }
 {
@@ -99,14 +99,14 @@ fn take_blob<A: AllocHandle>(alloc: A, bytes: &[u8]) -> Result<Contents<A>, Faul
     }
 }
 
-/// What is in these bytes, all of them: a changeset or a patchset, of this program or of another. Refused
-/// with the first fault from left to right where they are no blob.
+/// Decodes a whole blob, a changeset or a patchset, written by this program or another. Refused with the
+/// first fault from left to right where it is malformed.
 pub fn read_blob<A: AllocHandle>(alloc: A, bytes: &[u8]) -> Result<Contents<A>, Fault<BlobFault>>
-    // What is read is spelled by the bytes, all of them.
+    // The bytes, all of them, spell what is read.
     ensures spelled { IfOk result (λ blob. Spells blob bytes.now) }
-    // What the bytes spell is read, and no fault is answered.
+    // What the bytes spell is read, without a fault.
     ensures read { (blob : Spelled A) → Spells blob bytes.now → AnswersUnlessMemory result (Ok blob) }
-    // Which fault it is.
+    // Which contents, or which fault.
     ensures answers { AnswersUnlessMemory result (blob_at bytes.now) }
 {
     take_blob(alloc, bytes)

@@ -1,15 +1,15 @@
-//! The records of a change.
+//! Decoding of the records of a change.
 
 ghost use Rattle.std.specs.Prelude.{◌≡◌, ◌≤◌, ◌++◌, ◌∷◌, [], length, IfOk, OnOk};
 ghost use Rattle.cap_value.specs.declared.text.TheConstants.{BYTES_MAX};
 ghost use Rattle.cap_value.specs.Memory.{ShowsUnlessMemory};
 ghost use Rattle.cap_codec.specs.FieldReading.{value_of, IsWithin};
-ghost use Rattle.cap_changes.specs.Demands.{demands, new_demands};
+ghost use Rattle.cap_changes.specs.Requirements.{requirements, new_requirements};
 ghost use Rattle.cap_codec.specs.RecordReading.{record_at};
 
 use crate::fault::BlobFault;
-use crate::lent::{Lent, take_field};
-use cap_changes::{Record, Rule, demand_beside};
+use crate::field_ref::{FieldRef, take_field};
+use cap_changes::{FieldRecord, RecordKind, requirement_beside};
 use cap_value::{AllocHandle, Blob, Fault, OutOfMemory, Text, Value};
 
 fn text_value<A: AllocHandle>(alloc: A, text: &str) -> Result<Value<A>, Fault<BlobFault>>
@@ -34,17 +34,17 @@ fn blob_value<A: AllocHandle>(alloc: A, bytes: &[u8]) -> Result<Value<A>, Fault<
     }
 }
 
-/// The field with bytes of its own.
-fn own<A: AllocHandle>(alloc: A, field: Lent<'_>) -> Result<Option<Value<A>>, Fault<BlobFault>>
+// An owned copy of the field.
+fn own<A: AllocHandle>(alloc: A, field: FieldRef<'_>) -> Result<Option<Value<A>>, Fault<BlobFault>>
     requires { IsWithin field }
     ensures { ShowsUnlessMemory (λ value. value) result (Ok (value_of {A = A} field.entry)) }
 {
     match field {
-        Lent::Undefined => Ok(None),
-        Lent::Null => Ok(Some(Value::Null)),
-        Lent::Int(number) => Ok(Some(Value::Int(number))),
-        Lent::Text(text) => Ok(Some(text_value(alloc, text)?)),
-        Lent::Blob(bytes) => Ok(Some(blob_value(alloc, bytes)?)),
+        FieldRef::Undefined => Ok(None),
+        FieldRef::Null => Ok(Some(Value::Null)),
+        FieldRef::Int(number) => Ok(Some(Value::Int(number))),
+        FieldRef::Text(text) => Ok(Some(text_value(alloc, text)?)),
+        FieldRef::Blob(bytes) => Ok(Some(blob_value(alloc, bytes)?)),
     }
 }
 
@@ -58,48 +58,48 @@ fn push_field<A: AllocHandle>(
     Ok(())
 }
 
-/// A record that is read by the schema's flags alone.
+/// A record of this kind.
 pub fn take_record<'a, A: AllocHandle>(
     alloc: A,
     total: usize,
-    rule: Rule,
+    record_kind: RecordKind,
     flags: &[bool],
     bytes: &'a [u8],
-) -> Result<(Record<A>, &'a [u8]), Fault<BlobFault>>
+) -> Result<(FieldRecord<A>, &'a [u8]), Fault<BlobFault>>
     ensures gives { ShowsUnlessMemory (λ x. (x.0, x.1.now)) result
-        (record_at total (demands rule flags.now) bytes.now) }
+        (record_at total (requirements record_kind flags.now) bytes.now) }
     ensures behind { IfOk result (λ x. length x.1.now ≤ length bytes.now) }
 {
-    // No more than there are bytes, so that a header alone takes no memory.
+    // Reserves no more than there are bytes, so that a header alone takes no memory.
     let mut fields = Vec::with_capacity(alloc, flags.len().min(bytes.len()))?;
     let mut rest = bytes;
     for key in flags {
-        let (field, after) = take_field::<A>(total, rule.demand(*key), rest)?;
+        let (field, after) = take_field::<A>(total, record_kind.requirement(*key), rest)?;
         push_field(&mut fields, own(alloc, field)?)?;
         rest = after;
     }
-    Ok((Record::new(fields), rest))
+    Ok((FieldRecord::new(fields), rest))
 }
 
-/// The new record of an UPDATE, behind its old record.
+/// The new record of an UPDATE, by its old record.
 pub fn take_new_record<'a, A: AllocHandle>(
     alloc: A,
     total: usize,
     flags: &[bool],
     old: &[Option<Value<A>>],
     bytes: &'a [u8],
-) -> Result<(Record<A>, &'a [u8]), Fault<BlobFault>>
+) -> Result<(FieldRecord<A>, &'a [u8]), Fault<BlobFault>>
     requires { length old.now ≡ length flags.now }
     ensures gives { ShowsUnlessMemory (λ x. (x.0, x.1.now)) result
-        (record_at total (new_demands flags.now old.now) bytes.now) }
+        (record_at total (new_requirements flags.now old.now) bytes.now) }
     ensures behind { IfOk result (λ x. length x.1.now ≤ length bytes.now) }
 {
     let mut fields = Vec::with_capacity(alloc, flags.len().min(bytes.len()))?;
     let mut rest = bytes;
     for (column, key) in flags.iter().enumerate() {
-        let (field, after) = take_field::<A>(total, demand_beside(*key, &old[column]), rest)?;
+        let (field, after) = take_field::<A>(total, requirement_beside(*key, &old[column]), rest)?;
         push_field(&mut fields, own(alloc, field)?)?;
         rest = after;
     }
-    Ok((Record::new(fields), rest))
+    Ok((FieldRecord::new(fields), rest))
 }

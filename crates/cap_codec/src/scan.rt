@@ -1,5 +1,5 @@
-//! Looking at the front of a blob, field by field: how far it is whole, and whether it has a fault that no more bytes
-//! mend.
+//! Scanning a prefix of a blob, field by field: how far it is complete, and whether it has a fault that no
+//! further bytes can mend.
 
 ghost use Rattle.std.specs.Prelude.{◌≡◌, ◌≤◌, ◌∷◌, length, drop, None, Ok, IfOk, IfSome};
 ghost use Rattle.cap_value.specs.Memory.{ShowsUnlessMemory};
@@ -7,42 +7,42 @@ ghost use Rattle.cap_codec.specs.Operation.{operation_byte};
 ghost use Rattle.cap_codec.specs.Pieces.{columns_at, kind_byte, may_mend, IsPlace};
 ghost use Rattle.cap_codec.specs.Pieces.{Passes, Steps, GoesTo, Begins, Scans};
 
+use crate::change_cursor::ChangeCursor;
 use crate::fault::{BlobFault, FaultKind};
+use crate::field_ref::{place_of, take_field};
 use crate::group::own_schema;
 use crate::header::take_header;
 use crate::kind::Kind;
-use crate::lent::{place_of, take_field};
 use crate::operation::Operation;
 use crate::read::wrong_kind;
-use crate::within::Within;
 use crate::write::{CHANGESET, PATCHSET};
 use cap_row::Schema;
 use cap_value::{AllocHandle, Fault};
 
-/// A place in a blob up to which its headers and the fields of its changes are whole and without a fault: between two
+/// A position up to which the headers and fields of a blob are complete and without a fault: between two
 /// changes, or inside one behind any of its fields.
 #[derive(Drop)]
-pub struct Place<A: AllocHandle> {
-    /// The kind of the blob's groups.
+pub struct ScanPosition<A: AllocHandle> {
+    // The kind of the blob's groups.
     kind: Kind,
-    /// The columns of the group in which it stands.
+    // The columns of the current group.
     schema: Schema<A>,
-    /// How far it stands inside a change. `None` between two.
-    within: Option<Within<A>>,
-    /// How many bytes were looked at.
+    // The cursor inside a change, `None` between two.
+    within: Option<ChangeCursor<A>>,
+    // How many bytes were scanned.
     at: usize,
 }
 
-/// How far one step went on from a place between two changes.
+// One step from a position between two changes.
 #[derive(Drop)]
-enum Step<A: AllocHandle> {
-    /// Behind a header, or into a change.
-    On(Place<A>),
-    /// Not at all: the bytes end before either.
-    Cut(Place<A>),
+enum Advance<A: AllocHandle> {
+    // Behind a header, or into a change.
+    On(ScanPosition<A>),
+    // None: the bytes end before either.
+    Cut(ScanPosition<A>),
 }
 
-/// Whether more bytes may mend the fault: the blob ends too early.
+// Whether further bytes may mend the fault: the blob ends too early.
 fn is_cut(fault: &Fault<BlobFault>) -> bool
     ensures { result ≡ may_mend fault.now }
 {
@@ -52,7 +52,7 @@ fn is_cut(fault: &Fault<BlobFault>) -> bool
     }
 }
 
-/// The columns of the header behind its kind byte, and what stands behind the header.
+// The columns of the header behind its kind byte, and the bytes behind the header.
 fn past_header<A: AllocHandle>(
     alloc: A,
     total: usize,
@@ -65,8 +65,11 @@ fn past_header<A: AllocHandle>(
     Ok((own_schema(alloc, header.flags)?, rest))
 }
 
-/// Goes on over the fields of the change in which the place stands, as far as they are whole.
-fn past_fields<A: AllocHandle>(bytes: &[u8], place: Place<A>) -> Result<Place<A>, Fault<BlobFault>>
+// Passes the fields of the current change, as far as they are complete.
+fn past_fields<A: AllocHandle>(
+    bytes: &[u8],
+    place: ScanPosition<A>,
+) -> Result<ScanPosition<A>, Fault<BlobFault>>
     requires { IsPlace bytes.now place }
     ensures { Passes result bytes.now place.at }
 {
@@ -76,8 +79,8 @@ fn past_fields<A: AllocHandle>(bytes: &[u8], place: Place<A>) -> Result<Place<A>
         return Ok(place);
     };
     let mut rest = &bytes[place.at..];
-    while let Some(demand) = inside.demand(place.schema.flags()) {
-        match take_field::<A>(total, demand, rest) {
+    while let Some(requirement) = inside.requirement(place.schema.flags()) {
+        match take_field::<A>(total, requirement, rest) {
             Ok((field, after)) => {
                 inside.pass(place.schema.flags(), field)?;
                 rest = after;
@@ -96,44 +99,44 @@ fn past_fields<A: AllocHandle>(bytes: &[u8], place: Place<A>) -> Result<Place<A>
     Ok(place)
 }
 
-/// Goes on into a change of which the operation byte was read, where its mark is there too.
+// Enters a change of which the operation byte was read, where its indirect flag is there too.
 fn into_change<A: AllocHandle>(
     alloc: A,
     bytes: &[u8],
-    place: Place<A>,
+    place: ScanPosition<A>,
     operation: Operation,
     behind: &[u8],
-) -> Step<A>
+) -> Advance<A>
     requires is { IsPlace bytes.now place }
     requires between { place.within ≡ None }
     requires parts { drop place.at bytes.now ≡ operation_byte operation ∷ behind.now }
     ensures { Steps (Ok result) bytes.now place.at }
 {
     match behind {
-        [] => Step::Cut(place),
-        [_, inside @ ..] => Step::On(Place {
+        [] => Advance::Cut(place),
+        [_, inside @ ..] => Advance::On(ScanPosition {
             kind: place.kind,
             schema: place.schema,
-            within: Some(Within::new(alloc, place.kind, operation)),
+            within: Some(ChangeCursor::new(alloc, place.kind, operation)),
             at: place_of(bytes.len(), inside),
         }),
     }
 }
 
-/// Goes on over a header of which the kind byte was read, where it is whole.
+// Passes a header of which the kind byte was read, where it is complete.
 fn over_header<A: AllocHandle>(
     alloc: A,
     bytes: &[u8],
-    place: Place<A>,
+    place: ScanPosition<A>,
     behind: &[u8],
-) -> Result<Step<A>, Fault<BlobFault>>
+) -> Result<Advance<A>, Fault<BlobFault>>
     requires is { IsPlace bytes.now place }
     requires between { place.within ≡ None }
     requires parts { drop place.at bytes.now ≡ kind_byte place.kind ∷ behind.now }
     ensures { Steps result bytes.now place.at }
 {
     match past_header(alloc, bytes.len(), behind) {
-        Ok((schema, rest)) => Ok(Step::On(Place {
+        Ok((schema, rest)) => Ok(Advance::On(ScanPosition {
             kind: place.kind,
             schema,
             within: None,
@@ -141,26 +144,26 @@ fn over_header<A: AllocHandle>(
         })),
         Err(fault) => {
             if is_cut(&fault) {
-                return Ok(Step::Cut(place));
+                return Ok(Advance::Cut(place));
             }
             Err(fault)
         }
     }
 }
 
-/// Goes on into the next change, or over the next header.
+// Enters the next change, or passes the next header.
 fn next_place<A: AllocHandle>(
     alloc: A,
     bytes: &[u8],
-    place: Place<A>,
-) -> Result<Step<A>, Fault<BlobFault>>
+    place: ScanPosition<A>,
+) -> Result<Advance<A>, Fault<BlobFault>>
     requires is { IsPlace bytes.now place }
     requires between { place.within ≡ None }
     ensures { Steps result bytes.now place.at }
 {
     let rest = &bytes[place.at..];
     match rest {
-        [] => Ok(Step::Cut(place)),
+        [] => Ok(Advance::Cut(place)),
         [first, behind @ ..] => {
             if let Some(operation) = Operation::of(*first) {
                 return Ok(into_change(alloc, bytes, place, operation, behind));
@@ -173,28 +176,31 @@ fn next_place<A: AllocHandle>(
     }
 }
 
-/// Goes on from a place over what is whole of these bytes.
+// Scans from a position, as far as the bytes are complete.
 fn scan_from<A: AllocHandle>(
     alloc: A,
     bytes: &[u8],
-    place: Place<A>,
-) -> Result<Place<A>, Fault<BlobFault>>
+    place: ScanPosition<A>,
+) -> Result<ScanPosition<A>, Fault<BlobFault>>
     requires { IsPlace bytes.now place }
     ensures { GoesTo result bytes.now }
 {
     let mut place = past_fields(bytes, place)?;
     while place.within.is_none() {
         match next_place(alloc, bytes, place)? {
-            Step::On(next) => place = past_fields(bytes, next)?,
-            Step::Cut(last) => return Ok(last),
+            Advance::On(next) => place = past_fields(bytes, next)?,
+            Advance::Cut(last) => return Ok(last),
         }
     }
     Ok(place)
 }
 
-/// The place behind the first header, where that is whole.
+// The position behind the first header, where it is complete.
 #[tactic(auto, unfolding(crate::specs::BlobReading::blob_at))]
-fn first_place<A: AllocHandle>(alloc: A, bytes: &[u8]) -> Result<Option<Place<A>>, Fault<BlobFault>>
+fn first_place<A: AllocHandle>(
+    alloc: A,
+    bytes: &[u8],
+) -> Result<Option<ScanPosition<A>>, Fault<BlobFault>>
     ensures { Begins result bytes.now }
 {
     match bytes {
@@ -208,18 +214,18 @@ fn first_place<A: AllocHandle>(alloc: A, bytes: &[u8]) -> Result<Option<Place<A>
     }
 }
 
-/// The place behind the first header, of which the kind byte was read.
+// The position behind the first header, of which the kind byte was read.
 fn place_behind<A: AllocHandle>(
     alloc: A,
     bytes: &[u8],
     kind: Kind,
     behind: &[u8],
-) -> Result<Option<Place<A>>, Fault<BlobFault>>
+) -> Result<Option<ScanPosition<A>>, Fault<BlobFault>>
     requires { bytes.now ≡ kind_byte kind ∷ behind.now }
     ensures { Begins result bytes.now }
 {
     match past_header(alloc, bytes.len(), behind) {
-        Ok((schema, rest)) => Ok(Some(Place {
+        Ok((schema, rest)) => Ok(Some(ScanPosition {
             kind,
             schema,
             within: None,
@@ -234,12 +240,13 @@ fn place_behind<A: AllocHandle>(
     }
 }
 
-/// Looks at what is whole of these bytes, from a place in them on. Refused with the fault that lasts.
+/// Scans what is complete of these bytes, from a position on. Refused with the fault that no further bytes
+/// can mend.
 pub fn scan<A: AllocHandle>(
     alloc: A,
     bytes: &[u8],
-    place: Option<Place<A>>,
-) -> Result<Option<Place<A>>, Fault<BlobFault>>
+    place: Option<ScanPosition<A>>,
+) -> Result<Option<ScanPosition<A>>, Fault<BlobFault>>
     requires { IfSome place (IsPlace bytes.now) }
     ensures { Scans result bytes.now }
 {

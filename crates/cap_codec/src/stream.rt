@@ -8,10 +8,10 @@ ghost use Rattle.cap_codec.specs.Changeset.{list_bytes};
 ghost use Rattle.cap_codec.specs.Patchset.{patch_list_bytes};
 ghost use Rattle.cap_codec.specs.Stream.{IsBlobOf, EndsReads, EndsWrites, WritesFront, WritesSome};
 
-use crate::calls::{Sink, Source};
 use crate::decoder::Decoder;
 use crate::fault::BlobFault;
 use crate::read::Contents;
+use crate::source_and_sink::{Sink, Source};
 use crate::write::{write_changes, write_patches};
 use cap_changes::{ChangeList, PatchList};
 use cap_value::{AllocHandle, Fault};
@@ -19,10 +19,10 @@ use std::io;
 use std::io::ErrorKind;
 use thiserror::Error;
 
-/// The most reads that one call makes of its reader.
+// The greatest number of reads of one call.
 const READS_MAX: u64 = 1 << 40;
 
-/// The most bytes of one read.
+// The greatest number of bytes of one read.
 const PIECE_LEN: usize = 4096;
 
 /// Why no blob was read.
@@ -34,7 +34,7 @@ pub enum ReadFault {
     /// A read failed, or the reader had not ended after 2^40 reads.
     #[error("a read failed")]
     Read,
-    /// There was no memory.
+    /// Out of memory.
     #[error("no memory for the blob")]
     Memory,
 }
@@ -53,13 +53,13 @@ impl From<Fault<BlobFault>> for ReadFault {
     }
 }
 
-/// Why a list was not written, or not all of it.
+/// Why a list was not written, or only in part.
 #[derive(Clone, Copy, Debug, PartialEq, Eq, Drop, Error)]
 pub enum WriteFault {
-    /// A write answered an error, or took no byte. What was written is a beginning of the bytes.
+    /// A write failed or took no byte. A prefix of the bytes was written.
     #[error("a write failed")]
     Write,
-    /// There was no memory. Nothing was written.
+    /// Out of memory. Nothing was written.
     #[error("no memory for the bytes")]
     Memory,
 }
@@ -70,15 +70,15 @@ fn is_interrupted(error: &io::Error) -> bool
     error.kind() == ErrorKind::Interrupted
 }
 
-/// What is in the bytes that the reader gives, read in pieces of at most 4,096 bytes: to the end, or to the piece
-/// that shows a fault, and then the rest is left unread. A read that was interrupted is tried again.
+/// The contents of the bytes from a reader, read in pieces of at most 4,096 bytes to the end, or to the piece
+/// that shows a fault. An interrupted read is tried again.
 pub fn read_from<A: AllocHandle, R: Source>(
     alloc: A,
     reader: &mut R,
 ) -> Result<Contents<A>, ReadFault>
     ensures blob { IfSome (R.remaining reader.old) (λ given. IsBlobOf result (blob_at given)) }
-    // Which answer is given where, as far as the reader tells its reads.
-    ensures told { EndsReads R.gave R.failed result reader.old reader.new }
+    // Which answer comes when, as far as the outcomes of the reads are known.
+    ensures reported { EndsReads R.gave R.failed result reader.old reader.new }
 {
     let mut piece = [0u8; PIECE_LEN];
     let mut decoder = Decoder::new(alloc);
@@ -100,12 +100,12 @@ pub fn read_from<A: AllocHandle, R: Source>(
     Err(ReadFault::Read)
 }
 
-/// Writes the bytes, all of them, as often as the writer takes some.
+// Writes all the bytes, in as many writes as needed.
 fn write_whole<W: Sink>(writer: &mut W, bytes: &[u8]) -> Result<(), WriteFault>
     ensures ok { OnOk result (Appends (W.contents writer.old) (W.contents writer.new) bytes.now) }
     ensures err { OnErr result (WritesSome (W.contents writer.old) (W.contents writer.new) bytes.now) }
     ensures only { IfErr result (λ fault. fault ≡ WriteFault.Write) }
-    ensures told { EndsWrites W.took W.failed result writer.old writer.new }
+    ensures reported { EndsWrites W.took W.failed result writer.old writer.new }
 {
     let mut rest = bytes;
     while !rest.is_empty() {
@@ -126,8 +126,8 @@ pub fn write_changes_to<A: AllocHandle, W: Sink>(
     ensures ok { OnOk result (Appends (W.contents writer.old) (W.contents writer.new) (list_bytes list.now)) }
     ensures err { IfErr result (λ fault.
         WritesFront fault (W.contents writer.old) (W.contents writer.new) (list_bytes list.now)) }
-    // Which answer is given where, as far as the writer tells its writes.
-    ensures told { EndsWrites W.took W.failed result writer.old writer.new }
+    // Which answer comes when, as far as the outcomes of the writes are known.
+    ensures reported { EndsWrites W.took W.failed result writer.old writer.new }
 {
     let bytes = write_changes(alloc, list).map_err(|_| WriteFault::Memory)?;
     write_whole(writer, bytes.as_slice())
@@ -143,8 +143,8 @@ pub fn write_patches_to<A: AllocHandle, W: Sink>(
         (Appends (W.contents writer.old) (W.contents writer.new) (patch_list_bytes list.now)) }
     ensures err { IfErr result (λ fault.
         WritesFront fault (W.contents writer.old) (W.contents writer.new) (patch_list_bytes list.now)) }
-    // Which answer is given where, as far as the writer tells its writes.
-    ensures told { EndsWrites W.took W.failed result writer.old writer.new }
+    // Which answer comes when, as far as the outcomes of the writes are known.
+    ensures reported { EndsWrites W.took W.failed result writer.old writer.new }
 {
     let bytes = write_patches(alloc, list).map_err(|_| WriteFault::Memory)?;
     write_whole(writer, bytes.as_slice())

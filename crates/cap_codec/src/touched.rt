@@ -1,6 +1,7 @@
-//! The change of one touched key as bytes, straight from its rows: no record is made.
+//! The change of one touched key as bytes, encoded from its rows without building a record.
 
-ghost use Rattle.std.specs.Prelude.{◌≡◌, ◌++◌, [], IsTrue, None, OnOk, Some, if◌then◌else◌};
+ghost use mathlib.Core.List.{IsPrefix};
+ghost use Rattle.std.specs.Prelude.{◌≡◌, ◌++◌, [], IsTrue, None, OnErr, OnOk, Some, if◌then◌else◌};
 ghost use Rattle.std.specs.List.{cons_option, flat_map};
 ghost use Rattle.std.specs.Option.{option_copied};
 ghost use Rattle.cap_changes.specs.Change as touched;
@@ -13,11 +14,12 @@ use crate::KeyFlags;
 use crate::field::{UNDEFINED, push_value};
 use crate::operation::Operation;
 use crate::write::{CHANGESET, push_header, push_operation};
+use cap_changes::is_modified;
 use cap_row::{Row, Schema};
 use cap_value::{AllocHandle, Name, OutOfMemory, Value};
 
-/// Whether the change of a touched key is one: there is a row where there was none, none where there was one, or one
-/// with other values. `image` is its row when it was first touched, `now` its row now.
+/// Whether the row of a touched key has changed: inserted, deleted, or with other values. `image` is its
+/// first image, `now` its row now.
 pub fn is_changed<A: AllocHandle>(image: Option<&Row<A>>, now: Option<&Row<A>>) -> bool
     ensures { result ≡ is_changed (option_copied image.entry) (option_copied now.entry) }
 {
@@ -28,25 +30,33 @@ pub fn is_changed<A: AllocHandle>(image: Option<&Row<A>>, now: Option<&Row<A>>) 
     }
 }
 
-/// Puts the header of a group of a changeset last, with its key columns flagged so.
+/// Appends the header of a group of a changeset, with these key flags.
 ///
-/// `OutOfMemory` leaves a beginning of its bytes behind the others.
+/// On an error the bytes are as before.
 pub fn push_group_header<A: AllocHandle>(
     out: &mut Vec<u8, A>,
     key_flags: KeyFlags,
     table: &Name<A>,
     schema: &Schema<A>,
 ) -> Result<(), OutOfMemory>
-    ensures { OnOk result (out.new.items
+    ensures bytes { OnOk result (out.new.items
         ≡ out.old.items ++ header_bytes key_flags 0x54 table.now schema.now) }
+    ensures kept { OnErr result (out.new.items ≡ out.old.items) }
 {
-    push_header(out, key_flags, CHANGESET, table, schema)
+    let before = out.len();
+    match push_header(out, key_flags, CHANGESET, table, schema) {
+        Ok(()) => Ok(()),
+        Err(_) => {
+            out.truncate(before);
+            Err(OutOfMemory)
+        }
+    }
 }
 
-/// Puts the change of a touched key last, as it stands in a changeset: the bytes of what `change_between` answers,
-/// which is not made.
+/// Appends the change of a touched key as in a changeset: the bytes of the change that `change_between`
+/// answers, which is not built.
 ///
-/// `OutOfMemory` leaves a beginning of its bytes behind the others.
+/// On an error the bytes are as before.
 pub fn push_change_between<A: AllocHandle>(
     out: &mut Vec<u8, A>,
     schema: &Schema<A>,
@@ -55,8 +65,32 @@ pub fn push_change_between<A: AllocHandle>(
     now: Option<&Row<A>>,
 ) -> Result<(), OutOfMemory>
     requires { IsTrue (is_changed (option_copied image) (option_copied now)) }
-    ensures { OnOk result (out.new.items ≡ out.old.items ++ flat_map change_bytes (cons_option
+    ensures bytes { OnOk result (out.new.items ≡ out.old.items ++ flat_map change_bytes (cons_option
         (touched.change_of schema.now indirect (option_copied image.entry) (option_copied now.entry)) [])) }
+    ensures kept { OnErr result (out.new.items ≡ out.old.items) }
+{
+    let before = out.len();
+    match push_change(out, schema, indirect, image, now) {
+        Ok(()) => Ok(()),
+        Err(_) => {
+            out.truncate(before);
+            Err(OutOfMemory)
+        }
+    }
+}
+
+// Appends the change. On an error a beginning of its bytes is appended.
+fn push_change<A: AllocHandle>(
+    out: &mut Vec<u8, A>,
+    schema: &Schema<A>,
+    indirect: bool,
+    image: Option<&Row<A>>,
+    now: Option<&Row<A>>,
+) -> Result<(), OutOfMemory>
+    requires { IsTrue (is_changed (option_copied image) (option_copied now)) }
+    ensures bytes { OnOk result (out.new.items ≡ out.old.items ++ flat_map change_bytes (cons_option
+        (touched.change_of schema.now indirect (option_copied image.entry) (option_copied now.entry)) [])) }
+    ensures begins { OnErr result (IsPrefix out.old.items out.new.items) }
 {
     match (image, now) {
         (None, None) => Ok(()),
@@ -76,9 +110,11 @@ pub fn push_change_between<A: AllocHandle>(
     }
 }
 
-// Puts a record last in which every field is defined.
+// Appends a record in which every field is defined.
 fn push_row<A: AllocHandle>(out: &mut Vec<u8, A>, row: &[Value<A>]) -> Result<(), OutOfMemory>
-    ensures { OnOk result (out.new.items ≡ out.old.items ++ record_bytes (touched.full_record row.now)) }
+    ensures bytes { OnOk result
+        (out.new.items ≡ out.old.items ++ record_bytes (touched.full_record row.now)) }
+    ensures begins { OnErr result (IsPrefix out.old.items out.new.items) }
 {
     for value in row {
         push_value(out, value)?;
@@ -86,15 +122,16 @@ fn push_row<A: AllocHandle>(out: &mut Vec<u8, A>, row: &[Value<A>]) -> Result<()
     Ok(())
 }
 
-// Puts the old record of an update last: the key fields and the modified fields, as they were.
+// Appends the old record of an update: the key fields and the modified fields, as they were.
 fn push_old<A: AllocHandle>(
     out: &mut Vec<u8, A>,
     flags: &[bool],
     image: &[Value<A>],
     now: &[Value<A>],
 ) -> Result<(), OutOfMemory>
-    ensures { OnOk result (out.new.items ≡ out.old.items
+    ensures bytes { OnOk result (out.new.items ≡ out.old.items
         ++ record_bytes (by_column touched.old_field flags.now image.now now.now)) }
+    ensures begins { OnErr result (IsPrefix out.old.items out.new.items) }
 {
     for (key, (image, now)) in flags.iter().zip(image.iter().zip(now)) {
         let modified = is_modified(*key, image, now);
@@ -103,15 +140,16 @@ fn push_old<A: AllocHandle>(
     Ok(())
 }
 
-// Puts the new record of an update last: the modified fields, as they are now.
+// Appends the new record of an update: the modified fields, as they are now.
 fn push_new<A: AllocHandle>(
     out: &mut Vec<u8, A>,
     flags: &[bool],
     image: &[Value<A>],
     now: &[Value<A>],
 ) -> Result<(), OutOfMemory>
-    ensures { OnOk result (out.new.items ≡ out.old.items
+    ensures bytes { OnOk result (out.new.items ≡ out.old.items
         ++ record_bytes (by_column touched.new_field flags.now image.now now.now)) }
+    ensures begins { OnErr result (IsPrefix out.old.items out.new.items) }
 {
     for (key, (image, now)) in flags.iter().zip(image.iter().zip(now)) {
         let modified = is_modified(*key, image, now);
@@ -120,20 +158,15 @@ fn push_new<A: AllocHandle>(
     Ok(())
 }
 
-fn is_modified<A: AllocHandle>(key: bool, image: &Value<A>, now: &Value<A>) -> bool
-    ensures { result ≡ touched.is_modified key image.now now.now }
-{
-    !key && image != now
-}
-
-// Puts a field last that has this value where it is defined.
+// Appends a field with this value, or an undefined one.
 fn push_if<A: AllocHandle>(
     out: &mut Vec<u8, A>,
     defined: bool,
     value: &Value<A>,
 ) -> Result<(), OutOfMemory>
-    ensures { OnOk result (out.new.items ≡ out.old.items
+    ensures bytes { OnOk result (out.new.items ≡ out.old.items
         ++ field_bytes (if defined then Some value.now else None)) }
+    ensures begins { OnErr result (IsPrefix out.old.items out.new.items) }
 {
     if defined {
         push_value(out, value)

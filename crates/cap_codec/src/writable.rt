@@ -1,4 +1,4 @@
-//! What every list of changes keeps, told to a proof.
+//! Lemmas on lists of changes: each can be written and is read again. They do nothing but visit each value.
 
 ghost use Rattle.std.specs.Prelude.{◌≡◌, All, IfSome, Ok};
 ghost use Rattle.cap_value.specs.Value.{IsValue};
@@ -9,7 +9,7 @@ ghost use Rattle.cap_codec.specs.Patchset.{patch_list_bytes};
 ghost use Rattle.cap_codec.specs.Writable.{AreValues, HasValues, PatchHasValues};
 ghost use Rattle.cap_codec.specs.Writable.{IsGroup, IsPatchGroup, IsWritable, with_some};
 
-use cap_changes::{Change, ChangeList, Group, Patch, PatchGroup, PatchList};
+use cap_changes::{ChangeList, Group, Patch, PatchGroup, PatchList, RowChange};
 use cap_value::{AllocHandle, Value};
 
 fn is_value<A: AllocHandle>(field: &Option<Value<A>>)
@@ -28,16 +28,16 @@ fn are_values<A: AllocHandle>(fields: &[Option<Value<A>>])
     }
 }
 
-fn has_values<A: AllocHandle>(change: &Change<A>)
+fn has_values<A: AllocHandle>(change: &RowChange<A>)
     ensures { HasValues change.now }
 {
     match change {
-        Change::Insert { new, .. } => are_values(new.fields()),
-        Change::Update { old, new, .. } => {
+        RowChange::Insert { new, .. } => are_values(new.fields()),
+        RowChange::Update { old, new, .. } => {
             are_values(old.fields());
             are_values(new.fields());
         }
-        Change::Delete { old, .. } => are_values(old.fields()),
+        RowChange::Delete { old, .. } => are_values(old.fields()),
     }
 }
 
@@ -51,7 +51,7 @@ fn patch_has_values<A: AllocHandle>(patch: &Patch<A>)
     }
 }
 
-fn have_values<A: AllocHandle>(changes: &[Change<A>])
+fn have_values<A: AllocHandle>(changes: &[RowChange<A>])
     ensures { All HasValues changes.now }
 {
     for change in changes {
@@ -83,8 +83,8 @@ fn is_patch_group<A: AllocHandle>(group: &PatchGroup<A>)
     patches_have_values(group.changes());
 }
 
-/// That whatever a list of changes holds can be written, and is read again as it was, without the groups that have
-/// no change. It tells a proof, and does nothing when it runs but look at each value.
+/// A lemma: a list of changes can be written, and is read again as it was, without its empty groups. At run
+/// time it only visits each value.
 pub fn changes_are_writable<A: AllocHandle>(list: &ChangeList<A>)
     ensures writable { IsWritable (kinds.Changes list.now) }
     ensures again { blob_at (list_bytes list.now) ≡ Ok (with_some (kinds.Changes list.now)) }
@@ -94,7 +94,7 @@ pub fn changes_are_writable<A: AllocHandle>(list: &ChangeList<A>)
     }
 }
 
-/// The same of a list of patches. A list without patches is read as the empty changeset.
+/// The same for a patchset. One without changes is read as the empty changeset.
 pub fn patches_are_writable<A: AllocHandle>(list: &PatchList<A>)
     ensures writable { IsWritable (kinds.Patches list.now) }
     ensures again { blob_at (patch_list_bytes list.now) ≡ Ok (with_some (kinds.Patches list.now)) }

@@ -1,9 +1,10 @@
-//! Changesets and patchsets as bytes.
+//! Encoding of changesets and patchsets.
 
-ghost use Rattle.std.specs.Prelude.{◌≡◌, ◌++◌, ◌∷◌, [], ℕ, List, OnOk, IfOk};
+ghost use mathlib.Core.List.{IsPrefix};
+ghost use Rattle.std.specs.Prelude.{◌≡◌, ◌++◌, ◌∷◌, [], ℕ, List, OnErr, OnOk, IfOk};
 ghost use Rattle.std.specs.List.{flat_map};
 ghost use Rattle.cap_codec.specs.declared.key_flags.KeyFlags.TheVariants.{Ones, Places};
-ghost use Rattle.cap_codec.specs.Changeset.{mark, flags_bytes, header_bytes, entries_bytes};
+ghost use Rattle.cap_codec.specs.Changeset.{flag_byte, flags_bytes, header_bytes, entries_bytes};
 ghost use Rattle.cap_codec.specs.Changeset.{list_bytes, list_bytes_with};
 ghost use Rattle.cap_codec.specs.Operation.{operation_byte};
 ghost use Rattle.cap_codec.specs.Patchset.{patch_list_bytes, patch_list_bytes_with};
@@ -12,7 +13,7 @@ use crate::field::{push_key, push_record};
 use crate::key_flags::KeyFlags;
 use crate::operation::Operation;
 use crate::varint::push_varint;
-use cap_changes::{Change, ChangeList, Entry, GroupList, Patch, PatchList, TableGroup};
+use cap_changes::{ChangeList, Entry, GroupList, Patch, PatchList, RowChange, TableGroup};
 use cap_row::Schema;
 use cap_value::{AllocHandle, Name, OutOfMemory};
 
@@ -22,7 +23,8 @@ pub const CHANGESET: u8 = 0x54;
 pub const PATCHSET: u8 = 0x50;
 
 fn push_ones<A: AllocHandle>(out: &mut Vec<u8, A>, flags: &[bool]) -> Result<(), OutOfMemory>
-    ensures { OnOk result (out.new.items ≡ out.old.items ++ flags_bytes Ones flags.now) }
+    ensures bytes { OnOk result (out.new.items ≡ out.old.items ++ flags_bytes Ones flags.now) }
+    ensures begins { OnErr result (IsPrefix out.old.items out.new.items) }
 {
     for flag in flags {
         out.push(*flag as u8)?;
@@ -31,7 +33,8 @@ fn push_ones<A: AllocHandle>(out: &mut Vec<u8, A>, flags: &[bool]) -> Result<(),
 }
 
 fn push_places<A: AllocHandle>(out: &mut Vec<u8, A>, flags: &[bool]) -> Result<(), OutOfMemory>
-    ensures { OnOk result (out.new.items ≡ out.old.items ++ flags_bytes Places flags.now) }
+    ensures bytes { OnOk result (out.new.items ≡ out.old.items ++ flags_bytes Places flags.now) }
+    ensures begins { OnErr result (IsPrefix out.old.items out.new.items) }
 {
     let mut place = 0u8;
     for flag in flags {
@@ -50,7 +53,8 @@ fn push_flags<A: AllocHandle>(
     key_flags: KeyFlags,
     flags: &[bool],
 ) -> Result<(), OutOfMemory>
-    ensures { OnOk result (out.new.items ≡ out.old.items ++ flags_bytes key_flags flags.now) }
+    ensures bytes { OnOk result (out.new.items ≡ out.old.items ++ flags_bytes key_flags flags.now) }
+    ensures begins { OnErr result (IsPrefix out.old.items out.new.items) }
 {
     match key_flags {
         KeyFlags::Ones => push_ones(out, flags),
@@ -58,7 +62,7 @@ fn push_flags<A: AllocHandle>(
     }
 }
 
-/// Puts the header of a group last: its kind, the columns with their key flags, and the table's name.
+/// Appends the header of a group: its kind, the columns with their key flags, and the table's name.
 pub fn push_header<A: AllocHandle>(
     out: &mut Vec<u8, A>,
     key_flags: KeyFlags,
@@ -66,8 +70,9 @@ pub fn push_header<A: AllocHandle>(
     table: &Name<A>,
     schema: &Schema<A>,
 ) -> Result<(), OutOfMemory>
-    ensures { OnOk result (out.new.items
+    ensures bytes { OnOk result (out.new.items
         ≡ out.old.items ++ header_bytes key_flags kind table.now schema.now) }
+    ensures begins { OnErr result (IsPrefix out.old.items out.new.items) }
 {
     out.push(kind)?;
     push_varint(out, schema.width())?;
@@ -77,36 +82,37 @@ pub fn push_header<A: AllocHandle>(
     Ok(())
 }
 
-/// Puts an operation byte last, and whether the change is indirect.
+/// Appends an operation byte and the indirect flag.
 pub fn push_operation<A: AllocHandle>(
     out: &mut Vec<u8, A>,
     operation: Operation,
     indirect: bool,
 ) -> Result<(), OutOfMemory>
-    ensures { OnOk result (out.new.items ≡ out.old.items
-        ++ operation_byte operation ∷ mark indirect ∷ []) }
+    ensures bytes { OnOk result (out.new.items ≡ out.old.items
+        ++ operation_byte operation ∷ flag_byte indirect ∷ []) }
+    ensures begins { OnErr result (IsPrefix out.old.items out.new.items) }
 {
     out.extend_from_slice(&[operation.byte(), indirect as u8])?;
     Ok(())
 }
 
-/// What a group holds, as bytes.
+/// An entry of a group that can be encoded.
 pub trait Encode<A: AllocHandle>: Entry {
-    // The byte that begins a group of these.
+    // The first byte of a group of these.
     ghost kind: { ℕ };
     // The bytes of one.
     ghost bytes: { Self → List ℕ };
 
-    /// The byte that begins a group of these.
+    /// The first byte of a group of these.
     fn kind() -> u8
         ensures { result ≡ kind };
 
-    /// Puts its bytes last.
+    /// Appends its bytes.
     fn push_to(&self, out: &mut Vec<u8, A>) -> Result<(), OutOfMemory>
         ensures { OnOk result (out.new.items ≡ out.old.items ++ bytes self.now) };
 }
 
-impl<A: AllocHandle> Encode<A> for Change<A> {
+impl<A: AllocHandle> Encode<A> for RowChange<A> {
     ghost use Rattle.cap_codec.specs.Changeset.{change_bytes};
 
     ghost kind = { 0x54 };
@@ -119,16 +125,16 @@ impl<A: AllocHandle> Encode<A> for Change<A> {
 
     fn push_to(&self, out: &mut Vec<u8, A>) -> Result<(), OutOfMemory> {
         match self {
-            Change::Insert { indirect, new } => {
+            RowChange::Insert { indirect, new } => {
                 push_operation(out, Operation::Insert, *indirect)?;
                 push_record(out, new.fields())?;
             }
-            Change::Update { indirect, old, new } => {
+            RowChange::Update { indirect, old, new } => {
                 push_operation(out, Operation::Update, *indirect)?;
                 push_record(out, old.fields())?;
                 push_record(out, new.fields())?;
             }
-            Change::Delete { indirect, old } => {
+            RowChange::Delete { indirect, old } => {
                 push_operation(out, Operation::Delete, *indirect)?;
                 push_record(out, old.fields())?;
             }
@@ -180,7 +186,7 @@ fn push_changes<C: Encode<A>, A: AllocHandle>(
     Ok(())
 }
 
-/// Puts a group last. A group without changes has no bytes.
+// Appends a group. A group without changes has no bytes.
 fn push_group<C: Encode<A>, A: AllocHandle>(
     out: &mut Vec<u8, A>,
     key_flags: KeyFlags,
@@ -212,8 +218,8 @@ fn write_groups<C: Encode<A>, A: AllocHandle>(
     Ok(out)
 }
 
-/// The bytes of a changeset: its groups one after the other, in the list's order (The Session Extension,
-/// "Changeset Format"). A group without changes has no bytes. Each key column is flagged by `01`.
+/// The bytes of a changeset: its groups in order (The Session Extension, "Changeset Format"). A group without
+/// changes has no bytes. Each key column is flagged by `01`.
 pub fn write_changes<A: AllocHandle>(
     alloc: A,
     list: &ChangeList<A>,
@@ -223,8 +229,8 @@ pub fn write_changes<A: AllocHandle>(
     write_groups(alloc, KeyFlags::Ones, list)
 }
 
-/// The bytes of a changeset, with the key columns flagged so. SQLite applies a group with a key of several columns
-/// only where they are flagged by their places.
+/// The bytes of a changeset, with these key flags. SQLite applies a group with a key of several columns only
+/// where they are `KeyFlags::Places`.
 pub fn write_changes_with<A: AllocHandle>(
     alloc: A,
     key_flags: KeyFlags,
@@ -235,8 +241,8 @@ pub fn write_changes_with<A: AllocHandle>(
     write_groups(alloc, key_flags, list)
 }
 
-/// The bytes of a patchset: its groups one after the other, in the list's order (The Session Extension,
-/// "Changeset Format"). A group without patches has no bytes. Each key column is flagged by `01`.
+/// The bytes of a patchset: its groups in order (The Session Extension, "Changeset Format"). A group without
+/// changes has no bytes. Each key column is flagged by `01`.
 pub fn write_patches<A: AllocHandle>(
     alloc: A,
     list: &PatchList<A>,
@@ -246,8 +252,8 @@ pub fn write_patches<A: AllocHandle>(
     write_groups(alloc, KeyFlags::Ones, list)
 }
 
-/// The bytes of a patchset, with the key columns flagged so. SQLite applies a group with a key of several columns
-/// only where they are flagged by their places.
+/// The bytes of a patchset, with these key flags. SQLite applies a group with a key of several columns only
+/// where they are `KeyFlags::Places`.
 pub fn write_patches_with<A: AllocHandle>(
     alloc: A,
     key_flags: KeyFlags,

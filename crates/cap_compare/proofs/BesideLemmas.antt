@@ -1,4 +1,4 @@
--- Two lists of entries beside each other: the first key of either, and what stands at a key.
+-- Two merged lists of entries: the first key of either, and the values at a key.
 use Rattle.std.proofs.Common.{◌≡◌, true, false, cond, Option, Some, None, List, [], ◌∷◌, drop, refl, sym, ap, ap₂, subst, ◌∙◌}
 use Rattle.std.specs.Prelude.{fold}
 use Rattle.std.specs.declared.cmp.Ordering.{Ordering}
@@ -135,7 +135,7 @@ module _ {K V W : Type 0} (cmp : K → K → Ordering) where
         pub both_there : cmp x.0 y.0 ≡ Equal → beside cmp f s ≡ (y.0, (Some x.1, Some y.1)) ∷ beside cmp (drop 1 f) (drop 1 s)
         both_there same = heads ∙ beside_both x (drop 1 f) y (drop 1 s) (reversed o x.0 y.0 Equal same) above_y
 
-    -- ---- what stands at a key
+    -- ---- the values at a key
 
     fold-ordered : (m : List (K × (Option V × Option W))) (ys : List (K × W)) → IsOrdered cmp m → IsOrdered cmp (fold (put_beside cmp) m ys)
     fold-ordered m [] s = s

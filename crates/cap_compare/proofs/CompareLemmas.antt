@@ -1,5 +1,6 @@
 -- The differences of two lists of rows are just the keys at which the rows differ.
-use Rattle.std.proofs.Common.{◌≡◌, true, false, cond, Option, Some, None, List, [], ◌∷◌, map, refl, sym, ap, ◌∙◌}
+use Rattle.std.proofs.Common.{◌≡◌, true, false, cond, Option, Some, None, List, [], ◌∷◌, map, refl, sym, ap, ◌∙◌, Bor}
+use Rattle.std.specs.Option.{option_copied}
 use Rattle.std.specs.Prelude.{filter_map}
 use Rattle.std.specs.declared.cmp.Ordering.TheVariants.{Less}
 use Rattle.std.specs.Ordering.{is_eq}
@@ -103,3 +104,8 @@ module _ {A : Type 0} where
 
   pub none_of_itself : (rows : List (Fields A × Fields A)) → AreDifferences rows rows (differences rows rows) → differences rows rows ≡ []
   none_of_itself rows are = none_found (differences rows rows) (λ key. are.each key ∙ image_at-same (get fields_cmp rows key))
+
+-- a table that is lent, and what it shows
+pub same_table : {X : Type 0} (lent : Option (Bor X)) (table : Bor X) (shown : X) → lent ≡ Some table → option_copied lent ≡ Some shown → table.now ≡ shown
+same_table None table shown is shows = cc
+same_table (Some other) table shown is shows = cc

@@ -1,23 +1,23 @@
-//! Going over two trees in step.
+//! Iteration over two trees in step.
 ghost use Rattle.std.specs.Prelude.{◌≡◌, List, length};
 ghost use Rattle.std.specs.Iterator.{at_most};
 ghost use Rattle.std.specs.Map.Iter.{ShowsInOrder, TakesFirst};
 ghost use Rattle.cap_tree.specs.Tree.{IsOrdered, get};
-ghost use Rattle.cap_compare.specs.Beside.{beside, both_at, lent_beside};
+ghost use Rattle.cap_compare.specs.Beside.{beside, both_at, values_beside};
 
-use crate::ahead::Ahead;
+use crate::peekable::Peekable;
 use cap_tree::Tree;
 use cap_value::AllocHandle;
 use std::cmp::Ordering;
 use std::iter::FusedIterator;
 use std::marker::Model;
 
-/// The keys of two trees that are still to come, in order, each with what either tree has there: at least one of
-/// them has a value.
+/// An iterator over the keys of two trees, in order, each with its value in either tree. At least one has a
+/// value.
 #[derive(Drop)]
 pub struct Beside<'a, K: Ord, V, W, A: AllocHandle> {
-    firsts: Ahead<'a, K, V, A>,
-    seconds: Ahead<'a, K, W, A>,
+    firsts: Peekable<'a, K, V, A>,
+    seconds: Peekable<'a, K, W, A>,
 }
 
 impl<'a, K: Ord, V, W, A: AllocHandle> Model for Beside<'a, K, V, W, A> {
@@ -34,18 +34,18 @@ impl<'a, K: Ord, V, W, A: AllocHandle> Model for Beside<'a, K, V, W, A> {
 }
 
 impl<'a, K: Ord, V, W, A: AllocHandle> Beside<'a, K, V, W, A> {
-    /// The keys of two trees, each key once and in order, with what either has there. Going over all of them takes
-    /// time in proportion to the entries of both.
+    /// The keys of two trees, each once and in order, with its value in either. A whole iteration takes time
+    /// in proportion to the entries of both.
     pub fn of(first: &'a Tree<K, V, A>, second: &'a Tree<K, W, A>) -> Self
         ensures rest { result ≡ beside K.cmp first.now second.now }
         ensures ordered { IsOrdered K.cmp result }
         ensures each { (key : K) → get K.cmp result key
             ≡ both_at (get K.cmp first.now key) (get K.cmp second.now key) }
-        ensures runs { ShowsInOrder (lent_beside {K = K} {V = V} {W = W}) }
+        ensures runs { ShowsInOrder (values_beside {K = K} {V = V} {W = W}) }
     {
         Beside {
-            firsts: Ahead::of(first.iter()),
-            seconds: Ahead::of(second.iter()),
+            firsts: Peekable::of(first.iter()),
+            seconds: Peekable::of(second.iter()),
         }
     }
 }
@@ -53,7 +53,7 @@ impl<'a, K: Ord, V, W, A: AllocHandle> Beside<'a, K, V, W, A> {
 impl<'a, K: Ord, V, W, A: AllocHandle> Iterator for Beside<'a, K, V, W, A> {
     type Item = (&'a K, Option<&'a V>, Option<&'a W>);
 
-    ghost next_gives = { TakesFirst lent_beside };
+    ghost next_gives = { TakesFirst values_beside };
 
     ghost remaining = { λ s. at_most (length s) };
 
@@ -89,8 +89,8 @@ impl<'a, K: Ord, V, W, A: AllocHandle> Iterator for Beside<'a, K, V, W, A> {
 
 impl<'a, K: Ord, V, W, A: AllocHandle> FusedIterator for Beside<'a, K, V, W, A> {}
 
-/// The keys of two lists of entries beside each other are in order, and each has with it what either list has there.
-/// The function does nothing: it tells a proof.
+/// A lemma: merging two lists of entries keeps the keys in order, and pairs each key with its value in either
+/// list. It does nothing at run time.
 pub fn entries_stand_beside<K: Ord, V, W>()
     ensures ordered { (first : List (K × V)) (second : List (K × W)) → IsOrdered K.cmp first →
         IsOrdered K.cmp (beside K.cmp first second) }

@@ -1,26 +1,33 @@
-ghost use Rattle.std.specs.Prelude.{◌≡◌, IfOk};
+//! The comparison of two tables.
+ghost use Rattle.std.specs.Prelude.{◌≡◌, IfOk, Some};
 ghost use Rattle.std.specs.Option.{option_copied};
-ghost use Rattle.cap_value.specs.Memory.{ShowsUnlessMemory};
-ghost use Rattle.cap_compare.specs.Compare.{compare, differences, difference_at, image_at};
+ghost use Rattle.std.specs.Result.{result_err};
+ghost use Rattle.cap_value.specs.Memory.{RefusesFirst, ShowsUnlessMemory};
+ghost use Rattle.cap_table.specs.Table.{TableState};
+ghost use Rattle.cap_compare.specs.Compare.{AreDifferences, compare, differences, difference_at, image_at};
 
-use crate::{Beside, Difference};
+use crate::{Beside, Difference, differences_are_just_those};
 use cap_row::{Key, Row};
 use cap_table::Table;
 use cap_tree::Tree;
 use cap_value::{AllocHandle, Fault, OutOfMemory, Refusal};
 
-/// The keys at which the keyed rows of two tables differ, in order, each with its row in the first table: those of a
-/// row that is in one of them alone, and those of two rows that are not the same (SQLite's sqlite3session_diff). Rows
-/// without a key are not compared.
+/// The keys at which two tables differ, in order, each with its row in the first table (SQLite's
+/// sqlite3session_diff): the row is in one table only, or the two rows differ. Rows without a key are not
+/// compared.
 ///
-/// Refused with `Incompatible` where there is no first table, or its columns are not those of the second. Takes time
-/// in proportion to the rows of both.
+/// Refused with `Incompatible` where there is no first table, or its columns are not those of the second.
+/// Takes time in proportion to the rows of both.
 pub fn compare<A: AllocHandle>(
     alloc: A,
     from: Option<&Table<A>>,
     to: &Table<A>,
 ) -> Result<Vec<Difference<A>, A>, Fault<Refusal>>
-    ensures { ShowsUnlessMemory (λ found. found.items) result (compare (option_copied from.entry) to.now) }
+    ensures found { ShowsUnlessMemory (λ found. found.items) result
+        (compare (option_copied from.entry) to.now) }
+    ensures just { (first : TableState A) → option_copied from.entry ≡ Some first
+        → IfOk result (λ found. AreDifferences first.keyed to.now.keyed found.items) }
+    ensures first { RefusesFirst (result_err (compare (option_copied from.entry) to.now)) result }
 {
     match from {
         Some(from) => {
@@ -28,6 +35,9 @@ pub fn compare<A: AllocHandle>(
                 return Err(Fault::Refused(Refusal::Incompatible));
             }
             let found = differences(alloc, from.keyed(), to.keyed())?;
+            // The numbers of rows show that their keys rise.
+            let _rows = (from.keyed().len(), to.keyed().len());
+            differences_are_just_those::<A>();
             Ok(found)
         }
         None => Err(Fault::Refused(Refusal::Incompatible)),
@@ -50,7 +60,7 @@ fn differences<A: AllocHandle>(
     Ok(found)
 }
 
-// What a key shows by its rows in both tables.
+// The difference at a key, by its rows in both tables.
 fn difference<A: AllocHandle>(
     key: &Key<A>,
     old: Option<&Row<A>>,

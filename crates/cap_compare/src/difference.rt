@@ -1,11 +1,12 @@
+//! One key at which two tables differ.
+
 use cap_row::{Key, Row};
 use cap_value::AllocHandle;
 
 /// A key at which two tables differ.
 #[derive(Drop)]
 pub struct Difference<A: AllocHandle> {
-    /// The key.
     pub key: Key<A>,
-    /// The row of the first table under the key, or its absence.
+    /// The row of the first table under the key, `None` where it has none.
     pub image: Option<Row<A>>,
 }

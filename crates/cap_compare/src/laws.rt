@@ -1,4 +1,4 @@
-//! Laws of comparing, over the definitions alone. The functions do nothing.
+//! Laws of comparison, over the definitions alone. The functions do nothing at run time.
 ghost use Rattle.std.specs.Prelude.{◌≡◌, List, []};
 ghost use Rattle.cap_row.specs.Fields.{Fields};
 ghost use Rattle.cap_row.specs.Key.{fields_cmp};
@@ -9,8 +9,8 @@ use crate::entries_stand_beside;
 use cap_row::{Key, Row};
 use cap_value::AllocHandle;
 
-/// The differences of two tables are just the keys at which their rows differ, in order, each with its row in the
-/// first table or its absence.
+/// The differences of two tables are exactly the keys at which their rows differ, in order, each with its row
+/// in the first table, if any.
 pub fn differences_are_just_those<A: AllocHandle>()
     ensures { (from to : List (Fields A × Fields A)) → IsOrdered fields_cmp from → IsOrdered fields_cmp to →
         AreDifferences from to (differences from to) }

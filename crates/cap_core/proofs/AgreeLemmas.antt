@@ -15,7 +15,7 @@ use Rattle.cap_core.specs.Past.{Past, is_accepted}
 use Rattle.cap_core.specs.Session.{session_of, sessions}
 use Rattle.cap_core.proofs.NumberLemmas.{apart_numbers, equal_numbers, numbered, passing, unequal_numbers}
 use Rattle.cap_core.proofs.SessionLemmas.{and_false, cond-same, flags-elsewhere, session-quiet, session-refused, silent-elsewhere, speaks_to}
-use Rattle.cap_core.proofs.ToldLemmas.{session-told, told_session}
+use Rattle.cap_core.proofs.FlagLemmas.{session-told, told_session}
 
 inside_first : (a number : ℕ) → (nat_le a number && nat_lt number (a + 0)) ≡ false
 inside_first a number = grind (arith, nat_tests)

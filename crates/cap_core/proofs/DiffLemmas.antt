@@ -42,7 +42,7 @@ module _ {X Y : Type 0} (test : X → Bool) (check : Y → Bool) (f : X → Opti
       inner (Some y) is rest = both (check y) _ is rest
 
 module _ {A : Type 0} (schema : List Bool) where
-  -- the row of the first table stands
+  -- the row of the first table is stored under its own key
   stands : Fields A × (Option (Fields A) × Option (Fields A)) → Bool
   stands row = image_stands (Some schema) row.0 row.1.0
 

@@ -22,26 +22,26 @@ use Rattle.cap_compare.specs.declared.difference.Difference.{Difference}
 use Rattle.cap_session.specs.declared.record.Record.{Record}
 use Rattle.cap_session.specs.Note.{touch_table, touches_found}
 use Rattle.cap_session.specs.Records.{Records, Touch as RowTouch, record_after, touch, with_touches}
-use Rattle.cap_session.specs.Session.{AttachedTables, SessionState, attach, attach_all, is_listed, record_of, restart, set_filter, records_of as attached_records}
+use Rattle.cap_session.specs.Session.{AttachedTables, SessionState, attach, attach_all, attached, enabled_as, indirect_as, is_listed, record_of, restart, set_filter, records_of as attached_records}
 use Rattle.cap_session.specs.Sessions.{session_numbered}
 use Rattle.cap_core.specs.declared.command.Command.{Command}
 use Rattle.cap_core.specs.declared.command.Command.TheVariants as command
 use Rattle.cap_core.specs.declared.event.Event.{Event}
 use Rattle.cap_core.specs.Answer.{answer, diff_reply, state_after}
 use Rattle.cap_core.specs.Diff.{compared as all_found, diff, diff_from, diff_to}
-use Rattle.cap_core.specs.Elsewhere.{AreQuiet, GivesRows, HoldsImages, IsDiffed, renews}
+use Rattle.cap_core.specs.AppliedCapture.{AreQuiet, GivesRows, HoldsImages, IsDiffed, renews}
 use Rattle.cap_core.specs.Flags.{is_indirect}
 use Rattle.cap_core.specs.History.{Databases, effect_of, event_effect, is_write, main, saved, snapshot}
 use Rattle.cap_core.specs.Outcome.{no_effect, outcome}
 use Rattle.cap_core.specs.Past.{Past, is_accepted}
 use Rattle.cap_core.specs.Session.{session_of, sessions}
-use Rattle.cap_core.specs.Transition.{attached, compared, enabled_as, indirect_as}
-use Rattle.cap_core.proofs.ElsewhereLemmas.{found-rising}
+use Rattle.cap_core.specs.Transition.{compared}
+use Rattle.cap_core.proofs.AppliedCaptureLemmas.{found-rising}
 use Rattle.cap_core.proofs.KeyedLemmas.{ordered}
 use Rattle.cap_core.proofs.NumberLemmas.{same_number}
 use Rattle.cap_core.proofs.SessionLemmas.{and_false, note-nothing, session-refused}
 use Rattle.cap_core.proofs.SmallLemmas.{either_false, other_false}
-use Rattle.cap_core.proofs.ToldLemmas.{session-told, told_session}
+use Rattle.cap_core.proofs.FlagLemmas.{session-told, told_session}
 use Rattle.cap_core.proofs.TouchedLemmas.{fields_same, get-find, put_entry-put, tied}
 
 no-write : (accepted writes renewed : Bool) → (accepted && (writes || renewed)) ≡ false → (accepted && writes) ≡ false
@@ -218,7 +218,7 @@ module _ {A : Type 0} where
 
   -- ---- the diff
 
-  -- what the image of a key tells of the two rows
+  -- what the image of a key says of the two rows
   image-first : (first last : Option (Fields A)) (image : Option (Fields A)) → image_at first last ≡ Some image → first ≡ image
   image-first None None image is = cc
   image-first None (Some new) image is = cc

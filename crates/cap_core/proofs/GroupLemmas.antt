@@ -1,19 +1,19 @@
 -- Groups of changes while they are made.
 use Rattle.std.proofs.Common.{◌≡◌, ℕ, Bool, Option, Some, None, Result, Ok, Err, IfOk, List, [], ◌∷◌, ◌++◌, append_assoc, refl, sym, ap, ◌∙◌}
 use Rattle.std.specs.List.{cons_option, filter_map}
-use Rattle.cap_changes.specs.declared.change.Change.{Change}
+use Rattle.cap_changes.specs.declared.row_change.RowChange.{RowChange}
 use Rattle.cap_changes.specs.Group.{TableChanges}
 use Rattle.cap_core.specs.Code.Grouped.{IsGroupOf, changes_in}
 
 module _ {A : Type 0} {name : List ℕ} {schema : List Bool} where
   -- a group of the table with one more change
-  pub same_group : (group : Option (TableChanges A)) (g : TableChanges A) (change : Change A) → group ≡ Some g → IsGroupOf name schema g → {made : TableChanges A} → made ≡ record g { changes = g.changes ++ change ∷ [] }
+  pub same_group : (group : Option (TableChanges A)) (g : TableChanges A) (change : RowChange A) → group ≡ Some g → IsGroupOf name schema g → {made : TableChanges A} → made ≡ record g { changes = g.changes ++ change ∷ [] }
       → made ≡ record { table = name; schema = schema; changes = changes_in group ++ change ∷ [] }
   same_group group g change is of made =
       made ∙ (λ i. record { table = of.table i; schema = of.schema_is i; changes = changes_in (sym is i) ++ change ∷ [] })
 
   -- the same of what a call gives
-  pub same_groups : {E : Type 0} (group : Option (TableChanges A)) (g : TableChanges A) (change : Change A) (r : Result (TableChanges A) E) → group ≡ Some g → IsGroupOf name schema g
+  pub same_groups : {E : Type 0} (group : Option (TableChanges A)) (g : TableChanges A) (change : RowChange A) (r : Result (TableChanges A) E) → group ≡ Some g → IsGroupOf name schema g
       → IfOk r (λ made. made ≡ record g { changes = g.changes ++ change ∷ [] })
       → IfOk r (λ made. made ≡ record { table = name; schema = schema; changes = changes_in group ++ change ∷ [] })
   same_groups group g change (Ok made) is of met = same_group group g change is of met

@@ -74,7 +74,7 @@ first_of_each-push (y ∷ names) x =
           ])
     ] refl
 
--- functions that agree at each listed name give the same list
+-- functions that are equal at each listed name give the same list
 pub map-listed : {X : Type 0} (f g : List ℕ → X) (names : List (List ℕ)) → ((name : List ℕ) → is_among name names ≡ true → f name ≡ g name) → map f names ≡ map g names
 map-listed f g [] same = refl
 map-listed f g (name ∷ names) same =
@@ -313,7 +313,7 @@ module _ {A : Type 0} where
             ∙ ap₂ (λ a b. a ++ b) changed (apart_diff session past name (event_diff session event past) diff_none))
       ]
 
-  -- ---- the touches by changes are those that a session is told of
+  -- ---- the touches by changes are those that a session records
 
   abbrev touch_at : ℕ → Past A → ℕ → Change A → Fields A → Touch A
   touch_at session past place change key =

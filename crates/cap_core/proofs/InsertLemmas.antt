@@ -16,8 +16,8 @@ use Rattle.cap_value.specs.declared.refusal.Refusal.TheVariants.{WrongWidth}
 use Rattle.cap_row.specs.Fields.{Fields}
 use Rattle.cap_row.specs.Key.{fields_cmp, fields_cmp_total, key_of}
 use Rattle.cap_changes.specs.Change.{change_of, full_record}
-use Rattle.cap_changes.specs.declared.change.Change.{Change}
-use Rattle.cap_changes.specs.declared.change.Change.TheVariants.{Insert as Inserted}
+use Rattle.cap_changes.specs.declared.row_change.RowChange.{RowChange}
+use Rattle.cap_changes.specs.declared.row_change.RowChange.TheVariants.{Insert as Inserted}
 use Rattle.cap_tree.specs.Tree.{get, put_entry}
 use Rattle.cap_table.specs.Operation.{placed, under_key, with_key}
 use Rattle.cap_table.specs.Table.{TableState}
@@ -85,10 +85,10 @@ never false = refl
 module _ {A : Type 0} where
   -- ---- changes under their keys
 
-  abbrev keyed : TableState A → Fields A × Record A → Option (Fields A × Change A)
+  abbrev keyed : TableState A → Fields A × Record A → Option (Fields A × RowChange A)
   keyed table touched = option_map (λ change. (touched.0, change)) (change_now table touched)
 
-  keyed-one : (key : Fields A) (change : Option (Change A)) (rest : List (Fields A × Change A)) (changes : List (Change A)) → map (λ k. k.1) rest ≡ changes
+  keyed-one : (key : Fields A) (change : Option (RowChange A)) (rest : List (Fields A × RowChange A)) (changes : List (RowChange A)) → map (λ k. k.1) rest ≡ changes
       → map (λ k. k.1) (cons_option (option_map (λ c. (key, c)) change) rest) ≡ cons_option change changes
   keyed-one key None rest changes is = is
   keyed-one key (Some change) rest changes is = ap (λ cs. change ∷ cs) is
@@ -97,15 +97,15 @@ module _ {A : Type 0} where
   keyed-map table [] = refl
   keyed-map table (touched ∷ rows) = keyed-one touched.0 (change_now table touched) (changes_by_key table rows) (filter_map (change_now table) rows) (keyed-map table rows)
 
-  passed : (key other : Fields A) (change : Option (Change A)) (rest : List (Fields A × Change A)) → eq_by_cmp fields_cmp key other ≡ false → get fields_cmp (cons_option (option_map (λ c. (other, c)) change) rest) key ≡ get fields_cmp rest key
+  passed : (key other : Fields A) (change : Option (RowChange A)) (rest : List (Fields A × RowChange A)) → eq_by_cmp fields_cmp key other ≡ false → get fields_cmp (cons_option (option_map (λ c. (other, c)) change) rest) key ≡ get fields_cmp rest key
   passed key other None rest apart = refl
   passed key other (Some change) rest apart = ap (λ b. cond b (Some change) (get fields_cmp rest key)) apart
 
-  met : (key : Fields A) (change : Change A) (found : Option (Change A)) (rest : List (Fields A × Change A)) → found ≡ Some change → get fields_cmp (cons_option (option_map (λ c. (key, c)) found) rest) key ≡ Some change
+  met : (key : Fields A) (change : RowChange A) (found : Option (RowChange A)) (rest : List (Fields A × RowChange A)) → found ≡ Some change → get fields_cmp (cons_option (option_map (λ c. (key, c)) found) rest) key ≡ Some change
   met key change found rest is =
       ap (λ o. get fields_cmp (cons_option (option_map (λ c. (key, c)) o) rest) key) is ∙ ap (λ b. cond (is_eq b) (Some change) (get fields_cmp rest key)) (tied_itself fields_cmp_total key)
 
-  keyed-put : (table : TableState A) (key : Fields A) (touched : Record A) (change : Change A) → change_now table (key, touched) ≡ Some change → (rows : Records A)
+  keyed-put : (table : TableState A) (key : Fields A) (touched : Record A) (change : RowChange A) → change_now table (key, touched) ≡ Some change → (rows : Records A)
       → get fields_cmp (changes_by_key table (put_entry fields_cmp rows key touched)) key ≡ Some change
   keyed-put table key touched change is [] = met key change (change_now table (key, touched)) [] is
   keyed-put table key touched change is (row ∷ rows) =
@@ -115,7 +115,7 @@ module _ {A : Type 0} where
         | Greater ↦ λ above. passed key row.0 (change_now table row) (changes_by_key table (put_entry fields_cmp rows key touched)) (ap is_eq above) ∙ keyed-put table key touched change is rows
       ] refl
 
-  some_group : (name : List ℕ) (schema : List Bool) (key : Fields A) (change : Change A) (changes : List (Fields A × Change A)) → get fields_cmp changes key ≡ Some change
+  some_group : (name : List ℕ) (schema : List Bool) (key : Fields A) (change : RowChange A) (changes : List (Fields A × RowChange A)) → get fields_cmp changes key ≡ Some change
       → group_of name schema (map (λ k. k.1) changes) ≡ Some (record { table = name; schema = schema; changes = map (λ k. k.1) changes })
   some_group name schema key change [] is = cc
   some_group name schema key change (c ∷ changes) is =
@@ -242,7 +242,7 @@ module _ {A : Type 0} where
         ∙ table_of-put (main past) name table-now name
         ∙ ap (λ o. cond (is_eq o) (Some table-now) (table_of (main past) name)) (tied_itself nat_list_cmp_total name)
 
-    abbrev change : Change A
+    abbrev change : RowChange A
     change = Inserted false (full_record row)
 
     here : get fields_cmp (changes_by_key table-now rows) key ≡ Some change

@@ -8,15 +8,14 @@ use Rattle.cap_row.specs.Fields.{Fields}
 use Rattle.cap_row.specs.Key.{fields_cmp, fields_cmp-Equal}
 use Rattle.cap_changes.specs.Change.{change_of, new_field, old_field}
 use Rattle.cap_changes.specs.Column.{by_column}
-use Rattle.cap_changes.specs.declared.change.Change.{Change}
-use Rattle.cap_changes.specs.declared.change.Change.TheVariants.{Update}
+use Rattle.cap_changes.specs.declared.row_change.RowChange.{RowChange}
+use Rattle.cap_changes.specs.declared.row_change.RowChange.TheVariants.{Update}
 use Rattle.cap_tree.specs.Tree.{get, put_entry}
 use Rattle.cap_table.specs.Table.{TableState}
 use Rattle.cap_txn.specs.Tables.{Tables, table_of}
 use Rattle.cap_session.specs.declared.record.Record.{Record}
 use Rattle.cap_session.specs.Records.{Records}
 use Rattle.cap_session.specs.Session.{SessionState, new_session}
-use Rattle.cap_core.specs.declared.limits.TheConstants.{SESSIONS_MAX}
 use Rattle.cap_core.specs.declared.command.Command.{Command}
 use Rattle.cap_core.specs.declared.command.Command.TheVariants as command
 use Rattle.cap_core.specs.declared.event.Event.{Event}
@@ -57,7 +56,7 @@ module _ {A : Type 0} where
   restored_by : (schema : List Bool) (indirect : Bool) (image : Option (Fields A)) → change_of schema indirect image image ≡ None
   restored_by schema indirect None = refl
   restored_by schema indirect (Some row) =
-      let changed : Option (Change A) = Some (Update indirect (by_column old_field schema row row) (by_column new_field schema row row)) in
+      let changed : Option (RowChange A) = Some (Update indirect (by_column old_field schema row row) (by_column new_field schema row row)) in
       ap (λ b. cond b None changed) (ap is_eq ((fields_cmp-Equal row row).1 refl))
 
   pub restored : (table : TableState A) (key : Fields A) (touched : Record A) → touched.image ≡ get fields_cmp table.keyed key → change_now table (key, touched) ≡ None
@@ -117,7 +116,7 @@ module _ {A : Type 0} where
   next-one_more s command.Read = refl
   next-one_more s (command.SaveAs name) = one_more-either (has_room_for s.saved name) (record (one_more s) { saved = put_entry bytes_cmp s.saved name s.main }) (one_more s)
   next-one_more s command.NewSession =
-      one_more-either (nat_le SESSIONS_MAX (length s.sessions)) (one_more s)
+      one_more-either (nat_le 64 (length s.sessions)) (one_more s)
       (record (one_more s) { sessions_made = s.sessions_made + 1; sessions = s.sessions ++ (s.sessions_made + 1, new_session) ∷ [] })
   next-one_more s (command.DropSession number) = refl
   next-one_more s (command.Attach number name) = changed_session-one_more s number _

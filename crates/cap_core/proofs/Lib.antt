@@ -2,7 +2,7 @@ pub mod Crossing
 pub mod AgreeLemmas
 pub mod DiffLemmas
 pub mod DiffedLemmas
-pub mod ElsewhereLemmas
+pub mod AppliedCaptureLemmas
 pub mod GroupLemmas
 pub mod HistoryLemmas
 pub mod InsertLemmas
@@ -18,7 +18,7 @@ pub mod SessionStandLemmas
 pub mod SmallLemmas
 pub mod SoundLemmas
 pub mod StayLemmas
-pub mod TellsLemmas
-pub mod ToldLemmas
+pub mod OutcomeLemmas
+pub mod FlagLemmas
 pub mod TouchedLemmas
-pub mod WrittenLemmas
+pub mod ChangesetBytesLemmas

@@ -10,9 +10,8 @@ use Rattle.cap_filter.specs.Rule.{Rule}
 use Rattle.cap_tree.specs.Tree.{put_entry}
 use Rattle.cap_apply.specs.Report.{ReportState}
 use Rattle.cap_session.specs.Note.{note}
-use Rattle.cap_session.specs.Session.{SessionState, attach_all, new_session, restart, set_filter}
+use Rattle.cap_session.specs.Session.{SessionState, attach_all, attached, enabled_as, indirect_as, new_session, restart, set_filter}
 use Rattle.cap_session.specs.Sessions.{session_numbered, with_session}
-use Rattle.cap_core.specs.declared.limits.TheConstants.{SESSIONS_MAX}
 use Rattle.cap_core.specs.declared.event.Event.{Event}
 use Rattle.cap_core.specs.declared.command.Command.{Command}
 use Rattle.cap_core.specs.declared.command.Command.TheVariants as command
@@ -26,11 +25,11 @@ use Rattle.cap_core.specs.History.{effect_of, event_effect, is_write, main, name
 use Rattle.cap_core.specs.Outcome.{Effect, no_effect, outcome}
 use Rattle.cap_core.specs.Past.{Past, is_accepted}
 use Rattle.cap_core.specs.Session.{session_of, sessions}
-use Rattle.cap_core.specs.Transition.{after_drop, after_new_session, after_save, after_write, attached, changed_session, compared, enabled_as, indirect_as, next, one_more, written}
+use Rattle.cap_core.specs.Transition.{after_drop, after_new_session, after_save, after_write, changed_session, compared, next, one_more, written}
 use Rattle.cap_core.proofs.HistoryLemmas.{map-map}
 use Rattle.cap_core.proofs.SessionLemmas.{and_false, effect-refused, flags-elsewhere, note-new, session-elsewhere, session-quiet, session-refused, silent-elsewhere, speaks_to}
 use Rattle.cap_core.proofs.NumberLemmas.{apart_numbers, equal_numbers, lookup-beyond, lookup-passing, made_before, numbered, passing, passing-push, same_number, with-passing, without-none, without-passing}
-use Rattle.cap_core.proofs.ToldLemmas.{attach-here, attach_all-here, compared-here, enabled-here, filter-here, indirect-here, restart-here}
+use Rattle.cap_core.proofs.FlagLemmas.{attach-here, attach_all-here, compared-here, enabled-here, filter-here, indirect-here, restart-here}
 
 accepted_version : (A : Type 0) (number : ℕ) (report : Option ReportState) → is_accepted {A = A} (version_reply number report) ≡ true
 accepted_version A number None = refl
@@ -148,7 +147,7 @@ module _ {A : Type 0} where
   next-new_session : (past : Past A) (by : ℕ) → IsLegalPast past
       → after_new_session (state_after past) ≡ state_after (event_by by command.NewSession (session_reply (state_after past)) ∷ past)
   next-new_session past by legal =
-      elim (nat_le SESSIONS_MAX (length (sessions past))) as (λ b. cond b (one_more (state_after past)) (record (one_more (state_after past)) { sessions_made = sessions_made past + 1; sessions = sessions past ++ (sessions_made past + 1, new_session) ∷ [] })
+      elim (nat_le 64 (length (sessions past))) as (λ b. cond b (one_more (state_after past)) (record (one_more (state_after past)) { sessions_made = sessions_made past + 1; sessions = sessions past ++ (sessions_made past + 1, new_session) ∷ [] })
       ≡ state_after (event_by by command.NewSession (cond b (refusal TooMany) (SessionMade (sessions_made past + 1))) ∷ past)) [
         | true ↦ after_refusal (event_by by command.NewSession (refusal TooMany)) past refl
         | false ↦

@@ -37,13 +37,13 @@ use Rattle.cap_core.specs.History.{event_effect, is_write, main, snapshot}
 use Rattle.cap_core.specs.Outcome.{Effect, is_of_row, no_effect}
 use Rattle.cap_core.specs.Past.{Past, is_accepted}
 use Rattle.cap_core.specs.Capture.{session_changes}
-use Rattle.cap_core.specs.Elsewhere.{AppliesWhole, HoldsImages, but_keyed, changes_in}
+use Rattle.cap_core.specs.AppliedCapture.{AppliesWhole, HoldsImages, but_keyed, changes_in}
 use Rattle.cap_core.specs.Restarts.{AppliesEach, HasRowsNow, HoldsFirst, IsSteady, captures, first_touched, touches_over}
 use Rattle.cap_core.specs.Session.{mark, session_of}
 use Rattle.cap_core.specs.Table.{AreWritable}
 use Rattle.cap_core.specs.Touch.{Touch, attach_list, attachings, changes_touch, diff_touches, event_attachings, event_changes, event_diff, event_touches, is_recorded, restarts, touch_of, touches, touches_of}
 use Rattle.cap_core.proofs.DiffedLemmas.{quiet-effect}
-use Rattle.cap_core.proofs.ElsewhereLemmas.{changes_apply, records-named}
+use Rattle.cap_core.proofs.AppliedCaptureLemmas.{changes_apply, records-named}
 use Rattle.cap_core.proofs.LawLemmas.{first_image}
 use Rattle.cap_core.proofs.StayLemmas.{event-keeps, row_stays}
 use Rattle.cap_core.proofs.HistoryLemmas.{is_among, is_among-first_of_each, none_of, table_names, table_names-append, touches-none, touches_of-append}
@@ -80,7 +80,7 @@ module _ {A : Type 0} where
   pub first-append : (xs ys : List (Touch A)) (name : List ℕ) (key : Fields A) → first_touched (xs ++ ys) name key ≡ sooner (first_touched xs name key) (first_touched ys name key)
   first-append xs ys name key = ap (λ pairs. option_map (λ touch. touch.image) (get fields_cmp pairs key)) (touches_of-append name xs ys) ∙ get-append key (touches_of name xs) (touches_of name ys)
 
-  -- the same of touches as a session is told of them
+  -- the same of touches as a session records them
   told_first : List (RowTouch A) → Fields A → Option (Option (Fields A))
   told_first [] key = None
   told_first (t ∷ touches) key = cond (eq_by_cmp fields_cmp key t.key) (Some t.image) (told_first touches key)

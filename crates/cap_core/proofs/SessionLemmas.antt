@@ -142,8 +142,8 @@ module _ {A : Type 0} where
     pub tables-silent : (session_of (event ∷ past) session).tables
         ≡ cond (is_enabled session past) (touch_tables (main past) (is_indirect session past) changes_made (attach_by_rule (rule_of session past) changes_made (session_of past session).tables)) (session_of past session).tables
     tables-silent =
-        let noted = touch_tables (main past) (is_indirect session past) changes_made (attach_by_rule (rule_of session past) changes_made (session_of past session).tables) in
-        elim (is_enabled session past) as (λ b. is_enabled session past ≡ b → (session_of (event ∷ past) session).tables ≡ cond b noted (session_of past session).tables) [
+        let staged = touch_tables (main past) (is_indirect session past) changes_made (attach_by_rule (rule_of session past) changes_made (session_of past session).tables) in
+        elim (is_enabled session past) as (λ b. is_enabled session past ≡ b → (session_of (event ∷ past) session).tables ≡ cond b staged (session_of past session).tables) [
           | true ↦ λ on. tables-on on
           | false ↦ λ off. tables-off off
         ] refl

@@ -16,7 +16,7 @@ use Rattle.cap_row.specs.Fields.{Fields}
 use Rattle.cap_row.specs.Key.{fields_cmp, fields_cmp-Equal, key_of, key_from, key_fields}
 use Rattle.cap_row.specs.Schema.{has_key}
 use Rattle.cap_changes.specs.Change.{IsKeyedRow, change_of}
-use Rattle.cap_changes.specs.declared.change.Change.{Change as RowChange}
+use Rattle.cap_changes.specs.declared.row_change.RowChange.{RowChange}
 use Rattle.cap_compare.specs.declared.difference.Difference.{Difference}
 use Rattle.cap_table.specs.Sound.{IsRising, IsTable, is_key_of, keyed_stands}
 use Rattle.cap_table.specs.Table.{TableState}
@@ -90,7 +90,7 @@ absent_found None e = refl
 absent_found (Some x) e = cc
 
 module _ {A : Type 0} where
-  -- a row that is found stands
+  -- a row that is found is stored under its own key
   pub stands-found : (table : TableState A) (key row : Fields A) → IsTable table → get fields_cmp table.keyed key ≡ Some row → keyed_stands table.schema key row ≡ true
   stands-found table key row sound is = found-passes fields_cmp (λ row. keyed_stands table.schema row.0 row.1) fields_same table.keyed key row sound.keyed is
 
@@ -109,7 +109,7 @@ module _ {A : Type 0} where
   image_stands-kept None after kept key image is = image_stands-none after key image is
   image_stands-kept (Some schema) after kept key image is = subst (λ found. image_stands found key image ≡ true) (sym (kept schema refl)) is
 
-  -- what stands goes on to stand where each table keeps its columns
+  -- what is sound stays sound where each table keeps its columns
   session_stands-kept : (before after : Tables A) → KeepsColumns before after → (session : SessionState A) → session_stands before session ≡ true → session_stands after session ≡ true
   session_stands-kept before after kept session =
       list_all-weaker (λ attached. records_stand (schema_of before attached.0) attached.1) (λ attached. records_stand (schema_of after attached.0) attached.1)
@@ -232,7 +232,8 @@ module _ {A : Type 0} where
 
   -- ---- a session among others
 
-  -- a session that is found stands, and so do all where one that stands comes in its place, or last, or where one goes
+  -- a session that is found is sound, and so are all where a sound one replaces it, is appended, or one is
+  -- removed
   pub numbered-stands : (database : Tables A) (sessions : NumberedSessions A) (number : ℕ) (session : SessionState A) → sessions_stand database sessions ≡ true → session_numbered sessions number ≡ Some session → session_stands database session ≡ true
   numbered-stands database [] number session all found = cc
   numbered-stands database (s ∷ sessions) number session all found =
@@ -291,7 +292,7 @@ module _ {A : Type 0} where
   pub stands-has_key : (schema : List Bool) (key row : Fields A) → keyed_stands schema key row ≡ true → has_key schema ≡ true
   stands-has_key schema key row is = key_fields-has_key schema row (key_from-some (key_fields schema row) key (stands-key_of schema key row is))
 
-  -- a row as wide as the table stands under its own key
+  -- a row as wide as the table is stored under its own key
   pub stands-own : (schema : List Bool) (key row : Fields A) → length row ≡ length schema → key_of schema row ≡ Some key → keyed_stands schema key row ≡ true
   stands-own schema key row wide own =
       both (nat_eq (length row) (length schema)) _ (grind (arith, nat_tests))

@@ -38,7 +38,7 @@ use Rattle.cap_txn.specs.declared.refused_at.RefusedAt.{RefusedAt}
 use Rattle.cap_apply.specs.Applied.{AppliedState}
 use Rattle.cap_apply.specs.Apply as applied
 use Rattle.cap_apply.specs.Apply.{apply, change_applied, change_in, changes_applied, concluded, counted, group_applied, groups_applied, keys_with, left_out, noted, nothing_applied, skipped_unless, with_row, with_row_in}
-use Rattle.cap_apply.specs.Asked.{Asked, asked_of}
+use Rattle.cap_apply.specs.Requested.{Requested, requested_of}
 use Rattle.cap_apply.specs.Policy.{is_made}
 use Rattle.cap_apply.specs.Row.{conflict_of, key_record_of, key_values, row_after}
 use Rattle.cap_apply.specs.Target.{columns_fit, fitting, target}
@@ -308,7 +308,7 @@ module _ {A : Type 0} where
     fitting-there flags None table is = cc
     fitting-there flags (Some other) table is = elim (columns_fit flags other.schema) as (λ b. cond b (Some other) None ≡ Some table → Some other ≡ Some table) [ true ↦ λ e. e | false ↦ λ e. cc ] is
 
-    change-more : (policy : Policy) (number : ℕ) (other : List ℕ) (flags : List Bool) (asked : Asked A) (state : AppliedState A) → AppliedMore state (change_applied policy number other flags asked state)
+    change-more : (policy : Policy) (number : ℕ) (other : List ℕ) (flags : List Bool) (asked : Requested A) (state : AppliedState A) → AppliedMore state (change_applied policy number other flags asked state)
     change-more policy number other flags asked state =
         elim (target state.database other flags) as (λ t. target state.database other flags ≡ t → AppliedMore state (change_in policy number other flags asked t state)) [
           | None ↦ λ _. nothing-more state state refl refl
@@ -332,7 +332,7 @@ module _ {A : Type 0} where
               (nothing-more state (left_out number kept) same.0 same.1)
         ] refl
 
-    changes-more : (policy : Policy) (other : List ℕ) (flags : List Bool) (asks : List (Asked A)) (number : ℕ) (state : AppliedState A) → AppliedMore state (changes_applied policy number other flags asks state)
+    changes-more : (policy : Policy) (other : List ℕ) (flags : List Bool) (asks : List (Requested A)) (number : ℕ) (state : AppliedState A) → AppliedMore state (changes_applied policy number other flags asks state)
     changes-more policy other flags [] number state = nothing-more state state refl refl
     changes-more policy other flags (asked ∷ asks) number state =
         one-then state (change_applied policy number other flags asked state) (λ next. changes_applied policy (number + 1) other flags asks next) (change-more policy number other flags asked state)
@@ -346,7 +346,7 @@ module _ {A : Type 0} where
     from-skipped state start (Ok left) same made = both-more state start left (nothing-more state start same.0 same.1) made
     from-skipped state start (Err why) same made = tt
 
-    groups-more : (policy : Policy) (groups : List (TableEntries (Asked A))) (place number : ℕ) (state : AppliedState A) → AppliedMore state (groups_applied policy place number groups state)
+    groups-more : (policy : Policy) (groups : List (TableEntries (Requested A))) (place number : ℕ) (state : AppliedState A) → AppliedMore state (groups_applied policy place number groups state)
     groups-more policy [] place number state = nothing-more state state refl refl
     groups-more policy (group ∷ groups) place number state =
         let there = is_some (target state.database group.table group.schema) in
@@ -390,7 +390,7 @@ module _ {A : Type 0} where
     outcome-stays : (now : SnapshotState A) (c : Command A) → EffectStays now.database (outcome now c)
     outcome-stays now (command.CreateTable other schema) = create-stays now.database other schema
     outcome-stays now (command.Commit batch) = commit-stays (stale batch.base now.version) now.database batch.ops
-    outcome-stays now (command.Apply blob policy) = applied-stays now.database (apply now.database blob policy) (groups-more policy (asked_of blob) 0 0 (nothing_applied now.database))
+    outcome-stays now (command.Apply blob policy) = applied-stays now.database (apply now.database blob policy) (groups-more policy (requested_of blob) 0 0 (nothing_applied now.database))
     outcome-stays now _ = λ _. refl
 
     pub row_stays : (now : SnapshotState A) (event : Event A) → list_any (is_of_row name key) (event_effect now event).changes ≡ false
@@ -478,7 +478,7 @@ module _ {A : Type 0} where
       outcome-keeps : (now : SnapshotState A) (c : Command A) → EffectKeeps now.database (outcome now c)
       outcome-keeps now (command.CreateTable other schema) = created-keeps now.database (create now.database other schema) (creates now.database other schema)
       outcome-keeps now (command.Commit batch) = commit-keeps (stale batch.base now.version) now.database batch.ops
-      outcome-keeps now (command.Apply blob policy) = applied-keeps now.database (apply now.database blob policy) (groups-more policy (asked_of blob) 0 0 (nothing_applied now.database))
+      outcome-keeps now (command.Apply blob policy) = applied-keeps now.database (apply now.database blob policy) (groups-more policy (requested_of blob) 0 0 (nothing_applied now.database))
       outcome-keeps now _ = nothing-keeps now.database
 
       pub event-keeps : (now : SnapshotState A) (event : Event A) → Keeps now.database (event_effect now event)

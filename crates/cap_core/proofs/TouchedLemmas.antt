@@ -156,7 +156,7 @@ module _ {A : Type 0} where
         | false ↦ λ t. touched_at-other (find fields_cmp q touches) (mark touches q)
       ] refl
 
-  -- a touch under its key, as a session is told of it
+  -- a touch under its key, as a session records it
   abbrev pub told : Fields A × Touch A → RowTouch A
   told found = record { key = found.0; image = found.1.image; indirect = found.1.indirect }
 

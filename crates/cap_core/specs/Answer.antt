@@ -1,5 +1,6 @@
 -- The state that a history leaves, the reply to a command after it, and which histories are legal.
-use Rattle.std.specs.Prelude.{◌≡◌, ℕ, Option, Some, None, Result, Ok, Err, Bool, List, [], ◌∷◌, ◌+◌, ◌||◌, length, reverse, is_some, nat_eq, nat_le, nat_lt, if◌then◌else◌}
+use Rattle.std.specs.Prelude.{◌≡◌, ℕ, Option, Some, None, Result, Ok, Err, Bool, List, [], ◌∷◌, ◌+◌, ◌||◌}
+use Rattle.std.specs.Prelude.{length, reverse, is_some, nat_eq, nat_le, nat_lt, if◌then◌else◌}
 use Rattle.std.specs.Option.{unwrap_or}
 use Rattle.cap_value.specs.Bytes.{bytes_cmp}
 use Rattle.cap_value.specs.declared.refusal.Refusal.{Refusal}
@@ -11,12 +12,12 @@ use Rattle.cap_apply.specs.Report.{ReportState}
 use Rattle.cap_compare.specs.declared.difference.Difference.{Difference}
 use Rattle.cap_session.specs.Session.{SessionState, stored}
 use Rattle.cap_session.specs.Sessions.{NumberedSessions, session_numbered}
-use Rattle.cap_core.specs.declared.limits.TheConstants.{SESSIONS_MAX, SAVED_MAX}
 use Rattle.cap_core.specs.declared.command.Command.{Command}
 use Rattle.cap_core.specs.declared.command.Command.TheVariants as command
 use Rattle.cap_core.specs.declared.event.Event.{Event}
 use Rattle.cap_core.specs.declared.reply.Reply.{Reply}
-use Rattle.cap_core.specs.declared.reply.Reply.TheVariants.{Done, Written, Applied, Session, Snapshot, Flag, Capture, Refused}
+use Rattle.cap_core.specs.declared.reply.Reply.TheVariants.{Done, Written, Applied, Session, Snapshot, Flag}
+use Rattle.cap_core.specs.declared.reply.Reply.TheVariants.{Capture, Refused}
 use Rattle.cap_core.specs.Capture.{session_changes}
 use Rattle.cap_core.specs.Diff.{diff}
 use Rattle.cap_core.specs.Flags.{sessions_made}
@@ -25,8 +26,8 @@ use Rattle.cap_core.specs.Outcome.{Effect, Refused as Why, outcome}
 use Rattle.cap_core.specs.Past.{Past}
 use Rattle.cap_core.specs.Session.{sessions}
 
--- The number of events, the tables, the version, the saved databases under their names, which rise, the number of sessions
--- made, and the live sessions under their numbers, which rise.
+-- The number of events, the tables, the version, the saved databases under their names, which rise, the
+-- number of sessions made, and the live sessions under their numbers, which rise.
 pub record State (A : Type 0) : Type 0 where
   pub events : ℕ
   pub main : Tables A
@@ -57,13 +58,15 @@ module _ {A : Type 0} where
 
   -- a name that is there is saved anew
   abbrev pub has_room_for : Databases A → List ℕ → Bool
-  has_room_for saved name = is_some (get bytes_cmp saved name) || nat_lt (length saved) SAVED_MAX
+  has_room_for saved name = is_some (get bytes_cmp saved name) || nat_lt (length saved) 16
 
   abbrev pub save_reply : Databases A → List ℕ → Reply A
   save_reply saved name = if has_room_for saved name then Done else refusal TooMany
 
   abbrev pub session_reply : State A → Reply A
-  session_reply state = if nat_le SESSIONS_MAX (length state.sessions) then refusal TooMany else Session (state.sessions_made + 1)
+  session_reply state =
+      if nat_le 64 (length state.sessions) then refusal TooMany
+      else Session (state.sessions_made + 1)
 
   abbrev pub done_reply : Option (SessionState A) → Reply A
   done_reply None = refusal NoSession
@@ -96,9 +99,11 @@ module _ {A : Type 0} where
 
   -- the reply to a command in a state
   abbrev pub answer : State A → Command A → Reply A
-  answer state (command.CreateTable name schema) = write_reply state (outcome (snapshot_of state) (command.CreateTable name schema))
+  answer state (command.CreateTable name schema) =
+      write_reply state (outcome (snapshot_of state) (command.CreateTable name schema))
   answer state (command.Commit batch) = write_reply state (outcome (snapshot_of state) (command.Commit batch))
-  answer state (command.Apply blob policy) = write_reply state (outcome (snapshot_of state) (command.Apply blob policy))
+  answer state (command.Apply blob policy) =
+      write_reply state (outcome (snapshot_of state) (command.Apply blob policy))
   answer state command.Read = Snapshot (snapshot_of state)
   answer state (command.SaveAs name) = save_reply state.saved name
   answer state command.NewSession = session_reply state
@@ -107,9 +112,11 @@ module _ {A : Type 0} where
   answer state (command.AttachAll session) = done_reply (session_numbered state.sessions session)
   answer state (command.SetFilter session filter) = done_reply (session_numbered state.sessions session)
   answer state (command.Enable session asked) = enabled_reply asked (session_numbered state.sessions session)
-  answer state (command.Indirect session asked) = indirect_reply asked (session_numbered state.sessions session)
+  answer state (command.Indirect session asked) =
+      indirect_reply asked (session_numbered state.sessions session)
   answer state (command.IsEmpty session) = empty_reply (session_numbered state.sessions session)
-  answer state (command.Diff session from name) = diff_reply (diff state.main state.saved from name) (session_numbered state.sessions session)
+  answer state (command.Diff session from name) =
+      diff_reply (diff state.main state.saved from name) (session_numbered state.sessions session)
   answer state (command.Capture session) = capture_reply state.main (session_numbered state.sessions session)
   answer state (command.Restart session) = capture_reply state.main (session_numbered state.sessions session)
 

@@ -5,7 +5,7 @@ use Rattle.cap_row.specs.Fields.{Fields}
 use Rattle.cap_row.specs.Key.{fields_cmp}
 use Rattle.cap_tree.specs.Tree.{get}
 use Rattle.cap_changes.specs.Group.{TableChanges}
-use Rattle.cap_changes.specs.declared.change.Change.{Change}
+use Rattle.cap_changes.specs.declared.row_change.RowChange.{RowChange}
 use Rattle.cap_changes.specs.Change.{change_of}
 use Rattle.cap_table.specs.Table.{TableState}
 use Rattle.cap_txn.specs.Tables.{Tables, table_of}
@@ -15,17 +15,20 @@ use Rattle.cap_session.specs.declared.record.Record.{Record}
 
 module _ {A : Type 0} where
   -- the change of one touched key, from its first image to the row now
-  abbrev pub change_now : TableState A → Fields A × Record A → Option (Change A)
-  change_now table touched = change_of table.schema touched.1.indirect touched.1.image (get fields_cmp table.keyed touched.0)
+  abbrev pub change_now : TableState A → Fields A × Record A → Option (RowChange A)
+  change_now table touched =
+      change_of table.schema touched.1.indirect touched.1.image (get fields_cmp table.keyed touched.0)
 
   -- the changes of a table, where there are any
-  abbrev pub group_of : List ℕ → List Bool → List (Change A) → Option (TableChanges A)
-  group_of name schema changes = if length changes == 0 then None else Some (record { table = name; schema = schema; changes = changes })
+  abbrev pub group_of : List ℕ → List Bool → List (RowChange A) → Option (TableChanges A)
+  group_of name schema changes =
+      if length changes == 0 then None else Some (record { table = name; schema = schema; changes = changes })
 
   -- the changes of an attached table
   abbrev pub table_changes : List ℕ × Records A → Option (TableState A) → Option (TableChanges A)
   table_changes attached None = None
-  table_changes attached (Some table) = group_of attached.0 table.schema (filter_map (change_now table) attached.1)
+  table_changes attached (Some table) =
+      group_of attached.0 table.schema (filter_map (change_now table) attached.1)
 
   -- the changes of attached tables, in order, without those that have no change
   abbrev pub changes_of : Tables A → AttachedTables A → List (TableChanges A)

@@ -1,5 +1,5 @@
--- What the code keeps and makes on the way, for its own contracts. No rule is defined here.
+-- What private contracts need. No rule is defined here.
 pub mod Grouped
 pub mod Sound
-pub mod Told
-pub mod Written
+pub mod CommandOutcome
+pub mod ChangesetBytes

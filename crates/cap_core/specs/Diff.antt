@@ -12,20 +12,23 @@ use Rattle.cap_compare.specs.declared.difference.Difference.{Difference}
 use Rattle.cap_core.specs.History.{Databases}
 
 module _ {A : Type 0} where
-  -- the comparison was made, and found these
+  -- the differences of a comparison
   abbrev pub compared : Result (List (Difference A)) Refusal → Result (Option (List (Difference A))) Refusal
   compared (Ok differences) = Ok (Some differences)
   compared (Err why) = Err why
 
-  abbrev pub diff_from : Option (Tables A) → List ℕ → TableState A → Result (Option (List (Difference A))) Refusal
+  abbrev pub diff_from : Option (Tables A) → List ℕ → TableState A
+      → Result (Option (List (Difference A))) Refusal
   diff_from None name table = Err NoDatabase
   diff_from (Some from) name table = compared (compare (table_of from name) table)
 
   -- a table without key columns is not compared
-  abbrev pub diff_to : Option (Tables A) → List ℕ → Option (TableState A) → Result (Option (List (Difference A))) Refusal
+  abbrev pub diff_to : Option (Tables A) → List ℕ → Option (TableState A)
+      → Result (Option (List (Difference A))) Refusal
   diff_to from name None = Ok None
   diff_to from name (Some table) = if has_key table.schema then diff_from from name table else Ok None
 
-  -- the differences of a table from the saved database of this name, or none where there is nothing to compare
+  -- the differences of a table from the saved database of this name, or none where there is nothing to
+  -- compare
   abbrev pub diff : Tables A → Databases A → List ℕ → List ℕ → Result (Option (List (Difference A))) Refusal
   diff main saved from name = diff_to (get bytes_cmp saved from) name (table_of main name)

@@ -1,12 +1,15 @@
 -- The sessions that a history leaves, and the flags and the rule of each: read off its events.
-use Rattle.std.specs.Prelude.{ℕ, Bool, true, false, Option, Some, None, List, [], ◌∷◌, ◌+◌, ◌&&◌, not, filter, nat_eq, if◌then◌else◌}
+use Rattle.std.specs.Prelude.{ℕ, Bool, true, false, Option, Some, None, List, [], ◌∷◌, ◌+◌, ◌&&◌, not, filter}
+use Rattle.std.specs.Prelude.{nat_eq, if◌then◌else◌}
 use Rattle.std.specs.List.{range_with_len, list_any}
 use Rattle.std.specs.Option.{unwrap_or}
 use Rattle.cap_filter.specs.Rule.{Rule}
 use Rattle.cap_session.specs.declared.rule.AutomaticRule.{AutomaticRule}
 use Rattle.cap_session.specs.declared.rule.AutomaticRule.TheVariants.{Nothing, All, Filter}
 use Rattle.cap_core.specs.declared.command.Command.{Command}
-use Rattle.cap_core.specs.declared.command.Command.TheVariants.{NewSession, DropSession, Attach, AttachAll, SetFilter, Enable, Indirect, IsEmpty, Diff, Capture, Restart}
+use Rattle.cap_core.specs.declared.command.Command.TheVariants.{NewSession, DropSession, Attach, AttachAll}
+use Rattle.cap_core.specs.declared.command.Command.TheVariants.{SetFilter, Enable, Indirect, IsEmpty, Diff}
+use Rattle.cap_core.specs.declared.command.Command.TheVariants.{Capture, Restart}
 use Rattle.cap_core.specs.Past.{Past, is_accepted}
 
 -- the earlier one unless there is a later one
@@ -19,10 +22,12 @@ module _ {A : Type 0} where
   makes_session NewSession = true
   makes_session _ = false
 
-  -- the number of sessions made, which is the number of the latest
+  -- the number of sessions created, which is the number of the latest
   abbrev pub sessions_made : Past A → ℕ
   sessions_made [] = 0
-  sessions_made (event ∷ past) = if is_accepted event.reply && makes_session event.command then sessions_made past + 1 else sessions_made past
+  sessions_made (event ∷ past) =
+      if is_accepted event.reply && makes_session event.command then sessions_made past + 1
+      else sessions_made past
 
   -- the session that a command is to, where it is to one
   abbrev pub session_named : Command A → Option ℕ
@@ -47,7 +52,8 @@ module _ {A : Type 0} where
 
   -- the numbers of the live sessions, rising
   abbrev pub live_sessions : Past A → List ℕ
-  live_sessions past = filter (λ session. not (is_dropped past session)) (range_with_len 1 (sessions_made past))
+  live_sessions past =
+      filter (λ session. not (is_dropped past session)) (range_with_len 1 (sessions_made past))
 
   -- ---- flags
 
@@ -62,12 +68,17 @@ module _ {A : Type 0} where
   -- a session is enabled until it is set otherwise
   abbrev pub is_enabled : ℕ → Past A → Bool
   is_enabled session [] = true
-  is_enabled session (event ∷ past) = if is_accepted event.reply then unwrap_or (asks_enabled session event.command) (is_enabled session past) else is_enabled session past
+  is_enabled session (event ∷ past) =
+      if is_accepted event.reply then unwrap_or (asks_enabled session event.command) (is_enabled session past)
+      else is_enabled session past
 
   -- a session is not indirect until it is set so
   abbrev pub is_indirect : ℕ → Past A → Bool
   is_indirect session [] = false
-  is_indirect session (event ∷ past) = if is_accepted event.reply then unwrap_or (asks_indirect session event.command) (is_indirect session past) else is_indirect session past
+  is_indirect session (event ∷ past) =
+      if is_accepted event.reply
+      then unwrap_or (asks_indirect session event.command) (is_indirect session past)
+      else is_indirect session past
 
   -- ---- the rule by which tables are attached
 
@@ -82,10 +93,13 @@ module _ {A : Type 0} where
   -- the filter that was set last
   abbrev pub last_filter : ℕ → Past A → Option Rule
   last_filter session [] = None
-  last_filter session (event ∷ past) = if is_accepted event.reply then later (filter_set session event.command) (last_filter session past) else last_filter session past
+  last_filter session (event ∷ past) =
+      if is_accepted event.reply then later (filter_set session event.command) (last_filter session past)
+      else last_filter session past
 
   abbrev pub wants_all : ℕ → Past A → Bool
-  wants_all session past = list_any (λ event. is_accepted event.reply && asks_for_all session event.command) past
+  wants_all session past =
+      list_any (λ event. is_accepted event.reply && asks_for_all session event.command) past
 
   -- a filter decides where one was set
   abbrev pub rule_by : Option Rule → Bool → AutomaticRule A

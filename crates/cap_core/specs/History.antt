@@ -1,5 +1,6 @@
 -- The tables that a history leaves, their version, and the saved databases: read off all its events.
-use Rattle.std.specs.Prelude.{ℕ, Bool, true, false, Option, Some, None, Result, Ok, Err, List, [], ◌∷◌, ◌+◌, ◌&&◌, if◌then◌else◌}
+use Rattle.std.specs.Prelude.{ℕ, Bool, true, false, Option, Some, None, Result, Ok, Err, List, [], ◌∷◌, ◌+◌}
+use Rattle.std.specs.Prelude.{◌&&◌, if◌then◌else◌}
 use Rattle.cap_value.specs.Bytes.{bytes_cmp}
 use Rattle.cap_tree.specs.Tree.{put_entry}
 use Rattle.cap_txn.specs.Batch.{SnapshotState}
@@ -24,20 +25,24 @@ module _ {A : Type 0} where
   -- the number of accepted commands that write
   abbrev pub version : Past A → ℕ
   version [] = 0
-  version (event ∷ past) = if is_accepted event.reply && is_write event.command then version past + 1 else version past
+  version (event ∷ past) =
+      if is_accepted event.reply && is_write event.command then version past + 1 else version past
 
   abbrev pub effect_of : Tables A → Result (Effect A) Refused → Effect A
   effect_of tables (Ok effect) = effect
   effect_of tables (Err why) = no_effect tables
 
-  -- what an event made of the tables, and which rows it changed: nothing where it was refused
+  -- the effect of an event on the tables: none where it was refused
   abbrev pub event_effect : SnapshotState A → Event A → Effect A
-  event_effect now event = if is_accepted event.reply then effect_of now.database (outcome now event.command) else no_effect now.database
+  event_effect now event =
+      if is_accepted event.reply then effect_of now.database (outcome now event.command)
+      else no_effect now.database
 
   -- the tables: the empty database, and then each event's effect in turn
   abbrev pub main : Past A → Tables A
   main [] = []
-  main (event ∷ past) = (event_effect (record { version = version past; database = main past }) event).database
+  main (event ∷ past) =
+      (event_effect (record { version = version past; database = main past }) event).database
 
   -- the tables with their version
   abbrev pub snapshot : Past A → SnapshotState A
@@ -54,4 +59,6 @@ module _ {A : Type 0} where
   -- each saved database: the tables as they were when they were last saved under its name
   abbrev pub saved : Past A → Databases A
   saved [] = []
-  saved (event ∷ past) = if is_accepted event.reply then save_under (name_saved event.command) (main past) (saved past) else saved past
+  saved (event ∷ past) =
+      if is_accepted event.reply then save_under (name_saved event.command) (main past) (saved past)
+      else saved past

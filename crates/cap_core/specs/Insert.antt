@@ -6,7 +6,7 @@ use Rattle.cap_value.specs.Bytes.{bytes_eq}
 use Rattle.cap_row.specs.Fields.{Fields}
 use Rattle.cap_row.specs.Key.{fields_cmp, key_of}
 use Rattle.cap_changes.specs.Group.{TableChanges}
-use Rattle.cap_changes.specs.declared.change.Change.{Change}
+use Rattle.cap_changes.specs.declared.row_change.RowChange.{RowChange}
 use Rattle.cap_tree.specs.Tree.{get}
 use Rattle.cap_table.specs.Table.{TableState}
 use Rattle.cap_txn.specs.Tables.{table_of}
@@ -27,9 +27,11 @@ module _ {A : Type 0} where
   abbrev pub insert_of : List ℕ → Fields A → Op A
   insert_of name row = record { table = name; cause = Direct; action = Insert row }
 
-  -- After the past comes an accepted insert of a row with this key into a table that is attached to the session by then.
-  -- The session is enabled and not indirect, and the key had no row where the session's first touch of it came, if there was one.
-  pub record IsInsertOfAbsent (past : Past A) (event : Event A) (session : ℕ) (name : List ℕ) (table : TableState A) (key row : Fields A) : Type 0 where
+  -- After the past comes an accepted insert of a row with this key into a table that is attached to the
+  -- session by then. The session is enabled and not indirect, and the key had no row where the session's
+  -- first touch of it came, if there was one.
+  pub record IsInsertOfAbsent (past : Past A) (event : Event A) (session : ℕ) (name : List ℕ)
+      (table : TableState A) (key row : Fields A) : Type 0 where
     pub legal : IsLegalPast (event ∷ past)
     pub base : Option ℕ
     pub inserts : event.command ≡ Commit (record { base = base; ops = insert_of name row ∷ [] })
@@ -39,15 +41,19 @@ module _ {A : Type 0} where
     pub enabled : is_enabled session past ≡ true
     pub direct : is_indirect session past ≡ false
     pub attached : list_any (bytes_eq name) (attach_list session (event ∷ past)) ≡ true
-    pub absent : (touch : Touch A) → get fields_cmp (touches_of name (touches session past)) key ≡ Some touch → touch.image ≡ None
+    pub absent : (touch : Touch A) → get fields_cmp (touches_of name (touches session past)) key ≡ Some touch
+        → touch.image ≡ None
 
   -- the changes of a table, each under its key
-  abbrev pub changes_by_key : TableState A → Records A → List (Fields A × Change A)
-  changes_by_key table records = filter_map (λ touched. option_map (λ change. (touched.0, change)) (change_now table touched)) records
+  abbrev pub changes_by_key : TableState A → Records A → List (Fields A × RowChange A)
+  changes_by_key table records =
+      filter_map (λ touched. option_map (λ change. (touched.0, change)) (change_now table touched)) records
 
   -- a change list has a group of the table with these changes, among which the key has this one
-  pub record HasChange (list : List (TableChanges A)) (name : List ℕ) (schema : List Bool) (changes : List (Fields A × Change A)) (key : Fields A) (change : Change A) : Type 0 where
+  pub record HasChange (list : List (TableChanges A)) (name : List ℕ) (schema : List Bool)
+      (changes : List (Fields A × RowChange A)) (key : Fields A) (change : RowChange A) : Type 0 where
     pub before : List (TableChanges A)
     pub after : List (TableChanges A)
-    pub group : list ≡ before ++ record { table = name; schema = schema; changes = map (λ keyed. keyed.1) changes } ∷ after
+    pub group : list ≡ before
+        ++ record { table = name; schema = schema; changes = map (λ keyed. keyed.1) changes } ∷ after
     pub here : get fields_cmp changes key ≡ Some change

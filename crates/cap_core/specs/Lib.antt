@@ -2,7 +2,7 @@ pub mod Answer
 pub mod Capture
 pub mod Code
 pub mod Diff
-pub mod Elsewhere
+pub mod AppliedCapture
 pub mod Flags
 pub mod History
 pub mod Insert

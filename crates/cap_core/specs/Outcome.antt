@@ -1,5 +1,6 @@
--- What a command makes of the tables and which rows it changes, or why it is refused.
-use Rattle.std.specs.Prelude.{ℕ, Bool, ◌&&◌, Option, Some, None, Result, Ok, Err, List, [], nat_eq, if◌then◌else◌}
+-- The effect of a command on the tables, or why it is refused.
+use Rattle.std.specs.Prelude.{ℕ, Bool, ◌&&◌, Option, Some, None, Result, Ok, Err, List, [], nat_eq}
+use Rattle.std.specs.Prelude.{if◌then◌else◌}
 use Rattle.cap_value.specs.Bytes.{bytes_eq}
 use Rattle.cap_value.specs.declared.refusal.Refusal.{Refusal}
 use Rattle.cap_value.specs.declared.refusal.Refusal.TheVariants.{Stale, Aborted, Misuse}
@@ -18,12 +19,12 @@ use Rattle.cap_apply.specs.Report.{ReportState}
 use Rattle.cap_core.specs.declared.command.Command.{Command}
 use Rattle.cap_core.specs.declared.command.Command.TheVariants.{CreateTable, Commit, Apply}
 
--- why a command is refused, and the place of the operation or change that is refused, where it is one of several
+-- why a command is refused, with the index of the refused operation or change where it is one of several
 abbrev pub Refused : Type 0
 Refused = Option ℕ × Refusal
 
--- The tables after a command that writes, the changes to their rows, in order, and, where a blob was applied, what became
--- of its changes.
+-- The tables after a command that writes, the changes to their rows, in order, and, where a blob was applied,
+-- what became of its changes.
 pub record Effect (A : Type 0) : Type 0 where
   pub database : Tables A
   pub changes : List (Change A)
@@ -32,9 +33,9 @@ pub record Effect (A : Type 0) : Type 0 where
 -- a batch that was made for another version is out of date
 abbrev pub stale : Option ℕ → ℕ → Option Refusal
 stale None now = None
-stale (Some base) now = if nat_eq base now then None else Some (Stale base now)
+stale (Some base) now = if nat_eq base now then None else Some (Stale base now None)
 
--- the change of a blob that ended its application
+-- the change of a blob at which its application ended
 abbrev pub change_refused : Refusal → Option ℕ
 change_refused (Aborted at) = Some at
 change_refused (Misuse at) = Some at
@@ -58,7 +59,8 @@ module _ {A : Type 0} where
   commit_unless None tables ops = made (run tables ops)
 
   abbrev pub applied : Result (AppliedState A) Refusal → Result (Effect A) Refused
-  applied (Ok state) = Ok (record { database = state.database; changes = state.changes; report = Some state.report })
+  applied (Ok state) =
+      Ok (record { database = state.database; changes = state.changes; report = Some state.report })
   applied (Err why) = Err (change_refused why, why)
 
   -- A command that writes nothing leaves the tables as they are.

@@ -10,4 +10,5 @@ module _ {A : Type 0} where
   abbrev pub replies_after : Past A → List (Command A) → List (Reply A)
   replies_after past [] = []
   replies_after past (command ∷ commands) =
-      answer (state_after past) command ∷ replies_after (event_by 0 command (answer (state_after past) command) ∷ past) commands
+      answer (state_after past) command
+      ∷ replies_after (event_by 0 command (answer (state_after past) command) ∷ past) commands

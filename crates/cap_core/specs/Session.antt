@@ -1,4 +1,5 @@
--- The sessions that a history leaves, each with its flags, its rule, and the first images and marks of its touches.
+-- The sessions after a history, each with its flags, its rule, and the first image and indirect flag of each
+-- touched key.
 use Rattle.std.specs.Prelude.{ℕ, Bool, List, map, filter}
 use Rattle.std.specs.List.{list_all}
 use Rattle.std.specs.Ordering.{eq_by_cmp}
@@ -13,14 +14,16 @@ use Rattle.cap_core.specs.Past.{Past}
 use Rattle.cap_core.specs.Touch.{Touch, attach_list, touches, touches_of}
 
 module _ {A : Type 0} where
-  -- a key's mark is indirect where each touch of it was
+  -- the indirect flag of a key: each touch of it was indirect
   abbrev pub mark : List (Fields A × Touch A) → Fields A → Bool
-  mark touches key = list_all (λ touch. touch.1.indirect) (filter (λ touch. eq_by_cmp fields_cmp key touch.0) touches)
+  mark touches key =
+      list_all (λ touch. touch.1.indirect) (filter (λ touch. eq_by_cmp fields_cmp key touch.0) touches)
 
-  -- the touched keys in their order, each with the image of its first touch and its mark
+  -- the touched keys in their order, each with the image of its first touch and its indirect flag
   unfoldable pub records_of : List (Fields A × Touch A) → Records A
   records_of touches =
-      map (λ first. (first.0, record { image = first.1.image; indirect = mark touches first.0 })) (map_of.entries (map_of.from_entries {R = fields_cmp} touches))
+      map (λ first. (first.0, record { image = first.1.image; indirect = mark touches first.0 }))
+      (map_of.entries (map_of.from_entries {R = fields_cmp} touches))
 
   -- what a session has
   abbrev pub session_of : Past A → ℕ → SessionState A
@@ -28,7 +31,8 @@ module _ {A : Type 0} where
     enabled = is_enabled session past;
     indirect = is_indirect session past;
     rule = rule session past;
-    tables = map (λ name. (name, records_of (touches_of name (touches session past)))) (attach_list session past);
+    tables =
+        map (λ name. (name, records_of (touches_of name (touches session past)))) (attach_list session past);
   }
 
   -- the live sessions under their numbers

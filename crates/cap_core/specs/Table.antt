@@ -11,13 +11,14 @@ use Rattle.cap_core.specs.declared.command.Command.TheVariants.{Apply}
 use Rattle.cap_core.specs.Past.{Past}
 
 module _ {A : Type 0} where
-  -- the keys rise, and each keyed row is as wide as the table and stands under its own primary key
+  -- the keys rise, and each keyed row is as wide as the table and is stored under its own primary key
   pub record IsKeyed (table : TableState A) : Type 0 where
     pub rise : IsOrdered fields_cmp table.keyed
     pub wide : All (λ row. length row.1 ≡ length table.schema) table.keyed
     pub own : All (λ row. key_of table.schema row.1 ≡ Some row.0) table.keyed
 
-  -- the ids rise, and each other row is as wide as the table, has no primary key, and stands under an id that was given
+  -- the ids rise, and each other row is as wide as the table, has no primary key, and is stored under an id
+  -- that was assigned
   pub record IsLoose (table : TableState A) : Type 0 where
     pub rise : IsOrdered nat_cmp table.loose
     pub wide : All (λ row. length row.1 ≡ length table.schema) table.loose

@@ -1,5 +1,7 @@
--- The moments at which the tables of a session were attached, and its touches: read off the events of a history.
-use Rattle.std.specs.Prelude.{ℕ, Bool, false, Option, Some, None, Result, Ok, List, [], ◌∷◌, ◌++◌, length, map, filter, not, ◌&&◌, ◌||◌, nat_eq, nat_lt, nat_le, if◌then◌else◌}
+-- The moments at which the tables of a session were attached, and its touches: read off the events of a
+-- history.
+use Rattle.std.specs.Prelude.{ℕ, Bool, false, Option, Some, None, Result, Ok, List, [], ◌∷◌, ◌++◌, length}
+use Rattle.std.specs.Prelude.{map, filter, not, ◌&&◌, ◌||◌, nat_eq, nat_lt, nat_le, if◌then◌else◌}
 use Rattle.std.specs.List.{enumerate_from, filter_map, list_any}
 use Rattle.std.specs.Option.{option_map}
 use Rattle.cap_value.specs.Bytes.{bytes_eq}
@@ -18,14 +20,14 @@ use Rattle.cap_core.specs.Flags.{is_enabled, is_indirect, rule}
 use Rattle.cap_core.specs.History.{event_effect, main, saved, snapshot}
 use Rattle.cap_core.specs.Past.{Past, is_accepted}
 
--- An attaching moment of a table: the place of its event in the history, and within the event the place of the
--- change that attached it. Both count from 0.
+-- An attaching moment of a table: the index of its event in the history, and the index of the change that
+-- attached it in the event. Both count from 0.
 pub record Attaching : Type 0 where
   pub table : List ℕ
   pub event : ℕ
   pub change : ℕ
 
--- A key that was touched: its place, the row before the event or its absence, and whether the touch was indirect.
+-- A touch of a key: its indices, the row before the event or its absence, and the indirect flag.
 pub record Touch (A : Type 0) : Type 0 where
   pub event : ℕ
   pub change : ℕ
@@ -43,21 +45,23 @@ first_of_each [] = []
 first_of_each (name ∷ names) = name ∷ filter (λ other. not (bytes_eq name other)) (first_of_each names)
 
 module _ {A : Type 0} where
-  -- the changes to rows in the event after this past, each with its place
+  -- the changes to rows in the event after this past, each with its index
   abbrev pub event_changes : Event A → Past A → List (ℕ × Change A)
   event_changes event past = enumerate_from 0 (event_effect (snapshot past) event).changes
 
   -- ---- diffs
 
-  abbrev pub found_in : List ℕ → Result (Option (List (Difference A))) Refusal → Option (List ℕ × List (Difference A))
+  abbrev pub found_in : List ℕ → Result (Option (List (Difference A))) Refusal
+      → Option (List ℕ × List (Difference A))
   found_in name (Ok (Some differences)) = Some (name, differences)
   found_in name _ = None
 
   abbrev pub diff_by : ℕ → Command A → Past A → Option (List ℕ × List (Difference A))
-  diff_by session (Diff number from name) past = if nat_eq number session then found_in name (diff (main past) (saved past) from name) else None
+  diff_by session (Diff number from name) past =
+      if nat_eq number session then found_in name (diff (main past) (saved past) from name) else None
   diff_by session _ past = None
 
-  -- the table that a diff of this session compared in the event after this past, and what it found
+  -- the table that a diff of this session compared in the event after this past, and its differences
   abbrev pub event_diff : ℕ → Event A → Past A → Option (List ℕ × List (Difference A))
   event_diff session event past = if is_accepted event.reply then diff_by session event.command past else None
 
@@ -76,12 +80,16 @@ module _ {A : Type 0} where
   -- a change attaches its table where the session is enabled and its rule accepts the name
   abbrev pub attaching_by : ℕ → Past A → ℕ × Change A → Option Attaching
   attaching_by session past change =
-      if is_enabled session past && accepts_by (rule session past) change.1.table then Some (attaching_at (length past) change.0 change.1.table) else None
+      if is_enabled session past && accepts_by (rule session past) change.1.table
+      then Some (attaching_at (length past) change.0 change.1.table)
+      else None
 
   -- the attaching moments of a session in an event, which comes after this past
   abbrev pub event_attachings : ℕ → Event A → Past A → List Attaching
   event_attachings session event past =
-      (if is_accepted event.reply then map (attaching_at (length past) 0) (names_attached session event.command) else [])
+      (if is_accepted event.reply
+      then map (attaching_at (length past) 0) (names_attached session event.command)
+      else [])
       ++ map (attaching_at (length past) 0) (names_compared (event_diff session event past))
       ++ filter_map (attaching_by session past) (event_changes event past)
 
@@ -96,8 +104,8 @@ module _ {A : Type 0} where
 
   -- ---- the touches
 
-  -- A change to a row in the event after this past, as a touch of its key: the image is the row before the event. A row
-  -- without a key is never touched.
+  -- A change to a row in the event after this past, as a touch of its key: the image is the row before the
+  -- event. A row without a key is never touched.
   abbrev pub touch_of : ℕ → Past A → ℕ × Change A → Option (Touch A)
   touch_of session past change = option_map (λ key. record {
     event = length past;
@@ -110,18 +118,24 @@ module _ {A : Type 0} where
 
   -- not later than the touch
   abbrev pub is_in_time : Touch A → Attaching → Bool
-  is_in_time touch moment = nat_lt moment.event touch.event || (nat_eq moment.event touch.event && nat_le moment.change touch.change)
+  is_in_time touch moment =
+      nat_lt moment.event touch.event
+      || (nat_eq moment.event touch.event && nat_le moment.change touch.change)
 
   -- one of these moments attached the table of the touch, in time
   abbrev pub is_recorded : List Attaching → Touch A → Bool
-  is_recorded moments touch = list_any (λ moment. bytes_eq touch.table moment.table && is_in_time touch moment) moments
+  is_recorded moments touch =
+      list_any (λ moment. bytes_eq touch.table moment.table && is_in_time touch moment) moments
 
   -- an enabled session is touched by the changes to rows of tables that are attached by then
   abbrev pub changes_touch : ℕ → Event A → Past A → List (Touch A)
   changes_touch session event past =
-      if is_enabled session past then filter (is_recorded (attachings session (event ∷ past))) (filter_map (touch_of session past) (event_changes event past)) else []
+      if is_enabled session past
+      then filter (is_recorded (attachings session (event ∷ past)))
+      (filter_map (touch_of session past) (event_changes event past))
+      else []
 
-  -- the touch of a key at which a diff found the tables to differ: the image is the row that was compared with
+  -- the touch of a key at which a diff found a difference: the image is the row of the saved table
   abbrev pub touch_found : ℕ → Past A → List ℕ → Difference A → Touch A
   touch_found session past name difference = record {
     event = length past;
@@ -139,7 +153,8 @@ module _ {A : Type 0} where
 
   -- the touches by an event
   abbrev pub event_touches : ℕ → Event A → Past A → List (Touch A)
-  event_touches session event past = changes_touch session event past ++ diff_touches session past (event_diff session event past)
+  event_touches session event past =
+      changes_touch session event past ++ diff_touches session past (event_diff session event past)
 
   abbrev pub restarts : ℕ → Command A → Bool
   restarts session (Restart number) = nat_eq number session
@@ -149,8 +164,10 @@ module _ {A : Type 0} where
   abbrev pub touches : ℕ → Past A → List (Touch A)
   touches session [] = []
   touches session (event ∷ past) =
-      if is_accepted event.reply && restarts session event.command then [] else touches session past ++ event_touches session event past
+      if is_accepted event.reply && restarts session event.command then []
+      else touches session past ++ event_touches session event past
 
   -- those of one table, each under its key
   abbrev pub touches_of : List ℕ → List (Touch A) → List (Fields A × Touch A)
-  touches_of name touches = map (λ touch. (touch.key, touch)) (filter (λ touch. bytes_eq name touch.table) touches)
+  touches_of name touches =
+      map (λ touch. (touch.key, touch)) (filter (λ touch. bytes_eq name touch.table) touches)

@@ -1,3 +1,4 @@
+//! Captures: the changes of a session as a list and as bytes.
 ghost use Rattle.std.specs.Prelude.{◌≡◌, [], ◌∷◌, ◌++◌, Some, IfOk, IfSome, IsTrue};
 ghost use Rattle.std.specs.List.{cons_option, filter_map, list_all};
 ghost use Rattle.std.specs.Option.{option_copied, option_map, ForSome};
@@ -13,7 +14,7 @@ ghost use Rattle.cap_core.specs.Capture.{change_now, changes_of, table_changes};
 ghost use Rattle.cap_core.specs.Code.Grouped.{IsGroupOf, changes_in};
 ghost use Rattle.cap_core.specs.Code.Sound.{image_stands, records_stand, tables_stand};
 
-use cap_changes::{Change, ChangeList, Group, change_between, to_patches};
+use cap_changes::{ChangeList, Group, RowChange, change_between, to_patches};
 use cap_codec::{KeyFlags, write_changes, write_changes_with, write_patches, write_patches_with};
 use cap_row::{Key, Row, Schema};
 use cap_session::{Attached, Record, Records};
@@ -22,7 +23,7 @@ use cap_txn::Database;
 use cap_value::{AllocHandle, Name, OutOfMemory};
 use std::marker::Model;
 
-/// The changes of a session at one moment.
+/// The changes of a session at the moment of the capture.
 #[derive(Drop)]
 pub struct Capture<A: AllocHandle> {
     changes: ChangeList<A>,
@@ -51,8 +52,8 @@ impl<A: AllocHandle> Capture<A> {
         write_changes(alloc, &self.changes)
     }
 
-    /// The bytes of the changeset, with the key columns flagged so. By `KeyFlags::Places` they are those that
-    /// SQLite's code writes, which its applier takes also where the key has several columns.
+    /// The bytes of the changeset, with these key flags. `KeyFlags::Places` gives the bytes that SQLite's
+    /// code writes; SQLite's applier needs them where the key has several columns.
     pub fn changeset_with(&self, alloc: A, key_flags: KeyFlags) -> Result<Vec<u8, A>, OutOfMemory>
         ensures { IfOk result (λ bytes. bytes.items ≡ list_bytes_with key_flags self.now) }
     {
@@ -67,7 +68,7 @@ impl<A: AllocHandle> Capture<A> {
         write_patches(alloc, &patches)
     }
 
-    /// The bytes of the patchset, with the key columns flagged so.
+    /// The bytes of the patchset, with these key flags.
     pub fn patchset_with(&self, alloc: A, key_flags: KeyFlags) -> Result<Vec<u8, A>, OutOfMemory>
         ensures { IfOk result (λ bytes. bytes.items
             ≡ patch_list_bytes_with key_flags (patch_list_of self.now)) }
@@ -76,8 +77,8 @@ impl<A: AllocHandle> Capture<A> {
         write_patches_with(alloc, key_flags, &patches)
     }
 
-    /// The changes, table by table in the order in which the tables were attached, and in a table in the
-    /// order of the keys.
+    /// The changes: tables in the order in which they were attached, and within a table in the order of the
+    /// keys.
     pub fn changes(&self) -> &ChangeList<A>
         ensures { result.now ≡ self.now }
     {
@@ -85,7 +86,7 @@ impl<A: AllocHandle> Capture<A> {
     }
 }
 
-/// The changes of the attached tables of a session, from the first images that it keeps to the rows now.
+// The changes of the attached tables, from each first image to the present row.
 pub(crate) fn changes_of<A: AllocHandle>(
     alloc: A,
     attached: Attached<'_, A>,
@@ -102,7 +103,7 @@ pub(crate) fn changes_of<A: AllocHandle>(
     Ok(list)
 }
 
-// The list with one more group, where there is one.
+// The list with the group appended, if there is one.
 fn with_group<A: AllocHandle>(
     mut list: ChangeList<A>,
     group: Option<Group<A>>,
@@ -118,7 +119,7 @@ fn with_group<A: AllocHandle>(
     }
 }
 
-// The changes of an attached table, none where there is no change.
+// The changes of an attached table, if there are any.
 fn changes_of_table<A: AllocHandle>(
     alloc: A,
     name: &Name<A>,
@@ -159,7 +160,7 @@ fn change_now<A: AllocHandle>(
     table: &Table<A>,
     key: &Key<A>,
     kept: &Record<A>,
-) -> Result<Option<Change<A>>, OutOfMemory>
+) -> Result<Option<RowChange<A>>, OutOfMemory>
     requires { IsTrue (image_stands (Some table.now.schema) key.now kept.now.image) }
     ensures change { IfOk result (λ change. change ≡ change_now table.now (key.now, kept.now)) }
     ensures fits { IfOk result (λ change. IfSome change
@@ -175,7 +176,7 @@ fn change_now<A: AllocHandle>(
     )
 }
 
-/// The row with this primary key, or its absence.
+// The row with this primary key, if there is one.
 pub(crate) fn row_now<'a, A: AllocHandle>(table: &'a Table<A>, key: &Key<A>) -> Option<&'a Row<A>>
     ensures row { option_copied result ≡ get fields_cmp table.now.keyed key.now }
     ensures stands { IfSome result (λ row. IsTrue (keyed_stands table.now.schema key.now row.now)) }
@@ -183,13 +184,13 @@ pub(crate) fn row_now<'a, A: AllocHandle>(table: &'a Table<A>, key: &Key<A>) -> 
     table.keyed().get(key)
 }
 
-// The group with one more change, or a group of this change.
+// The group with the change appended, or a new group of this change.
 fn with_change<A: AllocHandle>(
     alloc: A,
     name: &Name<A>,
     schema: &Schema<A>,
     group: Option<Group<A>>,
-    change: Change<A>,
+    change: RowChange<A>,
 ) -> Result<Group<A>, OutOfMemory>
     requires keyed { IsTrue (has_key schema.now) }
     requires fits { IsTrue (change_fits schema.now change) }
@@ -203,10 +204,10 @@ fn with_change<A: AllocHandle>(
     }
 }
 
-// The group with this change behind the others.
+// The group with the change appended.
 fn with_last<A: AllocHandle>(
     mut group: Group<A>,
-    change: Change<A>,
+    change: RowChange<A>,
 ) -> Result<Group<A>, OutOfMemory>
     requires { IsTrue (change_fits group.schema change) }
     ensures { IfOk result (λ g. g ≡ record group { changes = group.changes ++ change ∷ [] }) }

@@ -1,3 +1,5 @@
+//! The commands of the server.
+
 use cap_apply::Policy;
 use cap_codec::Contents;
 use cap_filter::TableFilter;
@@ -8,35 +10,36 @@ use cap_value::{AllocHandle, Name};
 /// A command to the server.
 #[derive(Drop)]
 pub enum Command<A: AllocHandle> {
-    /// Makes an empty table. Refused with `TableExists`, or with `TooMany` where the database has 64 tables.
+    /// Creates an empty table. Refused with `TableExists`, or with `TooMany` where the database has 64
+    /// tables.
     CreateTable {
         /// The table's name.
         table: Name<A>,
         /// Its columns.
         schema: Schema<A>,
     },
-    /// Commits a transaction: its operations are made whole or not at all. Refused with `Stale` where it was made on
-    /// another version, and else as the first operation that is refused.
+    /// Commits a transaction: all of its operations, or none. Refused with `Stale` where its base is not the
+    /// present version, and otherwise as its first refused operation.
     Commit(Batch<A>),
     /// Applies a changeset or patchset (sqlite3changeset_apply). Refused with `Aborted` or `Misuse`.
     Apply {
         /// The changeset or patchset.
         blob: Contents<A>,
-        /// What is done about conflicts.
+        /// How conflicts are resolved.
         policy: Policy,
     },
     /// Takes a snapshot of the tables.
     Read,
-    /// Saves the tables under a name, in place of what was saved under it. Refused with `TooMany` where 16 databases
-    /// are saved under other names.
+    /// Saves the tables under a name, and replaces what was saved under it. Refused with `TooMany` where 16
+    /// databases are saved under other names.
     SaveAs {
         /// The name.
         database: Name<A>,
     },
-    /// Makes a session, which records changes to the tables attached to it (sqlite3session_create). Refused with
+    /// Creates a session, which records changes to its attached tables (sqlite3session_create). Refused with
     /// `TooMany` where 64 sessions are live.
     NewSession,
-    /// Ends a session (sqlite3session_delete). Its number is never given again.
+    /// Deletes a session (sqlite3session_delete). Its number is never reused.
     DropSession {
         /// The session's number.
         session: u64,
@@ -62,28 +65,28 @@ pub enum Command<A: AllocHandle> {
         /// The filter.
         filter: TableFilter<A>,
     },
-    /// Sets whether a session is enabled, or only asks (sqlite3session_enable).
+    /// Sets or queries whether a session is enabled (sqlite3session_enable).
     Enable {
         /// The session's number.
         session: u64,
-        /// What it shall be, or none to ask.
+        /// The new value, or none to query.
         enabled: Option<bool>,
     },
-    /// Sets whether the touches of a session are indirect, or only asks (sqlite3session_indirect).
+    /// Sets or queries the indirect flag of a session (sqlite3session_indirect).
     Indirect {
         /// The session's number.
         session: u64,
-        /// What it shall be, or none to ask.
+        /// The new value, or none to query.
         indirect: Option<bool>,
     },
-    /// Asks whether a session has touched no row (sqlite3session_isempty).
+    /// Queries whether a session has recorded no row (sqlite3session_isempty).
     IsEmpty {
         /// The session's number.
         session: u64,
     },
-    /// Records how a table differs from the one of the same name in a saved database (sqlite3session_diff). Does
-    /// nothing where there is no such table, or it has no key columns. Else refused with `NoDatabase`, or with
-    /// `Incompatible` where the saved database lacks the table or has it with other columns.
+    /// Records how a table differs from the table of the same name in a saved database (sqlite3session_diff).
+    /// Does nothing where the table does not exist or has no key columns. Otherwise refused with
+    /// `NoDatabase`, or with `Incompatible` where the saved database lacks the table or its columns differ.
     Diff {
         /// The session's number.
         session: u64,
@@ -97,8 +100,8 @@ pub enum Command<A: AllocHandle> {
         /// The session's number.
         session: u64,
     },
-    /// Captures a session's changes, and then forgets all that it has recorded. Its flags, its filter and its attached
-    /// tables stay.
+    /// Captures a session's changes, and then deletes its records. Its flags, filter and attached tables
+    /// stay.
     Restart {
         /// The session's number.
         session: u64,

@@ -11,12 +11,12 @@ use cap_tree::Tree;
 use cap_txn::Database;
 use cap_value::{AllocHandle, Fault, Name, Refusal};
 
-/// What a diff finds.
+// What a diff finds: the differences, or none where nothing is compared.
 type Differences<A> = Option<Vec<Difference<A>, A>>;
 
-/// The keys at which a table differs from the one of the same name in the saved database of this name, each with its
-/// row there. None where there is no such table, or it has no key columns. Else refused with `NoDatabase`, or with
-/// `Incompatible` where the saved database lacks the table or has it with other columns.
+// The keys at which a table differs from the table of the same name in a saved database, each with its row
+// there. None where the table does not exist or has no key columns. Otherwise refused with `NoDatabase`, or
+// with `Incompatible` where the saved database lacks the table or its columns differ.
 pub(crate) fn differences<A: AllocHandle>(
     alloc: A,
     main: &Database<A>,

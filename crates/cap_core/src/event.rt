@@ -1,12 +1,14 @@
+//! Events, of which a history is made.
+
 use crate::{Command, Reply};
 use cap_value::AllocHandle;
 
-/// A command that was answered. A history is a list of events, the first one first.
+/// A command with its reply. A history is a list of events, oldest first.
 ///
-/// No value of this type is made: contracts speak of histories.
+/// Contracts speak of events. No value of this type is made.
 #[derive(Drop)]
 pub struct Event<A: AllocHandle> {
-    /// Who gave the command. No reply depends on it.
+    /// The seat that called. No reply depends on it.
     pub by: u64,
     /// The command.
     pub command: Command<A>,

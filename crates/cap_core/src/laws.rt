@@ -1,5 +1,6 @@
-//! Laws of histories, sessions and captures, over the definitions alone. The functions do nothing.
-ghost use Rattle.std.specs.Prelude.{◌≡◌, ℕ, ◌+◌, ◌&&◌, true, false, Some, None, [], ◌∷◌, ◌++◌, List, IsTrue, length, map, reverse};
+//! Laws of histories, sessions and captures. The functions do nothing when they run.
+ghost use Rattle.std.specs.Prelude.{◌≡◌, ℕ, ◌+◌, ◌&&◌, true, false, Some, None, [], ◌∷◌, ◌++◌, List, IsTrue};
+ghost use Rattle.std.specs.Prelude.{length, map, reverse};
 ghost use Rattle.std.specs.Option.{option_map};
 ghost use Rattle.std.specs.FinMap.Entries.{is_sorted};
 ghost use Rattle.std.specs.List.{All, AllByRecursion, list_any};
@@ -10,7 +11,7 @@ ghost use Rattle.cap_apply.specs.declared.policy.Policy.{Policy};
 ghost use Rattle.cap_changes.specs.Change.{full_record};
 ghost use Rattle.cap_changes.specs.Group.{TableChanges};
 ghost use Rattle.cap_changes.specs.Patch.{patch_list_of};
-ghost use Rattle.cap_changes.specs.declared.change.Change.{Change};
+ghost use Rattle.cap_changes.specs.declared.row_change.RowChange.{RowChange};
 ghost use Rattle.cap_codec.specs.Writable.{IsWritable};
 ghost use Rattle.cap_codec.specs.declared.read.Contents.{Contents};
 ghost use Rattle.cap_session.specs.declared.record.Record.{Record};
@@ -24,14 +25,16 @@ ghost use Rattle.cap_core.specs.declared.event.Event.{Event};
 ghost use Rattle.cap_core.specs.declared.reply.Reply.{Reply};
 ghost use Rattle.cap_core.specs.Answer.{IsLegal, IsLegalPast, answer, event_by, reply_of, state, state_after};
 ghost use Rattle.cap_core.specs.Capture.{change_now, session_changes};
-ghost use Rattle.cap_core.specs.Elsewhere.{AppliesRows, AppliesWhole, AreQuiet, HoldsImages, IsDiffed, changes_in};
+ghost use Rattle.cap_core.specs.AppliedCapture.{AppliesRows, AppliesWhole, AreQuiet, HoldsImages, IsDiffed};
+ghost use Rattle.cap_core.specs.AppliedCapture.{changes_in};
 ghost use Rattle.cap_core.specs.Flags.{session_named};
 ghost use Rattle.cap_core.specs.History.{event_effect, main};
 ghost use Rattle.cap_core.specs.Insert.{HasChange, IsInsertOfAbsent, changes_by_key};
 ghost use Rattle.cap_core.specs.Outcome.{is_of_row};
 ghost use Rattle.cap_core.specs.Past.{Past, is_accepted};
 ghost use Rattle.cap_core.specs.Replies.{replies_after};
-ghost use Rattle.cap_core.specs.Restarts.{AppliesAll, AppliesAllPatches, HasRowsNow, HoldsFirst, IsSteady, captures};
+ghost use Rattle.cap_core.specs.Restarts.{AppliesAll, AppliesAllPatches, HasRowsNow, HoldsFirst, IsSteady};
+ghost use Rattle.cap_core.specs.Restarts.{captures};
 ghost use Rattle.cap_core.specs.Session.{mark, records_of, session_of};
 ghost use Rattle.cap_core.specs.Table.{AreWritable, IsKeyed, IsLoose};
 ghost use Rattle.cap_core.specs.Touch.{Touch, restarts, touches, touches_of};
@@ -44,9 +47,9 @@ use cap_compare::differences_are_just_those;
 use cap_txn::{tables_keep_columns, tables_keep_order};
 use cap_value::AllocHandle;
 
-/// The empty history is legal, and a legal history stays legal with an event whose reply is that of its
-/// command. What it leaves is then the next state, which counts the events. The reply to a command after a history is
-/// the one in the state that the history leaves.
+/// The empty history is legal, and a legal history with one more event is legal where the event has the reply
+/// to its command. The state after it is then the next state, which counts the events. The reply to a command
+/// after a history is the reply in the state after that history.
 pub fn legal_histories_grow<A: AllocHandle>()
     ensures none { IsLegal {A = A} [] }
     ensures more { (h : List (Event A)) (by : ℕ) (command : Command A) → IsLegal h
@@ -64,9 +67,9 @@ pub fn untouched_captures_nothing<A: AllocHandle>()
         → session_changes (main past) (session_of past session) ≡ [] }
 {}
 
-/// After an accepted insert into a table that is attached to an enabled session, or that its rule attaches then, of a
-/// key that had no row when the session saw it first, a capture has that INSERT as the key's one change, whatever the
-/// session holds of other keys and tables.
+/// After an accepted insert into a table that an enabled session has attached, or attaches by its rule, of a
+/// key that had no row when the session first touched it, a capture has that INSERT as the key's only change,
+/// whatever records the session has of other keys and tables.
 pub fn insert_is_captured<A: AllocHandle>()
     ensures { (past : Past A) (event : Event A) (session : ℕ) (name : List ℕ) (table : TableState A)
         (key : Fields A) (row : Fields A)
@@ -75,10 +78,10 @@ pub fn insert_is_captured<A: AllocHandle>()
         name table.schema
         (changes_by_key (record table { keyed = put_entry fields_cmp table.keyed key row })
         (records_of (touches_of name (touches session (event ∷ past)))))
-        key (Change.Insert false (full_record row)) }
+        key (RowChange.Insert false (full_record row)) }
 {}
 
-/// However often a key is touched, the session keeps one record of it, with the image of the key's first touch.
+/// A session has one record of a key however often it is touched, with the image of the key's first touch.
 pub fn one_record_a_key<A: AllocHandle>()
     ensures once { (touched : List (Fields A × Touch A))
         → IsTrue (is_sorted fields_cmp (records_of touched)) }
@@ -88,7 +91,7 @@ pub fn one_record_a_key<A: AllocHandle>()
         (get fields_cmp touched key) }
 {}
 
-/// A key whose row is again as it was when it was touched first has no change, though it was touched.
+/// A touched key whose row is again as it was at the first touch has no change.
 pub fn restored_row_is_no_change<A: AllocHandle>()
     ensures { (table : TableState A) (key : Fields A) (touched : Record A) → touched.image
         ≡ get fields_cmp table.keyed key → change_now table (key, touched) ≡ None }
@@ -101,10 +104,10 @@ pub fn refusal_changes_no_reply<A: AllocHandle>()
         ≡ replies_after past commands }
 {}
 
-/// What a session captures, applied to a database that has the tables of its touched rows with the same columns, and at
-/// each touched key the row that was there first, leaves there the rows that are there now, and all else as it was. No
-/// change meets a conflict, under any policy; the patchset does the same as the changeset. A capture is what `Capture`
-/// answers, as does `Restart`.
+/// A capture, applied to a database that has the tables of its touched rows with the same columns and the
+/// first image at each touched key, gives the present rows at these keys, and changes nothing else. There is
+/// no conflict under any policy. The patchset does the same as the changeset. `Capture` and `Restart` give
+/// the same capture.
 pub fn a_capture_gives_the_rows_now<A: AllocHandle>()
     ensures changeset { (past : Past A) (session : ℕ) (list : List (TableChanges A)) (database : Tables A)
         (policy : Policy)
@@ -125,9 +128,9 @@ pub fn a_capture_gives_the_rows_now<A: AllocHandle>()
     a_patchset_gives_the_rows_now::<A>();
 }
 
-/// A session without records was diffed, and since then nothing was written, and the session was neither diffed again
-/// nor restarted. What it captures, applied to the saved database that it was compared with, leaves the table with the
-/// rows that it has now, key by key. No change meets a conflict, under any policy; the patchset does the same.
+/// A session without records is diffed; after that nothing is written, and the session is neither diffed nor
+/// restarted. Its capture, applied to the saved database of the diff, gives the table its present rows, key
+/// by key. There is no conflict under any policy. The patchset does the same.
 pub fn a_capture_after_a_diff_gives_the_rows_now<A: AllocHandle>()
     ensures changeset { (past : Past A) (event : Event A) (later : List (Event A)) (session : ℕ)
         (name : List ℕ) (database : Tables A) (table : TableState A) (list : List (TableChanges A))
@@ -151,11 +154,11 @@ pub fn a_capture_after_a_diff_gives_the_rows_now<A: AllocHandle>()
     differences_are_just_those::<A>();
 }
 
-/// Captures in a row, each by a restart of the session, are applied in order to a database that has for each key that
-/// was touched over all of them its table, with the columns that it has now, and the row that was there first. They
-/// leave at each of these keys the row that is there at the last restart. At the start the session has no touches; from
-/// then on it is enabled, and no diff of it is made. What is applied and captured can be written, as all that a program
-/// can make are. The patchsets do the same as the changesets.
+/// Captures in a row, each by a restart of the session, are applied in order to a database that has, for each
+/// key touched over all of them, its table with the present columns and the first image. They give at each of
+/// these keys the row at the last restart. At the start the session has no touches; from then on it is
+/// enabled and not diffed. What is applied and captured can be written, as everything that a program can
+/// make. The patchsets do the same.
 pub fn captures_in_a_row_give_the_rows_now<A: AllocHandle>()
     ensures changesets { (policy : Policy) (session : ℕ) (start : Past A) (later : List (Event A))
         (event : Event A) (database : Tables A)
@@ -184,14 +187,16 @@ pub fn captures_in_a_row_give_the_rows_now<A: AllocHandle>()
     tables_keep_order::<A>();
 }
 
-/// Whatever the command, a row under a key that none of its changes names stays as it was: so no session misses a row.
+/// Whatever the command, a row under a key that none of its changes names stays as it was: so no session
+/// misses a row.
 pub fn a_row_that_no_change_names_stays<A: AllocHandle>()
     ensures { (now : SnapshotState A) (event : Event A) (name : List ℕ) (key : Fields A)
         → list_any (is_of_row name key) (event_effect now event).changes ≡ false
         → row_at (event_effect now event).database name key ≡ row_at now.database name key }
 {}
 
-/// A command to one session, as one that ends it, changes no capture of another session, whatever comes between.
+/// A command to one session, as one that ends it, changes no capture of another session, whatever comes
+/// between.
 pub fn a_session_changes_no_others_capture<A: AllocHandle>()
     ensures { (past : Past A) (event : Event A) (one : ℕ) (other : ℕ) → session_named event.command ≡ Some one
         → (other ≡ one → ⊥) → (later : List (Event A))
@@ -199,7 +204,8 @@ pub fn a_session_changes_no_others_capture<A: AllocHandle>()
         ≡ answer (state_after (later ++ past)) (Command.Capture other) }
 {}
 
-/// The order of two sessions' commands, one after the other, does not matter to any capture, whatever comes between.
+/// The order of two sessions' commands, one after the other, does not matter to any capture, whatever comes
+/// between.
 pub fn order_of_two_sessions_does_not_matter<A: AllocHandle>()
     ensures { (past : Past A) (first : Event A) (second : Event A) (one : ℕ) (other : ℕ)
         → session_named first.command ≡ Some one → session_named second.command ≡ Some other
@@ -208,9 +214,9 @@ pub fn order_of_two_sessions_does_not_matter<A: AllocHandle>()
         ≡ answer (state_after (later ++ first ∷ second ∷ past)) (Command.Capture session) }
 {}
 
-/// After any history the names of the tables rise, and in each table keys and ids rise, each row has as many fields
-/// as the table has columns, and stands under its own primary key, or where it has none under an id that was given.
-/// The blobs that were applied are such as can be written, as all that a program can make are.
+/// After any history the names of the tables rise. In each table keys and ids rise, each row has as many
+/// fields as the table has columns, and is stored under its own primary key, or under its id where it has
+/// none. The blobs that were applied can be written, as everything that a program can make.
 pub fn rows_stand_under_own_keys<A: AllocHandle>()
     ensures names { (h : List (Event A)) → AreWritable (reverse h) → IsOrdered bytes_cmp (state h).main }
     ensures keyed { (h : List (Event A)) → AreWritable (reverse h)

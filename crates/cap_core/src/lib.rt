@@ -2,24 +2,22 @@
 #![tactic(auto)]
 
 mod capture;
+mod changeset_bytes;
 mod command;
-mod confirm;
+mod commit_hook;
 mod diff;
 mod event;
-mod fault;
 mod laws;
 mod limits;
 mod reply;
 mod server;
 mod session_commands;
 mod writes;
-mod written;
 
 pub use capture::Capture;
 pub use command::Command;
-pub use confirm::{Agree, Confirm, Never};
+pub use commit_hook::{CommitHook, Never, NoHook};
 pub use event::Event;
-pub use fault::CallFault;
 pub use laws::{
     a_capture_after_a_diff_gives_the_rows_now, a_capture_gives_the_rows_now,
     a_row_that_no_change_names_stays, a_session_changes_no_others_capture,
@@ -27,6 +25,6 @@ pub use laws::{
     one_record_a_key, order_of_two_sessions_does_not_matter, refusal_changes_no_reply,
     restored_row_is_no_change, rows_stand_under_own_keys, untouched_captures_nothing,
 };
-pub use limits::{SAVED_MAX, SESSIONS_MAX};
+pub use limits::{EVENTS_MAX, SAVED_MAX, SESSIONS_MAX};
 pub use reply::Reply;
 pub use server::Core;

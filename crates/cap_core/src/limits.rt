@@ -1,3 +1,8 @@
+//! The limits of a server.
+
+/// The most events of a history.
+pub const EVENTS_MAX: u64 = (1 << 63) - 1;
+
 /// The most sessions that may be live at once.
 pub const SESSIONS_MAX: usize = 64;
 

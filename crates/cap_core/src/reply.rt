@@ -1,36 +1,38 @@
+//! The replies of the server.
+
 use crate::Capture;
 use cap_apply::Report;
 use cap_txn::Snapshot;
 use cap_value::{AllocHandle, Refusal};
 
-/// What the server answers to a command.
+/// The reply to a command.
 #[derive(Drop)]
 pub enum Reply<A: AllocHandle> {
-    /// The command was carried out, and has nothing to tell.
+    /// The command was carried out.
     Done,
-    /// The command changed the tables.
+    /// The tables were changed.
     Written {
-        /// The version that it made.
+        /// The new version.
         version: u64,
     },
     /// A changeset or patchset was applied.
     Applied {
-        /// The version that it made.
+        /// The new version.
         version: u64,
-        /// What became of its changes.
+        /// The outcome of its changes.
         report: Report<A>,
     },
-    /// The session with this number was made.
+    /// A session with this number was made.
     Session(u64),
     /// The tables, with their version.
     Snapshot(Snapshot<A>),
-    /// A flag as it is now, or whether a session is empty.
+    /// The value of a flag, or whether a session is empty.
     Flag(bool),
     /// The session's changes.
     Capture(Capture<A>),
-    /// The rules refuse the command, which has changed nothing.
+    /// The command is refused. Nothing changed.
     Refused {
-        /// The place of the operation or change that is refused, counted from 0, where it is one of several.
+        /// The index of the refused operation or change, from 0, where the command has several.
         at: Option<u64>,
         /// Why.
         why: Refusal,

@@ -1,23 +1,26 @@
-//! The server. The file is not called after its type, since no module may be called `core`.
-ghost use Rattle.std.specs.Prelude.{◌≡◌, ℕ, ◌+◌, ◌<◌, ◌^◌, ◌≤◌, [], ◌∷◌, ◌++◌, List, None, Ok, Err, IfOk, IfErr, OnOk, OnErr, IsTrue, length};
+//! The sequential server, `Core`. No module may be named `core`.
+ghost use Rattle.std.specs.Prelude.{◌≡◌, ℕ, ◌<◌, ◌^◌, ◌≤◌, [], ◌∷◌, ◌++◌, List, None, Ok, Err, IfOk, IfErr};
+ghost use Rattle.std.specs.Prelude.{OnOk, OnErr, IsTrue, length};
 ghost use Rattle.cap_core.specs.declared.event.Event.{Event};
-ghost use Rattle.cap_core.specs.Answer.{State, state, reply_of, IsLegal, event_by, history_of, answer, has_room_for, save_reply, snapshot_of};
+ghost use Rattle.cap_core.specs.Answer.{State, state, reply_of, IsLegal, event_by, history_of, answer};
+ghost use Rattle.cap_core.specs.Answer.{has_room_for, save_reply, snapshot_of};
 ghost use Rattle.cap_tree.specs.Tree.{put_entry};
 ghost use Rattle.cap_value.specs.Bytes.{bytes_cmp};
 ghost use Rattle.cap_value.specs.Memory.{MatchFault};
-ghost use Rattle.cap_core.specs.Code.Told.{Tells};
+ghost use Rattle.cap_core.specs.Code.CommandOutcome.{Reports};
+ghost use Rattle.cap_core.specs.Past.{HasRoom};
 ghost use Rattle.cap_core.specs.Transition.{next, one_more, after_save};
 
-use crate::confirm::{Asked, ask};
-use crate::{Agree, Command, Confirm, Reply, SAVED_MAX};
+use crate::commit_hook::{ReplyHook, ask};
+use crate::{Command, CommitHook, NoHook, Reply, SAVED_MAX};
 use cap_session::Sessions;
 use cap_tree::Tree;
 use cap_txn::{Database, Snapshot};
 use cap_value::{AllocHandle, Fault, Name, OutOfMemory, Refusal};
 use std::marker::Model;
 
-/// The sequential server at one moment: the tables, their version, the saved databases, the live sessions, and how
-/// many commands were answered so far.
+/// The sequential server: the tables and their version, the saved databases, the live sessions, and the
+/// number of commands answered so far.
 #[derive(Drop)]
 pub struct Core<A: AllocHandle> {
     pub(crate) alloc: A,
@@ -54,7 +57,7 @@ impl<A: AllocHandle> Model for Core<A> {
 }
 
 impl<A: AllocHandle> Core<A> {
-    /// A server without tables, saved databases and sessions.
+    /// An empty server.
     pub fn new(alloc: A) -> Self
         ensures { result ≡ state [] }
     {
@@ -69,36 +72,35 @@ impl<A: AllocHandle> Core<A> {
         }
     }
 
-    /// How many commands were answered so far.
+    /// The number of commands answered so far.
     pub fn events(&self) -> u64
         ensures { result ≡ self.now.events }
     {
         self.events
     }
 
-    /// Carries out a command once the step outside agrees to its reply. The step is asked once, when all
-    /// memory was found, or not at all. Where there is no memory, or the step refuses, nothing has changed.
-    pub fn step<C: Confirm<A>>(
+    /// Carries out a command if the commit hook allows it. The hook is asked at most once, after all memory
+    /// is reserved. Where memory runs out, or the hook refuses, nothing changes.
+    pub fn step<C: CommitHook<A>>(
         &mut self,
         command: &Command<A>,
-        confirm: &mut C,
+        hook: &mut C,
     ) -> Result<Reply<A>, Fault<C::Refusal>>
-        requires room { self.old.events + 1 < 2 ^ 63 }
-        requires can_confirm { C.can_confirm confirm.old (answer self.old command.now) }
+        requires room { HasRoom self.old.events }
+        requires can_ask { C.can_ask hook.old (answer self.old command.now) }
         ensures reply { IfOk result (λ reply. reply ≡ answer self.old command.now) }
         ensures state { OnOk result (self.new ≡ next self.old command.now) }
-        ensures agreed { OnOk result (C.gives confirm.old (answer self.old command.now) (Ok tt) confirm.new) }
+        ensures allowed { OnOk result (C.gives hook.old (answer self.old command.now) (Ok tt) hook.new) }
         ensures unchanged { OnErr result (self.new ≡ self.old) }
-        ensures refused { IfErr result (λ fault. MatchFault fault (confirm.new ≡ confirm.old)
-            (λ why. C.gives confirm.old (answer self.old command.now) (Err why) confirm.new)) }
+        ensures refused { IfErr result (λ fault. MatchFault fault (hook.new ≡ hook.old)
+            (λ why. C.gives hook.old (answer self.old command.now) (Err why) hook.new)) }
     {
-        self.carry_out(command, confirm)
+        self.carry_out(command, hook)
     }
 
-    /// The reply to a command, and the server after it; this one stays as it was. Where there is no memory,
-    /// nothing has changed.
+    /// The reply to a command, and a copy of the server after it. This server does not change.
     pub fn prepare(&self, command: &Command<A>) -> Result<(Core<A>, Reply<A>), OutOfMemory>
-        requires room { self.now.events + 1 < 2 ^ 63 }
+        requires room { HasRoom self.now.events }
         ensures history { (h : List (Event A)) (by : ℕ) → IsLegal h → state h ≡ self.now →
             IfOk result (λ r. (r.1 ≡ reply_of h command.now)
             × (r.0 ≡ state (h ++ event_by by command.now r.1 ∷ []))) }
@@ -112,7 +114,7 @@ impl<A: AllocHandle> Core<A> {
         Ok((core, reply))
     }
 
-    /// Runs commands one after the other, from a server without tables, saved databases and sessions.
+    /// Runs commands in order on an empty server.
     pub fn run(
         alloc: A,
         commands: &[Command<A>],
@@ -131,55 +133,55 @@ impl<A: AllocHandle> Core<A> {
         Ok((core, replies))
     }
 
-    // Carries out a command, each by the function that is its own.
-    fn carry_out<C: Confirm<A>>(
+    // Dispatches a command to its function.
+    fn carry_out<C: CommitHook<A>>(
         &mut self,
         command: &Command<A>,
-        confirm: &mut C,
+        hook: &mut C,
     ) -> Result<Reply<A>, Fault<C::Refusal>>
-        requires room { self.old.events + 1 < 2 ^ 63 }
-        requires can_confirm { C.can_confirm confirm.old (answer self.old command.now) }
-        ensures { Tells C.gives (answer self.old command.now) (next self.old command.now)
-            self.old self.new confirm.old confirm.new result }
+        requires room { HasRoom self.old.events }
+        requires can_ask { C.can_ask hook.old (answer self.old command.now) }
+        ensures { Reports C.gives (answer self.old command.now) (next self.old command.now)
+            self.old self.new hook.old hook.new result }
     {
         match command {
-            Command::CreateTable { table, schema } => self.create_table(table, schema, confirm),
-            Command::Commit(batch) => self.commit(batch, confirm),
-            Command::Apply { blob, policy } => self.apply(blob, *policy, confirm),
-            Command::Read => self.read(confirm),
-            Command::SaveAs { database } => self.save_as(database, confirm),
-            Command::NewSession => self.new_session(confirm),
-            Command::DropSession { session } => self.drop_session(*session, confirm),
-            Command::Attach { session, table } => self.attach(*session, table, confirm),
-            Command::AttachAll { session } => self.attach_all(*session, confirm),
-            Command::SetFilter { session, filter } => self.set_filter(*session, filter, confirm),
-            Command::Enable { session, enabled } => self.enable(*session, *enabled, confirm),
-            Command::Indirect { session, indirect } => self.indirect(*session, *indirect, confirm),
-            Command::IsEmpty { session } => self.is_empty(*session, confirm),
+            Command::CreateTable { table, schema } => self.create_table(table, schema, hook),
+            Command::Commit(batch) => self.commit(batch, hook),
+            Command::Apply { blob, policy } => self.apply(blob, *policy, hook),
+            Command::Read => self.read(hook),
+            Command::SaveAs { database } => self.save_as(database, hook),
+            Command::NewSession => self.new_session(hook),
+            Command::DropSession { session } => self.drop_session(*session, hook),
+            Command::Attach { session, table } => self.attach(*session, table, hook),
+            Command::AttachAll { session } => self.attach_all(*session, hook),
+            Command::SetFilter { session, filter } => self.set_filter(*session, filter, hook),
+            Command::Enable { session, enabled } => self.enable(*session, *enabled, hook),
+            Command::Indirect { session, indirect } => self.indirect(*session, *indirect, hook),
+            Command::IsEmpty { session } => self.is_empty(*session, hook),
             Command::Diff {
                 session,
                 from,
                 table,
-            } => self.diff(*session, from, table, confirm),
-            Command::Capture { session } => self.capture(*session, confirm),
-            Command::Restart { session } => self.restart(*session, confirm),
+            } => self.diff(*session, from, table, hook),
+            Command::Capture { session } => self.capture(*session, hook),
+            Command::Restart { session } => self.restart(*session, hook),
         }
     }
 
-    // A command that no step outside belongs to.
+    // Carries out a command without a hook.
     fn run_command(&mut self, command: &Command<A>) -> Result<Reply<A>, OutOfMemory>
-        requires room { self.old.events + 1 < 2 ^ 63 }
+        requires room { HasRoom self.old.events }
         ensures { IfOk result (λ reply. (self.new ≡ next self.old command.now)
             × (reply ≡ answer self.old command.now)) }
     {
-        match self.step(command, &mut Agree) {
+        match self.step(command, &mut NoHook) {
             Ok(reply) => Ok(reply),
             Err(Fault::OutOfMemory) => Err(OutOfMemory),
             Err(Fault::Refused(never)) => match never {},
         }
     }
 
-    // The same server.
+    // A copy, which shares nodes with this server.
     fn copy(&self) -> Result<Self, OutOfMemory>
         ensures { IfOk result (λ core. core ≡ self.now) }
     {
@@ -194,54 +196,54 @@ impl<A: AllocHandle> Core<A> {
         })
     }
 
-    fn read<C: Confirm<A>>(&mut self, confirm: &mut C) -> Result<Reply<A>, Fault<C::Refusal>>
-        requires room { self.old.events + 1 < 2 ^ 63 }
-        requires can_confirm { C.can_confirm confirm.old (Reply.Snapshot (snapshot_of self.old)) }
-        ensures { Tells C.gives (Reply.Snapshot (snapshot_of self.old)) (one_more self.old)
-            self.old self.new confirm.old confirm.new result }
+    fn read<C: CommitHook<A>>(&mut self, hook: &mut C) -> Result<Reply<A>, Fault<C::Refusal>>
+        requires room { HasRoom self.old.events }
+        requires can_ask { C.can_ask hook.old (Reply.Snapshot (snapshot_of self.old)) }
+        ensures { Reports C.gives (Reply.Snapshot (snapshot_of self.old)) (one_more self.old)
+            self.old self.new hook.old hook.new result }
     {
         let snapshot = Snapshot::new(self.version, self.main.snapshot()?);
-        self.keep(Reply::Snapshot(snapshot), confirm)
+        self.keep(Reply::Snapshot(snapshot), hook)
     }
 
-    // Saves the tables under a name, in place of what was saved under it.
-    fn save_as<C: Confirm<A>>(
+    // Saves the tables under a name, and replaces what was saved under it.
+    fn save_as<C: CommitHook<A>>(
         &mut self,
         name: &Name<A>,
-        confirm: &mut C,
+        hook: &mut C,
     ) -> Result<Reply<A>, Fault<C::Refusal>>
-        requires room { self.old.events + 1 < 2 ^ 63 }
-        requires can_confirm { C.can_confirm confirm.old (save_reply self.old.saved name.now) }
-        ensures { Tells C.gives (save_reply self.old.saved name.now) (after_save self.old name.now)
-            self.old self.new confirm.old confirm.new result }
+        requires room { HasRoom self.old.events }
+        requires can_ask { C.can_ask hook.old (save_reply self.old.saved name.now) }
+        ensures { Reports C.gives (save_reply self.old.saved name.now) (after_save self.old name.now)
+            self.old self.new hook.old hook.new result }
     {
         if !has_room_for(&self.saved, name) {
             let why = Refusal::TooMany;
-            return self.keep(Reply::Refused { at: None, why }, confirm);
+            return self.keep(Reply::Refused { at: None, why }, hook);
         }
         let database = self.main.snapshot()?;
-        self.save(name.copy()?, database, confirm)
+        self.save(name.copy()?, database, hook)
     }
 
-    // Saves these tables under a name that there is room for.
-    fn save<C: Confirm<A>>(
+    // Saves these tables under a name that has room.
+    fn save<C: CommitHook<A>>(
         &mut self,
         name: Name<A>,
         database: Database<A>,
-        confirm: &mut C,
+        hook: &mut C,
     ) -> Result<Reply<A>, Fault<C::Refusal>>
-        requires room { self.old.events + 1 < 2 ^ 63 }
-        requires can_confirm { C.can_confirm confirm.old Reply.Done }
-        ensures { Tells C.gives Reply.Done
+        requires room { HasRoom self.old.events }
+        requires can_ask { C.can_ask hook.old Reply.Done }
+        ensures { Reports C.gives Reply.Done
             (record (one_more self.old) { saved = put_entry bytes_cmp self.old.saved name database })
-            self.old self.new confirm.old confirm.new result }
+            self.old self.new hook.old hook.new result }
     {
         let reply = Reply::Done;
-        let mut asked = Asked {
+        let mut reply_hook = ReplyHook {
             reply: &reply,
-            outside: confirm,
+            hook,
         };
-        match self.saved.insert_after(name, database, &mut asked) {
+        match self.saved.insert_with_hook(name, database, &mut reply_hook) {
             Ok(_replaced) => {
                 self.events += 1;
                 Ok(reply)
@@ -250,24 +252,24 @@ impl<A: AllocHandle> Core<A> {
         }
     }
 
-    // A command that changes nothing but the number of events.
-    pub(crate) fn keep<C: Confirm<A>>(
+    // Replies to a command that changes only the number of events.
+    pub(crate) fn keep<C: CommitHook<A>>(
         &mut self,
         reply: Reply<A>,
-        confirm: &mut C,
+        hook: &mut C,
     ) -> Result<Reply<A>, Fault<C::Refusal>>
-        requires room { self.old.events + 1 < 2 ^ 63 }
-        requires can_confirm { C.can_confirm confirm.old reply }
-        ensures { Tells C.gives reply (one_more self.old)
-            self.old self.new confirm.old confirm.new result }
+        requires room { HasRoom self.old.events }
+        requires can_ask { C.can_ask hook.old reply }
+        ensures { Reports C.gives reply (one_more self.old)
+            self.old self.new hook.old hook.new result }
     {
-        ask(confirm, &reply)?;
+        ask(hook, &reply)?;
         self.events += 1;
         Ok(reply)
     }
 }
 
-// Whether a database can be saved under this name: one is, or there are fewer than the most.
+// Whether a database can be saved under this name: the name is in use, or the limit is not reached.
 fn has_room_for<A: AllocHandle>(saved: &Tree<Name<A>, Database<A>, A>, name: &Name<A>) -> bool
     ensures { result ≡ has_room_for saved.now name.now }
 {

@@ -1,17 +1,18 @@
 //! The commands that write: a new table, a transaction, and a blob that is applied.
-ghost use Rattle.std.specs.Prelude.{◌≡◌, ◌+◌, ◌<◌, ◌^◌, ◌∷◌, [], Ok};
+ghost use Rattle.std.specs.Prelude.{◌≡◌, ◌+◌, ◌∷◌, [], Ok};
 ghost use Rattle.cap_txn.specs.Operation.{run, step};
 ghost use Rattle.cap_txn.specs.Tables.{Tables, create};
 ghost use Rattle.cap_apply.specs.Apply.{apply};
 ghost use Rattle.cap_core.specs.Answer.{write_reply};
 ghost use Rattle.cap_core.specs.Code.Sound.{KeepsColumns};
-ghost use Rattle.cap_core.specs.Code.Told.{Makes, Tells};
+ghost use Rattle.cap_core.specs.Code.CommandOutcome.{Reports, ReportsStep};
 ghost use Rattle.cap_core.specs.Outcome.{applied, change_refused, commit_unless, created, made, stale};
+ghost use Rattle.cap_core.specs.Past.{HasRoom};
 ghost use Rattle.cap_core.specs.Transition.{after_write, written};
 ghost use Rattle.cap_value.specs.Memory.{AnswersUnlessMemory};
 
-use crate::confirm::{Asked, ask};
-use crate::{Confirm, Core, Reply};
+use crate::commit_hook::{ReplyHook, ask};
+use crate::{CommitHook, Core, Reply};
 use cap_apply::{Applied, Policy, applied_blobs_keep_columns};
 use cap_codec::Contents;
 use cap_row::Schema;
@@ -21,133 +22,128 @@ use cap_value::{AllocHandle, Fault, Name, Refusal};
 
 impl<A: AllocHandle> Core<A> {
     // Makes an empty table.
-    pub(crate) fn create_table<C: Confirm<A>>(
+    pub(crate) fn create_table<C: CommitHook<A>>(
         &mut self,
         name: &Name<A>,
         schema: &Schema<A>,
-        confirm: &mut C,
+        hook: &mut C,
     ) -> Result<Reply<A>, Fault<C::Refusal>>
-        requires room { self.old.events + 1 < 2 ^ 63 }
-        requires can_confirm { C.can_confirm confirm.old
+        requires room { HasRoom self.old.events }
+        requires can_ask { C.can_ask hook.old
             (write_reply self.old (created (create self.old.main name.now schema.now))) }
         ensures { let effect = created (create self.old.main name.now schema.now) in
-            Tells C.gives (write_reply self.old effect) (after_write self.old effect)
-            self.old self.new confirm.old confirm.new result }
+            Reports C.gives (write_reply self.old effect) (after_write self.old effect)
+            self.old self.new hook.old hook.new result }
     {
         tables_keep_columns::<A>();
         match with_table(&self.main, name, schema) {
             Ok(tables) => {
                 let changes = Vec::new(self.alloc);
                 let version = self.version + 1;
-                self.write(
-                    tables,
-                    changes.as_slice(),
-                    Reply::Written { version },
-                    confirm,
-                )
+                self.write(tables, changes.as_slice(), Reply::Written { version }, hook)
             }
-            Err(Fault::Refused(why)) => self.keep(Reply::Refused { at: None, why }, confirm),
+            Err(Fault::Refused(why)) => self.keep(Reply::Refused { at: None, why }, hook),
             Err(Fault::OutOfMemory) => Err(Fault::OutOfMemory),
         }
     }
 
     // Commits a transaction.
-    pub(crate) fn commit<C: Confirm<A>>(
+    pub(crate) fn commit<C: CommitHook<A>>(
         &mut self,
         batch: &Batch<A>,
-        confirm: &mut C,
+        hook: &mut C,
     ) -> Result<Reply<A>, Fault<C::Refusal>>
-        requires room { self.old.events + 1 < 2 ^ 63 }
-        requires can_confirm { C.can_confirm confirm.old (write_reply self.old
+        requires room { HasRoom self.old.events }
+        requires can_ask { C.can_ask hook.old (write_reply self.old
             (commit_unless (stale batch.now.base self.old.version) self.old.main batch.now.ops)) }
         ensures { let effect =
             commit_unless (stale batch.now.base self.old.version) self.old.main batch.now.ops in
-            Tells C.gives (write_reply self.old effect) (after_write self.old effect)
-            self.old self.new confirm.old confirm.new result }
+            Reports C.gives (write_reply self.old effect) (after_write self.old effect)
+            self.old self.new hook.old hook.new result }
     {
         match stale(batch.base(), self.version) {
-            Some(why) => self.keep(Reply::Refused { at: None, why }, confirm),
-            None => self.commit_now(batch.ops(), confirm),
+            Some(why) => self.keep(Reply::Refused { at: None, why }, hook),
+            None => self.commit_now(batch.ops(), hook),
         }
     }
 
-    // Commits operations on whatever version there is: one in place, and others on a snapshot.
-    fn commit_now<C: Confirm<A>>(
+    // Commits operations on the present version: one alone in place, several on a snapshot.
+    fn commit_now<C: CommitHook<A>>(
         &mut self,
         ops: &[Op<A>],
-        confirm: &mut C,
+        hook: &mut C,
     ) -> Result<Reply<A>, Fault<C::Refusal>>
-        requires room { self.old.events + 1 < 2 ^ 63 }
-        requires can_confirm { C.can_confirm confirm.old
+        requires room { HasRoom self.old.events }
+        requires can_ask { C.can_ask hook.old
             (write_reply self.old (made (run self.old.main ops.now))) }
         ensures { let effect = made (run self.old.main ops.now) in
-            Tells C.gives (write_reply self.old effect) (after_write self.old effect)
-            self.old self.new confirm.old confirm.new result }
+            Reports C.gives (write_reply self.old effect) (after_write self.old effect)
+            self.old self.new hook.old hook.new result }
     {
         match ops {
-            [op] => self.commit_one(op, confirm),
-            _ => self.commit_ops(ops, confirm),
+            [op] => self.commit_one(op, hook),
+            _ => self.commit_ops(ops, hook),
         }
     }
 
     // Commits operations on a snapshot.
-    fn commit_ops<C: Confirm<A>>(
+    fn commit_ops<C: CommitHook<A>>(
         &mut self,
         ops: &[Op<A>],
-        confirm: &mut C,
+        hook: &mut C,
     ) -> Result<Reply<A>, Fault<C::Refusal>>
-        requires room { self.old.events + 1 < 2 ^ 63 }
-        requires can_confirm { C.can_confirm confirm.old
+        requires room { HasRoom self.old.events }
+        requires can_ask { C.can_ask hook.old
             (write_reply self.old (made (run self.old.main ops.now))) }
         ensures { let effect = made (run self.old.main ops.now) in
-            Tells C.gives (write_reply self.old effect) (after_write self.old effect)
-            self.old self.new confirm.old confirm.new result }
+            Reports C.gives (write_reply self.old effect) (after_write self.old effect)
+            self.old self.new hook.old hook.new result }
     {
         tables_keep_columns::<A>();
         match run_ops(self.alloc, &self.main, ops) {
-            Ok(outcome) => self.write_outcome(outcome, confirm),
+            Ok(outcome) => self.write_outcome(outcome, hook),
             Err(Fault::Refused(refused)) => {
                 let at = Some(refused.at as u64);
                 let why = refused.why;
-                self.keep(Reply::Refused { at, why }, confirm)
+                self.keep(Reply::Refused { at, why }, hook)
             }
             Err(Fault::OutOfMemory) => Err(Fault::OutOfMemory),
         }
     }
 
     // Commits one operation, in place.
-    fn commit_one<C: Confirm<A>>(
+    fn commit_one<C: CommitHook<A>>(
         &mut self,
         op: &Op<A>,
-        confirm: &mut C,
+        hook: &mut C,
     ) -> Result<Reply<A>, Fault<C::Refusal>>
-        requires room { self.old.events + 1 < 2 ^ 63 }
-        requires can_confirm { C.can_confirm confirm.old
+        requires room { HasRoom self.old.events }
+        requires can_ask { C.can_ask hook.old
             (write_reply self.old (made (run self.old.main (op.now ∷ [])))) }
         ensures { let effect = made (run self.old.main (op.now ∷ [])) in
-            Tells C.gives (write_reply self.old effect) (after_write self.old effect)
-            self.old self.new confirm.old confirm.new result }
+            Reports C.gives (write_reply self.old effect) (after_write self.old effect)
+            self.old self.new hook.old hook.new result }
     {
         let changes = self.main.changes_of(op)?;
-        match self.make(op, changes.as_slice(), confirm) {
+        match self.make(op, changes.as_slice(), hook) {
             Ok(reply) => Ok(reply),
-            Err(NotMade::Refused(why)) => self.keep(Reply::Refused { at: Some(0), why }, confirm),
+            Err(NotMade::Refused(why)) => self.keep(Reply::Refused { at: Some(0), why }, hook),
             Err(NotMade::OutOfMemory) => Err(Fault::OutOfMemory),
-            Err(NotMade::Disagreed(why)) => Err(Fault::Refused(why)),
+            Err(NotMade::Vetoed(why)) => Err(Fault::Refused(why)),
         }
     }
 
-    // Makes one operation in place, and notes these changes in each session.
-    fn make<C: Confirm<A>>(
+    // Makes one operation in place, and records its changes in each session.
+    fn make<C: CommitHook<A>>(
         &mut self,
         op: &Op<A>,
         changes: &[Change<A>],
-        confirm: &mut C,
+        hook: &mut C,
     ) -> Result<Reply<A>, NotMade<C::Refusal>>
-        requires room { self.old.events + 1 < 2 ^ 63 }
-        requires can_confirm { (after : Tables A) → step self.old.main op.now ≡ Ok after
-            → C.can_confirm confirm.old (Reply.Written (self.old.version + 1)) }
-        ensures { Makes C.gives op.now changes.now self.old self.new confirm.old confirm.new result }
+        requires room { HasRoom self.old.events }
+        requires can_ask { (after : Tables A) → step self.old.main op.now ≡ Ok after
+            → C.can_ask hook.old (Reply.Written (self.old.version + 1)) }
+        ensures { ReportsStep C.gives op.now changes.now self.old self.new hook.old hook.new result }
     {
         tables_keep_columns::<A>();
         self.main.rows_stand();
@@ -158,13 +154,13 @@ impl<A: AllocHandle> Core<A> {
         let reply = Reply::Written {
             version: self.version + 1,
         };
-        let mut asked = Asked {
+        let mut reply_hook = ReplyHook {
             reply: &reply,
-            outside: confirm,
+            hook,
         };
-        match self.main.step_after(op, &mut asked) {
+        match self.main.step_with_hook(op, &mut reply_hook) {
             Ok(()) => {
-                self.sessions.take_over();
+                self.sessions.publish();
                 self.version += 1;
                 self.events += 1;
                 Ok(reply)
@@ -173,18 +169,18 @@ impl<A: AllocHandle> Core<A> {
         }
     }
 
-    // Takes over what accepted operations leave.
-    fn write_outcome<C: Confirm<A>>(
+    // Publishes the outcome of accepted operations.
+    fn write_outcome<C: CommitHook<A>>(
         &mut self,
         outcome: Outcome<A>,
-        confirm: &mut C,
+        hook: &mut C,
     ) -> Result<Reply<A>, Fault<C::Refusal>>
-        requires room { self.old.events + 1 < 2 ^ 63 }
+        requires room { HasRoom self.old.events }
         requires kept { KeepsColumns self.old.main outcome.database }
-        requires can_confirm { C.can_confirm confirm.old (write_reply self.old (made (Ok outcome))) }
-        ensures { Tells C.gives (write_reply self.old (made (Ok outcome)))
+        requires can_ask { C.can_ask hook.old (write_reply self.old (made (Ok outcome))) }
+        ensures { Reports C.gives (write_reply self.old (made (Ok outcome)))
             (after_write self.old (made (Ok outcome)))
-            self.old self.new confirm.old confirm.new result }
+            self.old self.new hook.old hook.new result }
     {
         let version = self.version + 1;
         let (database, changes) = outcome.into_parts();
@@ -192,47 +188,47 @@ impl<A: AllocHandle> Core<A> {
             database,
             changes.as_slice(),
             Reply::Written { version },
-            confirm,
+            hook,
         )
     }
 
     // Applies a changeset or a patchset under a policy.
-    pub(crate) fn apply<C: Confirm<A>>(
+    pub(crate) fn apply<C: CommitHook<A>>(
         &mut self,
         blob: &Contents<A>,
         policy: Policy,
-        confirm: &mut C,
+        hook: &mut C,
     ) -> Result<Reply<A>, Fault<C::Refusal>>
-        requires room { self.old.events + 1 < 2 ^ 63 }
-        requires can_confirm { C.can_confirm confirm.old
+        requires room { HasRoom self.old.events }
+        requires can_ask { C.can_ask hook.old
             (write_reply self.old (applied (apply self.old.main blob.now policy))) }
         ensures { let effect = applied (apply self.old.main blob.now policy) in
-            Tells C.gives (write_reply self.old effect) (after_write self.old effect)
-            self.old self.new confirm.old confirm.new result }
+            Reports C.gives (write_reply self.old effect) (after_write self.old effect)
+            self.old self.new hook.old hook.new result }
     {
         applied_blobs_keep_columns::<A>();
         match cap_apply::apply(self.alloc, &self.main, blob, policy) {
-            Ok(applied) => self.write_applied(applied, confirm),
+            Ok(applied) => self.write_applied(applied, hook),
             Err(Fault::Refused(why)) => {
                 let at = change_refused(why);
-                self.keep(Reply::Refused { at, why }, confirm)
+                self.keep(Reply::Refused { at, why }, hook)
             }
             Err(Fault::OutOfMemory) => Err(Fault::OutOfMemory),
         }
     }
 
-    // Takes over what a blob leaves.
-    fn write_applied<C: Confirm<A>>(
+    // Publishes the tables after a blob was applied.
+    fn write_applied<C: CommitHook<A>>(
         &mut self,
         blob: Applied<A>,
-        confirm: &mut C,
+        hook: &mut C,
     ) -> Result<Reply<A>, Fault<C::Refusal>>
-        requires room { self.old.events + 1 < 2 ^ 63 }
+        requires room { HasRoom self.old.events }
         requires kept { KeepsColumns self.old.main blob.database }
-        requires can_confirm { C.can_confirm confirm.old (write_reply self.old (applied (Ok blob))) }
-        ensures { Tells C.gives (write_reply self.old (applied (Ok blob)))
+        requires can_ask { C.can_ask hook.old (write_reply self.old (applied (Ok blob))) }
+        ensures { Reports C.gives (write_reply self.old (applied (Ok blob)))
             (after_write self.old (applied (Ok blob)))
-            self.old self.new confirm.old confirm.new result }
+            self.old self.new hook.old hook.new result }
     {
         let version = self.version + 1;
         let (database, changes, report) = blob.into_parts();
@@ -240,28 +236,28 @@ impl<A: AllocHandle> Core<A> {
             database,
             changes.as_slice(),
             Reply::Applied { version, report },
-            confirm,
+            hook,
         )
     }
 
-    // Puts these tables in place, one version later, and notes these changes in each session.
-    fn write<C: Confirm<A>>(
+    // Publishes these tables as the next version, and records the changes in each session.
+    fn write<C: CommitHook<A>>(
         &mut self,
         tables: Database<A>,
         changes: &[Change<A>],
         reply: Reply<A>,
-        confirm: &mut C,
+        hook: &mut C,
     ) -> Result<Reply<A>, Fault<C::Refusal>>
-        requires room { self.old.events + 1 < 2 ^ 63 }
+        requires room { HasRoom self.old.events }
         requires kept { KeepsColumns self.old.main tables }
-        requires can_confirm { C.can_confirm confirm.old reply }
-        ensures { Tells C.gives reply (written self.old tables changes.now)
-            self.old self.new confirm.old confirm.new result }
+        requires can_ask { C.can_ask hook.old reply }
+        ensures { Reports C.gives reply (written self.old tables changes.now)
+            self.old self.new hook.old hook.new result }
     {
         self.main.rows_stand();
         self.sessions.note(&self.main, changes)?;
-        ask(confirm, &reply)?;
-        self.sessions.take_over();
+        ask(hook, &reply)?;
+        self.sessions.publish();
         self.main = tables;
         self.version += 1;
         self.events += 1;
@@ -269,7 +265,7 @@ impl<A: AllocHandle> Core<A> {
     }
 }
 
-// The tables with one more, which is empty.
+// The tables and a new empty one.
 fn with_table<A: AllocHandle>(
     main: &Database<A>,
     name: &Name<A>,
@@ -284,7 +280,7 @@ fn with_table<A: AllocHandle>(
     }
 }
 
-// Why a batch that was made for this version is refused now, if it is.
+// Why a batch on this base version is refused, if it is.
 fn stale(base: Option<u64>, now: u64) -> Option<Refusal>
     ensures { result ≡ stale base now }
 {
@@ -292,10 +288,14 @@ fn stale(base: Option<u64>, now: u64) -> Option<Refusal>
     if base == now {
         return None;
     }
-    Some(Refusal::Stale { base, now })
+    Some(Refusal::Stale {
+        base,
+        now,
+        item: None,
+    })
 }
 
-// The change of a blob that ended its application.
+// The change of a blob at which its application ended.
 fn change_refused(why: Refusal) -> Option<u64>
     ensures { result ≡ change_refused why }
 {

@@ -7,7 +7,6 @@ use Rattle.cap_filter.specs.Grammar.{Begins, BeginsWord, Spelled, SpelledMembers
 use Rattle.cap_filter.specs.Reading.{Frame, negated, listed, Next, a_filter, a_text, a_list, a_member, more, an_end, behind_filter, list_of, behind_keyword, Move, on, unfit, too_deep, within, at_keyword, start, behind_text, step, whole_filter, next_run, run, keyword_of, refusal, filter_of}
 use Rattle.cap_filter.specs.Rule.{Rule, all, nothing, is, starts, ends, negation, conjunction, disjunction, Rules, no_rules, rule}
 use Rattle.cap_filter.specs.Tokens.{Token, word, quoted, opening, closing, comma, other, Tokens, tokens_of, text_of}
-use Rattle.cap_filter.specs.declared.filter.TheConstants.{DEPTH_MAX, NODES_MAX}
 use Rattle.cap_filter.specs.declared.reading.Keyword.{Keyword}
 use Rattle.cap_filter.specs.declared.reading.Keyword.TheVariants as keywords
 use Rattle.cap_filter.specs.declared.reading.Stop.TheVariants.{Unfit, Deep}
@@ -30,7 +29,7 @@ placed_means q (negated ∷ frames) tokens r h = placed_means (negation q) frame
 placed_means q (listed every before ∷ frames) tokens r h =
     (h.0, h.1, h.2, subst (λ (l : List Rule). Closes (list_of every l) frames h.1 r) (sym (append_assoc before (q ∷ []) (list h.0))) h.3)
 
--- the keyword of a filter, and what stands behind it
+-- the keyword of a filter, and the tokens behind it
 abbrev Opened : Rule → Tokens → Tokens → Type 0
 Opened q tokens rest =
     (k : Keyword) × (after : Tokens) × BeginsWord tokens (word_of k) after × ((frames : List Frame) (r : Rule) → Closes q frames rest r → Means (behind_keyword k frames) after r)
@@ -63,7 +62,7 @@ module _ (left : ℕ) (t : Token) (tokens : Tokens) (r : Rule) where
 
   within_allowed : (frames : List Frame) (room : ℕ) (n : Next) → Means n tokens r → Allowed (within frames room n) Behind
   within_allowed frames zero n h = tt
-  within_allowed frames (suc room) n h = limited (ltb (length frames) DEPTH_MAX) n room h
+  within_allowed frames (suc room) n h = limited (ltb (length frames) 32) n room h
 
   filter_back : (frames : List Frame) (room : ℕ) → Means (a_filter frames) Here r → Allowed (start frames room t) Behind
   filter_back frames room m =
@@ -213,13 +212,13 @@ deep_goes_on (an_end q) room left other h = absurd cc
 
 -- ---- a place that was reached
 
--- behind the front of a text: what may stand next is just what completes the front to a spelling
+-- behind the front of a text: what may come next is exactly what completes the front to a spelling
 record IsReached (front : Tokens) (next : Next) (room : ℕ) : Type 0 where
   spells : (tokens : Tokens) (r : Rule) → Means next tokens r → Spelled r (front ++ tokens) []
   means : (tokens : Tokens) (r : Rule) → Spelled r (front ++ tokens) [] → Means next tokens r
-  runs : (tokens : Tokens) → run (a_filter []) NODES_MAX (front ++ tokens) ≡ run next room tokens
+  runs : (tokens : Tokens) → run (a_filter []) 1000 (front ++ tokens) ≡ run next room tokens
 
-IsReached-start : IsReached [] (a_filter []) NODES_MAX
+IsReached-start : IsReached [] (a_filter []) 1000
 IsReached-start = record {
   spells = λ tokens r m. subst (λ (q : Rule). Spelled q tokens []) m.3.1 (subst (λ (rest : Tokens). Spelled m.0 tokens rest) m.3.0 m.2);
   means = λ tokens r h. (r, [], h, (refl, refl));
@@ -241,7 +240,7 @@ IsReached-on front next room left t n q reached e = record {
   means = λ tokens r h.
       let m = reached.means ((left, t) ∷ tokens) r (subst (λ (l : Tokens). Spelled r l []) (one_more front (left, t) tokens) h) in
       subst (λ (v : Move). Allowed v (λ k. Means k tokens r)) e (step_back left t tokens r next room m);
-  runs = λ tokens. ap (run (a_filter []) NODES_MAX) (one_more front (left, t) tokens) ∙ reached.runs ((left, t) ∷ tokens) ∙ run_on next room left t n q tokens e;
+  runs = λ tokens. ap (run (a_filter []) 1000) (one_more front (left, t) tokens) ∙ reached.runs ((left, t) ∷ tokens) ∙ run_on next room left t n q tokens e;
 }
 
 Fits-reached : (front : Tokens) (next : Next) (room : ℕ) → IsReached front next room → Fits front
@@ -306,7 +305,7 @@ unfit_in ((place, t) ∷ rest) front next room left reached h =
 abbrev DeepIn : Tokens → Type 0
 DeepIn tokens =
     (front : Tokens) × (rest : Tokens) × (tokens ≡ front ++ rest) × Fits front
-    × ((more_tokens : Tokens) → run (a_filter []) NODES_MAX (front ++ more_tokens) ≡ refused Deep)
+    × ((more_tokens : Tokens) → run (a_filter []) 1000 (front ++ more_tokens) ≡ refused Deep)
 
 run_deep : (next : Next) (room left : ℕ) (t : Token) (tokens : Tokens) → step next room t ≡ too_deep → run next room ((left, t) ∷ tokens) ≡ refused Deep
 unfolding run
@@ -319,7 +318,7 @@ deep_token front next room left t rest reached e =
       rest,
       sym (one_more front (left, t) rest),
       (c.0, c.1, subst (λ (l : Tokens). Spelled c.1 l []) (sym (one_more front (left, t) c.0)) (reached.spells ((left, t) ∷ c.0) c.1 c.2)),
-      λ tokens. ap (run (a_filter []) NODES_MAX) (one_more front (left, t) tokens) ∙ reached.runs ((left, t) ∷ tokens) ∙ run_deep next room left t tokens e,
+      λ tokens. ap (run (a_filter []) 1000) (one_more front (left, t) tokens) ∙ reached.runs ((left, t) ∷ tokens) ∙ run_deep next room left t tokens e,
     )
 
 deep_step : (m : Move) (front : Tokens) (next : Next) (room place : ℕ) (t : Token) (rest : Tokens) → IsReached front next room → step next room t ≡ m →
@@ -362,12 +361,12 @@ not_both r h = absurd cc
 pub IsUnfitAt-filter_of : (text : List ℕ) (at : ℕ) → filter_of text ≡ Err (BadFilter at) → IsUnfitAt text at
 unfolding filter_of IsUnfitAt
 IsUnfitAt-filter_of text at h =
-    let stop = refused_unfit text (run (a_filter []) NODES_MAX (tokens_of text)) at h in
-    let found = unfit_in (tokens_of text) [] (a_filter []) NODES_MAX stop.0 IsReached-start stop.1 in
+    let stop = refused_unfit text (run (a_filter []) 1000 (tokens_of text)) at h in
+    let found = unfit_in (tokens_of text) [] (a_filter []) 1000 stop.0 IsReached-start stop.1 in
     (stop.0, stop.2, found.0, found.1, found.2, found.3, found.4)
 
 pub IsPastLimits-filter_of : (text : List ℕ) → filter_of text ≡ Err TooDeep → IsPastLimits text
 unfolding filter_of IsPastLimits
 IsPastLimits-filter_of text h =
-    let found = deep_in (tokens_of text) [] (a_filter []) NODES_MAX IsReached-start (refused_deep text (run (a_filter []) NODES_MAX (tokens_of text)) h) in
+    let found = deep_in (tokens_of text) [] (a_filter []) 1000 IsReached-start (refused_deep text (run (a_filter []) 1000 (tokens_of text)) h) in
     (found.0, found.1, found.2, found.3, λ r rest s fits. not_both r (sym (within_is_read r (found.0 ++ rest) s fits) ∙ found.4 rest))

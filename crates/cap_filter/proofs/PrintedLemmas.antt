@@ -1,6 +1,7 @@
 -- What is written piece by piece.
+use mathlib.Core.List.{IsPrefix}
 use Rattle.std.proofs.Common.{◌≡◌, ℕ, false, eqb, List, [], ◌∷◌, ◌++◌, refl, sym, ap, ◌∙◌, append_assoc}
-use Rattle.cap_filter.specs.Printed.{quote, double_quotes, quoted}
+use Rattle.cap_filter.specs.Printed.{quote, double_quotes}
 use Rattle.cap_filter.specs.Tokens.{has_quote}
 use Rattle.cap_filter.proofs.TokenLemmas.{or_parts}
 
@@ -32,8 +33,12 @@ one_piece_more out piece after whole start out0 out1 plain so_far e0 e1 =
     let here : out1 ++ double_quotes after ≡ out ++ double_quotes (piece ++ quote ∷ after) = rw (e1, e0, doubled_cut piece after plain) (simp append_assoc) in
     here ∙ so_far
 
-pub last_piece : (out rest word start out0 out1 : List ℕ) → has_quote rest ≡ false → out ++ double_quotes rest ≡ start ++ quote ∷ double_quotes word → out0 ≡ out ++ rest → out1 ≡ out0 ++ quote ∷ [] →
-    out1 ≡ start ++ quoted word
+pub last_piece : (out rest word start out0 out1 : List ℕ) → has_quote rest ≡ false → out ++ double_quotes rest ≡ start ++ double_quotes word → out0 ≡ out ++ rest → out1 ≡ out0 ++ quote ∷ [] →
+    out1 ≡ start ++ double_quotes word ++ quote ∷ []
 last_piece out rest word start out0 out1 plain so_far e0 e1 =
-    let written : out0 ≡ start ++ quote ∷ double_quotes word = e0 ∙ ap (λ (l : List ℕ). out ++ l) (sym (doubled_plain rest plain)) ∙ so_far in
-    e1 ∙ rw written (append_assoc start (quote ∷ double_quotes word) (quote ∷ []))
+    let written : out0 ≡ start ++ double_quotes word = e0 ∙ ap (λ (l : List ℕ). out ++ l) (sym (doubled_plain rest plain)) ∙ so_far in
+    e1 ∙ ap (λ (l : List ℕ). l ++ quote ∷ []) written
+
+-- what stood at the beginning still does, behind two pieces more
+pub begins_more : (start out piece more out0 out1 : List ℕ) → IsPrefix start out → out0 ≡ out ++ piece → out1 ≡ out0 ++ more → IsPrefix start out1
+begins_more start out piece more out0 out1 (rest, so) e0 e1 = (rest ++ piece ++ more, rw (e1, e0, ← so) (simp append_assoc))

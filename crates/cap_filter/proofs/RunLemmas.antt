@@ -8,7 +8,6 @@ use Rattle.cap_value.specs.Memory.{RefusesUnlessMemory}
 use Rattle.cap_filter.specs.Reading.{Frame, listed, Next, a_filter, a_text, a_list, a_member, more, an_end, list_of, behind_filter, behind_keyword, within, at_keyword, next_run, run, keyword_of, keyword_read, keyword_at, text_at, opening_at, closing_at, separator_at, end_at, refusal, filter_of}
 use Rattle.cap_filter.specs.Rule.{Rule}
 use Rattle.cap_filter.specs.Tokens.{word, quoted, opening, closing, comma, other, Tokens, tokens_of}
-use Rattle.cap_filter.specs.declared.filter.TheConstants.{DEPTH_MAX, NODES_MAX}
 use Rattle.cap_filter.specs.declared.reading.Keyword.{Keyword}
 use Rattle.cap_filter.specs.declared.reading.Stop.{Stop}
 use Rattle.cap_filter.specs.declared.reading.Stop.TheVariants.{Unfit, Deep}
@@ -46,28 +45,28 @@ run-no_keyword frames room e ((left, closing) ∷ ts) h = same_refusal (Unfit le
 run-no_keyword frames room e ((left, comma) ∷ ts) h = same_refusal (Unfit left) e h
 run-no_keyword frames room e ((left, other) ∷ ts) h = same_refusal (Unfit left) e h
 
-is_within : (frames : List Frame) (room left : ℕ) (n : Next) (next : Next → ℕ → Answer) → 0 < room → length frames < DEPTH_MAX → next_run left (within frames room n) next ≡ next n (room - 1)
+is_within : (frames : List Frame) (room left : ℕ) (n : Next) (next : Next → ℕ → Answer) → 0 < room → length frames < 32 → next_run left (within frames room n) next ≡ next n (room - 1)
 is_within frames zero left n next positive shallow = absurd (omega arith)
-is_within frames (suc room) left n next positive shallow = rw (lt-ltb (length frames) DEPTH_MAX shallow, sub-one) refl
+is_within frames (suc room) left n next positive shallow = rw (lt-ltb (length frames) 32 shallow, sub-one) refl
 
-is_past : (frames : List Frame) (room left : ℕ) (n : Next) (next : Next → ℕ → Answer) → (room ≡ 0) ⊎ (DEPTH_MAX ≤ length frames) → next_run left (within frames room n) next ≡ Err Deep
+is_past : (frames : List Frame) (room left : ℕ) (n : Next) (next : Next → ℕ → Answer) → (room ≡ 0) ⊎ (32 ≤ length frames) → next_run left (within frames room n) next ≡ Err Deep
 is_past frames zero left n next past = refl
 is_past frames (suc room) left n next (inl none) = absurd (omega arith)
-is_past frames (suc room) left n next (inr deep) = rw (le-ltb (length frames) DEPTH_MAX deep) refl
+is_past frames (suc room) left n next (inr deep) = rw (le-ltb (length frames) 32 deep) refl
 
 keyword_started : (frames : List Frame) (room left : ℕ) (rest after : Tokens) (k : Keyword) (o : Option Keyword) → keyword_read left rest o ≡ Ok (k, after) →
-    0 < room → length frames < DEPTH_MAX → next_run left (at_keyword frames room o) (λ n r. run n r rest) ≡ run (behind_keyword k frames) (room - 1) after
+    0 < room → length frames < 32 → next_run left (at_keyword frames room o) (λ n r. run n r rest) ≡ run (behind_keyword k frames) (room - 1) after
 keyword_started frames room left rest after k None h positive shallow = absurd cc
 keyword_started frames room left rest after k (Some j) h positive shallow =
     let same = ok_parts j k rest after h in
     is_within frames room left (behind_keyword j frames) (λ n r. run n r rest) positive shallow ∙ rw (same.0, same.1) refl
 
 keyword_past : (frames : List Frame) (room left : ℕ) (rest : Tokens) (x : Keyword × Tokens) (next : Next → ℕ → Answer) (o : Option Keyword) → keyword_read left rest o ≡ Ok x →
-    (room ≡ 0) ⊎ (DEPTH_MAX ≤ length frames) → next_run left (at_keyword frames room o) next ≡ Err Deep
+    (room ≡ 0) ⊎ (32 ≤ length frames) → next_run left (at_keyword frames room o) next ≡ Err Deep
 keyword_past frames room left rest x next None h past = absurd cc
 keyword_past frames room left rest x next (Some j) h past = is_past frames room left (behind_keyword j frames) next past
 
-pub run-keyword : (frames : List Frame) (room : ℕ) (k : Keyword) (after tokens : Tokens) → keyword_at tokens ≡ Ok (k, after) → 0 < room → length frames < DEPTH_MAX → run (a_filter frames) room tokens ≡ run (behind_keyword k frames) (room - 1) after
+pub run-keyword : (frames : List Frame) (room : ℕ) (k : Keyword) (after tokens : Tokens) → keyword_at tokens ≡ Ok (k, after) → 0 < room → length frames < 32 → run (a_filter frames) room tokens ≡ run (behind_keyword k frames) (room - 1) after
 unfolding run
 run-keyword frames room k after [] h positive shallow = absurd cc
 run-keyword frames room k after ((left, (word w)) ∷ ts) h positive shallow = keyword_started frames room left ts after k (keyword_of w) h positive shallow
@@ -77,7 +76,7 @@ run-keyword frames room k after ((left, closing) ∷ ts) h positive shallow = ab
 run-keyword frames room k after ((left, comma) ∷ ts) h positive shallow = absurd cc
 run-keyword frames room k after ((left, other) ∷ ts) h positive shallow = absurd cc
 
-pub run-past : (frames : List Frame) (room : ℕ) (x : Keyword × Tokens) (tokens : Tokens) → keyword_at tokens ≡ Ok x → (room ≡ 0) ⊎ (DEPTH_MAX ≤ length frames) → run (a_filter frames) room tokens ≡ Err Deep
+pub run-past : (frames : List Frame) (room : ℕ) (x : Keyword × Tokens) (tokens : Tokens) → keyword_at tokens ≡ Ok x → (room ≡ 0) ⊎ (32 ≤ length frames) → run (a_filter frames) room tokens ≡ Err Deep
 unfolding run
 run-past frames room x [] h past = absurd cc
 run-past frames room x ((left, (word w)) ∷ ts) h past = keyword_past frames room left ts x (λ n r. run n r ts) (keyword_of w) h past
@@ -205,9 +204,9 @@ run-end r room u ((left, other) ∷ ts) h = absurd cc
 
 -- ---- what the reader's calls lead to
 
--- behind a keyword that stands within the limits
+-- behind a keyword within the limits
 pub run-behind_keyword : (frames : List Frame) (room levels : ℕ) (k j : Keyword) (after tokens : Tokens) → keyword_at tokens ≡ Ok (k, after) → k ≡ j → (room ≡ 0 → ⊥) → (levels ≡ 0 → ⊥) →
-    length frames + levels ≡ DEPTH_MAX → run (a_filter frames) room tokens ≡ run (behind_keyword j frames) (room - 1) after
+    length frames + levels ≡ 32 → run (a_filter frames) room tokens ≡ run (behind_keyword j frames) (room - 1) after
 run-behind_keyword frames room levels k j after tokens h same some_room some_level fits =
     run-keyword frames room k after tokens h (omega arith) (omega arith) ∙ ap (λ (i : Keyword). run (behind_keyword i frames) (room - 1) after) same
 
@@ -222,10 +221,10 @@ refused_through OutOfMemory read answer h same = tt
 
 -- ---- the whole text
 
-pub filter_of-ok : (text : List ℕ) (r : Rule) → run (a_filter []) NODES_MAX (tokens_of text) ≡ Ok r → filter_of text ≡ Ok r
+pub filter_of-ok : (text : List ℕ) (r : Rule) → run (a_filter []) 1000 (tokens_of text) ≡ Ok r → filter_of text ≡ Ok r
 unfolding filter_of
 filter_of-ok text r h = ap (result_map_both (λ (q : Rule). q) (refusal text)) h
 
-pub filter_of-err : (text : List ℕ) (e : Stop) → run (a_filter []) NODES_MAX (tokens_of text) ≡ Err e → filter_of text ≡ Err (refusal text e)
+pub filter_of-err : (text : List ℕ) (e : Stop) → run (a_filter []) 1000 (tokens_of text) ≡ Err e → filter_of text ≡ Err (refusal text e)
 unfolding filter_of
 filter_of-err text e h = ap (result_map_both (λ (q : Rule). q) (refusal text)) h

@@ -11,7 +11,6 @@ use Rattle.cap_filter.specs.Grammar.{Begins, BeginsWord, Spelled, SpelledMembers
 use Rattle.cap_filter.specs.Reading.{Frame, negated, listed, Next, a_filter, a_text, a_list, a_member, more, an_end, behind_filter, list_of, behind_keyword, Move, on, unfit, too_deep, within, at_keyword, step, whole_filter, next_run, run, keyword_of, refusal, filter_of}
 use Rattle.cap_filter.specs.Rule.{Rule, all, nothing, is, starts, ends, negation, conjunction, disjunction, Rules, no_rules, rule}
 use Rattle.cap_filter.specs.Tokens.{Token, word, quoted, opening, closing, comma, other, Tokens, tokens_of, text_of}
-use Rattle.cap_filter.specs.declared.filter.TheConstants.{DEPTH_MAX, NODES_MAX}
 use Rattle.cap_filter.specs.declared.reading.Keyword.{Keyword}
 use Rattle.cap_filter.specs.declared.reading.Keyword.TheVariants as keywords
 use Rattle.cap_filter.proofs.RunLemmas.{Answer, gave}
@@ -24,7 +23,7 @@ Closes q (negated ∷ frames) tokens r = Closes (negation q) frames tokens r
 Closes q (listed every before ∷ frames) tokens r =
     (rs : Rules) × (rest : Tokens) × SpelledMore rs tokens rest × Closes (list_of every (before ++ q ∷ list rs)) frames rest r
 
--- the tokens are what may stand next, and all that follows it, of a text that spells r
+-- the tokens are what may come next, and all that follows it, of a text that spells r
 abbrev pub Means : Next → Tokens → Rule → Type 0
 Means (a_filter frames) tokens r = (q : Rule) × (rest : Tokens) × Spelled q tokens rest × Closes q frames rest r
 Means (a_text make frames) tokens r =
@@ -109,7 +108,7 @@ module _ (tokens : Tokens) (r : Rule) where
   within_means frames zero left w k e h = absurd h
   within_means frames (suc room) left w k e h =
       let known : (left, word w) ∷ tokens ≡ (left, word (word_of k)) ∷ tokens = ap (λ (l : List ℕ). (left, word l) ∷ tokens) (keyword_word w k e) in
-      begun_means k frames ((left, word w) ∷ tokens) tokens r (left, known) (goes_on (ltb (length frames) DEPTH_MAX) (behind_keyword k frames) room h)
+      begun_means k frames ((left, word w) ∷ tokens) tokens r (left, known) (goes_on (ltb (length frames) 32) (behind_keyword k frames) room h)
 
   word_means : (frames : List Frame) (room left : ℕ) (w : List ℕ) (o : Option Keyword) → keyword_of w ≡ o → Moved (at_keyword frames room o) Behind →
       Means (a_filter frames) ((left, word w) ∷ tokens) r
@@ -183,7 +182,7 @@ answered text (Err e) r h = absurd cc
 pub filter_of-Spells : (text : List ℕ) (r : Rule) → filter_of text ≡ Ok r → Spells text r
 unfolding filter_of Spells
 filter_of-Spells text r h =
-    let m = is_spelled (tokens_of text) r (a_filter []) NODES_MAX (answered text (run (a_filter []) NODES_MAX (tokens_of text)) r h) in
+    let m = is_spelled (tokens_of text) r (a_filter []) 1000 (answered text (run (a_filter []) 1000 (tokens_of text)) r h) in
     let whole_filter : Spelled m.0 (tokens_of text) [] = subst (λ (rest : Tokens). Spelled m.0 (tokens_of text) rest) m.3.0 m.2 in
     subst (λ (q : Rule). Spelled q (tokens_of text) []) m.3.1 whole_filter
 

@@ -8,7 +8,6 @@ use Rattle.cap_filter.specs.Plain.{rules}
 use Rattle.cap_filter.specs.Reading.{Frame, negated, listed, Next, a_filter, a_text, a_list, a_member, more, behind_filter, list_of, behind_keyword, run, keyword_of, keyword_read, keyword_at, text_read, text_at, opening_at, closing_at, separator_at, filter_of}
 use Rattle.cap_filter.specs.Rule.{Rule, all, nothing, is, starts, ends, negation, conjunction, disjunction, Rules, no_rules, rule}
 use Rattle.cap_filter.specs.Tokens.{Token, Tokens, tokens_of, text_of}
-use Rattle.cap_filter.specs.declared.filter.TheConstants.{DEPTH_MAX, NODES_MAX}
 use Rattle.cap_filter.specs.declared.reading.Keyword.{Keyword}
 use Rattle.cap_filter.specs.declared.reading.Keyword.TheVariants as keywords
 use Rattle.cap_filter.proofs.RunLemmas.{gave, run-keyword, run-text, run-opening, run-closing, run-member, run-comma, run-last, filter_of-ok}
@@ -51,18 +50,18 @@ pub at_text : (t : Token) (w : List ℕ) (tokens rest : Tokens) → text_of t �
 at_text t w tokens rest e h = ap text_at h.1 ∙ ap (text_read h.0 rest) e
 
 -- behind a keyword
-after_keyword : (k : Keyword) (frames : List Frame) (room : ℕ) (tokens rest : Tokens) → BeginsWord tokens (word_of k) rest → length frames + 1 ≤ DEPTH_MAX → 1 ≤ room →
+after_keyword : (k : Keyword) (frames : List Frame) (room : ℕ) (tokens rest : Tokens) → BeginsWord tokens (word_of k) rest → length frames + 1 ≤ 32 → 1 ≤ room →
     run (a_filter frames) room tokens ≡ run (behind_keyword k frames) (room - 1) rest
 after_keyword k frames room tokens rest h shallow some = run-keyword frames room k rest tokens (at_keyword k tokens rest h) (omega arith) (omega arith)
 
 behind_text : (k : Keyword) (make : List ℕ → Rule) → ((frames : List Frame) → behind_keyword k frames ≡ a_text make frames) → (frames : List Frame) (room : ℕ) (w : List ℕ) (tokens rest : Tokens) →
-    BeginsWith tokens (word_of k) w rest → length frames + 1 ≤ DEPTH_MAX → 1 ≤ room → run (a_filter frames) room tokens ≡ run (behind_filter (make w) frames) (room - 1) rest
+    BeginsWith tokens (word_of k) w rest → length frames + 1 ≤ 32 → 1 ≤ room → run (a_filter frames) room tokens ≡ run (behind_filter (make w) frames) (room - 1) rest
 behind_text k make same frames room w tokens rest h shallow some =
     after_keyword k frames room tokens h.0 h.1 shallow some ∙ ap (λ (n : Next). run n (room - 1) h.0) (same frames)
     ∙ run-text make frames (room - 1) w rest h.0 (at_text h.2 w h.0 rest h.3 h.4)
 
 in_list : (k : Keyword) (every : Bool) → ((frames : List Frame) → behind_keyword k frames ≡ a_list every frames) → (frames : List Frame) (room : ℕ) (tokens rest : Tokens) →
-    BeginsList tokens (word_of k) rest → length frames + 1 ≤ DEPTH_MAX → 1 ≤ room → run (a_filter frames) room tokens ≡ run (a_member every frames) (room - 1) rest
+    BeginsList tokens (word_of k) rest → length frames + 1 ≤ 32 → 1 ≤ room → run (a_filter frames) room tokens ≡ run (a_member every frames) (room - 1) rest
 in_list k every same frames room tokens rest h shallow some =
     after_keyword k frames room tokens h.0 h.1 shallow some ∙ ap (λ (n : Next). run n (room - 1) h.0) (same frames)
     ∙ run-opening every frames (room - 1) rest h.0 (ap opening_at h.2.1)
@@ -88,7 +87,7 @@ same_run : (r s : Rule) (frames : List Frame) (m n : ℕ) (rest : Tokens) → r 
 same_run r s frames m n rest e f = rw (e, f) refl
 
 mutual
-  pub is_read : (r : Rule) (frames : List Frame) (room : ℕ) (tokens rest : Tokens) → Spelled r tokens rest → length frames + depth r ≤ DEPTH_MAX → nodes r ≤ room →
+  pub is_read : (r : Rule) (frames : List Frame) (room : ℕ) (tokens rest : Tokens) → Spelled r tokens rest → length frames + depth r ≤ 32 → nodes r ≤ room →
       run (a_filter frames) room tokens ≡ run (behind_filter r frames) (room - nodes r) rest
   is_read all frames room tokens rest h shallow some = after_keyword keywords.All frames room tokens rest h shallow some
   is_read nothing frames room tokens rest h shallow some = after_keyword keywords.Nothing frames room tokens rest h shallow some
@@ -109,7 +108,7 @@ mutual
       ∙ same_run (disjunction (rules (list rs))) (disjunction rs) frames (room - 1 - nodes_of_all rs) (room - (nodes_of_all rs + 1)) rest (ap disjunction (rules-list rs)) (omega arith)
 
   pub members_are_read : (rs : Rules) (every : Bool) (frames : List Frame) (room : ℕ) (tokens rest : Tokens) → SpelledMembers rs tokens rest →
-      length frames + 1 + depth_of_all rs ≤ DEPTH_MAX → nodes_of_all rs ≤ room →
+      length frames + 1 + depth_of_all rs ≤ 32 → nodes_of_all rs ≤ room →
       run (a_member every frames) room tokens ≡ run (behind_filter (list_of every (list rs)) frames) (room - nodes_of_all rs) rest
   members_are_read no_rules every frames room tokens rest h shallow some =
       run-closing every frames room rest tokens (ap closing_at h.1) ∙ same_run _ _ frames room (room - 0) rest refl (omega arith)
@@ -120,7 +119,7 @@ mutual
       ∙ same_run _ _ frames (room - nodes r - nodes_of_all rs) (room - (nodes r + nodes_of_all rs)) rest refl (omega arith)
 
   pub more_are_read : (rs : Rules) (every : Bool) (before : List Rule) (frames : List Frame) (room : ℕ) (tokens rest : Tokens) → SpelledMore rs tokens rest →
-      length frames + 1 + depth_of_all rs ≤ DEPTH_MAX → nodes_of_all rs ≤ room →
+      length frames + 1 + depth_of_all rs ≤ 32 → nodes_of_all rs ≤ room →
       run (more every before frames) room tokens ≡ run (behind_filter (list_of every (before ++ list rs)) frames) (room - nodes_of_all rs) rest
   more_are_read no_rules every before frames room tokens rest h shallow some =
       run-last every before frames room rest tokens (ap separator_at h.1)
@@ -136,12 +135,12 @@ whole_filter : (r : Rule) (room : ℕ) → run (behind_filter r []) room [] ≡ 
 unfolding run
 whole_filter r room = refl
 
-pub within_is_read : (r : Rule) (tokens : Tokens) → Spelled r tokens [] → is_within_limits r ≡ true → run (a_filter []) NODES_MAX tokens ≡ gave r
+pub within_is_read : (r : Rule) (tokens : Tokens) → Spelled r tokens [] → is_within_limits r ≡ true → run (a_filter []) 1000 tokens ≡ gave r
 within_is_read r tokens h fits =
-    let limits = and_parts (leb (depth r) DEPTH_MAX) (leb (nodes r) NODES_MAX) fits in
-    let deep = leb-true (depth r) DEPTH_MAX limits.0 in
-    let many = leb-true (nodes r) NODES_MAX limits.1 in
-    is_read r [] NODES_MAX tokens [] h (omega arith) many ∙ whole_filter r (NODES_MAX - nodes r)
+    let limits = and_parts (leb (depth r) 32) (leb (nodes r) 1000) fits in
+    let deep = leb-true (depth r) 32 limits.0 in
+    let many = leb-true (nodes r) 1000 limits.1 in
+    is_read r [] 1000 tokens [] h (omega arith) many ∙ whole_filter r (1000 - nodes r)
 
 -- what the whole text spells
 pub Spells-read : (text : List ℕ) (r : Rule) → Spells text r → is_within_limits r ≡ true → filter_of text ≡ Ok r

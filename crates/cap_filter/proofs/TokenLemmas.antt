@@ -169,7 +169,7 @@ pub unclosed : (piece : List ℕ) (left : ℕ) (w : List ℕ) → has_quote piec
 unfolding tokens_from
 unclosed piece left w e = ap (tokens_from (inside left w)) (sym (append-nil piece)) ∙ piece_inside piece [] left w e
 
--- what stands before the next quote
+-- the bytes before the next quote
 pub quote_behind : (text piece after : List ℕ) (left : ℕ) (w : List ℕ) → has_quote piece ≡ false → text ≡ piece ++ quote ∷ after →
     tokens_from (inside left w) text ≡ tokens_from (behind_quote left (w ++ piece)) after
 unfolding tokens_from

@@ -2,7 +2,8 @@
 use Rattle.std.specs.Prelude.{ℕ, List, Bool, true, false, not, ◌&&◌, ◌||◌, nat_eq}
 use Rattle.std.specs.List.{starts_with, ends_with}
 use Rattle.cap_value.specs.Bytes.{bytes_eq}
-use Rattle.cap_filter.specs.Rule.{Rule, all, nothing, is, starts, ends, negation, conjunction, disjunction, Rules, no_rules, rule}
+use Rattle.cap_filter.specs.Rule.{Rule, all, nothing, is, starts, ends, negation, conjunction, disjunction}
+use Rattle.cap_filter.specs.Rule.{Rules, no_rules, rule}
 
 abbrev mutual
   pub accepts : Rule → List ℕ → Bool

@@ -1,7 +1,7 @@
--- How large a filter is.
+-- The size of a filter.
 use Rattle.std.specs.Prelude.{ℕ, ◌+◌, max, Bool, ◌&&◌, nat_le}
-use Rattle.cap_filter.specs.Rule.{Rule, all, nothing, is, starts, ends, negation, conjunction, disjunction, Rules, no_rules, rule}
-use Rattle.cap_filter.specs.declared.filter.TheConstants.{DEPTH_MAX, NODES_MAX}
+use Rattle.cap_filter.specs.Rule.{Rule, all, nothing, is, starts, ends, negation, conjunction, disjunction}
+use Rattle.cap_filter.specs.Rule.{Rules, no_rules, rule}
 
 -- the levels of a filter: one that has no filter inside it has one
 abbrev mutual
@@ -36,4 +36,4 @@ abbrev mutual
   nodes_of_all (rule r rs) = nodes r + nodes_of_all rs
 
 abbrev pub is_within_limits : Rule → Bool
-is_within_limits r = nat_le (depth r) DEPTH_MAX && nat_le (nodes r) NODES_MAX
+is_within_limits r = nat_le (depth r) 32 && nat_le (nodes r) 1000

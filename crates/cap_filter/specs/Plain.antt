@@ -1,6 +1,7 @@
--- What a filter in memory says.
+-- A filter in memory as plain data.
 use Rattle.std.specs.Prelude.{List, [], ◌∷◌}
-use Rattle.cap_filter.specs.Rule.{Rule, all, nothing, is, starts, ends, negation, conjunction, disjunction, Rules, no_rules, rule}
+use Rattle.cap_filter.specs.Rule.{Rule, all, nothing, is, starts, ends, negation, conjunction, disjunction}
+use Rattle.cap_filter.specs.Rule.{Rules, no_rules, rule}
 use Rattle.cap_filter.specs.declared.filter.Filter.{Filter}
 use Rattle.cap_filter.specs.declared.filter.Filter.TheOpen.{Filter-F}
 use Rattle.cap_filter.specs.declared.filter.Filter.TheFolds.{fold-Filter}
@@ -10,7 +11,7 @@ rules [] = no_rules
 rules (r ∷ rs) = rule r (rules rs)
 
 module _ {A : Type 0} where
-  -- one level of a filter, with what each filter inside it says in its place
+  -- one level of a filter, with the rules of the filters inside it
   abbrev pub level : Filter-F A Rule → Rule
   level Filter-F.All = all
   level Filter-F.Nothing = nothing

@@ -1,6 +1,7 @@
--- The one text that a filter is printed as.
+-- The text that a filter is printed as.
 use Rattle.std.specs.Prelude.{ℕ, List, [], ◌∷◌, ◌++◌, ◌==◌, if◌then◌else◌, codes}
-use Rattle.cap_filter.specs.Rule.{Rule, all, nothing, is, starts, ends, negation, conjunction, disjunction, Rules, no_rules, rule}
+use Rattle.cap_filter.specs.Rule.{Rule, all, nothing, is, starts, ends, negation, conjunction, disjunction}
+use Rattle.cap_filter.specs.Rule.{Rules, no_rules, rule}
 
 abbrev pub quote : ℕ
 quote = 39
@@ -8,7 +9,8 @@ quote = 39
 -- the word with each quote doubled
 abbrev pub double_quotes : List ℕ → List ℕ
 double_quotes [] = []
-double_quotes (byte ∷ rest) = if byte == quote then quote ∷ quote ∷ double_quotes rest else byte ∷ double_quotes rest
+double_quotes (byte ∷ rest) =
+    if byte == quote then quote ∷ quote ∷ double_quotes rest else byte ∷ double_quotes rest
 
 -- between quotes
 abbrev pub quoted : List ℕ → List ℕ

@@ -1,11 +1,12 @@
--- What the reader of one token gives.
+-- Reading one token.
 use Rattle.std.specs.Prelude.{◌≡◌, ℕ, List, [], ◌∷◌}
 use Rattle.cap_filter.specs.declared.token.Token.{Token}
 use Rattle.cap_filter.specs.declared.token.Token.TheVariants as found
 use Rattle.cap_filter.specs.declared.token.Read.{Read}
-use Rattle.cap_filter.specs.Tokens.{word, opening, closing, comma, other, Tokens, tokens_of, tokens_from, inside}
+use Rattle.cap_filter.specs.Tokens.{word, opening, closing, comma, other, Tokens, tokens_of, tokens_from}
+use Rattle.cap_filter.specs.Tokens.{inside}
 
--- the tokens begin with the one that was read; behind a quote that opens a text the text is still to be read
+-- The tokens begin with the one that was read. Behind an opening quote the text is still to be read.
 abbrev pub BeginsAs : Tokens → ℕ → List ℕ → Token → Type 0
 BeginsAs tokens left rest (found.Word w) = tokens ≡ (left, word w.now) ∷ tokens_of rest
 BeginsAs tokens left rest found.Opening = tokens ≡ (left, opening) ∷ tokens_of rest

@@ -1,10 +1,11 @@
--- Reading a filter from left to right, up to the first token that does not fit or the first node that passes a limit.
-use Rattle.std.specs.Prelude.{ℕ, zero, suc, ◌-◌, List, [], ◌∷◌, ◌++◌, length, Bool, true, false, nat_lt, if◌then◌else◌, Option, Some, None, Result, Ok, Err, codes}
+-- Parsing a filter from left to right, up to the first token that does not fit or the first node that exceeds
+-- a limit.
+use Rattle.std.specs.Prelude.{ℕ, zero, suc, ◌-◌, List, [], ◌∷◌, ◌++◌, length, Bool, true, false, nat_lt}
+use Rattle.std.specs.Prelude.{if◌then◌else◌, Option, Some, None, Result, Ok, Err, codes}
 use Rattle.std.specs.Result.{result_map_both}
 use Rattle.cap_value.specs.Bytes.{bytes_eq}
 use Rattle.cap_value.specs.declared.refusal.Refusal.{Refusal}
 use Rattle.cap_value.specs.declared.refusal.Refusal.TheVariants.{BadFilter, TooDeep}
-use Rattle.cap_filter.specs.declared.filter.TheConstants.{DEPTH_MAX, NODES_MAX}
 use Rattle.cap_filter.specs.declared.reading.Keyword.{Keyword}
 use Rattle.cap_filter.specs.declared.reading.Keyword.TheVariants as keywords
 use Rattle.cap_filter.specs.declared.reading.Stop.{Stop}
@@ -31,7 +32,7 @@ pub data Frame : Type 0 where
   negated : Frame
   listed : Bool → List Rule → Frame
 
--- what may stand next
+-- what may come next
 pub data Next : Type 0 where
   -- a filter
   a_filter : List Frame → Next
@@ -39,11 +40,11 @@ pub data Next : Type 0 where
   a_text : (List ℕ → Rule) → List Frame → Next
   -- the parenthesis of an `and` (true) or an `or`
   a_list : Bool → List Frame → Next
-  -- its first member, or its end
+  -- the first member of a list, or its end
   a_member : Bool → List Frame → Next
-  -- a comma, or its end, behind these members
+  -- a comma, or the end of a list, behind these members
   more : Bool → List Rule → List Frame → Next
-  -- nothing: this is the filter
+  -- the end of the text: this is the filter
   an_end : Rule → Next
 
 abbrev pub list_of : Bool → List Rule → Rule
@@ -67,7 +68,8 @@ behind_keyword keywords.Not frames = a_filter (negated ∷ frames)
 behind_keyword keywords.And frames = a_list true frames
 behind_keyword keywords.Or frames = a_list false frames
 
--- what a token does: it leads on, with room for so many more filters, it does not fit, or it passes a limit
+-- the effect of a token: parsing goes on, with room for this many more filters; it does not fit; or it
+-- exceeds a limit
 pub data Move : Type 0 where
   on : Next → ℕ → Move
   unfit : Move
@@ -75,7 +77,7 @@ pub data Move : Type 0 where
 
 abbrev pub within : List Frame → ℕ → Next → Move
 within frames zero next = too_deep
-within frames (suc room) next = if nat_lt (length frames) DEPTH_MAX then on next room else too_deep
+within frames (suc room) next = if nat_lt (length frames) 32 then on next room else too_deep
 
 abbrev pub at_keyword : List Frame → ℕ → Option Keyword → Move
 at_keyword frames room None = unfit
@@ -121,9 +123,9 @@ refusal text Deep = TooDeep
 
 -- the filter that the text spells, or why there is none
 unfoldable pub filter_of : List ℕ → Result Rule Refusal
-filter_of text = result_map_both (λ r. r) (refusal text) (run (a_filter []) NODES_MAX (tokens_of text))
+filter_of text = result_map_both (λ r. r) (refusal text) (run (a_filter []) 1000 (tokens_of text))
 
--- What the parts of the reader give: what is read first, or why it is not.
+-- The parts of the parser: what the tokens begin with, or why they do not.
 
 abbrev pub keyword_read : ℕ → Tokens → Option Keyword → Result (Keyword × Tokens) Stop
 keyword_read left rest None = Err (Unfit left)

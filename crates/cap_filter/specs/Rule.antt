@@ -1,4 +1,4 @@
--- What a filter says, as plain data: the same for the same filter, wherever it lies in memory.
+-- A filter as plain data, without its place in memory.
 use Rattle.std.specs.Prelude.{◌≡◌, ℕ, List, [], ◌∷◌, ◌==◌, if◌then◌else◌}
 use Rattle.std.proofs.Common.{refl, ◌∙◌}
 use Rattle.std.specs.Coded.{Coded, code_by, coded×, coded_ℕ, coded_list}
@@ -70,7 +70,8 @@ built [] stacks = top stacks.0
 built (s ∷ rest) stacks = built rest (after_step s stacks)
 
 mutual
-  pub built-steps : (r : Rule) (after : Steps) (stacks : Stacks) → built (steps r after) stacks ≡ built after (r ∷ stacks.0, stacks.1)
+  pub built-steps : (r : Rule) (after : Steps) (stacks : Stacks)
+      → built (steps r after) stacks ≡ built after (r ∷ stacks.0, stacks.1)
   built-steps all after stacks = refl
   built-steps nothing after stacks = refl
   built-steps (is w) after stacks = refl
@@ -80,11 +81,14 @@ mutual
   built-steps (conjunction rs) after stacks = built-list_steps rs ((6, []) ∷ after) stacks
   built-steps (disjunction rs) after stacks = built-list_steps rs ((7, []) ∷ after) stacks
 
-  pub built-list_steps : (rs : Rules) (after : Steps) (stacks : Stacks) → built (list_steps rs after) stacks ≡ built after (stacks.0, rs ∷ stacks.1)
+  pub built-list_steps : (rs : Rules) (after : Steps) (stacks : Stacks)
+      → built (list_steps rs after) stacks ≡ built after (stacks.0, rs ∷ stacks.1)
   built-list_steps no_rules after stacks = refl
   built-list_steps (rule r rs) after stacks =
-      built-list_steps rs (steps r ((9, []) ∷ after)) stacks ∙ built-steps r ((9, []) ∷ after) (stacks.0, rs ∷ stacks.1)
+      built-list_steps rs (steps r ((9, []) ∷ after)) stacks
+      ∙ built-steps r ((9, []) ∷ after) (stacks.0, rs ∷ stacks.1)
 
 abbrev pub coded_rule : Coded Rule
 coded_rule =
-    code_by Steps (coded_list (coded× coded_ℕ (coded_list coded_ℕ))) (λ r. steps r []) (λ s. built s ([], [])) (λ r. built-steps r [] ([], []))
+    code_by Steps (coded_list (coded× coded_ℕ (coded_list coded_ℕ))) (λ r. steps r []) (λ s. built s ([], []))
+    (λ r. built-steps r [] ([], []))

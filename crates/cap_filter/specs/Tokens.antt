@@ -1,13 +1,14 @@
 -- The tokens of a filter's text.
-use Rattle.std.specs.Prelude.{ℕ, suc, List, [], ◌∷◌, ◌++◌, length, Bool, true, false, ◌==◌, ◌||◌, if◌then◌else◌, Option, Some, None}
+use Rattle.std.specs.Prelude.{ℕ, suc, List, [], ◌∷◌, ◌++◌, length, Bool, true, false, ◌==◌, ◌||◌}
+use Rattle.std.specs.Prelude.{if◌then◌else◌, Option, Some, None}
 use Rattle.std.specs.List.{list_all, list_any}
 use Rattle.std.specs.Char.{is_ascii_alphanumeric}
 use Rattle.cap_filter.specs.Printed.{quote}
 
 pub data Token : Type 0 where
-  -- letters, digits and `_`, all that stand together
+  -- the longest run of letters, digits and `_`
   word : List ℕ → Token
-  -- what stands between quotes, each doubled quote taken as one
+  -- the text between quotes, with each doubled quote read as one
   quoted : List ℕ → Token
   opening : Token
   closing : Token
@@ -15,7 +16,7 @@ pub data Token : Type 0 where
   -- a byte that begins no token, or a quote that is not closed
   other : Token
 
--- A token, and how many bytes there are from its first to the end of the text.
+-- The tokens, each with the number of bytes from its first to the end of the text.
 abbrev pub Tokens : Type 0
 Tokens = List (ℕ × Token)
 
@@ -42,16 +43,19 @@ onto_word left byte true ((behind, word w) ∷ tokens) = (left, word (byte ∷ w
 onto_word left byte _ tokens = (left, word (byte ∷ [])) ∷ tokens
 
 abbrev pub sign : ℕ → Token
-sign byte = if byte == 40 then opening else if byte == 41 then closing else if byte == 44 then comma else other
+sign byte =
+    if byte == 40 then opening else if byte == 41 then closing else if byte == 44 then comma else other
 
--- Where a byte stands: between tokens; in a quoted text; or behind a quote in a quoted text, which ends it
--- unless another quote follows. A quoted text has the bytes from its first quote on, and its bytes so far.
+-- The state of the scanner: between tokens; inside a quoted text; or behind a quote in a quoted text, which
+-- ends it unless another quote follows. A quoted text has the number of bytes from its first quote on, and
+-- its bytes so far.
 pub data Place : Type 0 where
   between : Place
   inside : ℕ → List ℕ → Place
   behind_quote : ℕ → List ℕ → Place
 
--- a byte between tokens: the tokens from there on, given those of the rest, if it is between tokens or inside a quoted text
+-- The tokens from a byte between tokens on, given those of the rest, scanned between tokens and inside
+-- quotes.
 abbrev pub from_byte : ℕ → List ℕ → Tokens → Tokens → Tokens
 from_byte byte rest after in_quotes =
     if byte == blank then after
@@ -61,19 +65,22 @@ from_byte byte rest after in_quotes =
 
 unfoldable pub tokens_from : Place → List ℕ → Tokens
 tokens_from between [] = []
-tokens_from between (byte ∷ rest) = from_byte byte rest (tokens_from between rest) (tokens_from (inside (suc (length rest)) []) rest)
+tokens_from between (byte ∷ rest) =
+    from_byte byte rest (tokens_from between rest) (tokens_from (inside (suc (length rest)) []) rest)
 tokens_from (inside left w) [] = (left, other) ∷ []
 tokens_from (inside left w) (byte ∷ rest) =
-    if byte == quote then tokens_from (behind_quote left w) rest else tokens_from (inside left (w ++ byte ∷ [])) rest
+    if byte == quote then tokens_from (behind_quote left w) rest
+    else tokens_from (inside left (w ++ byte ∷ [])) rest
 tokens_from (behind_quote left w) [] = (left, quoted w) ∷ []
 tokens_from (behind_quote left w) (byte ∷ rest) =
     if byte == quote then tokens_from (inside left (w ++ quote ∷ [])) rest
-    else (left, quoted w) ∷ from_byte byte rest (tokens_from between rest) (tokens_from (inside (suc (length rest)) []) rest)
+    else (left, quoted w)
+    ∷ from_byte byte rest (tokens_from between rest) (tokens_from (inside (suc (length rest)) []) rest)
 
 abbrev pub tokens_of : List ℕ → Tokens
 tokens_of = tokens_from between
 
--- what a word or a quoted text says
+-- the text of a word or of a quoted text
 abbrev pub text_of : Token → Option (List ℕ)
 text_of (word w) = Some w
 text_of (quoted w) = Some w

@@ -1,14 +1,16 @@
-ghost use Rattle.std.specs.Prelude.{◌≡◌, ◌+◌, ◌<◌, ◌≤◌, ◌⊎◌, ◌++◌, map, MatchOption, IfOk, OnOk, string_bytes};
-ghost use Rattle.cap_filter.specs.Printed.{quoted};
+//! Filters: which names one accepts, its size and its text.
+ghost use Rattle.std.specs.Prelude.{◌≡◌, ◌+◌, ◌<◌, ◌≤◌, ◌⊎◌, ◌++◌, ◌∷◌, [], map, MatchOption, IfOk, OnErr, OnOk, string_bytes};
+ghost use mathlib.Core.List.{IsPrefix};
+ghost use Rattle.cap_filter.specs.Printed.{double_quotes, quote, quoted};
 
 use crate::Word;
 use crate::token::split_at_quote;
 use cap_value::{AllocHandle, OutOfMemory};
 
-/// The most levels that a filter may have. One that has no filter inside it has one level.
+/// The greatest number of levels of a filter. A filter without a filter inside it has one level.
 pub const DEPTH_MAX: u32 = 32;
 
-/// The most filters that a filter may be made of, itself and those inside it at all levels.
+/// The greatest number of filters in a filter: itself and those inside it at all levels.
 pub const NODES_MAX: u32 = 1000;
 
 /// A set of names.
@@ -26,9 +28,9 @@ pub enum Filter<A: AllocHandle> {
     EndsWith(Word<A>),
     /// The names that the filter does not accept.
     Not(Box<Filter<A>, A>),
-    /// The names that every one of the filters accepts: every name where there is none.
+    /// The names that every one of the filters accepts: every name where the list is empty.
     And(Vec<Filter<A>, A>),
-    /// The names that one of the filters accepts: no name where there is none.
+    /// The names that one of the filters accepts: no name where the list is empty.
     Or(Vec<Filter<A>, A>),
 }
 
@@ -78,8 +80,8 @@ impl<A: AllocHandle> Filter<A> {
         false
     }
 
-    /// How many of `room` filters are left beside this one and those inside it, or nothing where they are
-    /// more, or have more than `levels` levels. It looks no deeper than that.
+    // How many of `room` filters are left after this one and those inside it. `None` where they are more than
+    // `room`, or have more than `levels` levels. The recursion goes no deeper than that.
     #[cycle(left)]
     pub(crate) fn room_left(&self, levels: u32, room: u32) -> Option<u32>
         ensures { MatchOption result
@@ -111,7 +113,7 @@ impl<A: AllocHandle> Filter<A> {
         Some(left)
     }
 
-    /// The same filter, whose words share their bytes.
+    // A copy of the filter, whose words share their bytes.
     #[cycle(copy)]
     pub(crate) fn copy(&self) -> Result<Self, OutOfMemory>
         ensures { IfOk result (λ copy. rule_of copy ≡ rule_of self.now) }
@@ -142,7 +144,7 @@ impl<A: AllocHandle> Filter<A> {
         Ok(copies)
     }
 
-    /// Writes the filter's text at the end of `out`.
+    // Appends the filter's text to `out`.
     #[cycle(write)]
     pub(crate) fn write(&self, out: &mut String<A>) -> Result<(), OutOfMemory>
         ensures { OnOk result
@@ -199,12 +201,29 @@ impl<A: AllocHandle> Filter<A> {
     }
 }
 
-/// Writes the word between quotes at the end of `out`, with each quote in it doubled.
+/// Appends the word in quotes to `out`, with each quote in it doubled. On an error `out` is as before.
 pub fn write_quoted<A: AllocHandle>(word: &str, out: &mut String<A>) -> Result<(), OutOfMemory>
-    ensures { OnOk result (string_bytes out.new ≡ string_bytes out.old ++ quoted word.now) }
+    ensures text { OnOk result (string_bytes out.new ≡ string_bytes out.old ++ quoted word.now) }
+    ensures kept { OnErr result (string_bytes out.new ≡ string_bytes out.old) }
+{
+    let before = out.len();
+    out.push_str("'")?;
+    match write_doubled(word, out) {
+        Ok(()) => Ok(()),
+        Err(_) => {
+            out.truncate(before);
+            Err(OutOfMemory)
+        }
+    }
+}
+
+// Writes the word with each quote in it doubled, and the quote behind it.
+fn write_doubled<A: AllocHandle>(word: &str, out: &mut String<A>) -> Result<(), OutOfMemory>
+    ensures text { OnOk result (string_bytes out.new
+        ≡ string_bytes out.old ++ double_quotes word.now ++ quote ∷ []) }
+    ensures begins { OnErr result (IsPrefix (string_bytes out.old) (string_bytes out.new)) }
 {
     let mut rest = word;
-    out.push_str("'")?;
     while let Some((piece, after)) = split_at_quote(rest) {
         out.push_str(piece)?;
         out.push_str("''")?;

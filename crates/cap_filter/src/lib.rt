@@ -1,4 +1,4 @@
-//! Filters on the names of tables: as a set, and as text.
+//! Filters on table names, and their text.
 #![tactic(auto)]
 
 mod filter;
@@ -13,4 +13,5 @@ pub use laws::{
     one_filter, printed_is_spelled, read_is_spelled, spelled_is_read, too_deep_text, unfit_place,
 };
 pub use table_filter::TableFilter;
+pub use token::{after, is_word_byte, split_at_quote, word_len};
 pub use word::Word;

@@ -1,17 +1,18 @@
-//! Reading a filter's text, from left to right.
+//! The parser of a filter's text.
 ghost use Rattle.std.specs.Prelude.{◌≡◌, ◌+◌, ◌≤◌, ℕ, Bool, List, [], Result, Ok, option_map, map, length, IfOk, OnOk, IsTrue, ◌++◌, ◌∷◌};
-ghost use Rattle.cap_filter.specs.declared.filter.TheConstants.{DEPTH_MAX, NODES_MAX};
 ghost use Rattle.cap_filter.specs.Limits.{is_within_limits, depth, nodes, depth_of_all, nodes_of_all};
 ghost use Rattle.cap_filter.specs.Plain.{rule_of, rules};
 ghost use Rattle.cap_value.specs.Memory.{LeadsUnlessMemory};
-ghost use Rattle.cap_filter.specs.Reading.{Frame, run, a_filter, a_list, behind_filter, list_of, keyword_of, keyword_at, text_at, opening_at, closing_at, separator_at, end_at, refusal};
+ghost use Rattle.cap_filter.specs.Reading.{Frame, run, a_filter, a_list, behind_filter, list_of, keyword_of};
+ghost use Rattle.cap_filter.specs.Reading.{keyword_at, text_at, opening_at, closing_at, separator_at, end_at};
+ghost use Rattle.cap_filter.specs.Reading.{refusal};
 ghost use Rattle.cap_filter.specs.Tokens.{tokens_of, tokens_from, inside};
 
 use crate::token::{Token, after, next_token, split_at_quote};
 use crate::{DEPTH_MAX, Filter, NODES_MAX, Word};
 use cap_value::{AllocHandle, Fault, OutOfMemory, Refusal};
 
-/// The words that filters begin with.
+// The words that filters begin with.
 #[derive(Clone, Copy)]
 pub(crate) enum Keyword {
     All,
@@ -24,21 +25,31 @@ pub(crate) enum Keyword {
     Or,
 }
 
-/// Why a text is not read.
+// Why a text is refused.
 #[derive(Clone, Copy, Drop)]
 pub(crate) enum Stop {
-    /// A token does not fit, with so many bytes from its first to the end of the text.
+    // A token does not fit. From its first byte to the end of the text there are this many bytes.
     Unfit(usize),
-    /// A filter passes a limit.
+    // A filter exceeds a limit.
     Deep,
 }
 
-/// What stands at the front of a text, the text behind it, and for how many filters there is room there.
+// What was parsed, the text behind it, and how many filters may still follow.
 #[derive(Drop)]
 pub(crate) struct Parsed<'a, T> {
     pub(crate) value: T,
     pub(crate) rest: &'a str,
     pub(crate) room: u32,
+}
+
+impl<'a, T> Parsed<'a, T> {
+    fn of(value: T, rest: &'a str, room: u32) -> Self
+        ensures value { result.value ≡ value }
+        ensures rest { result.rest.now ≡ rest.now }
+        ensures room { result.room ≡ room }
+    {
+        Parsed { value, rest, room }
+    }
 }
 
 #[tactic(auto, unfolding(crate::specs::Reading::keyword_of))]
@@ -66,7 +77,7 @@ fn keyword_of(word: &str) -> Option<Keyword>
     }
 }
 
-/// The keyword that the text begins with, and the text behind it.
+// The keyword that the text begins with, and the text behind it.
 fn read_keyword(text: &str) -> Result<(Keyword, &str), Fault<Stop>>
     ensures { LeadsUnlessMemory (λ x. Ok (x.0, tokens_of x.1.now)) result (keyword_at (tokens_of text.now)) }
 {
@@ -80,7 +91,7 @@ fn read_keyword(text: &str) -> Result<(Keyword, &str), Fault<Stop>>
     }
 }
 
-/// The word or the quoted text that the text begins with, and the text behind it.
+// The word or quoted text that the text begins with, and the text behind it.
 fn read_text<A: AllocHandle>(alloc: A, text: &str) -> Result<(Word<A>, &str), Fault<Stop>>
     ensures { LeadsUnlessMemory (λ x. Ok (x.0, tokens_of x.1.now)) result (text_at (tokens_of text.now)) }
 {
@@ -92,7 +103,7 @@ fn read_text<A: AllocHandle>(alloc: A, text: &str) -> Result<(Word<A>, &str), Fa
     }
 }
 
-/// The quoted text behind its first quote, and the text behind it. From that quote on there are `left` bytes.
+// The quoted text behind its first quote, and the text behind it. From that quote on there are `left` bytes.
 fn read_quoted<A: AllocHandle>(
     alloc: A,
     left: usize,
@@ -114,7 +125,7 @@ fn read_quoted<A: AllocHandle>(
     Err(Fault::Refused(Stop::Unfit(left)))
 }
 
-/// The text behind the opening parenthesis that the text begins with.
+// The text behind its opening parenthesis.
 fn read_opening(text: &str) -> Result<&str, Fault<Stop>>
     ensures { LeadsUnlessMemory (λ rest. Ok (tokens_of rest.now)) result (opening_at (tokens_of text.now)) }
 {
@@ -125,7 +136,7 @@ fn read_opening(text: &str) -> Result<&str, Fault<Stop>>
     }
 }
 
-/// The text behind the closing parenthesis that the text begins with, if it does.
+// The text behind its closing parenthesis, where it begins with one.
 fn after_closing(text: &str) -> Option<&str>
     ensures { option_map (λ rest. tokens_of rest.now) result ≡ closing_at (tokens_of text.now) }
 {
@@ -136,7 +147,7 @@ fn after_closing(text: &str) -> Option<&str>
     }
 }
 
-/// The text behind a comma, after which a list goes on, or behind a closing parenthesis, which ends it.
+// Whether a list continues, by a comma, or ends, by a closing parenthesis, and the text behind that.
 fn read_separator(text: &str) -> Result<(bool, &str), Fault<Stop>>
     ensures { LeadsUnlessMemory (λ x. Ok (x.0, tokens_of x.1.now)) result
         (separator_at (tokens_of text.now)) }
@@ -149,7 +160,7 @@ fn read_separator(text: &str) -> Result<(bool, &str), Fault<Stop>>
     }
 }
 
-/// Nothing, where the text has no more tokens.
+// Accepts the end of the text.
 fn read_end(text: &str) -> Result<(), Fault<Stop>>
     ensures { LeadsUnlessMemory (λ x. Ok x) result (end_at (tokens_of text.now)) }
 {
@@ -160,10 +171,10 @@ fn read_end(text: &str) -> Result<(), Fault<Stop>>
     }
 }
 
-/// The filter that the whole text spells.
+// The filter that the whole text spells.
 pub(crate) fn read_whole<A: AllocHandle>(alloc: A, text: &str) -> Result<Filter<A>, Fault<Stop>>
     ensures reads { LeadsUnlessMemory (λ filter. Ok (rule_of filter)) result
-        (run (a_filter []) NODES_MAX (tokens_of text.now)) }
+        (run (a_filter []) 1000 (tokens_of text.now)) }
     ensures limits { IfOk result (λ filter. IsTrue (is_within_limits (rule_of filter))) }
 {
     let Parsed { value, rest, .. } = read_filter(alloc, text, DEPTH_MAX, NODES_MAX)?;
@@ -171,7 +182,7 @@ pub(crate) fn read_whole<A: AllocHandle>(alloc: A, text: &str) -> Result<Filter<
     Ok(value)
 }
 
-/// What a stop is to the callers of the text's reader.
+// The refusal for a stop.
 pub(crate) fn refusal(text: &str, stop: Stop) -> Refusal
     ensures { result ≡ refusal text.now stop }
 {
@@ -183,7 +194,7 @@ pub(crate) fn refusal(text: &str, stop: Stop) -> Refusal
     }
 }
 
-/// The filter that the text begins with. It has at most `levels` levels, and the recursion goes no deeper.
+// The filter that the text begins with. It has at most `levels` levels, and the recursion goes no deeper.
 #[cycle(filter)]
 pub(crate) fn read_filter<'a, A: AllocHandle>(
     alloc: A,
@@ -191,7 +202,7 @@ pub(crate) fn read_filter<'a, A: AllocHandle>(
     levels: u32,
     room: u32,
 ) -> Result<Parsed<'a, Filter<A>>, Fault<Stop>>
-    ensures reads { (frames : List Frame) → length frames + levels ≡ DEPTH_MAX →
+    ensures reads { (frames : List Frame) → length frames + levels ≡ 32 →
         LeadsUnlessMemory
         (λ p. run (behind_filter (rule_of p.value) frames) p.room (tokens_of p.rest.now)) result
         (run (a_filter frames) room (tokens_of text.now)) }
@@ -204,65 +215,37 @@ pub(crate) fn read_filter<'a, A: AllocHandle>(
     }
     let (levels, room) = (levels - 1, room - 1);
     match keyword {
-        Keyword::All => Ok(Parsed {
-            value: Filter::All,
-            rest,
-            room,
-        }),
-        Keyword::Nothing => Ok(Parsed {
-            value: Filter::Nothing,
-            rest,
-            room,
-        }),
+        Keyword::All => Ok(Parsed::of(Filter::All, rest, room)),
+        Keyword::Nothing => Ok(Parsed::of(Filter::Nothing, rest, room)),
         Keyword::Is => {
             let (word, rest) = read_text(alloc, rest)?;
-            Ok(Parsed {
-                value: Filter::Is(word),
-                rest,
-                room,
-            })
+            Ok(Parsed::of(Filter::Is(word), rest, room))
         }
         Keyword::Starts => {
             let (word, rest) = read_text(alloc, rest)?;
-            Ok(Parsed {
-                value: Filter::StartsWith(word),
-                rest,
-                room,
-            })
+            Ok(Parsed::of(Filter::StartsWith(word), rest, room))
         }
         Keyword::Ends => {
             let (word, rest) = read_text(alloc, rest)?;
-            Ok(Parsed {
-                value: Filter::EndsWith(word),
-                rest,
-                room,
-            })
+            Ok(Parsed::of(Filter::EndsWith(word), rest, room))
         }
         Keyword::Not => {
             let Parsed { value, rest, room } = read_filter(alloc, rest, levels, room)?;
-            let value = Filter::Not(box_of(alloc, value)?);
-            Ok(Parsed { value, rest, room })
+            let boxed = box_of(alloc, value)?;
+            Ok(Parsed::of(Filter::Not(boxed), rest, room))
         }
         Keyword::And => {
             let Parsed { value, rest, room } = read_members(alloc, rest, levels, room)?;
-            Ok(Parsed {
-                value: Filter::And(value),
-                rest,
-                room,
-            })
+            Ok(Parsed::of(Filter::And(value), rest, room))
         }
         Keyword::Or => {
             let Parsed { value, rest, room } = read_members(alloc, rest, levels, room)?;
-            Ok(Parsed {
-                value: Filter::Or(value),
-                rest,
-                room,
-            })
+            Ok(Parsed::of(Filter::Or(value), rest, room))
         }
     }
 }
 
-/// The filters between the parentheses that the text begins with, each of at most `levels` levels.
+// The filters between the parentheses that the text begins with, each of at most `levels` levels.
 #[cycle(filter)]
 fn read_members<'a, A: AllocHandle>(
     alloc: A,
@@ -270,7 +253,7 @@ fn read_members<'a, A: AllocHandle>(
     levels: u32,
     room: u32,
 ) -> Result<Parsed<'a, Vec<Filter<A>, A>>, Fault<Stop>>
-    ensures reads { (every : Bool) (frames : List Frame) → length frames + 1 + levels ≡ DEPTH_MAX →
+    ensures reads { (every : Bool) (frames : List Frame) → length frames + 1 + levels ≡ 32 →
         LeadsUnlessMemory (λ p.
         run (behind_filter (list_of every (map rule_of p.value.items)) frames) p.room (tokens_of p.rest.now))
         result

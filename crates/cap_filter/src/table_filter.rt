@@ -1,3 +1,4 @@
+//! Filters within the limits, and their text.
 ghost use Rattle.std.specs.Prelude.{◌≡◌, ◌↔◌, IfOk, IfErr, IsOk, IsTrue, Ok, string_bytes};
 
 use crate::reading::{read_whole, refusal};
@@ -37,7 +38,7 @@ impl<A: AllocHandle> TableFilter<A> {
     ghost use Rattle.cap_filter.specs.Limits.{is_within_limits};
     ghost use Rattle.cap_filter.specs.Printed.{filter_text};
 
-    /// The filter, or the refusal `TooDeep` with the filter handed back where it passes a limit. Takes no memory.
+    /// Checks the limits. Where the filter exceeds one, it is handed back with `TooDeep`. Takes no memory.
     pub fn new(filter: Filter<A>) -> Result<Self, (Filter<A>, Refusal)>
         ensures kept { IfOk result (λ made. made ≡ rule_of filter) }
         ensures within { IsOk result ↔ IsTrue (is_within_limits (rule_of filter)) }
@@ -51,13 +52,13 @@ impl<A: AllocHandle> TableFilter<A> {
     }
 
     /// The filter that the text spells. Refused with `BadFilter` where a token does not fit or the text ends
-    /// too early, and with `TooDeep` where a filter passes a limit: whichever comes first in the text.
+    /// too early, and with `TooDeep` where a filter exceeds a limit: whichever comes first in the text.
     pub fn parse(alloc: A, text: &str) -> Result<Self, Fault<Refusal>>
-        // Which filter it is, or which refusal and where.
+        // Which filter, or which refusal and where.
         ensures reading { AnswersUnlessMemory result (filter_of text.now) }
-        // What is read is spelled so.
+        // The text spells the filter.
         ensures found { IfOk result (λ filter. Spells text.now filter) }
-        // What is spelled so is read, within the limits.
+        // A filter within the limits that the text spells is the answer.
         ensures only { (r : Rule) → Spells text.now r → IsTrue (is_within_limits r) →
             AnswersUnlessMemory result (Ok r) }
         ensures within { IfOk result (λ filter. IsTrue (is_within_limits filter)) }
@@ -79,13 +80,13 @@ impl<A: AllocHandle> TableFilter<A> {
     /// Whether the filter accepts the name.
     pub fn accepts(&self, name: &Name<A>) -> bool
         ensures answer { result ≡ accepts self.now name.now }
-        // So the recursion here, as in the calls below, goes no deeper than the limit.
+        // So the recursion goes no deeper than the limit, here and in the calls below.
         ensures within { IsTrue (is_within_limits self.now) }
     {
         self.filter.accepts(name.as_str().as_bytes())
     }
 
-    /// The filter's text, which is read as the same filter: each word quoted, one space after `is`, `starts`,
+    /// The filter's text, which parses to the same filter: each word quoted, one space after `is`, `starts`,
     /// `ends` and `not`, and no other space.
     pub fn print(&self, alloc: A) -> Result<String<A>, OutOfMemory>
         ensures { IfOk result (λ text. string_bytes text ≡ filter_text self.now) }
@@ -95,7 +96,7 @@ impl<A: AllocHandle> TableFilter<A> {
         Ok(text)
     }
 
-    /// The same filter, whose words share their bytes.
+    /// A copy, whose words share their bytes.
     pub fn copy(&self) -> Result<Self, OutOfMemory>
         ensures { IfOk result (λ copy. copy ≡ self.now) }
     {

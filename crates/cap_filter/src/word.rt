@@ -1,10 +1,11 @@
+//! The words that filters compare names with.
 ghost use Rattle.std.specs.Prelude.{◌≡◌, IfOk};
 
 use cap_value::{AllocHandle, OutOfMemory};
 use std::marker::Model;
 use std::sync::ArcStr;
 
-/// A text that a filter compares names with. It may have any length, a name's or not. Copies share the bytes.
+/// A text that a filter compares names with. It may have any length. Copies share the bytes.
 #[derive(Drop)]
 pub struct Word<A: AllocHandle> {
     word: ArcStr<A>,
@@ -20,7 +21,6 @@ impl<A: AllocHandle> Model for Word<A> {
 }
 
 impl<A: AllocHandle> Word<A> {
-    /// The word with these bytes.
     pub fn new(alloc: A, word: &str) -> Result<Self, OutOfMemory>
         ensures { IfOk result (λ made. made ≡ word.now) }
     {
@@ -29,14 +29,13 @@ impl<A: AllocHandle> Word<A> {
         })
     }
 
-    /// The word's text.
     pub fn as_str(&self) -> &str
         ensures { result.now ≡ self.now }
     {
         self.word.as_str()
     }
 
-    /// The same word, which shares its bytes.
+    /// A copy, which shares the bytes.
     pub fn copy(&self) -> Result<Self, OutOfMemory>
         ensures { IfOk result (λ copy. copy ≡ self.now) }
     {

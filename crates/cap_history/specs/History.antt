@@ -1,4 +1,4 @@
--- What is said of histories beside what they leave.
+-- Histories of seats.
 use Rattle.std.specs.Prelude.{ℕ, ◌<◌, ◌^◌, List, filter, length, nat_eq, nat_lt, if◌then◌else◌}
 use Rattle.cap_core.specs.declared.event.Event.{Event}
 use Rattle.cap_core.specs.Answer.{IsLegal}
@@ -8,7 +8,7 @@ module _ {A : Type 0} where
   abbrev pub own : ℕ → List (Event A) → List (Event A)
   own number history = filter (λ event. nat_eq event.by number) history
 
-  -- what the one history is at each of its moments: legal, and of at most 2^63 - 1 events
+  -- the history at each moment: legal, with at most 2^63 - 1 events
   pub record IsHistory (history : List (Event A)) : Type 0 where
     pub legal : IsLegal history
     pub few : length history < 2 ^ 63

@@ -1,5 +1,6 @@
--- What follows of the events of one seat in histories.
-use Rattle.std.proofs.Common.{◌≡◌, ◌≢◌, ℕ, ◌≤◌, true, false, List, [], ◌∷◌, ◌++◌, length, ap, sym, ◌∙◌, arith, length-append, nat_eq}
+-- Lemmas on the events of one seat in histories.
+use Rattle.std.proofs.Common.{◌≡◌, ◌≢◌, ℕ, ◌≤◌, true, false, List, [], ◌∷◌, ◌++◌, length, ap, sym, ◌∙◌, arith}
+use Rattle.std.proofs.Common.{length-append, nat_eq}
 use Rattle.std.proofs.lemmas.List.{append-nil, nil_from_length}
 use Rattle.std.proofs.lemmas.List.Elements.{filter-append}
 use Rattle.std.proofs.lemmas.List.Sums.{count_by-le-length, length-filter}
@@ -18,29 +19,50 @@ nat_eq-other : (n m : ℕ) → n ≢ m → nat_eq n m ≡ false
 nat_eq-other n m other = grind (arith, nat_tests)
 
 module _ {A : Type 0} where
-  pub own-append : (number : ℕ) (xs ys : List (Event A)) → own number (xs ++ ys) ≡ own number xs ++ own number ys
+  pub own-append : (number : ℕ) (xs ys : List (Event A))
+      → own number (xs ++ ys) ≡ own number xs ++ own number ys
   own-append number xs ys = filter-append (λ event. nat_eq event.by number) xs ys
 
   pub own-few : (number : ℕ) (xs : List (Event A)) → length (own number xs) ≤ length xs
-  own-few number xs = omega (arith, length-filter (λ (event : Event A). nat_eq event.by number) xs, count_by-le-length (λ (event : Event A). nat_eq event.by number) xs)
+  own-few number xs =
+      omega (
+        arith,
+        length-filter (λ (event : Event A). nat_eq event.by number) xs,
+        count_by-le-length (λ (event : Event A). nat_eq event.by number) xs,
+      )
 
   -- a seat's own event
-  pub own-one : (number : ℕ) (command : Command A) (reply : Reply A) → own number (event_by number command reply ∷ []) ≡ event_by number command reply ∷ []
+  pub own-one : (number : ℕ) (command : Command A) (reply : Reply A)
+      → own number (event_by number command reply ∷ []) ≡ event_by number command reply ∷ []
   own-one number command reply = rw (nat_eq-same number)
 
   -- another's
-  pub own-other : (number by : ℕ) (command : Command A) (reply : Reply A) → by ≢ number → own number (event_by by command reply ∷ []) ≡ []
+  pub own-other : (number by : ℕ) (command : Command A) (reply : Reply A) → by ≢ number
+      → own number (event_by by command reply ∷ []) ≡ []
   own-other number by command reply other = rw (nat_eq-other by number other)
 
-  -- of the rest of a history that has no more of a seat's events than its beginning, none is the seat's
-  pub own-rest : (number : ℕ) (xs rest ys : List (Event A)) → xs ++ rest ≡ ys → length (own number ys) ≤ length (own number xs) → own number rest ≡ []
+  -- the rest of a history has no event of a seat where its prefix has as many
+  pub own-rest : (number : ℕ) (xs rest ys : List (Event A)) → xs ++ rest ≡ ys
+      → length (own number ys) ≤ length (own number xs) → own number rest ≡ []
   own-rest number xs rest ys is few =
-      let both : own number ys ≡ own number xs ++ own number rest = ap (own number) (sym is) ∙ own-append number xs rest in
-      nil_from_length (own number rest) (omega (arith, ap length both, length-append (own number xs) (own number rest)))
+      let both : own number ys ≡ own number xs ++ own number rest =
+      ap (own number) (sym is) ∙ own-append number xs rest in
+      nil_from_length (own number rest)
+      (omega (arith, ap length both, length-append (own number xs) (own number rest)))
 
-  pub own-same : (number : ℕ) (xs ys : List (Event A)) → IsPrefix xs ys → length (own number ys) ≤ length (own number xs) → own number ys ≡ own number xs
+  pub own-same : (number : ℕ) (xs ys : List (Event A)) → IsPrefix xs ys
+      → length (own number ys) ≤ length (own number xs) → own number ys ≡ own number xs
   own-same number xs ys begins few =
-      ap (own number) (sym begins.1) ∙ own-append number xs begins.0 ∙ ap (λ l. own number xs ++ l) (own-rest number xs begins.0 ys begins.1 few) ∙ append-nil (own number xs)
+      ap (own number) (sym begins.1) ∙ own-append number xs begins.0
+      ∙ ap (λ l. own number xs ++ l) (own-rest number xs begins.0 ys begins.1 few)
+      ∙ append-nil (own number xs)
 
-  pub own-fewer : (number : ℕ) (xs ys : List (Event A)) → IsPrefix xs ys → length (own number xs) ≤ length (own number ys)
-  own-fewer number xs ys begins = omega (arith, ap (λ l. length (own number l)) begins.1, ap length (own-append number xs begins.0), length-append (own number xs) (own number begins.0))
+  pub own-fewer : (number : ℕ) (xs ys : List (Event A)) → IsPrefix xs ys
+      → length (own number xs) ≤ length (own number ys)
+  own-fewer number xs ys begins =
+      omega (
+        arith,
+        ap (λ l. length (own number l)) begins.1,
+        ap length (own-append number xs begins.0),
+        length-append (own number xs) (own number begins.0),
+      )

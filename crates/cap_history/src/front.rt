@@ -1,6 +1,8 @@
-ghost use Rattle.std.specs.Prelude.{◌≡◌, ◌+◌, ◌<◌, ◌^◌, [], ◌∷◌, ◌++◌, length, OnOk, IfErr};
+//! The front word: the number of events that the history has.
+ghost use Rattle.std.specs.Prelude.{◌≡◌, ◌<◌, [], ◌∷◌, ◌++◌, length, OnOk, IfErr};
 ghost use mathlib.Core.List.{IsPrefix};
 ghost use Rattle.cap_core.specs.Answer.{event_by, reply_of};
+ghost use Rattle.cap_core.specs.Past.{HasRoom};
 ghost use Rattle.cap_history.specs.History.{longer, own};
 ghost use Rattle.cap_history.specs.Rules.{word_of};
 ghost use Rattle.cap_history.specs.Seat.{HasCalled, SeesMore, calls};
@@ -12,7 +14,7 @@ use cap_value::AllocHandle;
 use logbook::Word;
 use std::marker::PhantomData;
 
-/// The word that all threads share: the number of events of the one history.
+/// The atomic word that all threads share: the number of events of the history.
 #[derive(Drop)]
 pub struct Front<J: Naming, A: AllocHandle> {
     pub(crate) word: Word<Event<A>, u64, Law>,
@@ -21,7 +23,7 @@ pub struct Front<J: Naming, A: AllocHandle> {
 }
 
 impl<J: Naming, A: AllocHandle> Front<J, A> {
-    /// Lets the seat see the history as it is, and answers how many events that has. It waits for nobody.
+    /// Lets the seat see the whole history, and gives the number of its events. It is wait-free.
     pub fn look(&self, seat: &mut Seat<J, A>) -> u64
         ensures seen { SeesMore seat.old seat.new }
         ensures front { result ≡ length seat.new.seen }
@@ -30,7 +32,7 @@ impl<J: Naming, A: AllocHandle> Front<J, A> {
         seat.seen.len()
     }
 
-    /// Lets the second seat see what the first has seen. It waits for nobody.
+    /// Lets the second seat see what the first has seen. It is wait-free.
     pub fn meet(&self, first: &Seat<J, A>, second: &mut Seat<J, A>)
         ensures seen { SeesMore second.old second.new }
         ensures both { second.new.seen ≡ longer second.old.seen first.now.seen }
@@ -39,8 +41,8 @@ impl<J: Naming, A: AllocHandle> Front<J, A> {
         second.see(&first.seen);
     }
 
-    /// Adds the seat's call with its reply to a list, where that is the history as it is. Else the history is longer,
-    /// and the seat has seen it. It is one exchange of the word, and waits for nobody.
+    /// Appends the seat's call with its reply to a list, where that is the whole history. Otherwise the
+    /// history is longer, and the seat sees it. It is one compare-and-swap of the word, and wait-free.
     pub fn append(
         &self,
         seat: &mut Seat<J, A>,
@@ -48,7 +50,7 @@ impl<J: Naming, A: AllocHandle> Front<J, A> {
         command: &Command<A>,
         reply: &Reply<A>,
     ) -> Result<(), Overtaken>
-        requires room { length at.now + 1 < 2 ^ 63 }
+        requires room { HasRoom (length at.now) }
         requires reply { reply.now ≡ reply_of at.now command.now }
         requires calls { length (own seat.old.number at.now) ≡ length (calls seat.old) }
         ensures called { OnOk result (HasCalled seat.old seat.new command.now reply.now) }

@@ -1,9 +1,10 @@
-//! The rule of the front word, and the two steps on it.
+//! The rule of the front word, and the two operations on it.
 use cap_core::{Command, Event, Reply};
 use cap_value::AllocHandle;
 use logbook::{Gain, Plain, Play, Rule};
 
-/// The rule that every step on the front word keeps: the word is the number of events of a legal history.
+/// The rule that every operation on the front word keeps: the word is the number of events of a legal
+/// history.
 pub struct Law;
 
 impl<A: AllocHandle> Rule<Event<A>, u64> for Law {
@@ -24,7 +25,7 @@ impl<A: AllocHandle> Rule<Event<A>, u64> for Law {
     ghost moves = { λ ask before after answer. Unit {0} };
 }
 
-// Callers trade nothing.
+// Callers give and take nothing.
 pub(crate) struct Nothing;
 
 impl<A: AllocHandle> Gain<Event<A>, u64> for Nothing {
@@ -42,7 +43,7 @@ impl<A: AllocHandle> Play<Event<A>, u64> for Look {
     ghost then = { Looks };
 }
 
-// A load asks for no event; the word takes some event as what is asked.
+// A load adds no event. The word asks for some event here, and ignores it.
 impl<A: AllocHandle> Plain<(), Event<A>, u64> for Look {
     ghost use Rattle.std.specs.Prelude.{None};
     ghost use Rattle.cap_core.specs.Answer.{event_by};
@@ -54,7 +55,7 @@ impl<A: AllocHandle> Plain<(), Event<A>, u64> for Look {
     ghost state = { λ nothing. None };
 }
 
-// An exchange that adds an event.
+// A compare-and-swap that adds an event.
 pub(crate) struct Add;
 
 impl<A: AllocHandle> Play<Event<A>, u64> for Add {
@@ -63,7 +64,7 @@ impl<A: AllocHandle> Play<Event<A>, u64> for Add {
     ghost then = { Adds };
 }
 
-// The event to be added, of which no value is made.
+// The event to add. No value of it is made.
 #[derive(Drop)]
 pub(crate) struct Call<'c, 'r, A: AllocHandle> {
     pub(crate) by: u64,

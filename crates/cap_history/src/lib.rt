@@ -1,4 +1,5 @@
-//! The one history that all threads share: a word that counts its events, and what each caller has seen of it.
+//! The one history that all threads share: the front word counts its events; each caller has seen a prefix of
+//! it.
 #![tactic(auto)]
 
 mod front;

@@ -1,6 +1,8 @@
-ghost use Rattle.std.specs.Prelude.{◌≡◌, ◌+◌, ◌<◌, ◌^◌, ◌⊎◌, [], ◌∷◌, ◌++◌, length, OnOk, IfErr};
+//! Lists: what a caller has seen of the history.
+ghost use Rattle.std.specs.Prelude.{◌≡◌, ◌<◌, ◌⊎◌, [], ◌∷◌, ◌++◌, length, OnOk, IfErr};
 ghost use mathlib.Core.List.{IsPrefix};
 ghost use Rattle.cap_core.specs.Answer.{IsLegal, event_by, reply_of};
+ghost use Rattle.cap_core.specs.Past.{HasRoom};
 ghost use Rattle.cap_history.specs.History.{IsHistory, longer};
 
 use crate::law::{Add, Call, Law, Look, Nothing};
@@ -10,7 +12,7 @@ use cap_value::AllocHandle;
 use logbook::{Offer, Seen};
 use std::marker::{Model, PhantomData};
 
-/// A beginning of the one history, as it was seen: its length, and in contracts its events. No event is stored.
+/// A prefix of the history, as a caller has seen it. It stores the length; contracts see its events.
 #[derive(Drop)]
 pub struct List<J: Naming, A: AllocHandle> {
     pub(crate) len: u64,
@@ -35,7 +37,7 @@ impl<J: Naming, A: AllocHandle> Model for List<J, A> {
 }
 
 impl<J: Naming, A: AllocHandle> List<J, A> {
-    /// How many events it has.
+    /// The number of events.
     pub fn len(&self) -> u64
         ensures length { result ≡ length self.now }
         ensures history { IsHistory self.now }
@@ -43,7 +45,7 @@ impl<J: Naming, A: AllocHandle> List<J, A> {
         self.len
     }
 
-    /// The same list.
+    /// A copy.
     pub fn again(&self) -> List<J, A>
         ensures { result ≡ self.now }
     {
@@ -54,7 +56,7 @@ impl<J: Naming, A: AllocHandle> List<J, A> {
         }
     }
 
-    /// Becomes the longer of two lists, which both of them begin.
+    /// Becomes the longer of two lists. The shorter is a prefix of the longer.
     pub fn meet(&mut self, other: &List<J, A>)
         ensures longer { self.new ≡ longer self.old other.now }
         ensures this { IsPrefix self.old self.new }
@@ -67,7 +69,7 @@ impl<J: Naming, A: AllocHandle> List<J, A> {
         }
     }
 
-    /// Sees the history as it is.
+    /// Reads the front word, and sees the whole history.
     pub fn look(&mut self, front: &Front<J, A>)
         ensures seen { IsPrefix self.old self.new }
         ensures history { IsHistory self.new }
@@ -78,7 +80,8 @@ impl<J: Naming, A: AllocHandle> List<J, A> {
         self.len = front.word.load::<Look, Nothing>(&mut self.seen, &mut offer);
     }
 
-    /// Adds a call to what `at` has, where that is the history as it is. Else the history is longer, and was seen.
+    // Appends a call to `at` where that is the whole history. Otherwise the history is longer, and this list
+    // sees it.
     pub(crate) fn append(
         &mut self,
         front: &Front<J, A>,
@@ -87,7 +90,7 @@ impl<J: Naming, A: AllocHandle> List<J, A> {
         command: &Command<A>,
         reply: &Reply<A>,
     ) -> Result<(), Overtaken>
-        requires room { length at.now + 1 < 2 ^ 63 }
+        requires room { HasRoom (length at.now) }
         requires reply { reply.now ≡ reply_of at.now command.now }
         ensures at { OnOk result (IsPrefix self.old at.now) }
         ensures added { OnOk result (self.new ≡ at.now ++ event_by by command.now reply.now ∷ []) }
@@ -122,7 +125,7 @@ impl<J: Naming, A: AllocHandle> List<J, A> {
     }
 }
 
-/// Of two lists seen on one front word, one begins the other.
+/// Of two lists of one history, one is a prefix of the other.
 pub fn one_begins_the_other<J: Naming, A: AllocHandle>(first: &List<J, A>, second: &List<J, A>)
     ensures { IsPrefix first.now second.now ⊎ IsPrefix second.now first.now }
 {

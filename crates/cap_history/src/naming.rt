@@ -1,7 +1,9 @@
+//! The parameter that names a history and counts its seats.
+
 use std::marker::Brand;
 
-/// Which history it is, and how many seats belong to it. Types that have to agree on both share this parameter; a
-/// program picks them once, where it opens the history, by calling a function over `J: Naming` at `Brand`.
+/// Names a history and the number of its seats. Types of one history share this parameter. A program opens
+/// the history in a function over `J: Naming`, called at `Brand`.
 pub trait Naming {
     ghost use Rattle.std.specs.Prelude.{ℕ};
     ghost use Rattle.logbook.specs.Pages.{Book};

@@ -1,3 +1,4 @@
+//! Opens a new history.
 ghost use Rattle.std.specs.Prelude.{◌≡◌, [], length, IfOk};
 ghost use Rattle.cap_history.specs.Rules.{word_of};
 ghost use Rattle.cap_history.specs.Seat.{newcomers};
@@ -9,19 +10,17 @@ use cap_value::{AllocHandle, OutOfMemory};
 use logbook::{Seen, Start, Word};
 use std::marker::PhantomData;
 
-/// A history without events, which has no name yet.
+/// An empty history without a name.
 pub struct Opened<A: AllocHandle> {
     word: Word<Event<A>, u64, Law>,
-    /// What was seen of it: nothing.
+    /// The events seen so far: none.
     pub seen: Seen<Event<A>, u64, Law>,
-    /// It has no events.
     pub ghost empty: { seen.log ≡ [] },
-    /// The word is that of this history.
+    /// The word is of this history.
     pub ghost word_is: { word ≡ word_of seen.book },
 }
 
 impl<A: AllocHandle> Opened<A> {
-    /// A new history.
     pub fn new() -> Self {
         legal_histories_grow::<A>();
         let (seen, mut first, _second) = Seen::open(Start::alone(), 0, 0);
@@ -31,7 +30,7 @@ impl<A: AllocHandle> Opened<A> {
         }
     }
 
-    /// The history's word under a name, a list that has seen nothing, and the seats, numbered from 0.
+    /// The front word under a name, an empty list, and the seats, numbered from 0.
     pub fn named<J: Naming>(
         self,
         alloc: A,
@@ -58,7 +57,7 @@ impl<A: AllocHandle> Opened<A> {
     }
 }
 
-// Seats that have seen nothing, numbered from 0.
+// New seats, numbered from 0.
 fn seats_of<J: Naming, A: AllocHandle>(
     alloc: A,
     list: &List<J, A>,

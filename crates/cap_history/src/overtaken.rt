@@ -1,6 +1,8 @@
-/// An event was not added: the history is longer than expected.
+//! The fault of an append to a list that is not the whole history.
+
+/// An event is not appended: the history is longer than expected.
 #[derive(Clone, Copy, Debug, PartialEq, Eq, Drop)]
 pub struct Overtaken {
-    /// How many events the history was seen to have.
+    /// The number of events that the history has.
     pub front: u64,
 }

@@ -1,3 +1,4 @@
+//! Seats: the callers of the history.
 ghost use Rattle.std.specs.Prelude.{◌≡◌, ◌<◌, [], length};
 ghost use mathlib.Core.List.{IsPrefix};
 ghost use Rattle.cap_history.specs.History.{IsHistory, longer};
@@ -7,14 +8,14 @@ use crate::{List, Naming};
 use cap_value::AllocHandle;
 use std::marker::Model;
 
-/// A caller's place in the one history: what it has seen, and how many of its calls were answered. It can't be copied,
-/// so that each event is of one caller.
+/// A client of the history: what it has seen, and the number of its calls. It cannot be copied, so each event
+/// is the call of one seat.
 #[derive(Drop)]
 pub struct Seat<J: Naming, A: AllocHandle> {
     pub(crate) number: u64,
     pub(crate) calls: u64,
     pub(crate) seen: List<J, A>,
-    // What it had seen when its last call was answered.
+    // What it had seen after its last call.
     pub(crate) answered: List<J, A>,
 }
 
@@ -50,7 +51,7 @@ impl<J: Naming, A: AllocHandle> Seat<J, A> {
         }
     }
 
-    /// Its number, from 0.
+    /// The seat's number, from 0.
     pub fn number(&self) -> u64
         ensures number { result ≡ self.now.number }
         ensures known { result < J.seats }
@@ -58,7 +59,7 @@ impl<J: Naming, A: AllocHandle> Seat<J, A> {
         self.number
     }
 
-    /// How many events it has seen.
+    /// The number of events that it has seen.
     pub fn seen(&self) -> u64
         ensures length { result ≡ length self.now.seen }
         ensures history { IsHistory self.now.seen }
@@ -66,7 +67,7 @@ impl<J: Naming, A: AllocHandle> Seat<J, A> {
         self.seen.len()
     }
 
-    /// How many of its calls were answered.
+    /// The number of its calls.
     pub fn calls(&self) -> u64
         ensures calls { result ≡ length (calls self.now) }
         ensures seen { IsPrefix self.now.answered self.now.seen }
@@ -74,7 +75,7 @@ impl<J: Naming, A: AllocHandle> Seat<J, A> {
         self.calls
     }
 
-    /// Sees what the list has.
+    /// Sees what the list has seen.
     pub fn see(&mut self, list: &List<J, A>)
         ensures seen { SeesMore self.old self.new }
         ensures both { self.new.seen ≡ longer self.old.seen list.now }

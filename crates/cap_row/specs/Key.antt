@@ -1,5 +1,6 @@
 -- Primary keys: which rows have one, and the order of keys.
-use Rattle.std.specs.Prelude.{◌≡◌, ◌↔◌, List, [], ◌∷◌, Bool, Option, Some, None, length, nat_le, ◌&&◌, not, if◌then◌else◌}
+use Rattle.std.specs.Prelude.{◌≡◌, ◌↔◌, List, [], ◌∷◌, Bool, Option, Some, None, length, nat_le, ◌&&◌, not}
+use Rattle.std.specs.Prelude.{if◌then◌else◌}
 use Rattle.std.specs.List.{list_any}
 use Rattle.std.proofs.Common.{subst}
 use Rattle.std.specs.declared.cmp.Ordering.{Ordering}
@@ -24,7 +25,8 @@ module _ {A : Type 0} where
   abbrev pub key_fields : List Bool → Fields A → Fields A
   key_fields [] row = []
   key_fields (flag ∷ flags) [] = []
-  key_fields (flag ∷ flags) (field ∷ row) = if flag then field ∷ key_fields flags row else key_fields flags row
+  key_fields (flag ∷ flags) (field ∷ row) =
+      if flag then field ∷ key_fields flags row else key_fields flags row
 
   -- the primary key of a row, none without key columns or with a NULL among them
   abbrev pub key_of : List Bool → Fields A → Option (Fields A)
@@ -34,17 +36,24 @@ module _ {A : Type 0} where
   abbrev pub fields_cmp : Fields A → Fields A → Ordering
   fields_cmp = slice_cmp value_cmp
 
-  -- two lists of values that the order does not tell apart
+  -- two lists of values that are equal in the order
   abbrev pub fields_eq : Fields A → Fields A → Bool
   fields_eq a b = is_eq (fields_cmp a b)
 
   pub fields_cmp_total : IsTotalOrder fields_cmp
   fields_cmp_total = lists_total value_cmp_total
 
-  -- the order tells different keys apart
+  -- different keys are unequal in the order
   pub fields_cmp-Equal : (a b : Fields A) → (fields_cmp a b ≡ Equal) ↔ (a ≡ b)
-  fields_cmp-Equal a b = (slice_cmp-IsAntisymmetric value_cmp-IsAntisymmetric a b, λ e. subst (λ c. fields_cmp a c ≡ Equal) e (tied_itself fields_cmp_total a))
+  fields_cmp-Equal a b = (
+    slice_cmp-IsAntisymmetric value_cmp-IsAntisymmetric a b,
+    λ e. subst (λ c. fields_cmp a c ≡ Equal) e
+        (tied_itself fields_cmp_total a),
+  )
 
   pub fields_eq_decides : (a b : Fields A) → Decides (fields_eq a b) (a ≡ b)
-  fields_eq_decides a b =
-      (λ e. (fields_cmp-Equal a b).0 ((Equal-is (fields_cmp a b)).0 e), λ e. (Equal-is (fields_cmp a b)).1 ((fields_cmp-Equal a b).1 e))
+  fields_eq_decides a b = (
+    λ e. (fields_cmp-Equal a b).0 ((Equal-is (fields_cmp a b)).0 e),
+    λ e. (Equal-is (fields_cmp a b)).1
+        ((fields_cmp-Equal a b).1 e),
+  )

@@ -1,7 +1,9 @@
+//! Rows.
 ghost use Rattle.std.specs.Prelude.{◌≡◌, ◌≤◌, ◌<◌, ◌↔◌, List, ℕ, length, map, IfOk, OnOk, IfSome, IsTrue, nat_eq, slice_get};
 ghost use Rattle.std.specs.List.{list_any};
 ghost use Rattle.std.specs.Option.{option_copied};
-ghost use Rattle.cap_value.specs.Memory.{AnswersUnlessMemory};
+ghost use Rattle.std.specs.Result.{result_err};
+ghost use Rattle.cap_value.specs.Memory.{AnswersUnlessMemory, RefusesFirst};
 ghost use Rattle.cap_value.specs.Value.{IsValue};
 ghost use Rattle.cap_row.specs.Row.{are_columns, columns_of, row_with, with_fields};
 
@@ -89,6 +91,7 @@ impl<A: AllocHandle> Row<A> {
     ) -> Result<Self, Fault<Refusal>>
         requires { length schema.now ≡ length self.now }
         ensures row { AnswersUnlessMemory result (with_fields schema.now self.now fields.now) }
+        ensures first { RefusesFirst (result_err (with_fields schema.now self.now fields.now)) result }
         ensures width { IfOk result (λ row. length row ≡ length self.now) }
     {
         if !are_columns(schema.width(), fields) {

@@ -1,6 +1,8 @@
+//! Schemas: which columns are in the primary key.
 ghost use Rattle.std.specs.Prelude.{◌≡◌, ◌≤◌, ◌<◌, ◌↔◌, List, Bool, false, length, IfOk, IsTrue, slice_index_or};
 ghost use Rattle.std.specs.List.{list_any};
-ghost use Rattle.cap_value.specs.Memory.{AnswersUnlessMemory};
+ghost use Rattle.std.specs.Result.{result_err};
+ghost use Rattle.cap_value.specs.Memory.{AnswersUnlessMemory, RefusesFirst};
 ghost use Rattle.cap_row.specs.Schema.{schema_of, has_key};
 
 use cap_value::{AllocHandle, Exact, Fault, OutOfMemory, Refusal};
@@ -35,7 +37,8 @@ impl<A: AllocHandle> Schema<A> {
     /// The schema with one flag a column, true for a column of the primary key. Refused with `BadSchema`
     /// where there is no column, or more than `COLUMNS_MAX`.
     pub fn new(alloc: A, flags: &[bool]) -> Result<Self, Fault<Refusal>>
-        ensures { AnswersUnlessMemory result (schema_of flags.now) }
+        ensures schema { AnswersUnlessMemory result (schema_of flags.now) }
+        ensures first { RefusesFirst (result_err (schema_of flags.now)) result }
     {
         if flags.is_empty() || flags.len() > COLUMNS_MAX {
             return Err(Fault::Refused(Refusal::BadSchema));

@@ -147,7 +147,7 @@ module _ {A : Type 0} where
             (subst (λ (l : List (List ℕ)). IsPrefix l (reply_texts (lines_of threads number (line ∷ lines)) (replies_by number))) (texts-other threads number line lines text parts other) (has number)))
       ]
 
-  -- how the first call stands among those of a seat
+  -- the first call among those of a seat
   abbrev pub IsCallsOf : (List (Event A) → List (Event A) → Type 0) → ℕ → ℕ → List (Line A) → List (Reply A) → List (Reply A) → Type 0
   IsCallsOf R threads number lines all replies = R (own number (calls_of threads lines all)) (calls_of threads (lines_of threads number lines) replies)
 

@@ -56,7 +56,7 @@ module _ {A : Type 0} where
   number-at number (seat ∷ seats) zero d so within = so.0
   number-at number (seat ∷ seats) (suc place) d so within = number-at (λ p. number (suc p)) seats place d so.1 (omega (arith, within))
 
-  -- a seat stands at each place, and nowhere else
+  -- each seat has its own index
   pub stands_at : (threads : ℕ) (seats : List (SeatState A)) (number : ℕ) → AreSeats threads seats → number < threads + 1 → StandsAt seats number number
   stands_at threads seats number so within =
       let d : SeatState A = newcomer 0 in

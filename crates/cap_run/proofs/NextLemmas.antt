@@ -191,7 +191,7 @@ module _ {A : Type 0} where
   next_alone threads line rest ended behind old new a b spelled (text, is, made) =
       record { taken = []; left = rest; parts = refl; text = text; text_is = is; made = made; spelled = of_ended ended spelled }
 
-  -- no memory for a block
+  -- out of memory for a block
   pub next_refused : (threads : ℕ) (fault : CallFault) (line : Line A) (rest : List (Line A)) (behind old new : List ℕ) (seats : List (SeatState A)) → new ≡ old
       → IsNext threads line rest (Err fault) behind old new seats seats
   next_refused threads fault line rest behind old new seats same = record {

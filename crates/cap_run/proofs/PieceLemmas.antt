@@ -18,7 +18,7 @@ module _ {Z : Type 0} where
   joined-last [] last = append-nil last.items
   joined-last (piece ∷ full) last = ap (λ (l : List ℕ). piece.items ++ l) (joined-last full last) ∙ sym (append_assoc piece.items (joined full) last.items)
 
-  -- the last piece is full, and one without bytes stands behind it
+  -- the last piece is full, and an empty one follows it
   pub begun : (full new : List (Vec ℕ Z)) (old last next : Vec ℕ Z) (bytes : List ℕ) → joined full ++ old.items ≡ bytes → last ≡ old → new ≡ full ++ last ∷ [] → next.items ≡ []
       → joined new ++ next.items ≡ bytes
   begun full new old last next bytes are same more none =

@@ -1,2 +1,2 @@
--- What workers have made of lines so far, for this crate's own contracts. No rule is defined here.
+-- The progress of workers, for private contracts. No rule is defined here.
 pub mod Calls

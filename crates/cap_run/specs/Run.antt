@@ -1,5 +1,6 @@
--- What a run writes: the text of each reply on a line, and then that of the fault at which it ended.
-use Rattle.std.specs.Prelude.{◌≡◌, ℕ, ◌-◌, ◌^◌, ◌<◌, List, [], ◌∷◌, ◌++◌, Option, Result, Ok, Err, IfSome, map, length, codes, decimal}
+-- The output of a run: the text of each reply as a line, and then the fault at which it ended.
+use Rattle.std.specs.Prelude.{◌≡◌, ℕ, ◌-◌, ◌^◌, ◌<◌, List, [], ◌∷◌, ◌++◌, Option, Result, Ok, Err, IfSome}
+use Rattle.std.specs.Prelude.{map, length, codes, decimal}
 use Rattle.std.specs.Io.KnownBytes.{Appends, Keeps}
 use Rattle.cap_core.specs.declared.command.Command.{Command}
 use Rattle.cap_server.specs.declared.fault.CallFault.{CallFault}
@@ -16,11 +17,11 @@ use Rattle.cap_script.specs.Script.{SpellsScript}
 abbrev pub Known : Type 0
 Known = Option (List ℕ)
 
--- how a run of lines ended: behind the last, or with the fault of one that has no reply
+-- how lines ended: after the last, or at the fault of the first without a reply
 abbrev pub Ended : Type 0
 Ended = Result (Unit {0}) CallFault
 
--- a beginning of the bytes was written
+-- a prefix of the bytes was written
 abbrev pub AppendsFront : Known → Known → List ℕ → Type 0
 AppendsFront old new bytes =
     (front : List ℕ) × (rest : List ℕ) × (bytes ≡ front ++ rest) × Appends old new front
@@ -48,15 +49,15 @@ abbrev pub run_outcome : Ended → Result (Unit {0}) RunFault
 run_outcome (Ok done) = Ok done
 run_outcome (Err fault) = Err (Call fault)
 
--- A run without a fault ends behind the last line. Want of memory may end it before any line, and a full history
--- ends it before the line that would be an event too many.
+-- A run without a fault ends after the last line. Out of memory may end it before any line, and a full
+-- history ends it before the line that would exceed it.
 abbrev pub EndsAt : Ended → ℕ → ℕ → Type 0
 EndsAt (Ok done) lines count = count ≡ lines
 EndsAt (Err call.OutOfMemory) lines count = (count < lines) × (count < events_max)
 EndsAt (Err (call.Overtaken front)) lines count = ⊥
 EndsAt (Err call.HistoryFull) lines count = (count < lines) × (count ≡ events_max)
 
--- the one where memory was refused, and the other where the history is full; on one thread nobody is overtaken
+-- the first where memory ran out, the second where the history is full; on one thread no call is overtaken
 abbrev pub MatchFault : CallFault → Type 0 → Type 0 → Type 0
 MatchFault call.OutOfMemory refused full = refused
 MatchFault (call.Overtaken front) refused full = ⊥
@@ -73,8 +74,8 @@ module _ {A : Type 0} where
   reply_lines (line ∷ lines) (reply ∷ replies) =
       on_a_line (reply_text line reply) ++ reply_lines lines replies
 
-  -- The text is that of the replies to the first `count` lines and of what ended the run there. The replies are
-  -- those of a legal history of the lines' commands.
+  -- The text is that of the replies to the first `count` lines and of what ended the run there. The replies
+  -- are those of a legal history of the lines' commands.
   pub record IsRun (lines : List (Line A)) (count : ℕ) (ended : Ended) (text : List ℕ) : Type 0 where
     pub replies : List (Reply A)
     pub counted : length replies ≡ count
@@ -87,13 +88,14 @@ module _ {A : Type 0} where
       (count : ℕ) × (text : List ℕ) × EndsAt ended (length lines) count × IsRun lines count ended text
       × Appends old new text
 
-  -- a beginning of a run's text was written
+  -- a prefix of a run's text was written
   abbrev pub BeginsRun : List (Line A) → Known → Known → Type 0
   BeginsRun lines old new =
-      (count : ℕ) × (ended : Ended) × (text : List ℕ) × IsRun lines count ended text × AppendsFront old new text
+      (count : ℕ) × (ended : Ended) × (text : List ℕ) × IsRun lines count ended text
+      × AppendsFront old new text
 
-  -- What a run of the lines wrote: all of its text, or where a write failed a beginning, or nothing where it did not
-  -- begin.
+  -- The output of a run of the lines: all of its text, a prefix where a write failed, or nothing where it did
+  -- not begin.
   abbrev pub Writes : List (Line A) → Result (Unit {0}) RunFault → Known → Known → Type 0
   Writes lines (Ok done) old new = WritesRun lines (Ok done) old new
   Writes lines (Err (Call fault)) old new = WritesRun lines (Err fault) old new
@@ -106,7 +108,10 @@ module _ {A : Type 0} where
 
 -- the same of a run of the lines that the input spells
 abbrev pub WritesInput : (A : Type 0) → Known → Result (Unit {0}) RunFault → Known → Known → Type 0
-WritesInput A input (Ok done) old new = (lines : List (Line A)) × IsSpelled input lines × WritesRun lines (Ok done) old new
-WritesInput A input (Err (Call fault)) old new = (lines : List (Line A)) × IsSpelled input lines × WritesRun lines (Err fault) old new
-WritesInput A input (Err Write) old new = (lines : List (Line A)) × IsSpelled input lines × BeginsRun lines old new
+WritesInput A input (Ok done) old new =
+    (lines : List (Line A)) × IsSpelled input lines × WritesRun lines (Ok done) old new
+WritesInput A input (Err (Call fault)) old new =
+    (lines : List (Line A)) × IsSpelled input lines × WritesRun lines (Err fault) old new
+WritesInput A input (Err Write) old new =
+    (lines : List (Line A)) × IsSpelled input lines × BeginsRun lines old new
 WritesInput A input (Err fault) old new = Keeps old new

@@ -3,10 +3,11 @@ use Rattle.std.specs.Prelude.{◌≡◌, ◌⊎◌, ℕ}
 use Rattle.cap_value.specs.declared.memory.Fault.{Fault}
 use Rattle.cap_value.specs.declared.memory.Fault.TheVariants.{Refused, OutOfMemory}
 use Rattle.cap_run.specs.declared.fault.RunFault.{RunFault}
-use Rattle.cap_run.specs.declared.fault.RunFault.TheVariants.{Script, NotUtf8, NotHex, Blob, Call, Read, Write, Memory, Close}
+use Rattle.cap_run.specs.declared.fault.RunFault.TheVariants.{Script, NotUtf8, NotHex, Blob, Call, Read}
+use Rattle.cap_run.specs.declared.fault.RunFault.TheVariants.{Write, Memory, Close}
 
--- the exit status: 1 where the input is refused, and 3 where a call, a read, a write or the closing of the server failed, or
--- for want of memory
+-- the exit status: 1 where the input is refused, and 3 where a call, a read, a write or the closing of the
+-- server failed, or out of memory
 abbrev pub exit_status : RunFault → ℕ
 exit_status (Script fault) = 1
 exit_status NotUtf8 = 1
@@ -29,13 +30,13 @@ RunsNothing Write = ⊥
 RunsNothing Close = ⊥
 RunsNothing fault = Unit {0}
 
--- the text spells no workload, or there was no memory to read it
+-- the text spells no workload, or memory ran out
 abbrev pub IsUnspelled : RunFault → Type 0
 IsUnspelled (Script fault) = Unit {0}
 IsUnspelled Memory = Unit {0}
 IsUnspelled fault = ⊥
 
--- how a run ends whose input is refused, or for which there is no memory
+-- the fault of a run whose input is refused, or out of memory
 abbrev pub input_fault : Fault RunFault → RunFault
 input_fault (Refused fault) = fault
 input_fault OutOfMemory = Memory

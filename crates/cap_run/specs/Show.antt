@@ -1,4 +1,4 @@
--- What the input of a show holds, or why it is refused.
+-- The content of the input, or why it is refused.
 use Rattle.std.specs.Prelude.{ℕ, List, Result, Ok, Err}
 use Rattle.std.specs.Result.{result_map_both}
 use Rattle.hex.specs.Hex.{decode_of}

@@ -1,5 +1,6 @@
--- What a run of a workload on threads writes.
-use Rattle.std.specs.Prelude.{◌≡◌, ℕ, ◌+◌, ◌%◌, ◌<◌, ◌≤◌, List, [], ◌∷◌, ◌++◌, Option, Some, None, Result, Ok, Err, length}
+-- The output of a workload on threads.
+use Rattle.std.specs.Prelude.{◌≡◌, ℕ, ◌+◌, ◌%◌, ◌<◌, ◌≤◌, List, [], ◌∷◌, ◌++◌, Option, Some, None, Result, Ok}
+use Rattle.std.specs.Prelude.{Err, length}
 use Rattle.std.specs.Io.KnownBytes.{Appends, Keeps}
 use mathlib.Core.List.{IsPrefix}
 use Rattle.cap_core.specs.Answer.{IsLegal, event_by}
@@ -11,12 +12,12 @@ use Rattle.cap_run.specs.declared.fault.RunFault.{RunFault}
 use Rattle.cap_run.specs.declared.fault.RunFault.TheVariants.{Call, Close, Write}
 use Rattle.cap_script.specs.declared.line.Line.{Line}
 
--- the seat from which a line is called: the first, or for `@K` that of one of so many workers
+-- the seat from which a line is called: seat 0, or for `@K` that of a worker
 abbrev pub seat_of : ℕ → Option ℕ → ℕ
 seat_of threads None = 0
 seat_of threads (Some number) = number % threads + 1
 
--- by how lines ended: each has a reply, or a beginning of them has
+-- each line has a reply, or where they ended at a fault a prefix of them
 abbrev pub HasCount : Ended → ℕ → ℕ → Type 0
 HasCount (Ok done) count lines = count ≡ lines
 HasCount (Err fault) count lines = count < lines
@@ -29,20 +30,21 @@ module _ {A : Type 0} where
   calls_of threads (line ∷ lines) (reply ∷ replies) =
       event_by (seat_of threads line.worker) line.command reply ∷ calls_of threads lines replies
 
-  -- by how lines ended: the calls are these, or begin with them
+  -- the calls are these, or where the lines ended at a fault these are a prefix of them
   abbrev pub AreCalls : Ended → List (Event A) → List (Event A) → Type 0
   AreCalls (Ok done) some all = all ≡ some
   AreCalls (Err fault) some all = IsPrefix some all
 
-  -- One legal history has the calls of the lines that have replies, each seat's in the order of its lines: its own calls in
-  -- that history are these, or begin with them.
-  pub record AreOfOneHistory (Are : List (Event A) → List (Event A) → Type 0) (threads : ℕ) (lines : List (Line A)) (replies : List (Reply A)) : Type 0 where
+  -- One legal history has the calls of the lines that have replies, each seat's in the order of its lines:
+  -- its own calls in that history are these, or these are a prefix of them.
+  pub record AreOfOneHistory (Are : List (Event A) → List (Event A) → Type 0) (threads : ℕ)
+      (lines : List (Line A)) (replies : List (Reply A)) : Type 0 where
     pub history : List (Event A)
     pub legal : IsLegal history
     pub calls_are : (number : ℕ) → Are (own number (calls_of threads lines replies)) (own number history)
 
-  -- A run of the lines that ended so has this text: the replies in the order of the lines, up to the first line that has
-  -- none, and then its fault.
+  -- A run of the lines that ended so has this text: the replies in the order of the lines, up to the first
+  -- line that has none, and then its fault.
   pub record IsWorkload (threads : ℕ) (lines : List (Line A)) (ended : Ended) (text : List ℕ) : Type 0 where
     pub replies : List (Reply A)
     pub count : HasCount ended (length replies) (length lines)
@@ -58,17 +60,23 @@ module _ {A : Type 0} where
 
   -- all of a run's text was written
   abbrev pub WritesAll : ℕ → List (Line A) → Ended → Known → Known → Type 0
-  WritesAll threads lines ended old new = (text : List ℕ) × IsWorkload threads lines ended text × Appends old new text
+  WritesAll threads lines ended old new =
+      (text : List ℕ) × IsWorkload threads lines ended text × Appends old new text
 
-  -- a beginning of it was
+  -- a prefix of it was written
   abbrev pub WritesSome : ℕ → List (Line A) → Known → Known → Type 0
-  WritesSome threads lines old new = (ended : Ended) × (text : List ℕ) × IsBegun threads lines ended text × AppendsFront old new text
+  WritesSome threads lines old new =
+      (ended : Ended) × (text : List ℕ) × IsBegun threads lines ended text × AppendsFront old new text
 
--- What a run of the lines that the input spells wrote: all of its text, or where a write failed or the server was not closed
--- a beginning, or nothing where it did not begin.
+-- The output of a run of the lines that the input spells: all of its text, a prefix where a write failed or
+-- the server was not closed, or nothing where it did not begin.
 abbrev pub WritesWorkload : (A : Type 0) → ℕ → Known → Result (Unit {0}) RunFault → Known → Known → Type 0
-WritesWorkload A threads input (Ok done) old new = (lines : List (Line A)) × IsSpelled input lines × WritesAll threads lines (Ok done) old new
-WritesWorkload A threads input (Err (Call fault)) old new = (lines : List (Line A)) × IsSpelled input lines × WritesAll threads lines (Err fault) old new
-WritesWorkload A threads input (Err Write) old new = (lines : List (Line A)) × IsSpelled input lines × WritesSome threads lines old new
-WritesWorkload A threads input (Err Close) old new = (lines : List (Line A)) × IsSpelled input lines × WritesSome threads lines old new
+WritesWorkload A threads input (Ok done) old new =
+    (lines : List (Line A)) × IsSpelled input lines × WritesAll threads lines (Ok done) old new
+WritesWorkload A threads input (Err (Call fault)) old new =
+    (lines : List (Line A)) × IsSpelled input lines × WritesAll threads lines (Err fault) old new
+WritesWorkload A threads input (Err Write) old new =
+    (lines : List (Line A)) × IsSpelled input lines × WritesSome threads lines old new
+WritesWorkload A threads input (Err Close) old new =
+    (lines : List (Line A)) × IsSpelled input lines × WritesSome threads lines old new
 WritesWorkload A threads input (Err fault) old new = Keeps old new

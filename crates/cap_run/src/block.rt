@@ -1,7 +1,10 @@
-ghost use Rattle.std.specs.Prelude.{◌≡◌, ◌++◌, ◌∷◌, ◌+◌, ◌<◌, ◌≤◌, [], IfErr, IfOk, length, map, string_bytes, vec_capacity, vec_len};
+//! Runs the lines of a block, each worker's on its own thread.
+ghost use Rattle.std.specs.Prelude.{◌≡◌, ◌++◌, ◌∷◌, ◌+◌, ◌<◌, ◌≤◌, [], IfErr, IfOk, length, map};
+ghost use Rattle.std.specs.Prelude.{string_bytes, vec_capacity, vec_len};
 ghost use Rattle.std.specs.List.{AllZip};
 ghost use denote.Param.Send.{Frees, IsSend, IsSync};
 ghost use Rattle.cap_run.specs.Code.Calls.{HasWorked, lines_of, work};
+ghost use Rattle.cap_run.specs.Options.{IsThreadCount};
 
 use crate::Gate;
 use crate::worker::{Shared, Worker, answer_lines, is_given, let_all_go_on};
@@ -14,16 +17,16 @@ use std::sync::Wait;
 use std::sync::atomic::{AtomicU64, Ordering};
 use std::thread::{self, Promise, PromisedHandle, Scope, Threads};
 
-/// What the threads of a block tell one another.
+// What the threads of a block share.
 #[derive(Drop)]
 struct BlockState {
-    // How many of its lines were called.
+    // The number of its lines that were called.
     called: AtomicU64,
-    // The seat whose worker was given no thread, or 0.
+    // The seat whose worker has no thread, or 0.
     without_thread: AtomicU64,
 }
 
-/// What a worker's thread is given.
+// The task of a worker's thread.
 #[derive(Drop)]
 struct Task<'b, J: Naming, A: AllocHandle, T: Wait, G: Gate> {
     shared: &'b Shared<'b, J, A, T, G>,
@@ -32,7 +35,7 @@ struct Task<'b, J: Naming, A: AllocHandle, T: Wait, G: Gate> {
     worker: Worker<J, A>,
 }
 
-/// What is known of the worker that a thread gives back: it has called its lines of the block.
+// The promise of a worker's thread: the worker that it returns has called its lines of the block.
 #[derive(Drop)]
 struct Called<'b, J: Naming, A: AllocHandle> {
     threads: u64,
@@ -48,11 +51,11 @@ impl<'b, J: Naming, A: AllocHandle> Promise<Worker<J, A>> for Called<'b, J, A> {
         (work worker.seat (map string_bytes worker.texts.items) worker.ended) };
 }
 
-/// The worker with its lines of the block called, or, where it has no thread, with its first line refused for memory.
+// Lets the worker call its lines of the block. Without a thread its first line is out of memory.
 fn carry_out<J: Naming, A: AllocHandle, T: Wait, G: Gate>(
     task: Task<'_, J, A, T, G>,
 ) -> Worker<J, A>
-    requires threads { (1 ≤ task.shared.now.threads) × (task.shared.now.threads ≤ 63) }
+    requires threads { IsThreadCount task.shared.now.threads }
     requires given { 0 < length (lines_of task.shared.now.threads task.worker.seat.number task.block.now) }
     ensures worked { HasWorked task.entry.shared.now.threads task.entry.block.now task.entry.worker.seat
         (work result.seat (map string_bytes result.texts.items) result.ended) }
@@ -73,7 +76,7 @@ fn carry_out<J: Naming, A: AllocHandle, T: Wait, G: Gate>(
     worker
 }
 
-/// Lets each worker call its lines of a block on a thread of its own, and returns when all have ended.
+// Lets each worker call its lines of a block on its own thread, and returns when all have ended.
 pub(crate) fn run_block<
     J: Naming + Send + Sync,
     A: AllocHandle + Send + Sync,
@@ -85,7 +88,7 @@ pub(crate) fn run_block<
     workers: Vec<Worker<J, A>, A>,
 ) -> Vec<Worker<J, A>, A>
     requires frees { Frees A.Allocator A.dealloc_token }
-    requires threads { (1 ≤ shared.now.threads) × (shared.now.threads ≤ 63) }
+    requires threads { IsThreadCount shared.now.threads }
     ensures worked { AllZip (HasWorked shared.now.threads block.now) (map (λ w. w.seat) workers.items)
         (map (λ w. work w.seat (map string_bytes w.texts.items) w.ended) result.items) }
 {
@@ -100,7 +103,7 @@ pub(crate) fn run_block<
         |scope| -> Vec<Worker<J, A>, A>
             requires { IsSend J.row × IsSync J.row × IsSend A.row × IsSync A.row × IsSync T.row × IsSync G.row
                 × Frees A.Allocator A.dealloc_token
-                × (1 ≤ shared.now.threads) × (shared.now.threads ≤ 63) }
+                × IsThreadCount shared.now.threads }
             ensures { AllZip (HasWorked shared.entry.now.threads block.entry.now)
                 (map (λ w. w.seat) workers.items)
                 (map (λ w. work w.seat (map string_bytes w.texts.items) w.ended) result.items) }
@@ -112,8 +115,8 @@ pub(crate) fn run_block<
     )
 }
 
-/// Starts the thread of the last worker and then those of the others, and joins it when these have ended. There is room for
-/// each worker that comes back, since it was taken from there.
+// Starts the thread of the last worker, then those of the others, and joins it when these have ended. There
+// is room for each returned worker, since it was taken from there.
 fn run_workers<
     's,
     'e: 's,
@@ -129,7 +132,7 @@ fn run_workers<
     workers: &mut Vec<Worker<J, A>, A>,
 )
     requires frees { Frees A.Allocator A.dealloc_token }
-    requires threads { (1 ≤ shared.now.threads) × (shared.now.threads ≤ 63) }
+    requires threads { IsThreadCount shared.now.threads }
     ensures worked { AllZip (HasWorked shared.now.threads block.now) (map (λ w. w.seat) workers.old.items)
         (map (λ w. work w.seat (map string_bytes w.texts.items) w.ended) workers.new.items) }
     ensures same { vec_len workers.new ≡ vec_len workers.old }
@@ -161,7 +164,8 @@ fn run_workers<
     }
 }
 
-/// Starts a worker's thread. Where there is none the worker comes back at once, with its first line refused for memory.
+// Starts a worker's thread. Where it cannot be started the worker is returned, with its first line out of
+// memory.
 fn start<
     's,
     'e: 's,
@@ -174,7 +178,7 @@ fn start<
     task: Task<'e, J, A, T, G>,
 ) -> Result<PromisedHandle<Worker<J, A>, Called<'e, J, A>>, Worker<J, A>>
     requires frees { Frees A.Allocator A.dealloc_token }
-    requires threads { (1 ≤ task.shared.now.threads) × (task.shared.now.threads ≤ 63) }
+    requires threads { IsThreadCount task.shared.now.threads }
     requires given { 0 < length (lines_of task.shared.now.threads task.worker.seat.number task.block.now) }
     ensures threads { IfOk result (λ handle. handle.promise.threads ≡ task.entry.shared.now.threads) }
     ensures block { IfOk result (λ handle. handle.promise.block.now ≡ task.entry.block.now) }
@@ -192,7 +196,7 @@ fn start<
     let work = move || -> Worker<J, A>
         requires { IsSend J.row × IsSync J.row × IsSend A.row × IsSync A.row × IsSync T.row × IsSync G.row
             × Frees A.Allocator A.dealloc_token
-            × (1 ≤ task.shared.now.threads) × (task.shared.now.threads ≤ 63)
+            × IsThreadCount task.shared.now.threads
             × (0 < length (lines_of task.shared.now.threads task.worker.seat.number task.block.now)) }
         ensures { HasWorked task.entry.shared.now.threads task.entry.block.now task.entry.worker.seat
             (work result.seat (map string_bytes result.texts.items) result.ended) }
@@ -206,7 +210,7 @@ fn start<
     }
 }
 
-/// A worker that calls no line of a block: it has none, or no thread.
+// A worker that calls no line of a block: it has none, or no thread.
 fn ended<J: Naming, A: AllocHandle>(
     worker: Worker<J, A>,
     outcome: Result<(), CallFault>,

@@ -2,8 +2,7 @@
 ghost use Rattle.std.specs.Prelude.{IfOk};
 ghost use Rattle.cap_run.specs.Options.{IsInRange};
 
-use crate::workload::THREADS_MAX;
-use crate::{Options, OptionsFault};
+use crate::{Options, OptionsFault, THREADS_MAX};
 use clap::error::ErrorKind;
 use clap::{Arg, ArgMatches, Command, Error, value_parser};
 use std::alloc::{AllocError, Global};
@@ -81,7 +80,7 @@ prints
     group t kv
     insert direct (1,'x')";
 
-/// The command line.
+// The command line.
 fn command_line<'a>(alloc: Global) -> Result<Command<'a>, AllocError> {
     let threads = Arg::new(alloc, "threads")
         .long("threads")
@@ -107,12 +106,13 @@ fn command_line<'a>(alloc: Global) -> Result<Command<'a>, AllocError> {
         .subcommand(show)
 }
 
-/// What the words after the program's name ask for.
+/// Parses the words after the program's name.
 ///
-/// `run` runs a workload, with `--threads N` on N threads, N from 1 to 63, else on 1. `show` shows a blob. All other
-/// words are refused with a text that says why, and `--help` and `--version` answer their text as a fault of status 0.
+/// `run` runs a workload, on N threads with `--threads N`, N from 1 to 63, and otherwise on one. `show` shows
+/// a blob. Other words are refused with a message. `--help` and `--version` give their text as a fault of
+/// status 0.
 pub fn options(alloc: Global, words: &[String]) -> Result<Options, OptionsFault>
-    // As many threads as a workload can be run on.
+    // The number of threads is in range.
     ensures range { IfOk result IsInRange }
 {
     let command = command_line(alloc).map_err(|_| OptionsFault::Memory)?;
@@ -122,14 +122,14 @@ pub fn options(alloc: Global, words: &[String]) -> Result<Options, OptionsFault>
     }
 }
 
-/// What was asked for, by what was found among the words.
+// The options that the parser found.
 fn asked_for(matches: &ArgMatches) -> Options
     ensures range { IsInRange result }
 {
     match matches.subcommand() {
         Some(("run", run)) => {
             let threads = run.get_one::<u64>("threads").unwrap_or(1);
-            // The parser has refused all others.
+            // The parser refuses all others.
             Options::Run {
                 threads: threads.clamp(1, THREADS_MAX),
             }
@@ -138,7 +138,7 @@ fn asked_for(matches: &ArgMatches) -> Options
     }
 }
 
-/// What the parser of the command line has to say.
+// The fault that the parser reports.
 fn fault_of(alloc: Global, error: &Error) -> OptionsFault {
     if error.kind() == ErrorKind::OutOfMemory {
         return OptionsFault::Memory;

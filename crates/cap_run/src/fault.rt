@@ -1,3 +1,5 @@
+//! The faults of a run.
+
 use cap_codec::BlobFault;
 use cap_script::ScriptFault;
 use cap_server::CallFault;
@@ -10,28 +12,28 @@ pub enum RunFault {
     /// The text is refused. Nothing was run.
     #[error(transparent)]
     Script(ScriptFault),
-    /// The bytes are no text. Nothing was run.
+    /// The input is not UTF-8. Nothing was run.
     #[error("not UTF-8")]
     NotUtf8,
-    /// The text is no hex text. Nothing was shown.
+    /// The input is not hex. Nothing was shown.
     #[error("not hex")]
     NotHex,
-    /// The bytes are no blob. Nothing was shown.
+    /// The bytes are neither a changeset nor a patchset. Nothing was shown.
     #[error("fault {0}")]
     Blob(BlobFault),
-    /// A command has no reply. The commands before it were run and their replies printed, and the fault after them.
+    /// A command has no reply. The replies before it were printed, and then this fault.
     #[error(transparent)]
     Call(CallFault),
     /// A read failed, or the reader had not ended after 2^40 reads. Nothing was run or shown.
     #[error("a read failed")]
     Read,
-    /// A write failed. What was written is a beginning of the output.
+    /// A write failed. A prefix of the output was written.
     #[error("a write failed")]
     Write,
-    /// There was no memory for the text or what it stands for. Nothing was run or shown.
+    /// Out of memory for the input. Nothing was run or shown.
     #[error("no memory for the input")]
     Memory,
-    /// The server that workers shared was not closed. All lines were run and their replies printed.
+    /// The server could not be closed. All lines were run and their replies printed.
     #[error("the server was not closed")]
     Close,
 }

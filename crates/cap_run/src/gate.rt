@@ -1,14 +1,16 @@
-/// What stands round each worker's calls, outside the server's lock: a test lets workers wait for one another in it.
+//! A hook around the calls of workers, for tests.
+
+/// Called around each worker's calls, outside the server's lock. A test synchronises workers in it.
 pub trait Gate: Sync {
-    /// Is called before the call. The worker's number counts from 0, and the call's is the place of its line among the
-    /// worker's lines of the whole workload, from 0.
+    /// Called before a worker's call. Workers are numbered from 0, and the calls of a worker over the whole
+    /// workload from 0.
     fn before(&self, worker: u64, call: u64);
 
-    /// Is called after the call, whether it has a reply or a fault.
+    /// Called after the call, whether it has a reply or a fault.
     fn after(&self, worker: u64, call: u64);
 }
 
-/// A gate at which nobody waits.
+/// A gate that does nothing.
 #[derive(Clone, Copy, Drop)]
 pub struct NoGate;
 

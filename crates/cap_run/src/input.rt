@@ -1,3 +1,4 @@
+//! Reads the input.
 ghost use Rattle.std.specs.Prelude.{◌≡◌, IfOk, IfSome, IfErr};
 ghost use Rattle.cap_run.specs.RunFault.{IsUnread};
 
@@ -6,13 +7,13 @@ use crate::pieces::Pieces;
 use cap_value::AllocHandle;
 use std::io::{ErrorKind, Read};
 
-/// The most reads that a run makes of its reader.
+/// The most reads of a run.
 pub const READS_MAX: u64 = 1 << 40;
 
-/// The most bytes of one read.
+// The most bytes of one read.
 const READ_LEN: usize = 8192;
 
-/// All that a reader gives. A reader that has not ended after `READS_MAX` reads has failed.
+/// Reads to the end of the reader. A reader that has not ended after `READS_MAX` reads has failed.
 pub fn read_whole<A: AllocHandle, R: Read>(alloc: A, reader: &mut R) -> Result<Vec<u8, A>, RunFault>
     ensures whole { IfOk result (λ bytes.
         IfSome (R.remaining reader.old) (λ given. bytes.items ≡ given)) }
@@ -22,7 +23,7 @@ pub fn read_whole<A: AllocHandle, R: Read>(alloc: A, reader: &mut R) -> Result<V
     pieces.join(alloc).map_err(|_| RunFault::Memory)
 }
 
-/// All that a reader gives, in pieces.
+// Reads to the end of the reader, in pieces.
 fn read_pieces<A: AllocHandle, R: Read>(alloc: A, reader: &mut R) -> Result<Pieces<A>, RunFault>
     ensures whole { IfOk result (λ pieces.
         IfSome (R.remaining reader.old) (λ given. pieces ≡ given)) }

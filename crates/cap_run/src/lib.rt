@@ -1,24 +1,26 @@
-//! Runs a workload: reads its text, gives its commands to a server, and prints the replies. And shows what is in a
-//! blob.
+//! Runs a workload: reads its text, calls a server with its commands, and prints the replies. Also shows a
+//! changeset or patchset.
 #![tactic(auto)]
 
-mod asked;
 mod block;
 mod command_line;
 mod fault;
 mod gate;
 mod input;
+mod limits;
 mod output;
 mod pieces;
+mod program_options;
 mod run;
 mod show;
 mod worker;
 mod workload;
 
-pub use asked::{Options, OptionsFault};
 pub use command_line::options;
 pub use fault::RunFault;
 pub use gate::{Gate, NoGate};
+pub use limits::THREADS_MAX;
+pub use program_options::{Options, OptionsFault};
 pub use run::run_core;
 pub use show::show_blob;
-pub use workload::{THREADS_MAX, run_workload};
+pub use workload::run_workload;

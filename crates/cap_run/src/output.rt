@@ -1,3 +1,4 @@
+//! Writes replies and faults.
 ghost use Rattle.std.specs.Prelude.{◌≡◌, ◌++◌, ◌∷◌, ℕ, List, [], OnOk, IfErr, codes, decimal, string_bytes};
 ghost use Rattle.std.specs.Io.KnownBytes.{Appends};
 ghost use Rattle.cap_run.specs.Run.{AppendsFront, ending};
@@ -8,13 +9,13 @@ use cap_value::AllocHandle;
 use itoa::Buffer;
 use std::io::{ErrorKind, Write};
 
-/// The most writes that are made for some bytes.
+// The most writes for one piece of output.
 const WRITES_MAX: u64 = 1 << 40;
 
-/// The bytes of output that wait to be written together.
+// The length at which pending output is written.
 const PIECE_LEN: usize = 8192;
 
-/// Writes the bytes, all of them, as often as the writer takes some. A write that was interrupted is tried again.
+/// Writes all of the bytes, in several writes where one is short. An interrupted write is retried.
 pub fn write_whole<W: Write>(writer: &mut W, bytes: &[u8]) -> Result<(), RunFault>
     ensures ok { OnOk result (Appends (W.contents writer.old) (W.contents writer.new) bytes.now) }
     ensures err { IfErr result (λ fault. (fault ≡ RunFault.Write)
@@ -35,7 +36,7 @@ pub fn write_whole<W: Write>(writer: &mut W, bytes: &[u8]) -> Result<(), RunFaul
     Err(RunFault::Write)
 }
 
-/// Writes what waits to be written. Where a write fails it stays, though a beginning of it may be written.
+// Writes the pending output. Where a write fails it stays pending, though a prefix of it may be written.
 pub(crate) fn write_pending<A: AllocHandle, W: Write>(
     writer: &mut W,
     pending: &mut String<A>,
@@ -50,7 +51,7 @@ pub(crate) fn write_pending<A: AllocHandle, W: Write>(
     Ok(())
 }
 
-/// Writes what waits to be written, once it is as long as a piece.
+// Writes the pending output, if it is as long as a piece.
 pub(crate) fn write_long<A: AllocHandle, W: Write>(
     writer: &mut W,
     pending: &mut String<A>,
@@ -67,7 +68,7 @@ pub(crate) fn write_long<A: AllocHandle, W: Write>(
     write_pending(writer, pending)
 }
 
-/// Writes the line of the fault at which the run ended, if it did, and flushes the writer.
+// Writes the fault at which the run ended, if any, and flushes the writer.
 pub(crate) fn write_ending<W: Write>(
     outcome: Result<(), CallFault>,
     writer: &mut W,
@@ -80,7 +81,7 @@ pub(crate) fn write_ending<W: Write>(
     writer.flush().map_err(|_| RunFault::Write)
 }
 
-/// Writes the line of the fault at which the run ended, if it did. It takes no memory.
+// Writes the fault at which the run ended, if any. It takes no memory.
 #[tactic(auto, unfolding(crate::specs::Run::call_fault_text))]
 fn write_last_line<W: Write>(outcome: Result<(), CallFault>, writer: &mut W) -> Result<(), RunFault>
     ensures ok { OnOk result (Appends (W.contents writer.old) (W.contents writer.new) (ending outcome)) }
@@ -95,7 +96,7 @@ fn write_last_line<W: Write>(outcome: Result<(), CallFault>, writer: &mut W) -> 
     }
 }
 
-/// Writes that a call was overtaken, and how many events the history has.
+// Writes that a call was overtaken, with the number of events of the history.
 #[tactic(auto, using(crate::proofs::RunLemmas::front_more, crate::proofs::RunLemmas::front_sooner))]
 fn write_overtaken<W: Write>(writer: &mut W, front: u64) -> Result<(), RunFault>
     ensures ok { OnOk result (Appends (W.contents writer.old) (W.contents writer.new)
@@ -114,7 +115,7 @@ fn write_overtaken<W: Write>(writer: &mut W, front: u64) -> Result<(), RunFault>
     Ok(())
 }
 
-/// Writes some bytes and then others.
+// Writes some bytes and then others.
 #[tactic(auto, using(crate::proofs::RunLemmas::front_more, crate::proofs::RunLemmas::front_sooner))]
 fn write_both<W: Write>(writer: &mut W, first: &[u8], second: &[u8]) -> Result<(), RunFault>
     ensures ok { OnOk result (Appends (W.contents writer.old) (W.contents writer.new)

@@ -1,4 +1,4 @@
-//! Bytes that come one after the other, of which it is not known how many there will be.
+//! A growing buffer of bytes whose final length is not known.
 ghost use Rattle.std.specs.Prelude.{◌≡◌, ◌++◌, [], IfOk, OnOk};
 
 use cap_value::{AllocHandle, OutOfMemory};
@@ -6,17 +6,17 @@ use std::collections::VecDeque;
 use std::marker::Model;
 use std::mem;
 
-/// The room of a piece, so large that the system gives and takes back its memory for itself.
+// The capacity of a piece, so large that the system maps and unmaps its memory separately.
 const PIECE_LEN: usize = 1 << 18;
 
-/// Bytes, in pieces that stay where they are as more come. A vector that grows holds all bytes twice while it moves
-/// them.
+// Bytes in pieces, which are not moved as more bytes come. A vector that grows has all bytes twice while it
+// moves them.
 #[derive(Drop)]
 pub(crate) struct Pieces<A: AllocHandle> {
-    // Those to which no more is added.
+    // The pieces that are complete.
     full: VecDeque<Vec<u8, A>, A>,
     last: Vec<u8, A>,
-    // How many bytes there are, as far as it can be counted.
+    // The number of bytes, saturating.
     len: usize,
 }
 
@@ -30,7 +30,6 @@ impl<A: AllocHandle> Model for Pieces<A> {
 }
 
 impl<A: AllocHandle> Pieces<A> {
-    /// No bytes.
     pub(crate) fn new(alloc: A) -> Self
         ensures { result ≡ [] }
     {
@@ -41,7 +40,7 @@ impl<A: AllocHandle> Pieces<A> {
         }
     }
 
-    /// Puts the bytes behind all others.
+    // Appends the bytes.
     pub(crate) fn push(&mut self, alloc: A, bytes: &[u8]) -> Result<(), OutOfMemory>
         ensures { OnOk result (self.new ≡ self.old ++ bytes.now) }
     {
@@ -53,7 +52,7 @@ impl<A: AllocHandle> Pieces<A> {
         Ok(())
     }
 
-    // Begins a piece behind the last one.
+    // Begins a new piece.
     fn begin_piece(&mut self, alloc: A) -> Result<(), OutOfMemory>
         ensures { OnOk result (self.new ≡ self.old) }
     {
@@ -62,7 +61,7 @@ impl<A: AllocHandle> Pieces<A> {
         Ok(self.full.push_back(last)?)
     }
 
-    /// All bytes, side by side. Each piece gives its memory back as soon as it is copied.
+    // All bytes in one vector. Each piece is freed as soon as it is copied.
     pub(crate) fn join(self, alloc: A) -> Result<Vec<u8, A>, OutOfMemory>
         ensures { IfOk result (λ bytes. bytes.items ≡ self) }
     {

@@ -1,9 +1,12 @@
-ghost use Rattle.std.specs.Prelude.{◌≡◌, ◌⊎◌, ◌++◌, ◌∷◌, ◌<◌, ◌≤◌, ℕ, List, [], length, IfSome, IfOk, IfErr, OnOk, OnErr, IsErrAnd, IsUtf8, string_bytes};
+//! Runs a workload on one thread.
+ghost use Rattle.std.specs.Prelude.{◌≡◌, ◌⊎◌, ◌++◌, ◌∷◌, ◌<◌, ◌≤◌, ℕ, List, [], length, IfSome, IfOk, IfErr};
+ghost use Rattle.std.specs.Prelude.{OnOk, OnErr, IsErrAnd, IsUtf8, string_bytes};
 ghost use Rattle.std.specs.Io.KnownBytes.{Appends};
 ghost use Rattle.cap_core.specs.Answer.{IsLegal, answer, event_by, reply_of, state};
 ghost use Rattle.cap_core.specs.Transition.{next};
 ghost use Rattle.cap_core.specs.declared.event.Event.{Event};
-ghost use Rattle.cap_run.specs.Run.{AppendsFront, BeginsRun, EndsAt, IsRun, MatchFault, Writes, WritesInput, ending, events_max, on_a_line, run_outcome};
+ghost use Rattle.cap_run.specs.Run.{AppendsFront, BeginsRun, EndsAt, IsRun, MatchFault, Writes, WritesInput};
+ghost use Rattle.cap_run.specs.Run.{ending, events_max, on_a_line, run_outcome};
 ghost use Rattle.cap_run.specs.RunFault.{exit_status, IsUnread, IsUnspelled};
 ghost use Rattle.cap_script.specs.ReplyText.{reply_text};
 ghost use Rattle.cap_script.specs.Script.{SpellsScript};
@@ -13,31 +16,28 @@ use crate::RunFault;
 use crate::input::read_whole;
 use crate::output::{write_ending, write_long, write_pending};
 use crate::worker::reply_line;
-use cap_core::{Agree, Command, Core, Reply, legal_histories_grow};
+use cap_core::{Command, Core, EVENTS_MAX, NoHook, Reply, legal_histories_grow};
 use cap_script::{Line, Lines};
 use cap_server::CallFault;
 use cap_value::{AllocHandle, Fault};
 use std::io::{Read, Write};
 
-/// The most commands that a server answers.
-const EVENTS_MAX: u64 = (1 << 63) - 1;
-
-/// Runs the workload that the reader gives on a new server, one command after the other, and writes a line a reply.
+/// Runs the workload from the reader on a new server, one command after the other, and writes the replies.
 ///
-/// The whole text is read before anything runs, and each line for the second time when it is run, so that no more than
-/// one command is held beside the text. Where a command has no reply, or there is no memory for it, the replies of
-/// those before it are written, then its fault, and the run ends.
+/// The whole text is parsed before anything runs, and each line again when it runs, so at most one command is
+/// held beside the text. Where a command has no reply, or memory runs out, the replies before it are written,
+/// then its fault, and the run ends.
 ///
-/// Its contracts say of the input which bytes are refused as no text: exactly, but for a read that failed and want of
-/// memory, which may come before any other answer, and for readers of which it is not known what they give. Which other
-/// texts are refused, and with which fault, is told by `cap_script::Lines::new` and tested; what is run is spelled by
-/// the text. Of the output they say all, for writers of which it is known what they hold.
+/// The contracts say exactly which input is refused as not UTF-8, where it is known what the reader gives. A
+/// failed read and out of memory may come before any other answer. `cap_script::Lines::new` documents which
+/// other texts are refused, and with which fault; that is tested. The contracts determine the whole output,
+/// for writers whose content is known.
 pub fn run_core<A: AllocHandle, R: Read, W: Write>(
     alloc: A,
     reader: &mut R,
     writer: &mut W,
 ) -> Result<(), RunFault>
-    // Bytes that are no text are refused, and no text is refused as such, where it is known what the reader gives.
+    // Exactly the input that is not UTF-8 is refused as such, where it is known what the reader gives.
     ensures no_text { IfSome (R.remaining reader.old) (λ given. ¬ (IsUtf8 given)
         → IsErrAnd result (λ fault. (fault ≡ RunFault.NotUtf8) ⊎ IsUnread fault)) }
     ensures text { IfSome (R.remaining reader.old) (λ given.
@@ -46,8 +46,8 @@ pub fn run_core<A: AllocHandle, R: Read, W: Write>(
     // Nothing is written where the input is refused.
     ensures silent { IfErr result (λ fault. exit_status fault ≡ 1 → writer.new ≡ writer.old) }
 
-    // What is written is the text of the replies of a legal history of the commands that the input spells, line by
-    // line, as far as the run came.
+    // The output is the replies of a legal history of the commands that the input spells, line by line, up to
+    // the end of the run.
     ensures written { WritesInput A (R.remaining reader.old) result
         (W.contents writer.old) (W.contents writer.new) }
 {
@@ -56,7 +56,7 @@ pub fn run_core<A: AllocHandle, R: Read, W: Write>(
     run_lines(alloc, &mut lines, writer)
 }
 
-/// The text that the reader gives. That its bytes are no text is found without memory.
+// Reads the text. Whether the bytes are UTF-8 is checked without memory.
 pub(crate) fn read_text<A: AllocHandle, R: Read>(
     alloc: A,
     reader: &mut R,
@@ -70,7 +70,7 @@ pub(crate) fn read_text<A: AllocHandle, R: Read>(
     text_of(read_whole(alloc, reader)?)
 }
 
-/// The text with these bytes. They are refused for no other fault than that they are no text.
+// The text with these bytes, or that they are not UTF-8.
 fn text_of<A: AllocHandle>(bytes: Vec<u8, A>) -> Result<String<A>, RunFault>
     ensures text { IfOk result (λ text. string_bytes text ≡ bytes.items) }
     ensures no_text { IfErr result (λ fault. (fault ≡ RunFault.NotUtf8) × (¬ (IsUtf8 bytes.items))) }
@@ -78,7 +78,7 @@ fn text_of<A: AllocHandle>(bytes: Vec<u8, A>) -> Result<String<A>, RunFault>
     String::from_utf8(bytes).map_err(|_| RunFault::NotUtf8)
 }
 
-/// The lines of a workload's text, which is read once, all of it.
+// The lines of a workload's text, after all of it is parsed once.
 pub(crate) fn lines_of<A: AllocHandle>(alloc: A, text: &str) -> Result<Lines<'_, A>, RunFault>
     ensures whole { IfOk result (λ lines. lines ≡ text.now) }
     ensures spelled { IfOk result (λ lines. (spelled : List (Line A)) × SpellsScript spelled text.now) }
@@ -90,7 +90,7 @@ pub(crate) fn lines_of<A: AllocHandle>(alloc: A, text: &str) -> Result<Lines<'_,
     })
 }
 
-/// Runs the lines on a new server, and writes their replies.
+// Runs the lines on a new server, and writes their replies.
 fn run_lines<A: AllocHandle, W: Write>(
     alloc: A,
     lines: &mut Lines<'_, A>,
@@ -107,7 +107,7 @@ fn run_lines<A: AllocHandle, W: Write>(
     run_outcome(outcome)
 }
 
-/// The outcome of a run whose lines ended so.
+// The outcome of a run whose lines ended so.
 pub(crate) fn run_outcome(outcome: Result<(), CallFault>) -> Result<(), RunFault>
     ensures same { result ≡ run_outcome outcome }
     ensures status { IfErr result (λ fault. exit_status fault ≡ 3) }
@@ -115,8 +115,8 @@ pub(crate) fn run_outcome(outcome: Result<(), CallFault>) -> Result<(), RunFault
     outcome.map_err(RunFault::Call)
 }
 
-/// Writes the replies to the lines, but for the last ones, which are left in `pending`. The inner fault is that of the
-/// line at which the run ended.
+// Writes the replies to the lines, except the last ones, which are left in `pending`. The inner fault is that
+// of the line at which the run ended.
 fn write_replies<A: AllocHandle, W: Write>(
     alloc: A,
     lines: &mut Lines<'_, A>,
@@ -148,7 +148,7 @@ fn write_replies<A: AllocHandle, W: Write>(
     }
 }
 
-/// The fault of a line for which there is no memory. A full history comes before it.
+// The fault of a line that is out of memory. A full history comes first.
 fn line_fault<A: AllocHandle>(core: &Core<A>) -> CallFault
     ensures { MatchFault result (core.now.events < events_max) (events_max ≤ core.now.events) }
 {
@@ -159,7 +159,7 @@ fn line_fault<A: AllocHandle>(core: &Core<A>) -> CallFault
     }
 }
 
-/// Runs a line's command. The text of the reply goes to the end of `pending`, on a line.
+// Runs a line's command. The text of the reply is appended to `pending`, as a line.
 fn run_line<A: AllocHandle>(
     alloc: A,
     core: &mut Core<A>,
@@ -187,7 +187,7 @@ fn run_line<A: AllocHandle>(
     }
 }
 
-/// Runs a command that no step outside belongs to.
+// Runs a command without a hook.
 fn run_command<A: AllocHandle>(
     core: &mut Core<A>,
     command: &Command<A>,
@@ -197,7 +197,7 @@ fn run_command<A: AllocHandle>(
         × (reply ≡ answer core.old command.now)) }
     ensures err { IfErr result (λ fault. fault ≡ CallFault.OutOfMemory) }
 {
-    match core.step(command, &mut Agree) {
+    match core.step(command, &mut NoHook) {
         Ok(reply) => Ok(reply),
         Err(Fault::OutOfMemory) => Err(CallFault::OutOfMemory),
         Err(Fault::Refused(never)) => match never {},

@@ -1,3 +1,4 @@
+//! Shows a changeset or a patchset.
 ghost use Rattle.std.specs.Prelude.{◌≡◌, ◌⊎◌, IfSome, IfErr, IsErrAnd};
 ghost use Rattle.cap_value.specs.Memory.{AnswersUnlessMemory};
 ghost use Rattle.cap_run.specs.RunFault.{exit_status, IsUnread};
@@ -11,18 +12,19 @@ use cap_value::{AllocHandle, Fault};
 use hex::FromHexError;
 use std::io::{BufWriter, Read, Write};
 
-/// Writes what is in the blob that the reader gives as hex digits, in either case, with at most one line feed at
-/// their end: a line for the blob, for each group and for each change, or `empty`.
+/// Shows the blob that the reader gives as hex digits, in either case, with at most one line feed at their
+/// end: writes a line for the blob, for each group and for each change, or `empty`.
 ///
-/// The whole blob is read before anything is written. Its contracts say which input is refused, and with which fault:
-/// exactly, but for a read that failed and want of memory, which may come before any other answer, and for readers of
-/// which it is not known what they give. What is written is said nowhere but here, and tested.
+/// The whole blob is read before anything is written. The contracts say exactly which input is refused and
+/// with which fault, where it is known what the reader gives. A failed read and out of memory may come before
+/// any other answer. No clause states the text of the output; it is tested.
 pub fn show_blob<A: AllocHandle, R: Read, W: Write>(
     alloc: A,
     reader: &mut R,
     writer: &mut W,
 ) -> Result<(), RunFault>
-    // What is no hex text, or no blob, is refused with its fault, where it is known what the reader gives.
+    // Input that is not hex, or not a blob, is refused with its fault, where it is known what the reader
+    // gives.
     ensures refused { IfSome (R.remaining reader.old) (λ given. IfErr (contents_at A given)
         (λ fault. IsErrAnd result (λ f. (f ≡ fault) ⊎ IsUnread f))) }
     ensures just { IfSome (R.remaining reader.old) (λ given. IfErr result (λ fault.
@@ -34,7 +36,7 @@ pub fn show_blob<A: AllocHandle, R: Read, W: Write>(
     write_blob(alloc, &blob, writer)
 }
 
-/// The blob that the reader gives.
+// Reads the blob.
 fn take_blob<A: AllocHandle, R: Read>(alloc: A, reader: &mut R) -> Result<Contents<A>, RunFault>
     ensures refused { IfSome (R.remaining reader.old) (λ given. IfErr (contents_at A given)
         (λ fault. IsErrAnd result (λ f. (f ≡ fault) ⊎ IsUnread f))) }
@@ -45,7 +47,7 @@ fn take_blob<A: AllocHandle, R: Read>(alloc: A, reader: &mut R) -> Result<Conten
     Ok(blob_of(alloc, text.as_slice())?)
 }
 
-/// The blob whose hex digits these are.
+// The blob with these hex digits.
 fn blob_of<A: AllocHandle>(alloc: A, text: &[u8]) -> Result<Contents<A>, Fault<RunFault>>
     ensures { AnswersUnlessMemory result (contents_at A text.now) }
 {
@@ -60,7 +62,7 @@ fn blob_of<A: AllocHandle>(alloc: A, text: &[u8]) -> Result<Contents<A>, Fault<R
     })
 }
 
-/// Writes what is in the blob, through a buffer.
+// Writes the content of the blob, through a buffer.
 fn write_blob<A: AllocHandle, W: Write>(
     alloc: A,
     blob: &Contents<A>,

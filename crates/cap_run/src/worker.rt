@@ -1,5 +1,8 @@
-ghost use Rattle.std.specs.Prelude.{◌≡◌, ◌++◌, ◌∷◌, ◌<◌, ◌≤◌, [], IfOk, MatchBool, OnOk, OnErr, List, ℕ, length, map, string_bytes};
+//! A worker of a workload, and its calls.
+ghost use Rattle.std.specs.Prelude.{◌≡◌, ◌++◌, ◌∷◌, ◌<◌, ◌≤◌, [], IfOk, MatchBool, OnOk, OnErr, List, ℕ};
+ghost use Rattle.std.specs.Prelude.{length, map, string_bytes};
 ghost use Rattle.cap_run.specs.Code.Calls.{HasAnswered, HasCalledLines, KeepsCalls, lines_of};
+ghost use Rattle.cap_run.specs.Options.{IsThreadCount};
 ghost use Rattle.cap_run.specs.Run.{on_a_line};
 ghost use Rattle.cap_run.specs.Workload.{seat_of};
 ghost use Rattle.cap_script.specs.ReplyText.{reply_text};
@@ -14,41 +17,41 @@ use std::sync::Wait;
 use std::sync::atomic::{AtomicU64, Ordering};
 use std::time::Duration;
 
-/// The turns for which a worker lets the lines before its own be called first, in a whole block.
+// For how many turns a worker lets earlier lines be called first, over a whole block.
 const TURNS_MAX: u32 = 1_000;
 
-/// How many microseconds a turn takes, where no line is called meanwhile.
+// The microseconds of a turn in which no line is called.
 const TURN_MICROS: u64 = 100;
 
-/// More lines than any block has.
+// More lines than any block has.
 const ALL_CALLED: u64 = 1 << 62;
 
-/// What all workers of a run share.
+// What all workers of a run share.
 #[derive(Drop)]
 pub(crate) struct Shared<'r, J: Naming, A: AllocHandle, T: Wait, G: Gate> {
     pub(crate) rt: &'r T,
     pub(crate) alloc: A,
     pub(crate) server: &'r Server<J, A>,
     pub(crate) gate: &'r G,
-    // How many workers there are beside seat 0.
+    // The number of workers, without seat 0.
     pub(crate) threads: u64,
 }
 
-/// A worker: the seat from which it calls, and what it made of its lines of a block.
+// A worker: its seat, and the outcome of its lines of a block.
 #[derive(Drop)]
 pub(crate) struct Worker<J: Naming, A: AllocHandle> {
     pub(crate) seat: Seat<J, A>,
-    // How many lines it was given before.
+    // The number of lines that it was given before.
     pub(crate) given: u64,
-    // The texts of its replies in order, each with a line feed at its end.
+    // The texts of its replies in order, each with a line feed.
     pub(crate) texts: Vec<String<A>, A>,
-    // The fault of its line behind those, if there is one.
+    // The fault of the line after those, if any.
     pub(crate) ended: Result<(), CallFault>,
 }
 
-/// The number of the seat from which a line is called, by the number behind its `@`.
+// The seat from which a line is called, by the number after its `@`.
 pub(crate) fn seat_of(threads: u64, worker: Option<u64>) -> u64
-    requires { (1 ≤ threads) × (threads ≤ 63) }
+    requires { IsThreadCount threads }
     ensures seat { result ≡ seat_of threads worker }
     ensures most { result ≤ threads }
 {
@@ -58,9 +61,9 @@ pub(crate) fn seat_of(threads: u64, worker: Option<u64>) -> u64
     }
 }
 
-/// Whether a line of the block is called from the seat.
+// Whether a line of the block is called from the seat.
 pub(crate) fn is_given<A: AllocHandle>(threads: u64, seat: u64, block: &[Line<A>]) -> bool
-    requires { (1 ≤ threads) × (threads ≤ 63) }
+    requires { IsThreadCount threads }
     ensures { MatchBool result (0 < length (lines_of threads seat block.now))
         (lines_of threads seat block.now ≡ []) }
 {
@@ -72,14 +75,14 @@ pub(crate) fn is_given<A: AllocHandle>(threads: u64, seat: u64, block: &[Line<A>
     false
 }
 
-/// Lets a worker call its lines of a block, one after the other, until one has a fault.
+// Lets a worker call its lines of a block in order, until one has a fault.
 pub(crate) fn answer_lines<J: Naming, A: AllocHandle, T: Wait, G: Gate>(
     shared: &Shared<'_, J, A, T, G>,
     called: &AtomicU64,
     block: &[Line<A>],
     worker: &mut Worker<J, A>,
 ) -> Result<(), CallFault>
-    requires threads { (1 ≤ shared.now.threads) × (shared.now.threads ≤ 63) }
+    requires threads { IsThreadCount shared.now.threads }
     requires none { worker.old.texts.items ≡ [] }
     ensures called { HasCalledLines shared.now.threads
         (lines_of shared.now.threads worker.old.seat.number block.now)
@@ -98,30 +101,30 @@ pub(crate) fn answer_lines<J: Naming, A: AllocHandle, T: Wait, G: Gate>(
     Ok(())
 }
 
-/// Waits until so many lines of the block were called, for at most these turns, and answers how many turns are left. It
-/// sleeps in a turn, so that the other workers run also where the processors are taken. So a short block whose calls hold
-/// up nobody prints the same in each run, mostly; no order is promised.
+// Waits until this many lines of the block were called, for at most these turns, and gives the number of
+// turns left. A turn sleeps, so that other workers run even where all processors are busy. So a short block
+// mostly prints the same in each run; no order is promised.
 fn let_others_first<T: Wait>(rt: &T, called: &AtomicU64, before: u64, turns: u32) -> u32 {
     for spent in 0..turns {
         let seen = called.load(Ordering::SeqCst);
         if seen >= before {
             return turns - spent;
         }
-        // The sleep ends early where the word's lower half is another.
+        // The sleep ends early where the lower half of the word changes.
         let low = (seen % (1 << 32)) as u32;
         called.park_timeout(rt, low, Duration::from_micros(TURN_MICROS));
     }
     0
 }
 
-/// Where a worker ended at a fault nobody waits any longer for its lines to be called.
+// Lets all workers go on where this one ended at a fault, as its other lines will not be called.
 pub(crate) fn let_all_go_on(called: &AtomicU64, ended: Result<(), CallFault>) {
     if ended.is_err() {
         called.store(ALL_CALLED, Ordering::SeqCst);
     }
 }
 
-/// Lets a worker call a line, between the two sides of the gate.
+// Lets a worker call a line, with the gate before and after.
 fn answer_own<J: Naming, A: AllocHandle, T: Wait, G: Gate>(
     shared: &Shared<'_, J, A, T, G>,
     called: &AtomicU64,
@@ -133,7 +136,7 @@ fn answer_own<J: Naming, A: AllocHandle, T: Wait, G: Gate>(
     ensures err { OnErr result (KeepsCalls worker.old.seat worker.new.seat
         × (worker.new.texts.items ≡ worker.old.texts.items)) }
 {
-    // Seat 0 is no worker's.
+    // Seat 0 belongs to no worker.
     let number = worker.seat.number().saturating_sub(1);
     let call = worker.given;
     worker.given = call.saturating_add(1);
@@ -154,7 +157,7 @@ fn answer_own<J: Naming, A: AllocHandle, T: Wait, G: Gate>(
     }
 }
 
-/// Calls a line's command from a seat, and makes the text of the reply, with a line feed at its end.
+// Calls a line's command from a seat, and gives the text of the reply with a line feed.
 pub(crate) fn answer_line<J: Naming, A: AllocHandle, T: Wait>(
     rt: &T,
     alloc: A,
@@ -172,7 +175,7 @@ pub(crate) fn answer_line<J: Naming, A: AllocHandle, T: Wait>(
     }
 }
 
-/// The text of a reply, with the line feed at its end.
+// The text of a reply, with a line feed.
 pub(crate) fn reply_line<A: AllocHandle>(
     alloc: A,
     line: &Line<A>,

@@ -1,8 +1,12 @@
-//! A workload, run on the server that threads share.
-ghost use Rattle.std.specs.Prelude.{◌≡◌, ◌⊎◌, ◌+◌, ◌++◌, ◌∷◌, ◌<◌, ◌≤◌, ℕ, List, [], length, map, Err, IfOk, IfSome, IfErr, IsErrAnd, IsUtf8, MatchResult, None, OnErr, OnOk, string_bytes, vec_capacity, vec_len};
+//! Runs a workload on the server that threads share.
+ghost use Rattle.std.specs.Prelude.{◌≡◌, ◌⊎◌, ◌+◌, ◌++◌, ◌∷◌, ◌<◌, ◌≤◌, ℕ, List, [], length, map, Err, IfOk};
+ghost use Rattle.std.specs.Prelude.{IfSome, IfErr, IsErrAnd, IsUtf8, MatchResult, None, OnErr, OnOk};
+ghost use Rattle.std.specs.Prelude.{string_bytes, vec_capacity, vec_len};
 ghost use denote.Param.Send.{Frees};
 ghost use Rattle.cap_history.specs.Seat.{SeatState};
-ghost use Rattle.cap_run.specs.Code.Calls.{AreSeats, EndSo, Gathers, HasAnswered, HaveCalled, IsNext, IsWholeBlock, KeepsCalls, RunsLines, unclosed_outcome};
+ghost use Rattle.cap_run.specs.Code.Calls.{AreSeats, EndSo, Gathers, HasAnswered, HaveCalled, IsNext};
+ghost use Rattle.cap_run.specs.Code.Calls.{IsWholeBlock, KeepsCalls, RunsLines, unclosed_outcome};
+ghost use Rattle.cap_run.specs.Options.{IsThreadCount};
 ghost use Rattle.cap_run.specs.Run.{IsSpelled, Known};
 ghost use Rattle.cap_run.specs.RunFault.{IsUnread, exit_status};
 ghost use Rattle.cap_run.specs.Workload.{WritesWorkload};
@@ -16,30 +20,29 @@ use crate::worker::{Shared, Worker, answer_line, seat_of};
 use crate::{Gate, RunFault};
 use cap_history::{Naming, Opened, Seat};
 use cap_script::{Line, Lines};
-use cap_server::{CallFault, Server};
+use cap_server::{CallFault, SEATS_MAX, Server};
 use cap_value::{AllocHandle, OutOfMemory};
 use std::io::{Read, Write};
 use std::marker::Brand;
 use std::sync::Wait;
 use std::thread::Threads;
 
-/// The most threads that run the lines of a workload.
-pub const THREADS_MAX: u64 = 63;
-
-/// Runs the workload that the reader gives on a new server, and writes a line a reply, in the order of the lines.
+/// Runs the workload from the reader on a new server, and writes the reply to each line, in the order of the
+/// lines.
 ///
-/// A line without `@` is called here, from seat 0. The lines `@K` that stand together are a block: line `@K` belongs to
-/// worker K mod `threads`, each worker calls its lines in their order from a seat of its own, worker 0 from seat 1, and
-/// each on a thread of its own, so that calls of different workers may meet. The block ends when all have ended.
+/// A line without `@` is called from seat 0, on this thread. Adjacent lines `@K` are a block. Line `@K`
+/// belongs to worker K mod `threads`. Each worker calls its lines in order, on its own thread and from its
+/// own seat, worker 0 from seat 1, so calls of different workers may overlap. The block ends when all workers
+/// have ended.
 ///
-/// The whole text is read before anything runs. Where a call has no reply its worker calls no further line, and at the
-/// end of the block, or at once for seat 0, the replies to the lines before the first line without one are written, then
-/// that line's fault, and the run ends. A worker for which no thread can be made calls nothing: its first line is refused
-/// for memory. In the end all seats are handed back to the server; that it does not close is told where nothing else went
-/// wrong.
+/// The whole text is parsed before anything runs. After a call without a reply its worker calls no further
+/// line. At the end of the block, or at once for seat 0, the replies to the lines before the first line
+/// without a reply are written, then the fault of that line, and the run ends. A worker whose thread cannot
+/// be started calls nothing: its first line is out of memory. In the end the server is closed with all seats;
+/// a failure to close is reported where there is no other fault.
 ///
-/// `threads` is 1 to 63. Any thread may give a block of memory back to the allocator. `gate` stands round each worker's
-/// calls; `NoGate` lets all pass.
+/// `threads` is 1 to `THREADS_MAX`. Any thread may free a block of memory. `gate` is called around each
+/// worker's calls; `NoGate` does nothing.
 pub fn run_workload<
     A: AllocHandle + Send + Sync,
     T: Threads + Wait + Sync,
@@ -47,9 +50,9 @@ pub fn run_workload<
     R: Read,
     W: Write,
 >(rt: &T, alloc: A, gate: &G, threads: u64, reader: &mut R, writer: &mut W) -> Result<(), RunFault>
-    requires threads { (1 ≤ threads) × (threads ≤ 63) }
+    requires threads { IsThreadCount threads }
     requires frees { Frees A.Allocator A.dealloc_token }
-    // Bytes that are no text are refused, and no text is refused as such, where it is known what the reader gives.
+    // Exactly the input that is not UTF-8 is refused as such, where it is known what the reader gives.
     ensures no_text { IfSome (R.remaining reader.old) (λ given. ¬ (IsUtf8 given)
         → IsErrAnd result (λ fault. (fault ≡ RunFault.NotUtf8) ⊎ IsUnread fault)) }
     ensures text { IfSome (R.remaining reader.old) (λ given.
@@ -58,9 +61,10 @@ pub fn run_workload<
     // Nothing is written where the input is refused.
     ensures silent { IfErr result (λ fault. exit_status fault ≡ 1 → writer.new ≡ writer.old) }
 
-    // What is written is the text of the replies, in the order of the lines that the input spells. They are those of one
-    // legal history that has each line's call once, each seat's in the order of its lines, and no other call. Where the run
-    // ends at a fault it is the text of the first replies, and such a history begins with the calls of each seat.
+    // The output is the replies in the order of the lines that the input spells. They are the replies of one
+    // legal history that has each line's call once, each seat's in the order of its lines, and no other call.
+    // Where the run ends at a fault, it is the first replies, and each seat's calls are a prefix of its calls
+    // in such a history.
     ensures written { WritesWorkload A threads (R.remaining reader.old) result
         (W.contents writer.old) (W.contents writer.new) }
 {
@@ -70,7 +74,7 @@ pub fn run_workload<
     serve_lines::<Brand, A, T, G, W>(rt, alloc, gate, threads, opened, &mut lines, writer)
 }
 
-/// Runs the lines on a new server, and writes their replies.
+// Runs the lines on a new server, and writes their replies.
 fn serve_lines<
     J: Naming + Send + Sync,
     A: AllocHandle + Send + Sync,
@@ -86,7 +90,7 @@ fn serve_lines<
     lines: &mut Lines<'_, A>,
     writer: &mut W,
 ) -> Result<(), RunFault>
-    requires threads { (1 ≤ threads) × (threads ≤ 63) }
+    requires threads { IsThreadCount threads }
     requires frees { Frees A.Allocator A.dealloc_token }
     requires history { opened.seen.book ≡ J.book }
     requires seats { threads + 1 ≡ J.seats }
@@ -120,7 +124,7 @@ fn serve_lines<
     }
 }
 
-/// The outcome of a run whose server was not closed.
+// The outcome of a run whose server was not closed.
 fn outcome_unclosed(outcome: Result<(), RunFault>) -> Result<(), RunFault>
     ensures same { result ≡ unclosed_outcome outcome }
     ensures status { IfErr outcome (λ fault. exit_status fault ≡ 3)
@@ -132,7 +136,7 @@ fn outcome_unclosed(outcome: Result<(), RunFault>) -> Result<(), RunFault>
     }
 }
 
-/// A worker for each seat.
+// A worker for each seat.
 fn employ<J: Naming, A: AllocHandle>(
     alloc: A,
     seats: Vec<Seat<J, A>, A>,
@@ -151,7 +155,7 @@ fn employ<J: Naming, A: AllocHandle>(
     Ok(workers)
 }
 
-/// Takes the seats from the workers.
+// Takes the seats from the workers.
 fn hand_back<J: Naming, A: AllocHandle>(
     workers: Vec<Worker<J, A>, A>,
     seats: &mut Vec<Seat<J, A>, A>,
@@ -170,7 +174,7 @@ fn hand_back<J: Naming, A: AllocHandle>(
     }
 }
 
-/// Runs the lines, and writes their replies and the fault at which they ended.
+// Runs the lines, and writes their replies and the fault at which they ended.
 fn run_lines<
     J: Naming + Send + Sync,
     A: AllocHandle + Send + Sync,
@@ -183,7 +187,7 @@ fn run_lines<
     workers: Vec<Worker<J, A>, A>,
     writer: &mut W,
 ) -> (Vec<Worker<J, A>, A>, Result<(), RunFault>)
-    requires threads { (1 ≤ shared.now.threads) × (shared.now.threads ≤ 63) }
+    requires threads { IsThreadCount shared.now.threads }
     requires frees { Frees A.Allocator A.dealloc_token }
     requires seats { AreSeats shared.now.threads (map (λ w. w.seat) workers.items) }
     ensures status { IfErr result.1 (λ fault. exit_status fault ≡ 3) }
@@ -202,7 +206,7 @@ fn run_lines<
     (workers, outcome)
 }
 
-/// Writes what waits to be written, and the fault at which the lines ended.
+// Writes the pending output, and the fault at which the lines ended.
 fn write_rest<A: AllocHandle, W: Write>(
     writer: &mut W,
     pending: &mut String<A>,
@@ -219,8 +223,8 @@ fn write_rest<A: AllocHandle, W: Write>(
     run_outcome(outcome)
 }
 
-/// Calls the lines, and writes the replies, but for the last ones, which are left in `pending`. The inner fault is that
-/// of the first line without a reply.
+// Calls the lines, and writes the replies except the last ones, which are left in `pending`. The inner fault
+// is that of the first line without a reply.
 fn answer_all<
     J: Naming + Send + Sync,
     A: AllocHandle + Send + Sync,
@@ -237,7 +241,7 @@ fn answer_all<
     Vec<Worker<J, A>, A>,
     Result<Result<(), CallFault>, RunFault>,
 )
-    requires threads { (1 ≤ shared.now.threads) × (shared.now.threads ≤ 63) }
+    requires threads { IsThreadCount shared.now.threads }
     requires frees { Frees A.Allocator A.dealloc_token }
     requires seats { AreSeats shared.now.threads (map (λ w. w.seat) workers.items) }
     requires none { string_bytes pending.old ≡ [] }
@@ -268,7 +272,8 @@ fn answer_all<
     }
 }
 
-/// Calls a line, and where it has `@` the others of its block. The texts of the replies go to the end of `pending`.
+// Calls a line, and where it has `@` the rest of its block. The texts of the replies are appended to
+// `pending`.
 fn answer_next<
     J: Naming + Send + Sync,
     A: AllocHandle + Send + Sync,
@@ -281,7 +286,7 @@ fn answer_next<
     workers: Vec<Worker<J, A>, A>,
     pending: &mut String<A>,
 ) -> (Vec<Worker<J, A>, A>, Result<(), CallFault>)
-    requires threads { (1 ≤ shared.now.threads) × (shared.now.threads ≤ 63) }
+    requires threads { IsThreadCount shared.now.threads }
     requires frees { Frees A.Allocator A.dealloc_token }
     requires seats { AreSeats shared.now.threads (map (λ w. w.seat) workers.items) }
     ensures seats { AreSeats shared.now.threads (map (λ w. w.seat) result.0.items) }
@@ -293,15 +298,17 @@ fn answer_next<
         (map (λ w. w.seat) workers.items) (map (λ w. w.seat) result.0.items) }
 {
     if line.worker.is_some() {
-        return answer_block(shared, line, lines, workers, pending);
+        let Ok(block) = block_from(shared.alloc, line, lines) else {
+            return (workers, Err(CallFault::OutOfMemory));
+        };
+        return answer_block(shared, block.as_slice(), workers, pending);
     }
     let mut workers = workers;
     let outcome = answer_alone(shared, &line, &mut workers, pending);
     (workers, outcome)
 }
 
-/// Calls a line with `@` and those behind it, up to the next without. The texts of the replies go to the end of
-/// `pending`.
+// Calls the lines of a block. The texts of the replies are appended to `pending`.
 fn answer_block<
     J: Naming + Send + Sync,
     A: AllocHandle + Send + Sync,
@@ -309,32 +316,25 @@ fn answer_block<
     G: Gate,
 >(
     shared: &Shared<'_, J, A, T, G>,
-    first: Line<A>,
-    lines: &mut Lines<'_, A>,
+    block: &[Line<A>],
     workers: Vec<Worker<J, A>, A>,
     pending: &mut String<A>,
 ) -> (Vec<Worker<J, A>, A>, Result<(), CallFault>)
-    requires threads { (1 ≤ shared.now.threads) × (shared.now.threads ≤ 63) }
+    requires threads { IsThreadCount shared.now.threads }
     requires frees { Frees A.Allocator A.dealloc_token }
     requires seats { AreSeats shared.now.threads (map (λ w. w.seat) workers.items) }
     ensures seats { AreSeats shared.now.threads (map (λ w. w.seat) result.0.items) }
     ensures len { vec_len result.0 ≡ vec_len workers }
-    ensures left { OnOk result.1 (length lines.new ≤ length lines.old) }
-    ensures called { (rest : List (Line A)) → SpellsScript rest lines.old
-        → IsNext shared.now.threads first rest result.1 lines.new
-        (string_bytes pending.old) (string_bytes pending.new)
-        (map (λ w. w.seat) workers.items) (map (λ w. w.seat) result.0.items) }
+    ensures called { (text : List ℕ) × (string_bytes pending.new ≡ string_bytes pending.old ++ text)
+        × HaveCalled shared.now.threads block.now result.1 text (map (λ w. w.seat) workers.items)
+        (map (λ w. w.seat) result.0.items) }
 {
-    let Ok(block) = block_from(shared.alloc, first, lines) else {
-        return (workers, Err(CallFault::OutOfMemory));
-    };
-    let block = block.as_slice();
     let workers = run_block(shared, block, workers);
     let outcome = gather(shared.threads, block, workers.as_slice(), pending);
     (workers, outcome)
 }
 
-/// A line with `@` and those behind it, up to the next without.
+// The block of a line with `@`: it and the lines after it, up to the next without `@`.
 fn block_from<A: AllocHandle>(
     alloc: A,
     first: Line<A>,
@@ -347,14 +347,14 @@ fn block_from<A: AllocHandle>(
     let mut block = Vec::new(alloc);
     block.push(first)?;
     while lines.begins_at() {
-        // There is a next line, since one begins here.
+        // A line begins here, so there is a next one.
         let line = lines.next_line()?.ok_or(OutOfMemory)?;
         block.push(line)?;
     }
     Ok(block)
 }
 
-/// Calls a line without `@` from seat 0. The text of the reply goes to the end of `pending`.
+// Calls a line without `@` from seat 0. The text of the reply is appended to `pending`.
 fn answer_alone<J: Naming, A: AllocHandle, T: Wait, G: Gate>(
     shared: &Shared<'_, J, A, T, G>,
     line: &Line<A>,
@@ -372,7 +372,7 @@ fn answer_alone<J: Naming, A: AllocHandle, T: Wait, G: Gate>(
     answer_here(shared, &mut first.seat, line, pending)
 }
 
-/// Calls a line from a seat. The text of the reply goes to the end of `pending`.
+// Calls a line from a seat. The text of the reply is appended to `pending`.
 fn answer_here<J: Naming, A: AllocHandle, T: Wait, G: Gate>(
     shared: &Shared<'_, J, A, T, G>,
     seat: &mut Seat<J, A>,
@@ -391,20 +391,20 @@ fn answer_here<J: Naming, A: AllocHandle, T: Wait, G: Gate>(
     }
 }
 
-/// Puts the texts of the replies to a block's lines at the end of `pending`, in the order of the lines, up to the first
-/// line without a reply.
+// Appends the texts of the replies to a block's lines to `pending`, in the order of the lines, up to the
+// first line without a reply.
 fn gather<J: Naming, A: AllocHandle>(
     threads: u64,
     block: &[Line<A>],
     workers: &[Worker<J, A>],
     pending: &mut String<A>,
 ) -> Result<(), CallFault>
-    requires threads { (1 ≤ threads) × (threads ≤ 63) }
+    requires threads { IsThreadCount threads }
     ensures gathered { (text : List ℕ) × (string_bytes pending.new ≡ string_bytes pending.old ++ text)
         × Gathers threads block.now (map (λ w. map string_bytes w.texts.items) workers.now) result text }
 {
-    // How many texts of each seat's worker were taken.
-    let mut taken = [0usize; 64];
+    // The number of texts taken from each seat's worker.
+    let mut taken = [0usize; SEATS_MAX as usize];
     for line in block {
         let seat = seat_of(threads, line.worker) as usize;
         let Some(worker) = workers.get(seat) else {
@@ -421,7 +421,7 @@ fn gather<J: Naming, A: AllocHandle>(
     Ok(())
 }
 
-/// The fault of a worker that has no text for its next line.
+// The fault of a worker that has no text for its next line.
 fn fault_of<J: Naming, A: AllocHandle>(worker: &Worker<J, A>) -> CallFault {
     match worker.ended {
         Ok(()) => CallFault::OutOfMemory,

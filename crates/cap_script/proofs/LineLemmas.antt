@@ -22,7 +22,7 @@ cut_lines (t ∷ u ∷ texts) text line rest (none, inl e) are =
     (u ∷ texts, ap (λ (l : List ℕ). l ∷ u ∷ texts) cut.0, inl (subst (λ (l : List ℕ). AreLines (u ∷ texts) l) cut.1 are.3))
 cut_lines (t ∷ u ∷ texts) text line rest (none, inr (e, end)) are = absurd (no_cut line t are.0 (sym e ∙ are.1) none)
 
--- something stands in front of the rest
+-- the rest is preceded by something
 pub cut_shorter : (text line rest : List ℕ) → IsCut text line rest → 0 < length text → length rest < length text
 cut_shorter text line rest (none, inl e) some =
     let whole : length text ≡ length (line ++ 10 ∷ rest) = ap length e in omega (arith, whole, length-append line (10 ∷ rest))

@@ -187,7 +187,7 @@ at_remark : (text : List ℕ) → begins (λ byte. eqb byte 35) text ≡ true �
 at_remark [] e = absurd cc
 at_remark (byte ∷ more) e = (more, ap (λ (c : ℕ). c ∷ more) (eqb-true byte 35 e))
 
--- what stands behind the word of a command
+-- what follows the word of a command
 abbrev pub Said : Type 0 → Head → Type 0
 Said A head.Create = List ℕ × List Bool
 Said A head.Commit = List (Op A)
@@ -234,7 +234,7 @@ SpelledSaid A (head.Of session.Changeset) x = Natural x.0 ▸ SpelledKeyFlags x.
 SpelledSaid A (head.Of session.Patchset) x = Natural x.0 ▸ SpelledKeyFlags x.1
 SpelledSaid A (head.Of session.Restart) x = Natural x
 
--- a number and what stands behind it
+-- a number and what follows it
 numbered : {X : Type 0} (form : X → Form) → ((x y : X) (line a b : List ℕ) → form x line a → form y line b → (x ≡ y) × (a ≡ b)) → (m n : ℕ) (x y : X) (line a b : List ℕ) → (Natural m ▸ form x) line a → (Natural n ▸ form y) line b
     → ◌≡◌ {A = ℕ × X} (m, x) (n, y) × (a ≡ b)
 numbered {X} form same m n x y line a b p q =

@@ -51,7 +51,7 @@ is_text_itself : (v : List ℕ) → is_text v v ≡ true
 is_text_itself [] = refl
 is_text_itself (x ∷ v) = rw (eqb_itself x, is_text_itself v) refl
 
--- words that a test tells apart
+-- words that a test distinguishes
 pub differ : (v w : List ℕ) → is_text v w ≡ false → v ≡ w → ⊥
 differ v w e same =
     let no : is_text v v ≡ false = subst (λ (l : List ℕ). is_text v l ≡ false) (sym same) e in

@@ -60,7 +60,7 @@ run_behind p (x ∷ xs) = behind p (p x) x xs refl (run_behind p xs)
 pub run_len : (p : ℕ → Bool) (xs : List ℕ) → length (take_while p xs) ≡ prefix_len p xs
 run_len p xs = omega (arith, length-take (prefix_len p xs) xs, run_within p xs)
 
--- the run and what stands behind it
+-- the run and what follows it
 pub run_parts : (p : ℕ → Bool) (text front back : List ℕ) (n : ℕ) → n ≡ length (take_while p text) → front ≡ take n text → back ≡ drop n text
     → (text ≡ front ++ back) × (list_all p front ≡ true) × (begins p back ≡ false)
 run_parts p text front back n counted is_front is_back =
@@ -133,7 +133,7 @@ byte_at : (wanted : ℕ) (xs : List ℕ) → place wanted xs < length xs → get
 byte_at wanted [] lt = absurd (omega arith)
 byte_at wanted (x ∷ xs) lt = byte_front wanted (is_byte wanted x) x xs refl (byte_at wanted xs) lt
 
--- what stands before the first of them, and behind it
+-- what precedes the first of them, and what follows it
 pub parts_at : (wanted : ℕ) (bs : List ℕ) (r : Option (Bor (List ℕ) × Bor (List ℕ)))
     → MatchOption r (place wanted bs ≡ length bs) (λ x. (place wanted bs < length bs) × (x.0.now ≡ before_first (is_byte wanted) bs) × (x.1.now ≡ after_first (is_byte wanted) bs))
     → MatchOption r (list_any (is_byte wanted) bs ≡ false) (λ x. (bs ≡ x.0.now ++ wanted ∷ x.1.now) × (list_any (is_byte wanted) x.0.now ≡ false))

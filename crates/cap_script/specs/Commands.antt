@@ -17,11 +17,13 @@ use Rattle.cap_script.specs.Words.{answer_word, flag_word, letters}
 use Rattle.cap_script.specs.declared.line.Show.{Show}
 use Rattle.cap_script.specs.declared.line.Show.TheVariants.{Plain, Get, Scan, Changeset, Patchset}
 
--- what is done about data that differ, rows that are not there, and keys that are taken
+-- the answers to DATA, NOTFOUND and CONFLICT
 abbrev pub SpelledPolicy : Policy → Form
-SpelledPolicy policy = Word (answer_word policy.on_data) ▸ Word (answer_word policy.on_notfound) ▸ Word (answer_word policy.on_conflict)
+SpelledPolicy policy =
+    Word (answer_word policy.on_data) ▸ Word (answer_word policy.on_notfound)
+    ▸ Word (answer_word policy.on_conflict)
 
--- nothing, or a word for each key column's place within the key
+-- the key flags: nothing for `01`, or a word for places
 abbrev pub SpelledKeyFlags : KeyFlags → Form
 SpelledKeyFlags Ones = AtEnd
 SpelledKeyFlags Places = Word (codes "places")
@@ -35,16 +37,18 @@ module _ {A : Type 0} where
   abbrev pub SpelledBlob : Contents A → Form
   SpelledBlob contents line rest = (bytes : List ℕ) × Next (blob bytes) line rest × SpellsBlob contents bytes
 
-  -- on any version, or on one alone
+  -- without or with a base version
   abbrev pub SpelledBatch : Option ℕ → List (Op A) → Form
   SpelledBatch None ops = Word (codes "commit") ▸ SpelledOperations ops
   SpelledBatch (Some base) ops = Word (codes "commitat") ▸ Natural base ▸ SpelledOperations ops
 
-  -- a command, and what is shown of its reply
+  -- a command, and how its reply is printed
   abbrev pub SpelledCommand : Command A → Show A → Form
-  SpelledCommand (command.CreateTable table schema) Plain = Word (codes "create") ▸ Word table ▸ Word (letters schema)
+  SpelledCommand (command.CreateTable table schema) Plain =
+      Word (codes "create") ▸ Word table ▸ Word (letters schema)
   SpelledCommand (command.Commit batch) Plain = SpelledBatch batch.base batch.ops
-  SpelledCommand (command.Apply contents policy) Plain = Word (codes "apply") ▸ SpelledBlob contents ▸ SpelledPolicy policy
+  SpelledCommand (command.Apply contents policy) Plain =
+      Word (codes "apply") ▸ SpelledBlob contents ▸ SpelledPolicy policy
   SpelledCommand command.Read (Get table row) = Word (codes "get") ▸ Word table ▸ SpelledRow row
   SpelledCommand command.Read (Scan table) = Word (codes "scan") ▸ Word table
   SpelledCommand (command.SaveAs database) Plain = Word (codes "save") ▸ Word database
@@ -52,12 +56,18 @@ module _ {A : Type 0} where
   SpelledCommand (command.DropSession session) Plain = Word (codes "drop") ▸ Natural session
   SpelledCommand (command.Attach session table) Plain = Word (codes "attach") ▸ Natural session ▸ Word table
   SpelledCommand (command.AttachAll session) Plain = Word (codes "attachall") ▸ Natural session
-  SpelledCommand (command.SetFilter session filter) Plain = Word (codes "filter") ▸ Natural session ▸ SpelledFilter filter
-  SpelledCommand (command.Enable session asked) Plain = Word (codes "enable") ▸ Natural session ▸ Word (flag_word asked)
-  SpelledCommand (command.Indirect session asked) Plain = Word (codes "indirect") ▸ Natural session ▸ Word (flag_word asked)
+  SpelledCommand (command.SetFilter session filter) Plain =
+      Word (codes "filter") ▸ Natural session ▸ SpelledFilter filter
+  SpelledCommand (command.Enable session asked) Plain =
+      Word (codes "enable") ▸ Natural session ▸ Word (flag_word asked)
+  SpelledCommand (command.Indirect session asked) Plain =
+      Word (codes "indirect") ▸ Natural session ▸ Word (flag_word asked)
   SpelledCommand (command.IsEmpty session) Plain = Word (codes "isempty") ▸ Natural session
-  SpelledCommand (command.Diff session from table) Plain = Word (codes "diff") ▸ Natural session ▸ Word from ▸ Word table
-  SpelledCommand (command.Capture session) (Changeset flags) = Word (codes "changeset") ▸ Natural session ▸ SpelledKeyFlags flags
-  SpelledCommand (command.Capture session) (Patchset flags) = Word (codes "patchset") ▸ Natural session ▸ SpelledKeyFlags flags
+  SpelledCommand (command.Diff session from table) Plain =
+      Word (codes "diff") ▸ Natural session ▸ Word from ▸ Word table
+  SpelledCommand (command.Capture session) (Changeset flags) =
+      Word (codes "changeset") ▸ Natural session ▸ SpelledKeyFlags flags
+  SpelledCommand (command.Capture session) (Patchset flags) =
+      Word (codes "patchset") ▸ Natural session ▸ SpelledKeyFlags flags
   SpelledCommand (command.Restart session) (Changeset Ones) = Word (codes "restart") ▸ Natural session
   SpelledCommand _ _ = Never

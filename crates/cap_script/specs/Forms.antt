@@ -1,13 +1,13 @@
--- What stands in a line: forms, one behind the other.
+-- The forms of a line, in sequence.
 use Rattle.std.specs.Prelude.{◌≡◌, ℕ, List, [], false, ◌==◌}
 use Rattle.cap_script.specs.Tokens.{Next, begins, behind_blanks, integer, sign, word}
 
--- what may stand at the front of a line, and what stands behind it then
+-- a form at the beginning of a line, and the rest after it
 abbrev pub Form : Type 1
 Form = List ℕ → List ℕ → Type 0
 
 infixr 4 ◌▸◌
--- the one, and behind it the other
+-- the first form, and then the second
 abbrev pub ◌▸◌ : Form → Form → Form
 (first ▸ second) line rest = (between : List ℕ) × first line between × second between rest
 
@@ -21,7 +21,7 @@ Nothing line rest = rest ≡ line
 abbrev pub AtEnd : Form
 AtEnd line rest = (behind_blanks line ≡ []) × (rest ≡ [])
 
--- spaces, and behind them no such sign
+-- spaces, and after them another sign or the end
 abbrev pub Without : ℕ → Form
 Without s line rest = (rest ≡ behind_blanks line) × (begins (λ byte. byte == s) rest ≡ false)
 

@@ -15,7 +15,7 @@ use Rattle.cap_txn.specs.declared.op.Op.{Op}
 use Rattle.cap_script.specs.Forms.{Form, ◌▸◌, Never, Nothing, Without, Word, Sign, Natural}
 use Rattle.cap_script.specs.Tokens.{Next, NextInteger, blob, text}
 
--- nothing, or a word for the doing of a trigger or a foreign key action
+-- nothing, or a word for a change by a trigger or a foreign key action
 abbrev pub SpelledCause : Cause → Form
 SpelledCause Direct = Nothing
 SpelledCause Cascade = Word (codes "cascade")
@@ -39,10 +39,12 @@ module _ {A : Type 0} where
 
   -- A key, or an id. A key with a NULL among its values is read as the id 0, which no row has.
   abbrev pub SpelledRow : RowRef A → Form
-  SpelledRow (Key key) = λ line rest. (key_from key ≡ Some key) × (Word (codes "key") ▸ SpelledValues key) line rest
+  SpelledRow (Key key) =
+      λ line rest. (key_from key ≡ Some key) × (Word (codes "key") ▸ SpelledValues key) line rest
   SpelledRow (Loose id) = λ line rest.
       (Word (codes "loose") ▸ Natural id) line rest
-      ⊎ ((id ≡ 0) × (fields : Fields A) × (key_from fields ≡ None) × (Word (codes "key") ▸ SpelledValues fields) line rest)
+      ⊎ ((id ≡ 0) × (fields : Fields A) × (key_from fields ≡ None)
+      × (Word (codes "key") ▸ SpelledValues fields) line rest)
 
   -- a column and its new value
   abbrev pub SpelledField : ℕ × Value A → Form
@@ -60,7 +62,8 @@ module _ {A : Type 0} where
   -- on a table
   abbrev pub SpelledAction : List ℕ → Action A → Form
   SpelledAction table (Insert row) = Word (codes "insert") ▸ Word table ▸ SpelledValues row
-  SpelledAction table (Update row fields) = Word (codes "update") ▸ Word table ▸ SpelledRow row ▸ Word (codes "set") ▸ SpelledFields fields
+  SpelledAction table (Update row fields) =
+      Word (codes "update") ▸ Word table ▸ SpelledRow row ▸ Word (codes "set") ▸ SpelledFields fields
   SpelledAction table (Delete row) = Word (codes "delete") ▸ Word table ▸ SpelledRow row
 
   abbrev pub SpelledOperation : Op A → Form

@@ -1,7 +1,11 @@
 -- The text of a refusal, as it is printed.
-use Rattle.std.specs.Prelude.{ℕ, List, ◌++◌, codes, decimal}
+use Rattle.std.specs.Prelude.{ℕ, Some, None, List, ◌++◌, codes, decimal}
 use Rattle.cap_value.specs.declared.refusal.Refusal.{Refusal}
-use Rattle.cap_value.specs.declared.refusal.Refusal.TheVariants.{TooLong, BadSchema, WrongWidth, BadColumn, Duplicate, NoRow, IdsSpent, NoTable, TableExists, TooMany, Stale, BadFilter, TooDeep, Incompatible, Aborted, Misuse, BadName, NoSession, NoDatabase, NoMark}
+use Rattle.cap_value.specs.declared.refusal.Refusal.TheVariants.{TooLong, BadSchema, WrongWidth, BadColumn}
+use Rattle.cap_value.specs.declared.refusal.Refusal.TheVariants.{Duplicate, NoRow, IdsSpent, NoTable}
+use Rattle.cap_value.specs.declared.refusal.Refusal.TheVariants.{TableExists, TooMany, Stale, BadFilter}
+use Rattle.cap_value.specs.declared.refusal.Refusal.TheVariants.{TooDeep, Incompatible, Aborted, Misuse}
+use Rattle.cap_value.specs.declared.refusal.Refusal.TheVariants.{BadName, NoSession, NoDatabase, NoMark}
 
 -- the number and the name of a refusal
 unfoldable pub refusal_name : Refusal → List ℕ
@@ -15,7 +19,7 @@ refusal_name IdsSpent = codes "E7 IdsSpent"
 refusal_name NoTable = codes "E8 NoTable"
 refusal_name TableExists = codes "E9 TableExists"
 refusal_name TooMany = codes "E10 TooMany"
-refusal_name (Stale base now) = codes "E11 Stale"
+refusal_name (Stale base now item) = codes "E11 Stale"
 refusal_name (BadFilter at) = codes "E12 BadFilter"
 refusal_name TooDeep = codes "E13 TooDeep"
 refusal_name Incompatible = codes "E14 Incompatible"
@@ -26,8 +30,13 @@ refusal_name NoSession = codes "E18 NoSession"
 refusal_name NoDatabase = codes "E19 NoDatabase"
 refusal_name NoMark = codes "E20 NoMark"
 
--- a refusal for the version that a batch was made on tells that version and the present one
+-- a stale batch is refused with its base and the present version, and the first item that has changed where
+-- it is known
 unfoldable pub refusal_text : Refusal → List ℕ
-refusal_text (Stale base now) =
-    refusal_name (Stale base now) ++ codes " base " ++ decimal base ++ codes " now " ++ decimal now
+refusal_text (Stale base now None) =
+    refusal_name (Stale base now None) ++ codes " base " ++ decimal base ++ codes " now " ++ decimal now
+refusal_text (Stale base now (Some item)) =
+    refusal_name (Stale base now (Some item)) ++ codes " base " ++ decimal base ++ codes " now "
+    ++ decimal now
+    ++ codes " item " ++ decimal item
 refusal_text why = refusal_name why

@@ -9,7 +9,8 @@ use Rattle.cap_apply.specs.Report.{ReportState}
 use Rattle.cap_core.specs.declared.command.Command.{Command}
 use Rattle.cap_core.specs.declared.command.Command.TheVariants as command
 use Rattle.cap_core.specs.declared.reply.Reply.{Reply}
-use Rattle.cap_core.specs.declared.reply.Reply.TheVariants.{Done, Written, Applied, Session, Snapshot, Flag, Capture, Refused}
+use Rattle.cap_core.specs.declared.reply.Reply.TheVariants.{Done, Written, Applied, Session, Snapshot, Flag}
+use Rattle.cap_core.specs.declared.reply.Reply.TheVariants.{Capture, Refused}
 use Rattle.cap_script.specs.RefusalText.{refusal_text}
 use Rattle.cap_script.specs.RowText.{snapshot_text}
 use Rattle.cap_script.specs.declared.line.Line.{Line}
@@ -21,11 +22,14 @@ abbrev pub hex_or_dash : List ℕ → List ℕ
 hex_or_dash [] = codes "-"
 hex_or_dash (byte ∷ bytes) = encode_lower (byte ∷ bytes)
 
--- the version that was made, and how many changes were made, how many were left out, and how many groups were skipped
+-- the version that was made, and how many changes were made, how many were left out, and how many groups were
+-- skipped
 abbrev pub applied_text : ℕ → ReportState → List ℕ
 applied_text version report =
-    codes "ok version " ++ (decimal version ++ (codes ", applied " ++ (decimal report.applied ++ (codes ", omitted "
-    ++ (decimal (length report.omitted) ++ (codes ", skipped " ++ decimal (length report.skipped)))))))
+    codes "ok version " ++ (decimal version
+    ++ (codes ", applied " ++ (decimal report.applied
+    ++ (codes ", omitted " ++ (decimal (length report.omitted)
+    ++ (codes ", skipped " ++ decimal (length report.skipped)))))))
 
 module _ {A : Type 0} where
   -- whether a session is empty is true or false, and a flag is on or off
@@ -33,13 +37,14 @@ module _ {A : Type 0} where
   flag_text (command.IsEmpty session) flag = if flag then codes "true" else codes "false"
   flag_text _ flag = if flag then codes "on" else codes "off"
 
-  -- what is told of a capture
+  -- the text of a capture
   abbrev pub capture_text : Show A → List (TableChanges A) → List ℕ
   capture_text (Changeset flags) changes = codes "changeset " ++ hex_or_dash (list_bytes_with flags changes)
-  capture_text (Patchset flags) changes = codes "patchset " ++ hex_or_dash (patch_list_bytes_with flags (patch_list_of changes))
+  capture_text (Patchset flags) changes =
+      codes "patchset " ++ hex_or_dash (patch_list_bytes_with flags (patch_list_of changes))
   capture_text _ changes = codes "ok"
 
-  -- what is printed of the reply to a line's command
+  -- the text of the reply to a line's command
   unfoldable pub reply_text : Line A → Reply A → List ℕ
   reply_text line Done = codes "ok"
   reply_text line (Written version) = codes "ok version " ++ decimal version
@@ -48,5 +53,6 @@ module _ {A : Type 0} where
   reply_text line (Snapshot snapshot) = snapshot_text line.show snapshot
   reply_text line (Flag flag) = flag_text line.command flag
   reply_text line (Capture changes) = capture_text line.show changes
-  reply_text line (Refused (Some place) why) = codes "refused at " ++ (decimal place ++ (codes ": " ++ refusal_text why))
+  reply_text line (Refused (Some place) why) =
+      codes "refused at " ++ (decimal place ++ (codes ": " ++ refusal_text why))
   reply_text line (Refused None why) = codes "refused: " ++ refusal_text why

@@ -1,5 +1,6 @@
--- The text of rows that are read.
-use Rattle.std.specs.Prelude.{ℕ, List, [], ◌∷◌, ◌++◌, Option, Some, None, Result, Ok, Err, codes, decimal, length}
+-- The text of rows.
+use Rattle.std.specs.Prelude.{ℕ, List, [], ◌∷◌, ◌++◌, Option, Some, None, Result, Ok, Err, codes, decimal}
+use Rattle.std.specs.Prelude.{length}
 use Rattle.std.specs.Fmt.{signed_decimal}
 use Rattle.hex.specs.Hex.{encode_lower}
 use Rattle.cap_filter.specs.Printed.{quoted}
@@ -39,7 +40,7 @@ module _ {A : Type 0} where
   abbrev pub row_text : Fields A → List ℕ
   row_text row = codes "(" ++ values_text row ++ codes ")"
 
-  -- a row without a key stands behind its id
+  -- a row without a key is printed after its id
   abbrev pub named_row_text : RowRef A × Fields A → List ℕ
   named_row_text (Key key, row) = row_text row
   named_row_text (Loose id, row) = codes "loose " ++ decimal id ++ codes " " ++ row_text row
@@ -58,7 +59,7 @@ module _ {A : Type 0} where
   scan_text (Ok rows) = codes "rows " ++ decimal (length rows) ++ rows_text rows
   scan_text (Err why) = codes "refused: " ++ refusal_text why
 
-  -- what is told of a snapshot
+  -- the text of a snapshot
   abbrev pub snapshot_text : Show A → SnapshotState A → List ℕ
   snapshot_text (Get table row) snapshot = get_text (read snapshot.database table row)
   snapshot_text (Scan table) snapshot = scan_text (rows_of snapshot.database table)

@@ -1,5 +1,6 @@
 -- The tokens of a line.
-use Rattle.std.specs.Prelude.{◌≡◌, ℕ, List, [], ◌∷◌, ◌++◌, length, Bool, true, false, ◌==◌, ◌&&◌, ◌||◌, if◌then◌else◌, Ok, ℤ, pos, neg_ℤ, ◌<◌, FitsSigned}
+use Rattle.std.specs.Prelude.{◌≡◌, ℕ, List, [], ◌∷◌, ◌++◌, length, Bool, true, false, ◌==◌, ◌&&◌, ◌||◌}
+use Rattle.std.specs.Prelude.{if◌then◌else◌, Ok, ℤ, pos, neg_ℤ, ◌<◌, FitsSigned}
 use Rattle.std.specs.Int.{w64}
 use Rattle.std.specs.Char.{is_ascii_alphabetic, is_ascii_digit}
 use Rattle.std.specs.List.{list_all}
@@ -13,21 +14,21 @@ pub data Token : Type 0 where
   word : List ℕ → Token
   -- decimal digits, after a minus sign or not
   integer : Bool → ℕ → Token
-  -- what stands between quotes, each doubled quote taken as one
+  -- the content of a quoted text, with each doubled quote taken as one
   text : List ℕ → Token
-  -- the bytes whose hex digits stand between quotes, after an `x`
+  -- the bytes of the hex digits in quotes after an `x`
   blob : List ℕ → Token
   sign : ℕ → Token
 
 abbrev pub is_blank : ℕ → Bool
 is_blank byte = byte == blank
 
--- behind the spaces at the front
+-- the text after its leading spaces
 abbrev pub behind_blanks : List ℕ → List ℕ
 behind_blanks [] = []
 behind_blanks (byte ∷ rest) = if is_blank byte then behind_blanks rest else byte ∷ rest
 
--- whether the text begins with such a byte
+-- whether the first byte of the text satisfies the test
 abbrev pub begins : (ℕ → Bool) → List ℕ → Bool
 begins is_one [] = false
 begins is_one (byte ∷ rest) = is_one byte
@@ -39,7 +40,7 @@ is_letter byte = is_ascii_alphabetic byte || byte == 95
 abbrev pub is_quote : ℕ → Bool
 is_quote byte = byte == quote
 
--- an `x` and a quote right behind it, which begin no word
+-- an `x` and a quote right after it, which begin no word
 abbrev pub begins_blob : List ℕ → Bool
 begins_blob (byte ∷ next ∷ rest) = byte == 120 && is_quote next
 begins_blob _ = false
@@ -53,22 +54,26 @@ abbrev pub signed : Bool → ℕ → ℤ
 signed true n = neg_ℤ (pos n)
 signed false n = pos n
 
--- The line begins with the token, and the rest stands behind it. Words and integers are as long as they go, and integers
--- are in the range of 64 bits.
+-- The line begins with the token, and the rest follows. Words and integers are as long as possible, and
+-- integers fit in 64 bits.
 abbrev pub Begins : Token → List ℕ → List ℕ → Type 0
 Begins (word w) line rest =
-    (line ≡ w ++ rest) × (begins is_letter line ≡ true) × (begins_blob line ≡ false) × (is_word w ≡ true) × (begins is_word_byte rest ≡ false)
+    (line ≡ w ++ rest) × (begins is_letter line ≡ true) × (begins_blob line ≡ false) × (is_word w ≡ true)
+    × (begins is_word_byte rest ≡ false)
 Begins (integer negative n) line rest =
-    (digits : List ℕ) × (line ≡ minus negative digits ++ rest) × (0 < length digits) × (list_all is_ascii_digit digits ≡ true) × (digits_value 10 digits ≡ n)
+    (digits : List ℕ) × (line ≡ minus negative digits ++ rest) × (0 < length digits)
+    × (list_all is_ascii_digit digits ≡ true) × (digits_value 10 digits ≡ n)
     × (begins is_ascii_digit rest ≡ false) × FitsSigned w64 (signed negative n)
 Begins (text t) line rest = (line ≡ quoted t ++ rest) × (begins is_quote rest ≡ false)
-Begins (blob bytes) line rest = (digits : List ℕ) × (line ≡ 120 ∷ quote ∷ digits ++ quote ∷ rest) × (decode_of digits ≡ Ok bytes)
+Begins (blob bytes) line rest =
+    (digits : List ℕ) × (line ≡ 120 ∷ quote ∷ digits ++ quote ∷ rest) × (decode_of digits ≡ Ok bytes)
 Begins (sign s) line rest = line ≡ s ∷ rest
 
--- the next token of the line, behind spaces or not, and the rest
+-- the next token of the line, after any spaces, and the rest
 abbrev pub Next : Token → List ℕ → List ℕ → Type 0
 Next token line rest = Begins token (behind_blanks line) rest
 
 -- an integer is next
 abbrev pub NextInteger : ℤ → List ℕ → List ℕ → Type 0
-NextInteger number line rest = (negative : Bool) × (n : ℕ) × Next (integer negative n) line rest × (number ≡ signed negative n)
+NextInteger number line rest =
+    (negative : Bool) × (n : ℕ) × Next (integer negative n) line rest × (number ≡ signed negative n)

@@ -9,7 +9,7 @@ use Rattle.cap_script.specs.declared.words.SessionWord.TheVariants as session
 use Rattle.cap_script.specs.declared.words.Verb.{Verb}
 use Rattle.cap_script.specs.declared.words.Verb.TheVariants.{Insert, Update, Delete}
 
--- the word that begins a command on one session
+-- the first word of a command on one session
 abbrev pub session_word : SessionWord → List ℕ
 session_word session.Drop = codes "drop"
 session_word session.Attach = codes "attach"
@@ -23,7 +23,7 @@ session_word session.Changeset = codes "changeset"
 session_word session.Patchset = codes "patchset"
 session_word session.Restart = codes "restart"
 
--- the word that begins a command
+-- the first word of a command
 abbrev pub head_word : Head → List ℕ
 head_word head.Create = codes "create"
 head_word head.Commit = codes "commit"
@@ -35,19 +35,19 @@ head_word head.Save = codes "save"
 head_word head.Session = codes "session"
 head_word (head.Of word) = session_word word
 
--- the word that begins an operation
+-- the first word of an operation
 abbrev pub verb_word : Verb → List ℕ
 verb_word Insert = codes "insert"
 verb_word Update = codes "update"
 verb_word Delete = codes "delete"
 
--- what is done about a conflict
+-- the answer to a conflict
 abbrev pub answer_word : Answer → List ℕ
 answer_word Omit = codes "omit"
 answer_word Replace = codes "replace"
 answer_word Abort = codes "abort"
 
--- what a flag shall be, or that it is only asked for
+-- the new value of a flag, or `ask` to query it
 abbrev pub flag_word : Option Bool → List ℕ
 flag_word (Some true) = codes "on"
 flag_word (Some false) = codes "off"

@@ -1,4 +1,4 @@
-//! Commands. Each function but the first reads what stands behind the word that begins the command.
+//! Reads commands. Each function but the first reads a command after its first word.
 ghost use Rattle.std.specs.Prelude.{List, ℕ, IfOk, codes};
 ghost use Rattle.cap_script.specs.Commands.{SpelledBlob, SpelledCommand, SpelledPolicy};
 ghost use Rattle.cap_script.specs.Forms.{Word};
@@ -18,7 +18,7 @@ use cap_row::Schema;
 use cap_txn::Batch;
 use cap_value::{AllocHandle, BYTES_MAX, Refusal};
 
-/// The command that is next, and what is printed of its reply.
+// Reads a command, and how its reply is printed.
 pub(crate) fn command<A: AllocHandle>(
     alloc: A,
     cursor: &mut Cursor<'_>,
@@ -30,7 +30,7 @@ pub(crate) fn command<A: AllocHandle>(
     command_of(alloc, cursor, head)
 }
 
-// The command that this word begins, and what is printed of its reply.
+// Reads the command that this word begins, and how its reply is printed.
 fn command_of<A: AllocHandle>(
     alloc: A,
     cursor: &mut Cursor<'_>,
@@ -52,7 +52,7 @@ fn command_of<A: AllocHandle>(
     }
 }
 
-// A new table: `T F`.
+// Reads a new table: `T F`.
 fn create<A: AllocHandle>(
     alloc: A,
     cursor: &mut Cursor<'_>,
@@ -65,7 +65,7 @@ fn create<A: AllocHandle>(
     Ok((Command::CreateTable { table, schema }, Show::Plain))
 }
 
-/// The columns of a table: a word of `k` for a column of the primary key and `v` for another, one letter a column.
+// Reads the columns of a table: one letter a column, `k` for a column of the primary key and `v` for another.
 fn schema<A: AllocHandle>(alloc: A, cursor: &mut Cursor<'_>) -> Result<Schema<A>, LineFault>
     ensures { IfOk result (λ made. Word (letters made) cursor.old.rest.now cursor.new.rest.now) }
 {
@@ -74,7 +74,7 @@ fn schema<A: AllocHandle>(alloc: A, cursor: &mut Cursor<'_>) -> Result<Schema<A>
     Ok(Schema::new(alloc, flags.as_slice())?)
 }
 
-// A batch that may be made on any version: `OP ; OP ..`.
+// Reads a batch without a base version: `OP ; OP ..`.
 fn commit<A: AllocHandle>(
     alloc: A,
     cursor: &mut Cursor<'_>,
@@ -86,7 +86,7 @@ fn commit<A: AllocHandle>(
     Ok((Command::Commit(batch), Show::Plain))
 }
 
-// A batch that may be made on one version alone: `N OP ; OP ..`.
+// Reads a batch with a base version: `N OP ; OP ..`.
 fn commit_at<A: AllocHandle>(
     alloc: A,
     cursor: &mut Cursor<'_>,
@@ -99,8 +99,7 @@ fn commit_at<A: AllocHandle>(
     Ok((Command::Commit(batch), Show::Plain))
 }
 
-// A blob, and the answers to conflicts of data, to rows that are not found, and to conflicts of keys:
-// `x'..' D N C`.
+// Reads a blob and a policy: the answers to DATA, NOTFOUND and CONFLICT, `x'..' D N C`.
 fn apply<A: AllocHandle>(
     alloc: A,
     cursor: &mut Cursor<'_>,
@@ -113,7 +112,7 @@ fn apply<A: AllocHandle>(
     Ok((Command::Apply { blob, policy }, Show::Plain))
 }
 
-/// What is in the blob that is the next token.
+// Reads the changeset or patchset in a blob, the next token.
 fn contents<A: AllocHandle>(alloc: A, cursor: &mut Cursor<'_>) -> Result<Contents<A>, LineFault>
     ensures { IfOk result (λ made. SpelledBlob made cursor.old.rest.now cursor.new.rest.now) }
 {
@@ -134,7 +133,7 @@ fn policy(cursor: &mut Cursor<'_>) -> Result<Policy, LineFault>
     })
 }
 
-/// What is done about a conflict: `omit`, `replace` or `abort`.
+// Reads the answer to a conflict: `omit`, `replace` or `abort`.
 fn answer(cursor: &mut Cursor<'_>) -> Result<Answer, LineFault>
     ensures { IfOk result (λ made. Word (answer_word made) cursor.old.rest.now cursor.new.rest.now) }
 {
@@ -142,7 +141,7 @@ fn answer(cursor: &mut Cursor<'_>) -> Result<Answer, LineFault>
     answer_of(word.text).ok_or(word.misfit)
 }
 
-// A row of a snapshot: `T REF`.
+// Reads a query for a row of a snapshot: `T REF`.
 fn get<A: AllocHandle>(
     alloc: A,
     cursor: &mut Cursor<'_>,
@@ -155,7 +154,7 @@ fn get<A: AllocHandle>(
     Ok((Command::Read, Show::Get(table, row)))
 }
 
-// All rows of a table of a snapshot: `T`.
+// Reads a query for all rows of a table: `T`.
 fn scan<A: AllocHandle>(
     alloc: A,
     cursor: &mut Cursor<'_>,
@@ -167,7 +166,7 @@ fn scan<A: AllocHandle>(
     Ok((Command::Read, Show::Scan(table)))
 }
 
-// The name under which the tables are saved: `B`.
+// Reads the name under which the tables are saved: `B`.
 fn save<A: AllocHandle>(
     alloc: A,
     cursor: &mut Cursor<'_>,

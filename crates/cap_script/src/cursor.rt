@@ -1,23 +1,28 @@
-ghost use Rattle.std.specs.Prelude.{◌≡◌, ◌≤◌, ◌<◌, ◌^◌, [], Bool, true, false, ℕ, List, length, OnOk, IfOk, IsTrue, string_bytes};
+//! Reads the tokens of a line.
+ghost use Rattle.std.specs.Prelude.{◌≡◌, ◌≤◌, ◌<◌, ◌^◌, [], Bool, true, false, ℕ, List, length, OnOk, IfOk};
+ghost use Rattle.std.specs.Prelude.{IsTrue, string_bytes};
 ghost use Rattle.cap_script.specs.Forms.{AtEnd, Without};
-ghost use Rattle.cap_script.specs.Tokens.{Begins, Next, NextInteger, behind_blanks, blob, integer, sign, text, word};
+ghost use Rattle.cap_script.specs.Tokens.{Begins, Next, NextInteger, behind_blanks, blob, integer, sign};
+ghost use Rattle.cap_script.specs.Tokens.{text, word};
 ghost use Rattle.cap_script.specs.Script.{SpelledWorker};
 
 use crate::fault::LineFault;
 use crate::token::{
-    after, after_blanks, after_blob_start, begins_blank, begins_name, integer_of, split_at_quote,
-    split_digits, split_integer, split_quoted, split_word,
+    after_blanks, after_blob_start, begins_blank, begins_name, integer_of, split_digits,
+    split_integer, split_quoted, split_word,
 };
+use cap_filter::{after, split_at_quote};
 use cap_value::AllocHandle;
 use hex::FromHexError;
 
-/// The greatest number of an integer.
+// The greatest integer.
 const INTEGER_MAX: u64 = (1 << 63) - 1;
 
-/// The greatest number of a worker.
+// The greatest number of a worker.
 const WORKER_MAX: u64 = 63;
 
-/// What is left of a line, token by token. Spaces may stand before, between and after tokens, and tokens may touch.
+// The rest of a line, read token by token. Spaces may come before, between and after tokens, and tokens may
+// touch.
 #[derive(Drop)]
 pub(crate) struct Cursor<'a> {
     rest: &'a str,
@@ -25,7 +30,7 @@ pub(crate) struct Cursor<'a> {
     ghost within: { length rest.now ≤ line_len },
 }
 
-/// A word of a line, and the fault of the line where it does not fit there.
+// A word of a line, and the fault of the line where the word is not expected.
 #[derive(Clone, Copy, Drop)]
 pub(crate) struct Word<'a> {
     pub(crate) text: &'a str,
@@ -33,7 +38,6 @@ pub(crate) struct Word<'a> {
 }
 
 impl<'a> Cursor<'a> {
-    /// The tokens of a line.
     pub(crate) fn new(line: &'a str) -> Self
         ensures { result.rest.now ≡ line.now }
     {
@@ -43,14 +47,14 @@ impl<'a> Cursor<'a> {
         }
     }
 
-    /// The fault of a token that begins here and does not fit.
+    // The fault of a token that begins here and is not expected.
     pub(crate) fn misfit(&self) -> LineFault {
         LineFault::Syntax {
             at: (self.line_len - self.rest.len()) as u64,
         }
     }
 
-    /// The fault of a token of the rest that begins at this byte of the rest, or at its end, and does not fit.
+    // The fault of a token that begins at this offset in the rest and is not expected.
     pub(crate) fn misfit_at(&self, at: u64) -> LineFault
         requires { at ≤ length self.now.rest.now }
     {
@@ -59,26 +63,25 @@ impl<'a> Cursor<'a> {
         }
     }
 
-    /// What is left of the line.
     pub(crate) fn rest(&self) -> &'a str
         ensures { result.now ≡ self.now.rest.now }
     {
         self.rest
     }
 
-    /// Passes over all that is left of the line.
+    // Skips the rest of the line.
     pub(crate) fn finish(&mut self)
         ensures { self.new.rest.now ≡ [] }
     {
         self.rest = "";
     }
 
-    /// The first byte of the next token, where the line has one.
+    // The first byte of the next token, if there is one.
     pub(crate) fn first_byte(&self) -> Option<u8> {
         after_blanks(self.rest).as_bytes().first().copied()
     }
 
-    /// Passes over the spaces before the next token.
+    // Skips the spaces before the next token.
     pub(crate) fn skip_spaces(&mut self)
         ensures behind { self.new.rest.now ≡ behind_blanks self.old.rest.now }
         ensures left { length self.new.rest.now ≤ length self.old.rest.now }
@@ -86,7 +89,7 @@ impl<'a> Cursor<'a> {
         self.rest = after_blanks(self.rest);
     }
 
-    /// Passes over the sign, if it is the next token.
+    // Skips the sign, if it is the next token.
     pub(crate) fn takes_sign(&mut self, wanted: char) -> bool
         requires { wanted < 128 }
         ensures next { IsTrue result → Next (sign wanted) self.old.rest.now self.new.rest.now }
@@ -104,7 +107,7 @@ impl<'a> Cursor<'a> {
         }
     }
 
-    /// Passes over the sign, which has to be the next token.
+    // Skips the sign, which must be the next token.
     pub(crate) fn sign(&mut self, wanted: char) -> Result<(), LineFault>
         requires { wanted < 128 }
         ensures next { OnOk result (Next (sign wanted) self.old.rest.now self.new.rest.now) }
@@ -117,7 +120,7 @@ impl<'a> Cursor<'a> {
         }
     }
 
-    /// Passes over the spaces before the next token, and tells whether there is none.
+    // Skips spaces, and answers whether the line ends there.
     pub(crate) fn takes_end(&mut self) -> bool
         ensures end { IsTrue result → AtEnd self.old.rest.now self.new.rest.now }
         ensures behind { self.new.rest.now ≡ behind_blanks self.old.rest.now }
@@ -127,7 +130,7 @@ impl<'a> Cursor<'a> {
         self.rest.is_empty()
     }
 
-    /// The end of the line has to be next.
+    // Refuses a line that has another token.
     pub(crate) fn end(&mut self) -> Result<(), LineFault>
         ensures { OnOk result (behind_blanks self.old.rest.now ≡ []) }
     {
@@ -138,7 +141,7 @@ impl<'a> Cursor<'a> {
         }
     }
 
-    /// A word, which is the next token: an ASCII letter or `_`, and then letters, digits or `_`.
+    // Reads a word, the next token: an ASCII letter or `_`, and then letters, digits or `_`.
     pub(crate) fn word(&mut self) -> Result<Word<'a>, LineFault>
         ensures next { IfOk result (λ found. Next (word found.text.now) self.old.rest.now self.new.rest.now) }
         ensures left { length self.new.rest.now ≤ length self.old.rest.now }
@@ -153,7 +156,7 @@ impl<'a> Cursor<'a> {
         Ok(Word { text, misfit })
     }
 
-    /// Passes over this word, which has to be the next token.
+    // Skips this word, which must be the next token.
     pub(crate) fn keyword(&mut self, wanted: &str) -> Result<(), LineFault>
         ensures next { OnOk result (Next (word wanted.now) self.old.rest.now self.new.rest.now) }
         ensures left { length self.new.rest.now ≤ length self.old.rest.now }
@@ -166,7 +169,7 @@ impl<'a> Cursor<'a> {
         }
     }
 
-    /// An integer, which is the next token: an optional `-` and decimal digits.
+    // Reads an integer, the next token: an optional `-` and decimal digits.
     pub(crate) fn integer(&mut self) -> Result<i64, LineFault>
         ensures next { IfOk result (λ number. NextInteger number self.old.rest.now self.new.rest.now) }
         ensures left { length self.new.rest.now ≤ length self.old.rest.now }
@@ -179,7 +182,7 @@ impl<'a> Cursor<'a> {
         Ok(number)
     }
 
-    /// An integer without `-`, which is the next token.
+    // Reads an integer without `-`, the next token.
     pub(crate) fn natural(&mut self) -> Result<u64, LineFault>
         ensures next { IfOk result (λ n. Next (integer false n) self.old.rest.now self.new.rest.now) }
         ensures left { length self.new.rest.now ≤ length self.old.rest.now }
@@ -189,7 +192,7 @@ impl<'a> Cursor<'a> {
         self.digits()
     }
 
-    /// An integer without `-` that begins right here.
+    // Reads an integer without `-` that begins here, without spaces before it.
     fn digits(&mut self) -> Result<u64, LineFault>
         ensures here { IfOk result (λ n. Begins (integer false n) self.old.rest.now self.new.rest.now) }
         ensures left { length self.new.rest.now ≤ length self.old.rest.now }
@@ -205,8 +208,8 @@ impl<'a> Cursor<'a> {
         Ok(number)
     }
 
-    /// Who gives the command: the number right behind `@`, from 0 to 63, with a space right behind it, where the line
-    /// begins with `@`.
+    // Reads the worker, where the line begins with `@`: the number right after `@`, from 0 to 63, and a
+    // space.
     pub(crate) fn worker(&mut self) -> Result<Option<u64>, LineFault>
         ensures next { IfOk result (λ made. SpelledWorker made self.old.rest.now self.new.rest.now) }
         ensures left { length self.new.rest.now ≤ length self.old.rest.now }
@@ -226,7 +229,7 @@ impl<'a> Cursor<'a> {
         }
     }
 
-    /// A quoted text, which is the next token. Between its quotes two quotes stand for one.
+    // Reads a quoted text, the next token. Two quotes within it are one.
     pub(crate) fn quoted<A: AllocHandle>(&mut self, alloc: A) -> Result<String<A>, LineFault>
         ensures next { IfOk result (λ t. Next (text (string_bytes t)) self.old.rest.now self.new.rest.now) }
         ensures left { length self.new.rest.now ≤ length self.old.rest.now }
@@ -239,7 +242,7 @@ impl<'a> Cursor<'a> {
         Ok(text)
     }
 
-    /// The bytes of a blob, which is the next token: an `x`, and right after it hex digits in pairs between quotes.
+    // Reads a blob, the next token: an `x`, and right after it pairs of hex digits in quotes.
     pub(crate) fn blob<A: AllocHandle>(&mut self, alloc: A) -> Result<Vec<u8, A>, LineFault>
         ensures next { IfOk result (λ bytes. Next (blob bytes.items) self.old.rest.now self.new.rest.now) }
         ensures left { length self.new.rest.now ≤ length self.old.rest.now }

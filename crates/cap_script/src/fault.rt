@@ -1,3 +1,5 @@
+//! The faults of a workload's text.
+
 use cap_codec::BlobFault;
 use cap_value::{Fault, OutOfMemory, Refusal};
 use std::alloc::AllocFailed;
@@ -6,47 +8,46 @@ use thiserror::Error;
 /// Why a workload's text is refused. Lines are counted from 1, and bytes of a line from 0.
 #[derive(Clone, Copy, Debug, PartialEq, Eq, Drop, Error)]
 pub enum ScriptFault {
-    /// A token of the line does not fit.
+    /// A token of the line is not expected there.
     #[error("line {line}: G1 Syntax at {at}")]
     Syntax {
         /// The line.
         line: u64,
-        /// The first byte of the first token that does not fit, or the line's length where it ends too early.
+        /// The offset of that token, or the length of the line where it ends too early.
         at: u64,
     },
-    /// The line asks for more than a limit allows.
+    /// The line exceeds a limit.
     #[error("line {line}: G2 {why}")]
     Limit {
         /// The line.
         line: u64,
-        /// The refusal that the limit stands for.
+        /// The refusal for that limit.
         why: Refusal,
     },
-    /// The bytes that are to be applied are no changeset and no patchset.
+    /// The bytes to apply are neither a changeset nor a patchset.
     #[error("line {line}: G3 {fault}")]
     BadBlob {
         /// The line.
         line: u64,
-        /// What is wrong with them, and at which of them.
+        /// The fault of the bytes, with its offset.
         fault: BlobFault,
     },
 }
 
-/// Why there is no command in a line.
+// Why a line has no command.
 #[derive(Clone, Copy, Debug, PartialEq, Eq, Drop)]
 pub(crate) enum LineFault {
-    /// The token that begins at this byte does not fit, or the line, which has so many bytes, ends too early.
+    // The token at this offset is not expected there, or the line ends there too early.
     Syntax { at: u64 },
-    /// The next token passes a limit.
+    // The next token exceeds a limit.
     Limit(Refusal),
-    /// The bytes of the next token are no blob.
+    // The bytes of the next token are neither a changeset nor a patchset.
     BadBlob(BlobFault),
-    /// There was no memory for the command.
     OutOfMemory,
 }
 
 impl LineFault {
-    /// The fault of a text that has it in this line.
+    // The fault of the workload, with this line number.
     pub(crate) fn in_line(self, line: u64) -> Fault<ScriptFault> {
         match self {
             LineFault::Syntax { at } => Fault::Refused(ScriptFault::Syntax { line, at }),

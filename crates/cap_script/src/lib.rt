@@ -1,4 +1,4 @@
-//! The text of workloads and of their replies: a command a line, and a line or more a reply.
+//! The text of workloads and of their replies: one command a line, and one line or more a reply.
 #![tactic(auto)]
 
 mod command;

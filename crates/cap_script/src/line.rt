@@ -1,3 +1,4 @@
+//! A line of a workload.
 ghost use Rattle.std.specs.Prelude.{◌≡◌, IfOk};
 ghost use Rattle.cap_script.specs.Script.{SpellsLine, is_ignored};
 
@@ -10,34 +11,34 @@ use cap_core::Command;
 use cap_table::RowRef;
 use cap_value::{AllocHandle, Name};
 
-/// What is printed of a reply that tells more than one thing.
+/// How a reply is printed.
 #[derive(Drop)]
 pub enum Show<A: AllocHandle> {
-    /// No more than the reply's word.
+    /// The reply alone.
     Plain,
     /// One row of a snapshot.
     Get(Name<A>, RowRef<A>),
     /// All rows of a table of a snapshot.
     Scan(Name<A>),
-    /// The bytes of a capture's changeset, with its key columns flagged so.
+    /// The changeset of a capture, with these key flags.
     Changeset(KeyFlags),
-    /// The bytes of a capture's patchset, with its key columns flagged so.
+    /// The patchset of a capture, with these key flags.
     Patchset(KeyFlags),
 }
 
-/// A line of a workload: a command, who gives it, and what is printed of its reply.
+/// A line of a workload: a command, its worker, and how its reply is printed.
 #[derive(Drop)]
 pub struct Line<A: AllocHandle> {
-    /// The number behind `@`, from 0 to 63, where the line has one.
+    /// The number after `@`, from 0 to 63, if the line has one.
     pub worker: Option<u64>,
     /// The command.
     pub command: Command<A>,
-    /// What is printed of its reply.
+    /// How its reply is printed.
     pub show: Show<A>,
 }
 
 impl<A: AllocHandle> Line<A> {
-    /// The line with this text, which says something.
+    // The line with this text, which is not ignored.
     pub(crate) fn parse(alloc: A, text: &str) -> Result<Self, LineFault>
         ensures { IfOk result (λ line. SpellsLine line text.now) }
     {
@@ -53,7 +54,7 @@ impl<A: AllocHandle> Line<A> {
     }
 }
 
-/// Whether the line says nothing: it is empty, of spaces alone, or begins with `#`.
+// Whether the line is ignored: it is empty, has only spaces, or begins with `#`.
 pub(crate) fn is_ignored(text: &str) -> bool
     ensures { result ≡ is_ignored text.now }
 {

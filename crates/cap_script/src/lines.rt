@@ -1,6 +1,8 @@
-//! The lines of a workload's text, one after the other.
-ghost use Rattle.std.specs.Prelude.{◌≡◌, ◌≤◌, ◌<◌, ◌++◌, ◌∷◌, List, [], false, length, IfOk, IfSome, MatchOption, MatchResult};
-ghost use Rattle.cap_script.specs.Script.{IsCut, IsLeft, IsRead, SpellsScript, TakesFirst, begins_at, has_line_feed, is_ignored};
+//! An iterator over the lines of a workload.
+ghost use Rattle.std.specs.Prelude.{◌≡◌, ◌≤◌, ◌<◌, ◌++◌, ◌∷◌, List, [], false, length, IfOk, IfSome};
+ghost use Rattle.std.specs.Prelude.{MatchOption, MatchResult};
+ghost use Rattle.cap_script.specs.Script.{IsCut, IsLeft, IsRead, SpellsScript, TakesFirst, begins_at};
+ghost use Rattle.cap_script.specs.Script.{has_line_feed, is_ignored};
 ghost use Rattle.cap_script.specs.declared.line.Line.{Line};
 
 use crate::ScriptFault;
@@ -10,15 +12,15 @@ use crate::token::{after_blanks, begins_worker};
 use cap_value::{AllocHandle, Fault, OutOfMemory};
 use std::marker::Model;
 
-/// The lines of a workload's text that are still to come, one after the other.
+/// The remaining lines of a workload's text.
 ///
-/// The whole text was read before the first of them is given, so each fits. None is kept: a line is read for the second
-/// time when it is asked for.
+/// The whole text is parsed before the first line is given, so every line is valid. Lines are not kept: each
+/// is parsed again when it is given.
 #[derive(Drop)]
 pub struct Lines<'t, A: AllocHandle> {
     alloc: A,
     rest: &'t str,
-    // The number of the line that the rest begins with.
+    // The number of the first remaining line.
     number: u64,
 }
 
@@ -33,12 +35,12 @@ impl<'t, A: AllocHandle> Model for Lines<'t, A> {
 }
 
 impl<'t, A: AllocHandle> Lines<'t, A> {
-    /// The lines of this text, which is read once, all of it.
+    /// The lines of this text, after all of it is parsed once.
     ///
-    /// Refused with the first fault by line, and in a line by place. At one token `Syntax` comes before `Limit`, and
-    /// `Limit` before `BadBlob`.
+    /// Refused with the first fault by line, and within a line by offset. At one token `Syntax` comes before
+    /// `Limit`, and `Limit` before `BadBlob`.
     pub fn new(alloc: A, text: &'t str) -> Result<Self, Fault<ScriptFault>>
-        // All of the text is still to come, and there are lines that it spells.
+        // All of the text remains, and it spells some lines.
         ensures whole { IfOk result (λ rest. rest ≡ text.now) }
         ensures spelled { IfOk result (λ rest. (lines : List (Line A)) × SpellsScript lines text.now) }
     {
@@ -47,7 +49,7 @@ impl<'t, A: AllocHandle> Lines<'t, A> {
         Ok(Lines::over(alloc, text))
     }
 
-    /// The lines of this text, of which none was read.
+    // The lines of this text, none of which is parsed.
     pub(crate) fn over(alloc: A, text: &'t str) -> Self
         ensures { result ≡ text.now }
     {
@@ -58,14 +60,14 @@ impl<'t, A: AllocHandle> Lines<'t, A> {
         }
     }
 
-    /// The next line, or none behind the last. Where there is no memory for it, it is still the next.
+    /// The next line, or none after the last. Where memory runs out, the line is still the next.
     pub fn next_line(&mut self) -> Result<Option<Line<A>>, OutOfMemory>
         // The first of the lines that the text spells.
         ensures next { (lines : List (Line A)) → SpellsScript lines self.old
             → MatchResult result (λ found. TakesFirst found lines self.new) (λ none. IsLeft lines self.new) }
         ensures left { IfOk result (λ found. IfSome found (λ line. length self.new < length self.old)) }
     {
-        // The line was read before, so there is nothing else that it can be refused for.
+        // The line is valid, so the only fault is out of memory.
         self.read().map_err(|_| OutOfMemory)
     }
 
@@ -81,7 +83,7 @@ impl<'t, A: AllocHandle> Lines<'t, A> {
         }
     }
 
-    /// The next line, or none behind the last. A line that is refused is still the next.
+    // The next line, or none after the last. A refused line is still the next.
     pub(crate) fn read(&mut self) -> Result<Option<Line<A>>, Fault<ScriptFault>>
         ensures read { IfOk result (λ found. IsRead found self.old self.new) }
         ensures next { (lines : List (Line A)) → SpellsScript lines self.old
@@ -102,7 +104,7 @@ impl<'t, A: AllocHandle> Lines<'t, A> {
         }
     }
 
-    // Passes over the lines that say nothing. The text of the next one, and what stands behind it.
+    // Skips ignored lines. The text of the next line, and the text after it.
     fn next_text(&mut self) -> Option<(&'t str, &'t str)>
         ensures here { MatchOption result (self.new ≡ [])
             (λ parts. IsCut self.new parts.0.now parts.1.now × (is_ignored parts.0.now ≡ false)) }
@@ -122,7 +124,7 @@ impl<'t, A: AllocHandle> Lines<'t, A> {
     }
 }
 
-// The first line of the text, and what stands behind it.
+// The first line of the text, and the text after it.
 fn first_line(text: &str) -> (&str, &str)
     ensures { IsCut text.now result.0.now result.1.now }
 {
@@ -132,7 +134,7 @@ fn first_line(text: &str) -> (&str, &str)
     }
 }
 
-// What stands before the first line feed of the text, and behind it.
+// The text before the first line feed, and the text after it.
 fn split_line(text: &str) -> Option<(&str, &str)>
     ensures { MatchOption result (has_line_feed text.now ≡ false)
         (λ parts. (text.now ≡ parts.0.now ++ 10 ∷ parts.1.now) × (has_line_feed parts.0.now ≡ false)) }

@@ -1,6 +1,8 @@
+//! Reads the operations of a transaction.
 ghost use Rattle.std.specs.Prelude.{◌≡◌, ◌≤◌, ◌++◌, ◌∷◌, [], List, ℕ, length, IfOk, OnOk, codes};
 ghost use Rattle.cap_script.specs.Forms.{◌▸◌, Word};
-ghost use Rattle.cap_script.specs.Operations.{SpelledAction, SpelledField, SpelledFields, SpelledOperation, SpelledOperations};
+ghost use Rattle.cap_script.specs.Operations.{SpelledAction, SpelledField, SpelledFields, SpelledOperation};
+ghost use Rattle.cap_script.specs.Operations.{SpelledOperations};
 ghost use Rattle.cap_script.specs.Words.{verb_word};
 
 use crate::cursor::Cursor;
@@ -11,7 +13,7 @@ use cap_row::Row;
 use cap_txn::{Action, Assignments, Batch, Cause, OPS_MAX, Op};
 use cap_value::{AllocHandle, Name, Refusal, Value};
 
-/// The name of a table or of a saved database.
+// Reads the name of a table or of a saved database.
 pub(crate) fn name<A: AllocHandle>(alloc: A, cursor: &mut Cursor<'_>) -> Result<Name<A>, LineFault>
     ensures next { IfOk result (λ made. Word made cursor.old.rest.now cursor.new.rest.now) }
     ensures left { length cursor.new.rest.now ≤ length cursor.old.rest.now }
@@ -20,7 +22,7 @@ pub(crate) fn name<A: AllocHandle>(alloc: A, cursor: &mut Cursor<'_>) -> Result<
     Ok(Name::new(alloc, word.text)?)
 }
 
-/// The batch, which is empty, with these operations: `OP ; OP ..`.
+// Reads operations into an empty batch: `OP ; OP ..`.
 pub(crate) fn batch<A: AllocHandle>(
     alloc: A,
     cursor: &mut Cursor<'_>,
@@ -39,7 +41,7 @@ pub(crate) fn batch<A: AllocHandle>(
     Ok(batch)
 }
 
-// Puts the operation last.
+// Appends the operation.
 fn push<A: AllocHandle>(batch: &mut Batch<A>, op: Op<A>) -> Result<(), LineFault>
     ensures base { OnOk result (batch.new.base ≡ batch.old.base) }
     ensures ops { OnOk result (batch.new.ops ≡ batch.old.ops ++ op ∷ []) }
@@ -47,8 +49,8 @@ fn push<A: AllocHandle>(batch: &mut Batch<A>, op: Op<A>) -> Result<(), LineFault
     Ok(batch.push(op)?)
 }
 
-/// An operation: `insert T (V,..)`, `update T REF set I = V , ..` or `delete T REF`, with `cascade` before it for that
-/// cause. Where the batch is full its first token passes the limit, if it fits.
+// Reads an operation: `insert T (V,..)`, `update T REF set I = V , ..` or `delete T REF`, after `cascade`
+// where that is its cause. Where the batch is full its first token exceeds the limit.
 fn operation<A: AllocHandle>(
     alloc: A,
     cursor: &mut Cursor<'_>,
@@ -73,7 +75,7 @@ fn operation<A: AllocHandle>(
     }
 }
 
-// Nothing, where one more operation has room.
+// Refuses an operation where the batch is full.
 fn has_room(is_full: bool) -> Result<(), LineFault> {
     if is_full {
         Err(LineFault::Limit(Refusal::TooMany))
@@ -82,7 +84,7 @@ fn has_room(is_full: bool) -> Result<(), LineFault> {
     }
 }
 
-// The operation behind the word `cascade`.
+// Reads the operation after the word `cascade`.
 fn cascaded<A: AllocHandle>(alloc: A, cursor: &mut Cursor<'_>) -> Result<Op<A>, LineFault>
     ensures next { (line : List ℕ) → Word (codes "cascade") line cursor.old.rest.now
         → IfOk result (λ made. SpelledOperation made line cursor.new.rest.now) }
@@ -93,7 +95,7 @@ fn cascaded<A: AllocHandle>(alloc: A, cursor: &mut Cursor<'_>) -> Result<Op<A>, 
     operation_of(alloc, cursor, Cause::Cascade, verb)
 }
 
-// The operation with this cause that the verb begins.
+// Reads the operation that the verb begins.
 fn operation_of<A: AllocHandle>(
     alloc: A,
     cursor: &mut Cursor<'_>,
@@ -136,7 +138,7 @@ fn operation_of<A: AllocHandle>(
     }
 }
 
-/// What an update sets: `set I = V , ..`.
+// Reads the assignments of an update: `set I = V , ..`.
 fn assignments<A: AllocHandle>(
     alloc: A,
     cursor: &mut Cursor<'_>,
@@ -154,7 +156,7 @@ fn assignments<A: AllocHandle>(
     Ok(Assignments::new(fields))
 }
 
-/// A column, counted from 0, and its new value: `I = V`.
+// Reads a column number, from 0, and its new value: `I = V`.
 fn assignment<A: AllocHandle>(
     alloc: A,
     cursor: &mut Cursor<'_>,

@@ -1,3 +1,4 @@
+//! The text of refusals.
 ghost use Rattle.std.specs.Prelude.{◌≡◌};
 ghost use Rattle.cap_script.specs.RefusalText.{refusal_name};
 
@@ -5,7 +6,7 @@ use cap_value::Refusal;
 use std::fmt;
 use std::fmt::{Display, Formatter, Write};
 
-/// The number and the name of a refusal, and what it tells.
+// The number and the name of a refusal, with its versions where it has any.
 #[derive(Clone, Copy, Drop)]
 pub(crate) struct RefusalText(pub(crate) Refusal);
 
@@ -19,7 +20,16 @@ impl Display for RefusalText {
     fn fmt<W: Write>(&self, f: &mut Formatter<W>) -> fmt::Result {
         let name = refusal_name(self.0);
         match self.0 {
-            Refusal::Stale { base, now } => write!(f, "{name} base {base} now {now}"),
+            Refusal::Stale {
+                base,
+                now,
+                item: None,
+            } => write!(f, "{name} base {base} now {now}"),
+            Refusal::Stale {
+                base,
+                now,
+                item: Some(item),
+            } => write!(f, "{name} base {base} now {now} item {item}"),
             _ => f.write_str(name),
         }
     }

@@ -1,3 +1,4 @@
+//! The text of replies.
 ghost use Rattle.std.specs.Prelude.{◌≡◌, IfOk, string_bytes, codes, ◌++◌};
 ghost use Rattle.cap_changes.specs.Patch.{patch_list_of};
 ghost use Rattle.cap_codec.specs.Changeset.{list_bytes_with};
@@ -12,8 +13,8 @@ use cap_codec::KeyFlags;
 use cap_core::{Capture, Command, Reply};
 use cap_value::{AllocHandle, OutOfMemory};
 
-/// The text of the reply to a line's command, without a line feed at its end. It has more than one line where it
-/// tells rows.
+/// The text of the reply to a line's command, without a line feed at its end. It has several lines where it
+/// prints rows.
 #[tactic(auto, unfolding(crate::specs::ReplyText::reply_text))]
 pub fn print_reply<A: AllocHandle>(
     alloc: A,
@@ -38,7 +39,7 @@ pub fn print_reply<A: AllocHandle>(
     }
 }
 
-// What became of a blob that was applied.
+// The outcome of an apply.
 fn applied_text<A: AllocHandle>(
     alloc: A,
     version: u64,
@@ -54,7 +55,7 @@ fn applied_text<A: AllocHandle>(
     )
 }
 
-// A flag as it is now, or whether a session is empty.
+// The value of a flag, or whether a session is empty.
 fn flag_text<A: AllocHandle>(command: &Command<A>, flag: bool) -> &'static str
     ensures { result.now ≡ flag_text command.now flag }
 {
@@ -64,7 +65,7 @@ fn flag_text<A: AllocHandle>(command: &Command<A>, flag: bool) -> &'static str
     }
 }
 
-// What is told of a capture.
+// The text of a capture.
 fn capture_text<A: AllocHandle>(
     alloc: A,
     show: &Show<A>,
@@ -105,7 +106,7 @@ fn patchset_text<A: AllocHandle>(
     format!(in alloc; "patchset {digits}")
 }
 
-// Lower case hex digits, or `-` where there are no bytes.
+// Lower case hex digits, or `-` for no bytes.
 fn hex_or_dash<A: AllocHandle>(alloc: A, bytes: &[u8]) -> Result<String<A>, OutOfMemory>
     ensures { IfOk result (λ text. string_bytes text ≡ hex_or_dash bytes.now) }
 {

@@ -1,8 +1,9 @@
-//! The text of rows that are read.
+//! The text of rows.
 ghost use Rattle.std.specs.Prelude.{◌≡◌, ◌++◌, ◌∷◌, OnOk, IfOk, string_bytes};
 ghost use Rattle.std.specs.Option.{option_copied};
 ghost use Rattle.std.specs.Result.{result_map_both};
-ghost use Rattle.cap_script.specs.RowText.{blob_text, get_text, more_values, named_row_text, row_text, rows_text, scan_text, snapshot_text, value_text, values_text};
+ghost use Rattle.cap_script.specs.RowText.{blob_text, get_text, more_values, named_row_text, row_text};
+ghost use Rattle.cap_script.specs.RowText.{rows_text, scan_text, snapshot_text, value_text, values_text};
 ghost use Rattle.cap_table.specs.Scan.{row_shown};
 ghost use Rattle.cap_txn.specs.Read.{Lends};
 
@@ -14,7 +15,7 @@ use cap_table::{RowName, Scan};
 use cap_txn::Snapshot;
 use cap_value::{AllocHandle, Blob, OutOfMemory, Refusal, Value};
 
-/// What is told of a snapshot.
+// The text of a snapshot.
 pub(crate) fn snapshot_text<A: AllocHandle>(
     alloc: A,
     show: &Show<A>,
@@ -29,7 +30,7 @@ pub(crate) fn snapshot_text<A: AllocHandle>(
     }
 }
 
-// The row that was asked for.
+// The text of the requested row.
 fn get_text<A: AllocHandle>(
     alloc: A,
     found: Result<Option<&Row<A>>, Refusal>,
@@ -48,7 +49,7 @@ fn get_text<A: AllocHandle>(
     }
 }
 
-// All rows of a table, each on a line.
+// The text of all rows of a table, each on a line.
 fn scan_text<A: AllocHandle>(
     alloc: A,
     found: Result<Scan<'_, A>, Refusal>,
@@ -65,7 +66,7 @@ fn scan_text<A: AllocHandle>(
     }
 }
 
-// Writes the rows at the end of `out`, each after a line feed.
+// Appends the rows to `out`, each after a line feed.
 fn write_rows<A: AllocHandle>(
     alloc: A,
     rows: Scan<'_, A>,
@@ -79,7 +80,7 @@ fn write_rows<A: AllocHandle>(
     Ok(())
 }
 
-// Writes a row after a line feed at the end of `out`, with its id where it has no key.
+// Appends a line feed and a row to `out`, with its id where it has no key.
 fn write_named_row<A: AllocHandle>(
     alloc: A,
     name: RowName<'_, A>,
@@ -97,7 +98,7 @@ fn write_named_row<A: AllocHandle>(
     write_row(alloc, row, out)
 }
 
-// Writes a row at the end of `out`.
+// Appends a row to `out`.
 fn write_row<A: AllocHandle>(alloc: A, row: &Row<A>, out: &mut String<A>) -> Result<(), OutOfMemory>
     ensures { OnOk result (string_bytes out.new ≡ string_bytes out.old ++ row_text row.now) }
 {
@@ -106,7 +107,7 @@ fn write_row<A: AllocHandle>(alloc: A, row: &Row<A>, out: &mut String<A>) -> Res
     out.push_str(")")
 }
 
-// Writes the values at the end of `out`, with a comma between each two.
+// Appends the values to `out`, separated by commas.
 fn write_values<A: AllocHandle>(
     alloc: A,
     values: &[Value<A>],
@@ -123,7 +124,7 @@ fn write_values<A: AllocHandle>(
     }
 }
 
-// Writes the values at the end of `out`, with a comma before each.
+// Appends the values to `out`, each after a comma.
 fn write_more<A: AllocHandle>(
     alloc: A,
     values: &[Value<A>],
@@ -138,7 +139,7 @@ fn write_more<A: AllocHandle>(
     Ok(())
 }
 
-// Writes a value at the end of `out`.
+// Appends a value to `out`.
 fn write_value<A: AllocHandle>(
     alloc: A,
     value: &Value<A>,
@@ -157,7 +158,7 @@ fn write_value<A: AllocHandle>(
     }
 }
 
-// Writes the digits of a blob at the end of `out`.
+// Appends a blob literal to `out`.
 fn write_blob<A: AllocHandle>(
     alloc: A,
     blob: &Blob<A>,

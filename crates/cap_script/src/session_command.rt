@@ -1,8 +1,8 @@
-//! Commands on one session, behind the word that begins them.
-ghost use Rattle.std.specs.Prelude.{◌≡◌, ◌≤◌, List, ℕ, IfOk, IfErr, length};
+//! Reads the commands on one session, after their first word.
+ghost use Rattle.std.specs.Prelude.{◌≡◌, ◌≤◌, List, ℕ, IfOk, IfErr, codes, length};
 ghost use Rattle.cap_filter.specs.Grammar.{Spells};
 ghost use Rattle.cap_script.specs.Commands.{SpelledCommand, SpelledFilter, SpelledKeyFlags};
-ghost use Rattle.cap_script.specs.Forms.{Word};
+ghost use Rattle.cap_script.specs.Forms.{◌▸◌, Natural, Word};
 ghost use Rattle.cap_script.specs.Words.{flag_word, session_word};
 
 use crate::Show;
@@ -15,7 +15,7 @@ use cap_core::Command;
 use cap_filter::{TableFilter, unfit_place};
 use cap_value::{AllocHandle, Fault, Refusal};
 
-/// The command that this word begins, and what is printed of its reply.
+// Reads the command that this word begins, and how its reply is printed.
 pub(crate) fn session_command<A: AllocHandle>(
     alloc: A,
     cursor: &mut Cursor<'_>,
@@ -35,10 +35,8 @@ pub(crate) fn session_command<A: AllocHandle>(
             Ok((Command::Capture { session }, Show::Patchset(flags)))
         }
         SessionWord::Restart => {
-            Ok((
-                Command::Restart { session },
-                Show::Changeset(KeyFlags::Ones),
-            ))
+            let show = Show::Changeset(KeyFlags::Ones);
+            Ok((Command::Restart { session }, show))
         }
         SessionWord::Drop => Ok((Command::DropSession { session }, Show::Plain)),
         SessionWord::AttachAll => Ok((Command::AttachAll { session }, Show::Plain)),
@@ -59,22 +57,30 @@ pub(crate) fn session_command<A: AllocHandle>(
             let indirect = flag(cursor)?;
             Ok((Command::Indirect { session, indirect }, Show::Plain))
         }
-        SessionWord::Diff => {
-            let from = name(alloc, cursor)?;
-            let table = name(alloc, cursor)?;
-            Ok((
-                Command::Diff {
-                    session,
-                    from,
-                    table,
-                },
-                Show::Plain,
-            ))
-        }
+        SessionWord::Diff => diff(alloc, cursor, session),
     }
 }
 
-/// The filter whose text is all that is left of the line.
+// Reads a diff after the session's number: the names of the saved database and of the table.
+fn diff<A: AllocHandle>(
+    alloc: A,
+    cursor: &mut Cursor<'_>,
+    session: u64,
+) -> Result<(Command<A>, Show<A>), LineFault>
+    ensures { (line : List ℕ) → (Word (codes "diff") ▸ Natural session) line cursor.old.rest.now
+        → IfOk result (λ made. SpelledCommand made.0 made.1 line cursor.new.rest.now) }
+{
+    let from = name(alloc, cursor)?;
+    let table = name(alloc, cursor)?;
+    let command = Command::Diff {
+        session,
+        from,
+        table,
+    };
+    Ok((command, Show::Plain))
+}
+
+// Reads a filter, which is the rest of the line.
 fn filter<A: AllocHandle>(alloc: A, cursor: &mut Cursor<'_>) -> Result<TableFilter<A>, LineFault>
     ensures { IfOk result (λ made. SpelledFilter made cursor.old.rest.now cursor.new.rest.now) }
 {
@@ -90,7 +96,7 @@ fn filter<A: AllocHandle>(alloc: A, cursor: &mut Cursor<'_>) -> Result<TableFilt
     }
 }
 
-// The filter that the text spells. A token that does not fit begins in the text, or at its end.
+// The filter that the text spells. The offset of a fault is within the text, or at its end.
 fn filter_of<A: AllocHandle>(alloc: A, text: &str) -> Result<TableFilter<A>, Fault<Refusal>>
     ensures found { IfOk result (λ made. Spells text.now made) }
     ensures place { IfErr result (λ fault. (at : ℕ)
@@ -100,7 +106,7 @@ fn filter_of<A: AllocHandle>(alloc: A, text: &str) -> Result<TableFilter<A>, Fau
     TableFilter::parse(alloc, text)
 }
 
-/// How the key columns are flagged: `places`, or nothing to the line's end for `01`.
+// Reads the key flags: `places`, or nothing for `01`.
 fn key_flags(cursor: &mut Cursor<'_>) -> Result<KeyFlags, LineFault>
     ensures { IfOk result (λ made. SpelledKeyFlags made cursor.old.rest.now cursor.new.rest.now) }
 {
@@ -111,7 +117,7 @@ fn key_flags(cursor: &mut Cursor<'_>) -> Result<KeyFlags, LineFault>
     Ok(KeyFlags::Places)
 }
 
-/// What a flag shall be: `on` or `off`, or `ask` where it is only asked for.
+// Reads a flag's new value: `on` or `off`, or `ask` to query it.
 fn flag(cursor: &mut Cursor<'_>) -> Result<Option<bool>, LineFault>
     ensures { IfOk result (λ made. Word (flag_word made) cursor.old.rest.now cursor.new.rest.now) }
 {

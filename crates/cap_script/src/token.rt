@@ -1,25 +1,19 @@
-//! What a text begins with.
-ghost use Rattle.std.specs.Prelude.{◌≡◌, ◌≢◌, ◌≤◌, ◌<◌, ◌++◌, ◌∷◌, ◌^◌, ℕ, List, Bool, true, false, ◌==◌, length, take_while, IfOk, IfSome, MatchOption, string_bytes, FitsSigned};
+//! The token at the beginning of a text.
+ghost use Rattle.std.specs.Prelude.{◌≡◌, ◌≢◌, ◌≤◌, ◌<◌, ◌++◌, ◌∷◌, ◌^◌, ℕ, List, Bool, true, false, ◌==◌};
+ghost use Rattle.std.specs.Prelude.{length, take_while, IfOk, IfSome, MatchOption, string_bytes, FitsSigned};
 ghost use Rattle.std.specs.Char.{is_ascii_digit};
 ghost use Rattle.std.specs.Int.{w64};
 ghost use Rattle.std.specs.List.{list_all};
 ghost use Rattle.std.specs.Str.Parse.{digits_value};
 ghost use Rattle.cap_filter.specs.Printed.{quote, quoted};
 ghost use Rattle.cap_filter.specs.Tokens.{has_quote, is_word, is_word_byte};
-ghost use Rattle.cap_script.specs.Tokens.{begins, begins_blob, behind_blanks, is_blank, is_letter, is_quote, minus, signed};
+ghost use Rattle.cap_script.specs.Tokens.{begins, begins_blob, behind_blanks, is_blank, is_letter, is_quote};
+ghost use Rattle.cap_script.specs.Tokens.{minus, signed};
 
+use cap_filter::{after, split_at_quote, word_len};
 use cap_value::{AllocHandle, OutOfMemory};
 
-/// The text behind its first character, where that is this ASCII one.
-pub(crate) fn after(text: &str, first: char) -> Option<&str>
-    requires { first < 128 }
-    ensures { MatchOption result ((rest : List ℕ) → text.now ≢ first ∷ rest)
-        (λ rest. text.now ≡ first ∷ rest.now) }
-{
-    text.strip_prefix(first)
-}
-
-/// The text behind the spaces at its front.
+// The text after its leading spaces.
 pub(crate) fn after_blanks(text: &str) -> &str
     ensures same { result.now ≡ behind_blanks text.now }
     ensures left { length result.now ≤ length text.now }
@@ -31,7 +25,7 @@ pub(crate) fn after_blanks(text: &str) -> &str
     rest
 }
 
-/// The letters, digits and `_` at the front of the text, and the text behind them.
+// The letters, digits and `_` at the beginning of the text, and the text after them.
 pub(crate) fn split_word(text: &str) -> Option<(&str, &str)>
     ensures { IfSome result (λ parts. (text.now ≡ parts.0.now ++ parts.1.now)
         × (is_word parts.0.now ≡ true) × (begins is_word_byte parts.1.now ≡ false)) }
@@ -39,19 +33,7 @@ pub(crate) fn split_word(text: &str) -> Option<(&str, &str)>
     text.split_at_checked(word_len(text.as_bytes()))
 }
 
-fn word_len(bytes: &[u8]) -> usize
-    ensures { result ≡ length (take_while is_word_byte bytes.now) }
-{
-    bytes.iter().take_while(|byte| is_word_byte(**byte)).count()
-}
-
-fn is_word_byte(byte: u8) -> bool
-    ensures { result ≡ is_word_byte byte }
-{
-    byte.is_ascii_alphanumeric() || byte == b'_'
-}
-
-/// The decimal digits at the front of the text, and the text behind them.
+// The decimal digits at the beginning of the text, and the text after them.
 pub(crate) fn split_digits(text: &str) -> Option<(&str, &str)>
     ensures { IfSome result (λ parts. (text.now ≡ parts.0.now ++ parts.1.now)
         × (list_all is_ascii_digit parts.0.now ≡ true) × (begins is_ascii_digit parts.1.now ≡ false)) }
@@ -68,15 +50,7 @@ fn digits_len(bytes: &[u8]) -> usize
         .count()
 }
 
-/// What stands before the first quote of the text, and behind it.
-pub(crate) fn split_at_quote(text: &str) -> Option<(&str, &str)>
-    ensures { MatchOption result (has_quote text.now ≡ false)
-        (λ parts. (text.now ≡ parts.0.now ++ quote ∷ parts.1.now) × (has_quote parts.0.now ≡ false)) }
-{
-    text.split_once('\'')
-}
-
-/// The integer at the front of the text, an optional `-` and digits, and the text behind it.
+// The integer at the beginning of the text, an optional `-` and digits, and the text after it.
 pub(crate) fn split_integer(text: &str) -> Option<(&str, &str)>
     ensures { IfSome result (λ parts. (negative : Bool) × (digits : List ℕ)
         × (text.now ≡ parts.0.now ++ parts.1.now) × (parts.0.now ≡ minus negative digits)
@@ -88,7 +62,7 @@ pub(crate) fn split_integer(text: &str) -> Option<(&str, &str)>
     }
 }
 
-/// Whether the text begins with an ASCII letter or `_`.
+// Whether the text begins with an ASCII letter or `_`.
 pub(crate) fn begins_name(text: &str) -> bool
     ensures { result ≡ begins is_letter text.now }
 {
@@ -98,21 +72,21 @@ pub(crate) fn begins_name(text: &str) -> bool
     }
 }
 
-/// Whether the text begins with a space.
+// Whether the text begins with a space.
 pub(crate) fn begins_blank(text: &str) -> bool
     ensures { result ≡ begins is_blank text.now }
 {
     text.as_bytes().first() == Some(&b' ')
 }
 
-/// Whether the text begins with `@`.
+// Whether the text begins with `@`.
 pub(crate) fn begins_worker(text: &str) -> bool
     ensures { result ≡ begins (λ byte. byte == 64) text.now }
 {
     text.as_bytes().first() == Some(&b'@')
 }
 
-/// The text behind the `x` and the quote that begin a blob, where the text begins with them.
+// The text after the `x` and the quote that begin a blob, where the text begins with them.
 pub(crate) fn after_blob_start(text: &str) -> Option<&str>
     ensures { MatchOption result (begins_blob text.now ≡ false)
         (λ rest. text.now ≡ 120 ∷ quote ∷ rest.now) }
@@ -120,7 +94,8 @@ pub(crate) fn after_blob_start(text: &str) -> Option<&str>
     after(after(text, 'x')?, '\'')
 }
 
-/// The quoted text behind its first quote, and the text behind it. None where no quote ends it.
+// The content of a quoted text, given the text after its first quote, and the text after it. None where no
+// quote ends it.
 pub(crate) fn split_quoted<A: AllocHandle>(
     alloc: A,
     text: &str,
@@ -142,7 +117,7 @@ pub(crate) fn split_quoted<A: AllocHandle>(
     Ok(None)
 }
 
-/// The integer that the text spells, an optional `-` and digits, where it is in the range of 64 bits.
+// The integer that the text spells, an optional `-` and digits, where it fits in 64 bits.
 pub(crate) fn integer_of(text: &str) -> Option<i64>
     ensures value { (negative : Bool) (digits : List ℕ) → text.now ≡ minus negative digits
         → list_all is_ascii_digit digits ≡ true

@@ -1,3 +1,4 @@
+//! Reads values, and references to rows.
 ghost use Rattle.std.specs.Prelude.{◌≤◌, List, ℕ, length, IfOk, codes};
 ghost use Rattle.cap_script.specs.Forms.{Word};
 ghost use Rattle.cap_script.specs.Operations.{SpelledRow, SpelledValue, SpelledValues};
@@ -8,7 +9,7 @@ use cap_row::Key;
 use cap_table::RowRef;
 use cap_value::{AllocHandle, Value};
 
-/// A value, which is the next token.
+// Reads a value, the next token.
 pub(crate) fn value<A: AllocHandle>(
     alloc: A,
     cursor: &mut Cursor<'_>,
@@ -43,7 +44,7 @@ fn blob<A: AllocHandle>(alloc: A, cursor: &mut Cursor<'_>) -> Result<Value<A>, L
     Ok(Value::blob(alloc, bytes.as_slice())?)
 }
 
-/// One value or more between parentheses, with a comma between each two.
+// Reads one value or more in parentheses, separated by commas.
 pub(crate) fn values<A: AllocHandle>(
     alloc: A,
     cursor: &mut Cursor<'_>,
@@ -62,7 +63,7 @@ pub(crate) fn values<A: AllocHandle>(
     Ok(values)
 }
 
-/// The name of a row: `key(V,..)` or `loose N`.
+// Reads a reference to a row: `key(V,..)` or `loose N`.
 pub(crate) fn row_ref<A: AllocHandle>(
     alloc: A,
     cursor: &mut Cursor<'_>,
@@ -80,7 +81,7 @@ pub(crate) fn row_ref<A: AllocHandle>(
     Err(word.misfit)
 }
 
-// The row with the key that stands behind the word. A key with a NULL is read as `loose 0`, which names no row.
+// Reads the key after the word `key`. A key with a NULL is read as `loose 0`, which names no row.
 fn key_ref<A: AllocHandle>(alloc: A, cursor: &mut Cursor<'_>) -> Result<RowRef<A>, LineFault>
     ensures next { (line : List ℕ) → Word (codes "key") line cursor.old.rest.now
         → IfOk result (λ made. SpelledRow made line cursor.new.rest.now) }

@@ -5,7 +5,7 @@ ghost use Rattle.cap_script.specs.Words.{answer_word, flag_word, head_word, lett
 use cap_apply::Answer;
 use cap_value::{AllocHandle, OutOfMemory};
 
-/// The word that begins a command.
+// The first word of a command.
 #[derive(Clone, Copy, Drop)]
 pub(crate) enum Head {
     Create,
@@ -19,7 +19,7 @@ pub(crate) enum Head {
     Of(SessionWord),
 }
 
-/// The word that begins a command on one session.
+// The first word of a command on one session.
 #[derive(Clone, Copy, Drop)]
 pub(crate) enum SessionWord {
     Drop,
@@ -35,7 +35,7 @@ pub(crate) enum SessionWord {
     Restart,
 }
 
-/// The word that begins an operation.
+// The first word of an operation.
 #[derive(Clone, Copy, Drop)]
 pub(crate) enum Verb {
     Insert,
@@ -43,7 +43,7 @@ pub(crate) enum Verb {
     Delete,
 }
 
-/// The command that the word begins, if it begins one.
+// The command that the word begins, if any.
 pub(crate) fn head_of(word: &str) -> Option<Head>
     ensures { IfSome result (λ head. word.now ≡ head_word head) }
 {
@@ -79,7 +79,7 @@ fn session_word_of(word: &str) -> Option<SessionWord>
     }
 }
 
-/// The operation that the word begins, if it begins one.
+// The operation that the word begins, if any.
 pub(crate) fn verb_of(word: &str) -> Option<Verb>
     ensures { IfSome result (λ verb. word.now ≡ verb_word verb) }
 {
@@ -91,7 +91,7 @@ pub(crate) fn verb_of(word: &str) -> Option<Verb>
     }
 }
 
-/// What the word says to do about a conflict, if it is `omit`, `replace` or `abort`.
+// The answer to a conflict, if the word is `omit`, `replace` or `abort`.
 pub(crate) fn answer_of(word: &str) -> Option<Answer>
     ensures { IfSome result (λ answer. word.now ≡ answer_word answer) }
 {
@@ -103,7 +103,7 @@ pub(crate) fn answer_of(word: &str) -> Option<Answer>
     }
 }
 
-/// What the word says that a flag shall be, if it is `on` or `off`, or `ask`, where the flag is only asked for.
+// The new value of a flag, if the word is `on` or `off`, or none for `ask`.
 pub(crate) fn flag_of(word: &str) -> Option<Option<bool>>
     ensures { IfSome result (λ flag. word.now ≡ flag_word flag) }
 {
@@ -115,7 +115,7 @@ pub(crate) fn flag_of(word: &str) -> Option<Option<bool>>
     }
 }
 
-/// The columns that the word says, if it has no other letters than `k` and `v`.
+// The key flags of the columns, if the word has only the letters `k` and `v`.
 pub(crate) fn flags_of<A: AllocHandle>(
     alloc: A,
     word: &str,

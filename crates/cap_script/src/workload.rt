@@ -1,3 +1,4 @@
+//! Reads a whole workload.
 ghost use Rattle.std.specs.Prelude.{◌≡◌, ◌++◌, ◌∷◌, [], IfOk, OnOk};
 ghost use Rattle.cap_script.specs.Script.{SpellsScript};
 ghost use Rattle.cap_script.specs.declared.line.Line.{Line};
@@ -8,16 +9,16 @@ use cap_value::{AllocHandle, Fault, OutOfMemory};
 /// The commands of a workload.
 #[derive(Drop)]
 pub struct Workload<A: AllocHandle> {
-    /// The lines that have a command, in their order.
+    /// The lines with a command, in order.
     pub lines: Vec<Line<A>, A>,
 }
 
 /// The workload with this text. Lines end at a line feed, which the last may lack.
 ///
-/// Refused with the first fault by line, and in a line by place. At one token `Syntax` comes before `Limit`, and
-/// `Limit` before `BadBlob`.
+/// Refused with the first fault by line, and within a line by offset. At one token `Syntax` comes before
+/// `Limit`, and `Limit` before `BadBlob`.
 pub fn parse<A: AllocHandle>(alloc: A, text: &str) -> Result<Workload<A>, Fault<ScriptFault>>
-    // What is read is spelled by the text, all of it.
+    // The text spells the workload.
     ensures { IfOk result (λ workload. SpellsScript workload.lines.items text.now) }
 {
     let mut rest = Lines::over(alloc, text);
@@ -28,7 +29,7 @@ pub fn parse<A: AllocHandle>(alloc: A, text: &str) -> Result<Workload<A>, Fault<
     Ok(Workload { lines })
 }
 
-// Puts the line last.
+// Appends the line.
 fn push_line<A: AllocHandle>(
     lines: &mut Vec<Line<A>, A>,
     line: Line<A>,

@@ -1,4 +1,4 @@
--- A history that all seats agree on is the one that a closed server leaves.
+-- The history whose calls all seats have made is that of a closed server.
 use Rattle.std.proofs.Common.{◌≡◌, ◌≢◌, ◌<◌, Any, slice_index, inl, inr, ℕ, ◌≤◌, List, [], length, ap, sym, subst, ◌∙◌, arith, All, slice_index_or}
 use Rattle.std.proofs.lemmas.Bool.{cases_lt}
 use mathlib.Core.List.{IsPrefix}
@@ -15,7 +15,7 @@ use Rattle.cap_server.specs.declared.fault.CloseFault.{CloseFault}
 use Rattle.cap_server.specs.declared.fault.CloseFault.TheVariants.{MissingSeat, Overtaken}
 
 module _ {A : Type 0} where
-  -- the history that stands under the lock begins the one that was seen last, and is as long
+  -- the history under the lock is a prefix of the one that was seen last, and is as long
   pub closed : (seats : List (SeatState A)) (count events : ℕ) (counts : List ℕ) (core : State A) (history shown : List (Event A)) → IsCounted count counts history → core ≡ state history
       → IsLegal history → IsPrefix history shown → length shown ≡ events → events ≤ length history → All (λ seat. IsPrefix seat.seen shown) seats → All (Agrees count counts) seats → HasAll seats count
       → IsClosed seats events core

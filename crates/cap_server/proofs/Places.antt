@@ -6,7 +6,7 @@ use Rattle.cap_history.specs.Seat.{SeatState}
 use Rattle.cap_server.specs.Close.{HasAll, IsMissing, StandsAt}
 
 module _ {A : Type 0} where
-  -- another seat stands there
+  -- another seat has this index
   pub not-there : (seats : List (SeatState A)) (number place : ℕ) (seat : SeatState A) → place < length seats → seat ≡ slice_index_or seats place seat → seat.number ≢ number → ¬ StandsAt seats number place
   not-there seats number place seat within is other stands =
       let both : Some stands.seat ≡ Some seat = sym stands.at ∙ slice_get_read seats (length seats) place seat refl within is in
@@ -43,7 +43,7 @@ module _ {A : Type 0} where
   pub only-seen : (old new : SeatState A) → new.number ≡ old.number → new.answered ≡ old.answered → new ≡ record old { seen = new.seen }
   only-seen old new numbers answers = λ i. record { number = numbers i; seen = new.seen; answered = answers i }
 
-  -- the seat that stands at a place is the one that is read there
+  -- the seat with an index is the one that is read there
   pub stands-same : (seats : List (SeatState A)) (number place : ℕ) (seat : SeatState A) (stands : StandsAt seats number place) → place < length seats → seat ≡ slice_index_or seats place seat → stands.seat ≡ seat
   stands-same seats number place seat stands within is =
       let both : Some stands.seat ≡ Some seat = sym stands.at ∙ slice_get_read seats (length seats) place seat refl within is in

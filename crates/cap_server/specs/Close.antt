@@ -1,4 +1,4 @@
--- What a closed server leaves, and which seats it misses.
+-- The state of a closed server, and missing seats.
 use Rattle.std.specs.Prelude.{◌≡◌, ℕ, ◌<◌, Some, List, [], All, length, slice_get, slice_set}
 use mathlib.Core.List.{IsPrefix}
 use Rattle.cap_core.specs.declared.event.Event.{Event}
@@ -7,7 +7,7 @@ use Rattle.cap_history.specs.History.{own}
 use Rattle.cap_history.specs.Seat.{SeatState, calls}
 
 module _ {A : Type 0} where
-  -- the seat with this number stands at this place
+  -- the seat with this number has this index
   pub record StandsAt (seats : List (SeatState A)) (number place : ℕ) : Type 0 where
     pub seat : SeatState A
     pub at : slice_get seats place ≡ Some seat
@@ -21,8 +21,8 @@ module _ {A : Type 0} where
   abbrev pub HasAll : List (SeatState A) → ℕ → Type 0
   HasAll seats count = (number : ℕ) → number < count → (place : ℕ) × StandsAt seats number place
 
-  -- One legal history has just the calls of these seats, each seat's in their order, begins with all that any of them had
-  -- seen, and leaves the core.
+  -- One legal history has exactly the calls of these seats, each seat's in order, extends what each of them
+  -- had seen, and has the core as its state.
   pub record IsClosed (seats : List (SeatState A)) (events : ℕ) (core : State A) : Type 0 where
     pub history : List (Event A)
     pub legal : IsLegal history
@@ -32,8 +32,8 @@ module _ {A : Type 0} where
     pub own_calls : All (λ seat. own seat.number history ≡ calls seat) seats
     pub no_others : (number : ℕ) → IsMissing seats number → own number history ≡ []
 
-  -- A first seat has seen a history of this length, which begins with all that any seat had seen, and with this least one.
-  -- The other seats are as before.
+  -- The first seat has seen a history of this length, which extends what each seat had seen, and this
+  -- history. The other seats are unchanged.
   pub record FirstHasSeen (old new : List (SeatState A)) (least : List (Event A)) (front : ℕ) : Type 0 where
     pub place : ℕ
     pub first : StandsAt old 0 place

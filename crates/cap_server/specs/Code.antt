@@ -1,2 +1,2 @@
--- What the server keeps under its lock, for its own contracts. No rule is defined here.
+-- The state under the lock, for private contracts. No rule is defined here.
 pub mod Counts

@@ -1,4 +1,4 @@
--- What a call that has no reply leaves of its seat, and why it has none.
+-- The faults of calls, and the seat after a call without a reply.
 use Rattle.std.specs.Prelude.{◌≡◌, ℕ, ◌+◌, ◌^◌, length}
 use Rattle.cap_history.specs.Seat.{SeatState, SeesMore}
 use Rattle.cap_server.specs.declared.fault.CallFault.{CallFault}
@@ -6,7 +6,7 @@ use Rattle.cap_server.specs.declared.fault.CallFault.TheVariants.{OutOfMemory, O
 use Rattle.cap_server.specs.declared.fault.CloseFault.{CloseFault}
 use Rattle.cap_server.specs.declared.fault.CloseFault.TheVariants as closing
 
--- by the three faults: a fact for each, the second one of the count that it tells
+-- a fact for each of the three faults; the second depends on its count
 abbrev pub MatchCallFault : CallFault → Type 0 → (ℕ → Type 0) → Type 0 → Type 0
 MatchCallFault OutOfMemory memory overtaken full = memory
 MatchCallFault (Overtaken front) memory overtaken full = overtaken front
@@ -17,7 +17,9 @@ MatchCloseFault (closing.MissingSeat number) missing overtaken = missing number
 MatchCloseFault (closing.Overtaken front) missing overtaken = overtaken front
 
 module _ {A : Type 0} where
-  -- The seat has made no call. Where there was no memory it is as before; else it has seen the history that the fault tells of.
+  -- The seat has made no call. It is unchanged where memory ran out; otherwise it has seen the history that
+  -- the fault reports.
   abbrev pub LeavesSeat : CallFault → SeatState A → SeatState A → Type 0
   LeavesSeat fault old new =
-      MatchCallFault fault (new ≡ old) (λ front. SeesMore old new × (length new.seen ≡ front)) (SeesMore old new × (length new.seen + 1 ≡ 2 ^ 63))
+      MatchCallFault fault (new ≡ old) (λ front. SeesMore old new × (length new.seen ≡ front))
+      (SeesMore old new × (length new.seen + 1 ≡ 2 ^ 63))

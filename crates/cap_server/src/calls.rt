@@ -1,6 +1,10 @@
-//! One call for each command. Each is `Server::call` of that command.
+//! One method for each command. Each is `Server::call` with that command.
 ghost use Rattle.std.specs.Prelude.{◌≡◌, IfOk, IfErr};
-ghost use Rattle.cap_core.specs.declared.command.Command.TheVariants.{CreateTable, Commit, Apply, Read, SaveAs, NewSession, DropSession, Attach, AttachAll, SetFilter, Enable, Indirect, IsEmpty, Diff, Capture, Restart};
+ghost use Rattle.cap_core.specs.declared.command.Command.TheVariants.{CreateTable, Commit, Apply, Read};
+ghost use Rattle.cap_core.specs.declared.command.Command.TheVariants.{SaveAs, NewSession, DropSession};
+ghost use Rattle.cap_core.specs.declared.command.Command.TheVariants.{Attach, AttachAll, SetFilter, Enable};
+ghost use Rattle.cap_core.specs.declared.command.Command.TheVariants.{Indirect, IsEmpty, Diff, Capture};
+ghost use Rattle.cap_core.specs.declared.command.Command.TheVariants.{Restart};
 ghost use Rattle.cap_history.specs.Seat.{HasCalled};
 ghost use Rattle.cap_server.specs.Fault.{LeavesSeat};
 
@@ -16,7 +20,7 @@ use cap_value::{AllocHandle, Name};
 use std::sync::Wait;
 
 impl<J: Naming, A: AllocHandle> Server<J, A> {
-    /// Makes an empty table.
+    /// Creates an empty table.
     pub fn create_table<R: Wait>(
         &self,
         rt: &R,
@@ -51,7 +55,7 @@ impl<J: Naming, A: AllocHandle> Server<J, A> {
         self.call(rt, seat, &Command::Read)
     }
 
-    /// Makes a session.
+    /// Creates a session.
     pub fn new_session<R: Wait>(&self, rt: &R, seat: &mut Seat<J, A>) -> Result<Reply<A>, CallFault>
         ensures called { IfOk result (λ reply. HasCalled seat.old seat.new NewSession reply) }
         ensures refused { IfErr result (λ fault. LeavesSeat fault seat.old seat.new) }
@@ -113,7 +117,7 @@ impl<J: Naming, A: AllocHandle> Server<J, A> {
         self.call(rt, seat, &Command::SaveAs { database })
     }
 
-    /// Ends a session.
+    /// Deletes a session.
     pub fn drop_session<R: Wait>(
         &self,
         rt: &R,
@@ -126,7 +130,7 @@ impl<J: Naming, A: AllocHandle> Server<J, A> {
         self.call(rt, seat, &Command::DropSession { session })
     }
 
-    /// Lets a session attach each table when one of its rows changes, unless it has a filter.
+    /// Lets a session attach each table that changes, unless it has a filter.
     pub fn attach_all<R: Wait>(
         &self,
         rt: &R,
@@ -139,7 +143,7 @@ impl<J: Naming, A: AllocHandle> Server<J, A> {
         self.call(rt, seat, &Command::AttachAll { session })
     }
 
-    /// Lets a session attach each table that the filter accepts when one of its rows changes.
+    /// Lets a session attach each table that changes and that the filter accepts.
     pub fn set_filter<R: Wait>(
         &self,
         rt: &R,
@@ -153,7 +157,7 @@ impl<J: Naming, A: AllocHandle> Server<J, A> {
         self.call(rt, seat, &Command::SetFilter { session, filter })
     }
 
-    /// Sets whether a session is enabled, or only asks.
+    /// Sets or queries whether a session is enabled.
     pub fn enable<R: Wait>(
         &self,
         rt: &R,
@@ -167,7 +171,7 @@ impl<J: Naming, A: AllocHandle> Server<J, A> {
         self.call(rt, seat, &Command::Enable { session, enabled })
     }
 
-    /// Sets whether a session's touches are indirect, or only asks.
+    /// Sets or queries a session's indirect flag.
     pub fn indirect<R: Wait>(
         &self,
         rt: &R,
@@ -182,7 +186,7 @@ impl<J: Naming, A: AllocHandle> Server<J, A> {
         self.call(rt, seat, &Command::Indirect { session, indirect })
     }
 
-    /// Asks whether a session has touched no row.
+    /// Queries whether a session has recorded no row.
     pub fn is_empty<R: Wait>(
         &self,
         rt: &R,
@@ -195,7 +199,7 @@ impl<J: Naming, A: AllocHandle> Server<J, A> {
         self.call(rt, seat, &Command::IsEmpty { session })
     }
 
-    /// Records how a table differs from the one in a saved database.
+    /// Records how a table differs from the table of the same name in a saved database.
     pub fn diff<R: Wait>(
         &self,
         rt: &R,
@@ -218,7 +222,7 @@ impl<J: Naming, A: AllocHandle> Server<J, A> {
         )
     }
 
-    /// Captures a session's changes, and then forgets all that it has recorded.
+    /// Captures a session's changes, and then deletes its records.
     pub fn restart<R: Wait>(
         &self,
         rt: &R,

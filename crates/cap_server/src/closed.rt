@@ -1,10 +1,12 @@
+//! The state of a closed server.
+
 use cap_core::Core;
 use cap_value::AllocHandle;
 
-/// What a closed server leaves.
+/// The state of a closed server.
 #[derive(Drop)]
 pub struct Closed<A: AllocHandle> {
-    /// How many events the history has.
+    /// The number of events of the history.
     pub events: u64,
     /// The sequential server after all of them.
     pub core: Core<A>,

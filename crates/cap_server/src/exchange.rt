@@ -1,34 +1,36 @@
-//! The step outside that belongs to a call: the exchange of the front word.
-ghost use Rattle.std.specs.Prelude.{◌≡◌, ◌≢◌, ◌+◌, ◌<◌, ◌^◌, ◌⊎◌, [], ◌∷◌, ◌++◌, length, IfOk, IfErr, OnOk, OnErr};
+//! The commit hook of a call: it appends the event to the history by a compare-and-swap of the front word.
+ghost use Rattle.std.specs.Prelude.{◌≡◌, ◌≢◌, ◌<◌, ◌⊎◌, [], ◌∷◌, ◌++◌, length, IfOk, IfErr, OnOk, OnErr};
 ghost use Rattle.cap_core.specs.Answer.{event_by, reply_of, state};
+ghost use Rattle.cap_core.specs.Past.{HasRoom};
 ghost use Rattle.cap_history.specs.History.{own};
 ghost use Rattle.cap_history.specs.Seat.{HasCalled, SeesMore, calls};
 ghost use Rattle.cap_value.specs.Memory.{MatchFault};
 
-use cap_core::{Command, Confirm, Core, Reply, legal_histories_grow};
+use cap_core::{Command, CommitHook, Core, Reply, legal_histories_grow};
 use cap_history::{Front, List, Naming, Overtaken, Seat};
 use cap_value::{AllocHandle, Fault};
 
-/// A seat's call of a command, to be added to the list that stands under the lock.
+// A seat's call of a command, to be appended to the list under the lock.
 #[derive(Drop)]
 pub(crate) struct Exchange<'f, 's, 'l, 'c, J: Naming, A: AllocHandle> {
     pub(crate) front: &'f Front<J, A>,
     pub(crate) seat: &'s mut Seat<J, A>,
     pub(crate) list: &'l List<J, A>,
     pub(crate) command: &'c Command<A>,
-    // How many events of the seat the list has.
+    // The number of the seat's events in the list.
     pub(crate) count: u64,
 }
 
-impl<'f, 's, 'l, 'c, J: Naming, A: AllocHandle> Confirm<A> for Exchange<'f, 's, 'l, 'c, J, A> {
+impl<'f, 's, 'l, 'c, J: Naming, A: AllocHandle> CommitHook<A> for Exchange<'f, 's, 'l, 'c, J, A> {
     type Refusal = Overtaken;
 
-    ghost use Rattle.std.specs.Prelude.{◌≡◌, ◌≢◌, ◌+◌, ◌<◌, ◌^◌, ◌⊎◌, [], ◌∷◌, ◌++◌, length, MatchResult};
+    ghost use Rattle.std.specs.Prelude.{◌≡◌, ◌≢◌, ◌<◌, ◌⊎◌, [], ◌∷◌, ◌++◌, length, MatchResult};
     ghost use Rattle.cap_core.specs.Answer.{event_by, reply_of};
+    ghost use Rattle.cap_core.specs.Past.{HasRoom};
     ghost use Rattle.cap_history.specs.History.{own};
     ghost use Rattle.cap_history.specs.Seat.{HasCalled, SeesMore, calls};
 
-    ghost can_confirm = { λ x reply. (length x.list.now + 1 < 2 ^ 63)
+    ghost can_ask = { λ x reply. (HasRoom (length x.list.now))
         × (reply ≡ reply_of x.list.now x.command.now)
         × (x.count ≡ length (own x.seat.now.number x.list.now)) };
 
@@ -39,7 +41,7 @@ impl<'f, 's, 'l, 'c, J: Naming, A: AllocHandle> Confirm<A> for Exchange<'f, 's, 
         (λ overtaken. SeesMore old.seat.now new.seat.now × (length new.seat.now.seen ≡ overtaken.front)
         × ((length old.list.now < overtaken.front) ⊎ (old.count ≢ length (calls old.seat.now)))) };
 
-    fn confirm(&mut self, reply: &Reply<A>) -> Result<(), Overtaken> {
+    fn before_commit(&mut self, reply: &Reply<A>) -> Result<(), Overtaken> {
         if self.seat.calls() != self.count {
             let front = self.front.look(self.seat);
             return Err(Overtaken { front });
@@ -48,8 +50,8 @@ impl<'f, 's, 'l, 'c, J: Naming, A: AllocHandle> Confirm<A> for Exchange<'f, 's, 
     }
 }
 
-/// Carries out a seat's command on the core that a list leaves, once the front word was exchanged for it.
-pub(crate) fn step_after<J: Naming, A: AllocHandle>(
+// Carries out a seat's command on the core after a list, if the front word can be exchanged.
+pub(crate) fn step_with_hook<J: Naming, A: AllocHandle>(
     core: &mut Core<A>,
     list: &List<J, A>,
     count: u64,
@@ -58,7 +60,7 @@ pub(crate) fn step_after<J: Naming, A: AllocHandle>(
     command: &Command<A>,
 ) -> Result<Reply<A>, Fault<Overtaken>>
     requires core { core.old ≡ state list.now }
-    requires room { length list.now + 1 < 2 ^ 63 }
+    requires room { HasRoom (length list.now) }
     requires count { count ≡ length (own seat.old.number list.now) }
     ensures reply { IfOk result (λ reply. reply ≡ reply_of list.now command.now) }
     ensures called { IfOk result (λ reply. HasCalled seat.old seat.new command.now reply) }

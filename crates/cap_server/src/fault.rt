@@ -1,16 +1,18 @@
+//! The faults of a server.
+
 use thiserror::Error;
 
-/// Why a call of the server has no reply. The call is no event, and nothing has changed but what its seat has seen.
+/// Why a call has no reply. The call is no event; only what its seat has seen may change.
 #[derive(Clone, Copy, Debug, PartialEq, Eq, Drop, Error)]
 pub enum CallFault {
-    /// There was no memory. The same call may be made again.
+    /// Out of memory. The call may be retried.
     #[error("refused for memory")]
     OutOfMemory,
-    /// S1: the history has more events than stand under the lock, or the seat's calls are others than stand there. It
-    /// never comes where the seats are the server's.
+    /// S1: the history is longer than the one under the lock, or the seat has made other calls than the
+    /// server has counted. It does not occur with the server's own seats.
     #[error("overtaken, front {front}")]
     Overtaken {
-        /// How many events the history has.
+        /// The number of events of the history.
         front: u64,
     },
     /// S2: the history has 2^63 - 1 events.
@@ -18,19 +20,20 @@ pub enum CallFault {
     HistoryFull,
 }
 
-/// Why a server is not closed. It is as it was, and so are the seats but for what the first has seen.
+/// Why a server is not closed. It does not change; of the seats only what the first has seen may change.
 #[derive(Clone, Copy, Debug, PartialEq, Eq, Drop, Error)]
 pub enum CloseFault {
     /// S3: a seat was not handed back.
     #[error("missing seat {number}")]
     MissingSeat {
-        /// The least number of a missing seat.
+        /// The least missing number.
         number: u64,
     },
-    /// S1: the history has more events than stand under the lock, or a seat's calls are others than stand there.
+    /// S1: the history is longer than the one under the lock, or a seat has made other calls than the server
+    /// has counted.
     #[error("overtaken, front {front}")]
     Overtaken {
-        /// How many events the history has.
+        /// The number of events of the history.
         front: u64,
     },
 }

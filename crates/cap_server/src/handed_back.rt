@@ -8,7 +8,7 @@ ghost use Rattle.cap_server.specs.Code.Counts.{Agrees};
 use cap_history::{Front, List, Naming, Seat};
 use cap_value::AllocHandle;
 
-/// Where the seat with the number stands, if it was handed back.
+// The index of the seat with this number, if it was handed back.
 pub(crate) fn place_of<J: Naming, A: AllocHandle>(
     seats: &[Seat<J, A>],
     number: u64,
@@ -25,7 +25,7 @@ pub(crate) fn place_of<J: Naming, A: AllocHandle>(
     None
 }
 
-/// The least number below the count that no seat has, if there is one.
+// The least number below the count that no seat has, if there is one.
 pub(crate) fn missing_seat<J: Naming, A: AllocHandle>(
     seats: &[Seat<J, A>],
     count: u64,
@@ -41,7 +41,7 @@ pub(crate) fn missing_seat<J: Naming, A: AllocHandle>(
     None
 }
 
-/// Whether each seat has made as many calls as are counted.
+// Whether each seat has made as many calls as the server has counted.
 pub(crate) fn calls_agree<J: Naming, A: AllocHandle>(seats: &[Seat<J, A>], counts: &[u64]) -> bool
     requires { length counts.now ≡ J.seats }
     ensures { MatchBool result (All (Agrees J.seats counts.now) seats.now)
@@ -57,7 +57,7 @@ pub(crate) fn calls_agree<J: Naming, A: AllocHandle>(seats: &[Seat<J, A>], count
     true
 }
 
-/// Lets a list meet what each seat has seen.
+// Lets a list see what each seat has seen.
 pub(crate) fn meet_all<J: Naming, A: AllocHandle>(list: &mut List<J, A>, seats: &[Seat<J, A>])
     ensures list { IsPrefix list.old list.new }
     ensures seats { All (λ seat. IsPrefix seat.seen list.new) seats.now }
@@ -67,8 +67,8 @@ pub(crate) fn meet_all<J: Naming, A: AllocHandle>(list: &mut List<J, A>, seats: 
     }
 }
 
-/// Lets the first seat see all that the list and the seats have seen, and then the history as it is. Answers how many
-/// events that has.
+// Lets the first seat see what the list and all seats have seen, and then the whole history. Gives the number
+// of its events.
 pub(crate) fn first_sees_all<J: Naming, A: AllocHandle>(
     seats: &mut Vec<Seat<J, A>, A>,
     list: &List<J, A>,

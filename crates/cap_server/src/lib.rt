@@ -6,10 +6,12 @@ mod closed;
 mod exchange;
 mod fault;
 mod handed_back;
+mod limits;
 mod locked;
 mod server;
 
 pub use closed::Closed;
 pub use fault::{CallFault, CloseFault};
+pub use limits::SEATS_MAX;
 pub use locked::Locked;
 pub use server::Server;

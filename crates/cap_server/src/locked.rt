@@ -1,4 +1,6 @@
-ghost use Rattle.std.specs.Prelude.{◌≡◌, ◌≢◌, ◌+◌, ◌<◌, ◌^◌, ◌⊎◌, ⊤, Any, [], ◌∷◌, ◌++◌, length, IfOk, IfErr, OnOk, OnErr, Err};
+//! The state under the lock of the server.
+ghost use Rattle.std.specs.Prelude.{◌≡◌, ◌≢◌, ◌+◌, ◌<◌, ◌^◌, ◌⊎◌, ⊤, Any, [], ◌∷◌, ◌++◌, length, IfOk, IfErr};
+ghost use Rattle.std.specs.Prelude.{OnOk, OnErr, Err};
 ghost use Rattle.cap_core.specs.Answer.{event_by, reply_of};
 ghost use Rattle.cap_history.specs.History.{own};
 ghost use Rattle.cap_history.specs.Seat.{HasCalled, calls};
@@ -6,19 +8,16 @@ ghost use Rattle.cap_server.specs.Close.{FirstHasSeen, HasAll, IsClosed, IsMissi
 ghost use Rattle.cap_server.specs.Fault.{LeavesSeat, MatchCallFault, MatchCloseFault};
 ghost use Rattle.cap_server.specs.declared.fault.CallFault.TheVariants.{HistoryFull};
 
-use crate::exchange::step_after;
+use crate::exchange::step_with_hook;
 use crate::handed_back::{calls_agree, first_sees_all, missing_seat};
 use crate::{CallFault, CloseFault, Closed};
-use cap_core::{Command, Core, Reply};
+use cap_core::{Command, Core, EVENTS_MAX, Reply};
 use cap_history::{Front, List, Naming, Seat};
 use cap_value::{AllocHandle, Fault, OutOfMemory};
 use std::marker::Model;
 
-// The most events that a history may have.
-const EVENTS_MAX: u64 = (1 << 63) - 1;
-
-/// What stands under the lock: the sequential server, the history that leaves it, and how many of its events each seat
-/// made. Contracts see the history.
+/// The state under the lock: the sequential server, its history, and the number of events of each seat.
+/// Contracts see the history.
 #[derive(Drop)]
 pub struct Locked<J: Naming, A: AllocHandle> {
     core: Core<A>,
@@ -44,7 +43,7 @@ impl<J: Naming, A: AllocHandle> Model for Locked<J, A> {
 }
 
 impl<J: Naming, A: AllocHandle> Locked<J, A> {
-    /// A sequential server after no command, with a list that has seen nothing.
+    /// An empty sequential server, with an empty list.
     pub fn open(alloc: A, list: List<J, A>, seats: u64) -> Result<Self, OutOfMemory>
         requires list { list ≡ [] }
         requires seats { seats ≡ J.seats }
@@ -59,8 +58,8 @@ impl<J: Naming, A: AllocHandle> Locked<J, A> {
         })
     }
 
-    /// Carries out a seat's command, once the front word was exchanged for it. Without a reply nothing has changed but
-    /// what the seat has seen.
+    /// Carries out a seat's command, if the front word can be exchanged. Where there is no reply, only what
+    /// the seat has seen changes.
     pub fn step(
         &mut self,
         front: &Front<J, A>,
@@ -88,7 +87,7 @@ impl<J: Naming, A: AllocHandle> Locked<J, A> {
         }
         let number = seat.number() as usize;
         let count = self.counts[number];
-        match step_after(&mut self.core, &self.list, count, front, seat, command) {
+        match step_with_hook(&mut self.core, &self.list, count, front, seat, command) {
             Ok(reply) => {
                 self.list = seat.list();
                 self.counts[number] = count + 1;
@@ -100,8 +99,9 @@ impl<J: Naming, A: AllocHandle> Locked<J, A> {
             Err(Fault::OutOfMemory) => Err(CallFault::OutOfMemory),
         }
     }
-    /// Takes all seats back, and hands out the sequential server. First each number has to be a seat's; then the first
-    /// seat sees all that any seat has seen, and the history as it is, and that has to be what stands under the lock.
+
+    /// Takes all seats back, and gives the sequential server. Each number must be a seat's. The first seat
+    /// then sees what any seat has seen and the whole history, which must be the one under the lock.
     pub fn close(
         self,
         front: &Front<J, A>,

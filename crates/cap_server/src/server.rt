@@ -1,3 +1,4 @@
+//! The server: calls, and opening and closing.
 ghost use Rattle.std.specs.Prelude.{◌≡◌, ◌<◌, ◌≤◌, [], IfOk, IfErr, length};
 ghost use mathlib.Core.List.{IsPrefix};
 ghost use Rattle.cap_history.specs.History.{longer};
@@ -11,7 +12,7 @@ use cap_history::{Front, Naming, Opened, Seat};
 use cap_value::{AllocHandle, OutOfMemory};
 use std::sync::{Mutex, Wait};
 
-/// A server that threads share by reference. Each has a seat of its own, through which it calls.
+/// A server that threads share by reference. Each calls through its own seat.
 #[derive(Drop)]
 pub struct Server<J: Naming, A: AllocHandle> {
     front: Front<J, A>,
@@ -19,7 +20,7 @@ pub struct Server<J: Naming, A: AllocHandle> {
 }
 
 impl<J: Naming, A: AllocHandle> Server<J, A> {
-    /// Opens a server without tables and sessions, with so many seats, numbered from 0.
+    /// Opens an empty server with this number of seats, numbered from 0.
     pub fn open(
         opened: Opened<A>,
         alloc: A,
@@ -35,7 +36,7 @@ impl<J: Naming, A: AllocHandle> Server<J, A> {
         Ok((Server { front, locked }, made))
     }
 
-    /// Carries out a seat's command. It waits for the calls of other seats.
+    /// Carries out a seat's command. It takes the server's lock.
     pub fn call<R: Wait>(
         &self,
         rt: &R,
@@ -48,7 +49,7 @@ impl<J: Naming, A: AllocHandle> Server<J, A> {
         self.locked.lock(rt).step(&self.front, seat, command)
     }
 
-    /// Lets the seat see the history as it is, and answers how many events that has. It waits for nobody.
+    /// Lets the seat see the whole history, and gives the number of its events. It is wait-free.
     pub fn front(&self, seat: &mut Seat<J, A>) -> u64
         ensures seen { SeesMore seat.old seat.new }
         ensures front { result ≡ length seat.new.seen }
@@ -56,7 +57,7 @@ impl<J: Naming, A: AllocHandle> Server<J, A> {
         self.front.look(seat)
     }
 
-    /// Lets the second seat see what the first has seen. It waits for nobody.
+    /// Lets the second seat see what the first has seen. It is wait-free.
     pub fn meet(&self, first: &Seat<J, A>, second: &mut Seat<J, A>)
         ensures seen { SeesMore second.old second.new }
         ensures both { second.new.seen ≡ longer second.old.seen first.now.seen }
@@ -65,7 +66,7 @@ impl<J: Naming, A: AllocHandle> Server<J, A> {
         self.front.meet(first, second);
     }
 
-    /// Takes all seats back, and hands out the sequential server after the history of all calls. It waits for nobody.
+    /// Takes all seats back, and gives the sequential server after the history of all calls. It does not block.
     pub fn close(
         self,
         seats: Vec<Seat<J, A>, A>,

@@ -5,7 +5,7 @@ use Rattle.std.proofs.Math.Seq.{take-append_seam, take-length, take-suc, take-su
 use Rattle.std.specs.List.{list_any}
 use Rattle.cap_value.specs.Bytes.{bytes_eq}
 use Rattle.cap_session.specs.declared.attached_table.AttachedTable.{AttachedTable}
-use Rattle.cap_session.specs.Code.Attached.{tables_of, waiting_tables}
+use Rattle.cap_session.specs.Code.Attached.{tables_of, staged_tables}
 use Rattle.cap_session.specs.Session.{AttachedTables, records_of}
 use Rattle.cap_session.specs.Records.{Records}
 use Rattle.std.specs.Option.{unwrap_or}
@@ -76,18 +76,18 @@ module _ {A : Type 0} where
   pub all-back : (old mid new : List (AttachedTable A)) (len : ℕ) → mid ≡ old → len ≡ length old → tables_of new ≡ tables_of mid → take len (new ++ drop (length new) old) ≡ new
   all-back old mid new len is whole same = put_back old new len whole (same-length (λ table. (table.name, table.records)) new old (same ∙ ap tables_of is))
 
-  -- Tables and those behind them, each of which changed to what waits: the first are as they were, and all wait as changed.
+  -- Tables and those behind them, each with staged records: the first are unchanged, and all are staged as changed.
   pub both-changed : (change : List ℕ × Records A → List ℕ × Records A) (old mid new others mid_others new_others after : List (AttachedTable A)) (len len_others : ℕ) (all : AttachedTables A)
-      → mid ≡ old → len ≡ length old → tables_of new ≡ tables_of mid → waiting_tables new ≡ map change (tables_of mid)
-      → mid_others ≡ others → len_others ≡ length others → tables_of new_others ≡ tables_of mid_others → waiting_tables new_others ≡ map change (tables_of mid_others)
+      → mid ≡ old → len ≡ length old → tables_of new ≡ tables_of mid → staged_tables new ≡ map change (tables_of mid)
+      → mid_others ≡ others → len_others ≡ length others → tables_of new_others ≡ tables_of mid_others → staged_tables new_others ≡ map change (tables_of mid_others)
       → after ≡ take len (new ++ drop (length new) old) ++ take len_others (new_others ++ drop (length new_others) others) → tables_of old ++ tables_of others ≡ all
-      → (tables_of (take (length old) after) ≡ tables_of old) × (waiting_tables after ≡ map change all)
+      → (tables_of (take (length old) after) ≡ tables_of old) × (staged_tables after ≡ map change all)
   both-changed change old mid new others mid_others new_others after len len_others all is whole same waits is_others whole_others same_others waits_others put whole_list =
       let kept : tables_of new ≡ tables_of old = same ∙ ap tables_of is in
       let long : length new ≡ length old = same-length (λ table. (table.name, table.records)) new old kept in
       let parts : after ≡ new ++ new_others = put ∙ ap₂ (λ a b. a ++ b) (all-back old mid new len is whole same) (all-back others mid_others new_others len_others is_others whole_others same_others) in (
         ap (λ ts. tables_of (take (length old) ts)) parts ∙ ap (λ n. tables_of (take n (new ++ new_others))) (sym long) ∙ ap tables_of (take-append_seam new new_others) ∙ kept,
-        ap waiting_tables parts ∙ map-append (λ table. (table.name, unwrap_or table.waiting table.records)) new new_others
+        ap staged_tables parts ∙ map-append (λ table. (table.name, unwrap_or table.staged table.records)) new new_others
             ∙ ap₂ (λ a b. a ++ b) (waits ∙ ap (λ ts. map change (tables_of ts)) is) (waits_others ∙ ap (λ ts. map change (tables_of ts)) is_others)
             ∙ sym (map-append change (tables_of old) (tables_of others)) ∙ ap (map change) whole_list,
       )

@@ -29,7 +29,7 @@ or_both true false false = refl
 or_both false b c = refl
 
 module _ {A : Type 0} where
-  -- the records that stand, or none at all where a table is attached
+  -- the records of a table, or none where it is newly attached
   found_or : Option (Records A) → Bool → Option (Records A)
   found_or None b = cond b (Some []) None
   found_or (Some records) b = Some records

@@ -9,8 +9,8 @@ use Rattle.std.specs.Option.{option_map}
 use Rattle.std.specs.Prelude.{OnOk}
 use Rattle.cap_session.specs.declared.numbered.Numbered.{Numbered}
 use Rattle.cap_session.specs.declared.parts.Parts.{Parts}
-use Rattle.cap_session.specs.Code.Numbered.{live_of, waiting_of}
-use Rattle.cap_session.specs.Code.Parts.{noted_of, state_of}
+use Rattle.cap_session.specs.Code.Numbered.{live_of, staged_of}
+use Rattle.cap_session.specs.Code.Parts.{staged_state_of, state_of}
 use Rattle.cap_session.specs.Session.{SessionState}
 use Rattle.cap_session.specs.Sessions.{NumberedSessions, session_numbered, with_session, with_session_if, without_session}
 use Rattle.cap_session.proofs.ListLemmas.{map-set-same, put_back, same-length}
@@ -100,7 +100,7 @@ module _ {A : Type 0} (number : ℕ) (change : SessionState A → SessionState A
   abbrev pub changed : NumberedSessions A → NumberedSessions A
   changed sessions = with_session_if sessions number (option_map change (session_numbered sessions number))
 
-  -- a change where it stands
+  -- a change in place
   pub live-changed : (sessions : List (Numbered A)) (i : ℕ) (new old : Numbered A) → position (has_number number) sessions ≡ Some i → old ≡ get_or sessions i old → new.number ≡ old.number → state_of new.parts ≡ change (state_of old.parts)
       → live_of (set sessions i new) ≡ changed (live_of sessions)
   live-changed sessions i new old found is same made =
@@ -110,16 +110,16 @@ module _ {A : Type 0} (number : ℕ) (change : SessionState A → SessionState A
   pub none-changed : (sessions : List (Numbered A)) → position (has_number number) sessions ≡ None → live_of sessions ≡ changed (live_of sessions)
   none-changed sessions none = sym (ap (λ s. with_session_if (live_of sessions) number (option_map change s)) (place-none state_of number sessions none))
 
-  -- a change that waits, where nothing else does
-  pub waiting-changed : (sessions : List (Numbered A)) (start : NumberedSessions A) (i : ℕ) (new old : Numbered A) → live_of sessions ≡ start → waiting_of sessions ≡ start → position (has_number number) sessions ≡ Some i → old ≡ get_or sessions i old → new.number ≡ old.number
-      → noted_of new.parts ≡ change (state_of old.parts) → waiting_of (set sessions i new) ≡ changed start
-  waiting-changed sessions start i new old live waiting found is same made =
-      place-with noted_of number sessions i new old found is same ∙ ap₂ (λ s n. with_session s number n) waiting made
+  -- a staged change, where nothing else is staged
+  pub staged-changed : (sessions : List (Numbered A)) (start : NumberedSessions A) (i : ℕ) (new old : Numbered A) → live_of sessions ≡ start → staged_of sessions ≡ start → position (has_number number) sessions ≡ Some i → old ≡ get_or sessions i old → new.number ≡ old.number
+      → staged_state_of new.parts ≡ change (state_of old.parts) → staged_of (set sessions i new) ≡ changed start
+  staged-changed sessions start i new old live staged found is same made =
+      place-with staged_state_of number sessions i new old found is same ∙ ap₂ (λ s n. with_session s number n) staged made
       ∙ sym (ap (λ s. with_session_if start number (option_map change s)) (ap (λ s. session_numbered s number) (sym live) ∙ place-some state_of number sessions i old found is))
 
-  pub none-waiting : (sessions : List (Numbered A)) (start : NumberedSessions A) → live_of sessions ≡ start → waiting_of sessions ≡ start → position (has_number number) sessions ≡ None → waiting_of sessions ≡ changed start
-  none-waiting sessions start live waiting none =
-      waiting ∙ sym (ap (λ s. with_session_if start number (option_map change s)) (ap (λ s. session_numbered s number) (sym live) ∙ place-none state_of number sessions none))
+  pub none-staged : (sessions : List (Numbered A)) (start : NumberedSessions A) → live_of sessions ≡ start → staged_of sessions ≡ start → position (has_number number) sessions ≡ None → staged_of sessions ≡ changed start
+  none-staged sessions start live staged none =
+      staged ∙ sym (ap (λ s. with_session_if start number (option_map change s)) (ap (λ s. session_numbered s number) (sym live) ∙ place-none state_of number sessions none))
 
 module _ {A : Type 0} where
   -- a session that shows as it did
@@ -128,10 +128,10 @@ module _ {A : Type 0} where
       map-set-same (λ session. (session.number, state_of session.parts)) sessions i new old lt
       (ap₂ (λ n s. (n, s)) (same ∙ ap (λ (s : Numbered A). s.number) is) (kept ∙ ap (λ (s : Numbered A). state_of s.parts) is))
 
-  -- what a slice of all sessions noted, once it is put back
-  pub noted-back : {T E : Type 0} (r : Result T E) (change : NumberedSessions A → NumberedSessions A) (old mid new : List (Numbered A)) (len : ℕ) (shown : NumberedSessions A) → live_of old ≡ shown → mid ≡ old → len ≡ length old → live_of new ≡ live_of mid → OnOk r (waiting_of new ≡ change (live_of mid))
-      → (live_of (take len (new ++ drop (length new) old)) ≡ shown) × OnOk r (waiting_of (take len (new ++ drop (length new) old)) ≡ change shown)
-  noted-back r change old mid new len shown shows is whole kept noted =
+  -- what a slice of all sessions staged, once it is put back
+  pub staged-back : {T E : Type 0} (r : Result T E) (change : NumberedSessions A → NumberedSessions A) (old mid new : List (Numbered A)) (len : ℕ) (shown : NumberedSessions A) → live_of old ≡ shown → mid ≡ old → len ≡ length old → live_of new ≡ live_of mid → OnOk r (staged_of new ≡ change (live_of mid))
+      → (live_of (take len (new ++ drop (length new) old)) ≡ shown) × OnOk r (staged_of (take len (new ++ drop (length new) old)) ≡ change shown)
+  staged-back r change old mid new len shown shows is whole kept noted =
       let live : live_of mid ≡ shown = ap live_of is ∙ shows in
       let back : take len (new ++ drop (length new) old) ≡ new = put_back old new len whole (same-length (λ session. (session.number, state_of session.parts)) new old (kept ∙ ap live_of is)) in
-      (ap live_of back ∙ kept ∙ live, on_ok_weaker r (λ made. ap waiting_of back ∙ made ∙ ap change live) noted)
+      (ap live_of back ∙ kept ∙ live, on_ok_weaker r (λ made. ap staged_of back ∙ made ∙ ap change live) noted)

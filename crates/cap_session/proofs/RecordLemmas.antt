@@ -165,7 +165,7 @@ module _ {A : Type 0} where
   made_direct None image indirect is = is
   made_direct (Some r) image indirect is = false_second r.indirect indirect is
 
-  -- a key that was touched directly has a direct mark, whatever touches follow
+  -- the record of a key that was touched directly is direct, whatever touches follow
   pub direct_stays : (before : Records A) (t : Touch A) (more : List (Touch A)) (r : Record A) → t.indirect ≡ false → get fields_cmp (with_touches before (t ∷ more)) t.key ≡ Some r → r.indirect ≡ false
   unfolding record_from
   direct_stays before t more r direct is =

@@ -1,4 +1,4 @@
--- What the code keeps, for its own contracts. No rule is defined here.
+-- The state in the code, for its own contracts. No rule is defined here.
 pub mod Attached
 pub mod Latest
 pub mod Numbered

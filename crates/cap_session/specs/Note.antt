@@ -1,4 +1,4 @@
--- What the changes of one commit, or a diff, add to a session.
+-- Recording the changes of one commit, or a diff, in a session.
 use Rattle.std.specs.Prelude.{ℕ, Bool, true, false, Option, None, List, map, fold, ◌||◌, if◌then◌else◌}
 use Rattle.std.specs.List.{filter_map}
 use Rattle.std.specs.Option.{option_map}
@@ -13,17 +13,23 @@ use Rattle.cap_session.specs.declared.rule.AutomaticRule.{AutomaticRule}
 use Rattle.cap_session.specs.Records.{Touch, with_touches}
 use Rattle.cap_session.specs.Session.{AttachedTables, SessionState, accepts_by, attach}
 
--- what a trigger or a foreign key action does touches indirectly
+-- a trigger or a foreign key action touches indirectly
 abbrev pub is_cascade : Cause → Bool
 is_cascade Direct = false
 is_cascade Cascade = true
 
 module _ {A : Type 0} where
-  -- A change of a row of this table, as a touch of its key: the image is the row before the event. A row without a key
-  -- is never touched.
+  -- A change of a row of this table, as a touch of its key: the image is the row before the commit. A row
+  -- without a key is never touched.
   abbrev pub touch_of : Tables A → Bool → List ℕ → Change A → Option (Touch A)
   touch_of before indirect name change =
-      if bytes_eq name change.table then option_map (λ key. record { key = key; image = row_at before name key; indirect = indirect || is_cascade change.cause }) change.key else None
+      if bytes_eq name change.table
+      then option_map (λ key. record {
+        key = key;
+        image = row_at before name key;
+        indirect = indirect || is_cascade change.cause;
+      }) change.key
+      else None
 
   -- the touches of rows of this table
   abbrev pub touches_of : Tables A → Bool → List ℕ → List (Change A) → List (Touch A)
@@ -31,9 +37,11 @@ module _ {A : Type 0} where
 
   -- each attached table with the touches of its rows
   abbrev pub touch_tables : Tables A → Bool → List (Change A) → AttachedTables A → AttachedTables A
-  touch_tables before indirect changes tables = map (λ attached. (attached.0, with_touches attached.1 (touches_of before indirect attached.0 changes))) tables
+  touch_tables before indirect changes tables =
+      map (λ attached. (attached.0, with_touches attached.1 (touches_of before indirect attached.0 changes)))
+      tables
 
-  -- a name that the rule accepts is attached
+  -- the name is attached where the rule accepts it
   abbrev pub attach_by : AutomaticRule A → AttachedTables A → List ℕ → AttachedTables A
   attach_by rule tables name = if accepts_by rule name then attach name tables else tables
 
@@ -41,19 +49,31 @@ module _ {A : Type 0} where
   abbrev pub attach_by_rule : AutomaticRule A → List (Change A) → AttachedTables A → AttachedTables A
   attach_by_rule rule changes tables = fold (attach_by rule) tables (map (λ change. change.table) changes)
 
-  -- the session after a commit with these changes, on tables that were so before it
+  -- the session after a commit with these changes, given the tables before it
   abbrev pub note : Tables A → List (Change A) → SessionState A → SessionState A
   note before changes session =
-      if session.enabled then record session { tables = touch_tables before session.indirect changes (attach_by_rule session.rule changes session.tables) } else session
+      if session.enabled
+      then record session {
+        tables =
+            touch_tables before session.indirect changes (attach_by_rule session.rule changes session.tables);
+      }
+      else session
 
-  -- the touches by a diff: the image is the row of the table that was compared with, or its absence
+  -- the touches by a diff: the image is the row of the table that was compared with, if any
   abbrev pub touches_found : Bool → List (Difference A) → List (Touch A)
-  touches_found indirect differences = map (λ difference. record { key = difference.key; image = difference.image; indirect = indirect }) differences
+  touches_found indirect differences =
+      map (λ difference. record { key = difference.key; image = difference.image; indirect = indirect })
+      differences
 
-  -- this table with touches, and the others as they are
+  -- this table after touches, and the others unchanged
   abbrev pub touch_table : List ℕ → List (Touch A) → AttachedTables A → AttachedTables A
-  touch_table name touches tables = map (λ attached. if bytes_eq name attached.0 then (attached.0, with_touches attached.1 touches) else attached) tables
+  touch_table name touches tables =
+      map (λ attached.
+      if bytes_eq name attached.0 then (attached.0, with_touches attached.1 touches) else attached) tables
 
-  -- the session after a diff of this table, which is attached whatever the rule says, also where it is not enabled
+  -- the session after a diff of this table, which is attached whatever the rule, even where the session is
+  -- disabled
   abbrev pub note_diff : List ℕ → List (Difference A) → SessionState A → SessionState A
-  note_diff name differences session = record session { tables = touch_table name (touches_found session.indirect differences) (attach name session.tables) }
+  note_diff name differences session = record session {
+    tables = touch_table name (touches_found session.indirect differences) (attach name session.tables);
+  }

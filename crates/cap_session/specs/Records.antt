@@ -1,4 +1,4 @@
--- What a session keeps of the touched rows of one table.
+-- The records of the touched rows of one table.
 use Rattle.std.specs.Prelude.{◌≡◌, Bool, Option, Some, None, List, [], ◌∷◌, filter, fold, ◌&&◌}
 use Rattle.std.specs.List.{list_all}
 use Rattle.cap_row.specs.Fields.{Fields}
@@ -6,24 +6,25 @@ use Rattle.cap_row.specs.Key.{fields_cmp, fields_eq}
 use Rattle.cap_tree.specs.Tree.{get, put_entry}
 use Rattle.cap_session.specs.declared.record.Record.{Record}
 
--- the touched keys in their order, each with its first image and its mark
+-- the touched keys in order, each with its first image and its indirect flag
 abbrev pub Records : Type 0 → Type 0
 Records A = List (Fields A × Record A)
 
--- A touch of a key: the row with the key before the event, or its absence, and whether it is indirect.
+-- A touch of a key: the row under the key before the commit, if any, and whether the touch is indirect.
 pub record Touch (A : Type 0) : Type 0 where
   pub key : Fields A
   pub image : Option (Fields A)
   pub indirect : Bool
 
 module _ {A : Type 0} where
-  -- a key that has a record keeps its image, and is indirect only if this touch is too
+  -- the record after a touch: it keeps its image, and stays indirect only where the touch is indirect too
   abbrev pub record_after : Option (Record A) → Option (Fields A) → Bool → Record A
   record_after None image indirect = record { image = image; indirect = indirect }
   record_after (Some r) image indirect = record { image = r.image; indirect = r.indirect && indirect }
 
   abbrev pub touch : Records A → Touch A → Records A
-  touch records t = put_entry fields_cmp records t.key (record_after (get fields_cmp records t.key) t.image t.indirect)
+  touch records t =
+      put_entry fields_cmp records t.key (record_after (get fields_cmp records t.key) t.image t.indirect)
 
   abbrev pub touch_if : Records A → Option (Touch A) → Records A
   touch_if records None = records
@@ -40,11 +41,16 @@ module _ {A : Type 0} where
   abbrev pub are_indirect : List (Touch A) → Bool
   are_indirect touches = list_all (λ t. t.indirect) touches
 
-  -- What touches make of records, key by key: a record keeps its image; a key that is touched first gets the image of its
-  -- first touch; a mark is the old mark and those of all touches of the key together; and no other key has a record.
+  -- The records after touches, key by key: a record keeps its image; a new record has the image of the first
+  -- touch of its key; a record is indirect where it was and every touch of its key is; and no other key has a
+  -- record.
   pub record AreTouched (before : Records A) (touches : List (Touch A)) (after : Records A) : Type 0 where
     pub kept : (key : Fields A) (r : Record A) → get fields_cmp before key ≡ Some r
-        → get fields_cmp after key ≡ Some (record { image = r.image; indirect = r.indirect && are_indirect (touches_at key touches) })
-    pub gained : (key : Fields A) (first : Touch A) (others : List (Touch A)) → get fields_cmp before key ≡ None → touches_at key touches ≡ first ∷ others
-        → get fields_cmp after key ≡ Some (record { image = first.image; indirect = are_indirect (first ∷ others) })
-    pub untouched : (key : Fields A) → get fields_cmp before key ≡ None → touches_at key touches ≡ [] → get fields_cmp after key ≡ None
+        → get fields_cmp after key
+        ≡ Some (record { image = r.image; indirect = r.indirect && are_indirect (touches_at key touches) })
+    pub gained : (key : Fields A) (first : Touch A) (others : List (Touch A))
+        → get fields_cmp before key ≡ None → touches_at key touches ≡ first ∷ others
+        → get fields_cmp after key
+        ≡ Some (record { image = first.image; indirect = are_indirect (first ∷ others) })
+    pub untouched : (key : Fields A) → get fields_cmp before key ≡ None → touches_at key touches ≡ []
+        → get fields_cmp after key ≡ None

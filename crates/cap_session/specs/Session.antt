@@ -1,5 +1,7 @@
--- A session: its flags, the rule by which it attaches tables by itself, and the attached tables with their records.
-use Rattle.std.specs.Prelude.{ℕ, Bool, true, false, Option, option_and_then, List, [], ◌∷◌, ◌++◌, map, length, sum, if◌then◌else◌}
+-- A session: its flags, the rule by which it attaches tables by itself, and the attached tables with their
+-- records.
+use Rattle.std.specs.Prelude.{ℕ, Bool, true, false, Option, option_and_then, List, [], ◌∷◌, ◌++◌, map, length}
+use Rattle.std.specs.Prelude.{sum, if◌then◌else◌}
 use Rattle.std.specs.List.{list_any}
 use Rattle.std.specs.Map.{lookup}
 use Rattle.std.specs.Option.{unwrap_or}
@@ -32,7 +34,7 @@ module _ {A : Type 0} where
   abbrev pub is_listed : List ℕ → AttachedTables A → Bool
   is_listed name tables = list_any (λ attached. bytes_eq name attached.0) tables
 
-  -- a name goes last in the attach list unless it is there
+  -- the attach list with the name, last unless it is there
   abbrev pub attach : List ℕ → AttachedTables A → AttachedTables A
   attach name tables = if is_listed name tables then tables else tables ++ (name, []) ∷ []
 
@@ -42,13 +44,13 @@ module _ {A : Type 0} where
   accepts_by All name = true
   accepts_by (Filter rule) name = accepts rule name
 
-  -- every table, unless a filter decides
+  -- every table, unless a filter is set
   abbrev pub all_unless_filter : AutomaticRule A → AutomaticRule A
   all_unless_filter Nothing = All
   all_unless_filter All = All
   all_unless_filter (Filter rule) = Filter rule
 
-  -- the session with the name in its attach list
+  -- the session with the table attached
   abbrev pub attached : List ℕ → SessionState A → SessionState A
   attached name session = record session { tables = attach name session.tables }
 
@@ -58,7 +60,7 @@ module _ {A : Type 0} where
   abbrev pub set_filter : Rule → SessionState A → SessionState A
   set_filter rule session = record session { rule = Filter rule }
 
-  -- the session with the flag set, where it is asked for
+  -- the session with the flag set to this, or as it is
   abbrev pub enabled_as : Option Bool → SessionState A → SessionState A
   enabled_as asked session = record session { enabled = unwrap_or asked session.enabled }
 
@@ -79,6 +81,6 @@ module _ {A : Type 0} where
   abbrev pub forget : AttachedTables A → AttachedTables A
   forget tables = map (λ attached. (attached.0, [])) tables
 
-  -- the records are forgotten, and all else stays
+  -- the session without records; all else stays
   abbrev pub restart : SessionState A → SessionState A
   restart session = record session { tables = forget session.tables }

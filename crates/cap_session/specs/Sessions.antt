@@ -1,4 +1,4 @@
--- Sessions under their numbers.
+-- Sessions by number.
 use Rattle.std.specs.Prelude.{ℕ, Option, Some, None, List, [], ◌∷◌, map, nat_eq, if◌then◌else◌}
 use Rattle.std.specs.Map.{lookup}
 use Rattle.cap_txn.specs.Tables.{Tables}
@@ -6,34 +6,37 @@ use Rattle.cap_txn.specs.declared.change.Change.{Change}
 use Rattle.cap_session.specs.Note.{note}
 use Rattle.cap_session.specs.Session.{SessionState}
 
--- the sessions in the order in which they were made, each with its number
+-- the sessions in the order in which they were created, each with its number
 abbrev pub NumberedSessions : Type 0 → Type 0
 NumberedSessions A = List (ℕ × SessionState A)
 
--- The live sessions, and those that they are once what was noted is taken over.
+-- The live sessions, and the staged ones, which are live once they are published.
 pub record SessionsState (A : Type 0) : Type 0 where
   pub live : NumberedSessions A
-  pub noted : NumberedSessions A
+  pub staged : NumberedSessions A
 
 module _ {A : Type 0} where
   abbrev pub session_numbered : NumberedSessions A → ℕ → Option (SessionState A)
   session_numbered sessions number = lookup (nat_eq number) sessions
 
-  -- this in place of the session with the number
+  -- the sessions with this one in place of the one with the number
   abbrev pub with_session : NumberedSessions A → ℕ → SessionState A → NumberedSessions A
   with_session [] number new = []
-  with_session (session ∷ sessions) number new = if nat_eq number session.0 then (session.0, new) ∷ sessions else session ∷ with_session sessions number new
+  with_session (session ∷ sessions) number new =
+      if nat_eq number session.0 then (session.0, new) ∷ sessions
+      else session ∷ with_session sessions number new
 
   -- the same, where there is such a session
   abbrev pub with_session_if : NumberedSessions A → ℕ → Option (SessionState A) → NumberedSessions A
   with_session_if sessions number None = sessions
   with_session_if sessions number (Some new) = with_session sessions number new
 
-  -- the others than the session with the number
+  -- the sessions but the one with the number
   abbrev pub without_session : NumberedSessions A → ℕ → NumberedSessions A
   without_session [] number = []
-  without_session (session ∷ sessions) number = if nat_eq number session.0 then sessions else session ∷ without_session sessions number
+  without_session (session ∷ sessions) number =
+      if nat_eq number session.0 then sessions else session ∷ without_session sessions number
 
-  -- each session after the changes of a commit, on tables that were so before it
+  -- each session after the changes of a commit, given the tables before it
   abbrev pub note_each : Tables A → List (Change A) → NumberedSessions A → NumberedSessions A
   note_each before changes sessions = map (λ session. (session.0, note before changes session.1)) sessions

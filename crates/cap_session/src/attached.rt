@@ -1,3 +1,4 @@
+//! An iterator over the attached tables of a session.
 ghost use Rattle.std.specs.Prelude.{◌≡◌, length};
 ghost use Rattle.std.specs.Iterator.{at_most};
 ghost use Rattle.std.specs.Map.Iter.{TakesFirst, deref_pair};
@@ -9,7 +10,7 @@ use cap_value::{AllocHandle, Name};
 use std::iter::FusedIterator;
 use std::marker::Model;
 
-/// The attached tables that are still to come, in the order in which they were attached, each with its records.
+/// An iterator over attached tables, in the order in which they were attached, each with its records.
 #[derive(Drop)]
 pub struct Attached<'a, A: AllocHandle> {
     rest: &'a [AttachedTable<A>],

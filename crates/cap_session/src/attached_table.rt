@@ -1,5 +1,6 @@
+//! The attached tables of a session.
 ghost use Rattle.std.specs.Prelude.{◌≡◌, ◌++◌, [], None, IfOk, OnOk, length, nat_eq, take, if◌then◌else◌};
-ghost use Rattle.cap_session.specs.Code.Attached.{tables_of, waiting_tables};
+ghost use Rattle.cap_session.specs.Code.Attached.{tables_of, staged_tables};
 ghost use Rattle.cap_session.specs.Note.{attach_by, attach_by_rule, touch_table, touch_tables, touches_found};
 ghost use Rattle.cap_session.specs.Records.{with_touches};
 ghost use Rattle.cap_session.specs.Session.{attach, forget, is_listed, records_of, stored};
@@ -13,32 +14,30 @@ use cap_compare::Difference;
 use cap_txn::{Change, Database};
 use cap_value::{AllocHandle, Name, OutOfMemory};
 
-/// A table that is attached to a session.
+// A table that is attached to a session.
 #[derive(Drop)]
 pub(crate) struct AttachedTable<A: AllocHandle> {
-    /// The table's name.
     pub(crate) name: Name<A>,
-    /// Its records.
     pub(crate) records: Records<A>,
-    /// Its records after changes that are not taken over yet, where they change.
-    pub(crate) waiting: Option<Records<A>>,
+    // The staged records, where they change.
+    pub(crate) staged: Option<Records<A>>,
 }
 
 impl<A: AllocHandle> AttachedTable<A> {
-    /// A table without records.
+    // A table without records.
     pub(crate) fn new(alloc: A, name: Name<A>) -> Self
         ensures name { result.name ≡ name }
         ensures records { result.records ≡ [] }
-        ensures waiting { result.waiting ≡ None }
+        ensures staged { result.staged ≡ None }
     {
         AttachedTable {
             name,
             records: Records::empty(alloc),
-            waiting: None,
+            staged: None,
         }
     }
 
-    /// The same table, whose records share their nodes with these.
+    // A copy without staged records, which shares the nodes of the records.
     pub(crate) fn copy(&self) -> Result<Self, OutOfMemory>
         ensures name { IfOk result (λ copy. copy.name ≡ self.now.name) }
         ensures records { IfOk result (λ copy. copy.records ≡ self.now.records) }
@@ -46,12 +45,12 @@ impl<A: AllocHandle> AttachedTable<A> {
         Ok(AttachedTable {
             name: self.name.copy()?,
             records: self.records.copy()?,
-            waiting: None,
+            staged: None,
         })
     }
 }
 
-/// Whether a table has the name.
+// Whether a table has the name.
 pub(crate) fn is_listed<A: AllocHandle>(tables: &[AttachedTable<A>], name: &Name<A>) -> bool
     ensures { result ≡ is_listed name.now (tables_of tables.now) }
 {
@@ -64,7 +63,7 @@ fn has_table<A: AllocHandle>(tables: &[AttachedTable<A>], name: &Name<A>) -> boo
     tables.iter().any(|table| *name == table.name)
 }
 
-/// The same tables.
+// Copies of the tables without what is staged.
 pub(crate) fn copies_of<A: AllocHandle>(
     alloc: A,
     tables: &[AttachedTable<A>],
@@ -78,18 +77,18 @@ pub(crate) fn copies_of<A: AllocHandle>(
     Ok(copies)
 }
 
-/// Forgets what waits.
-pub(crate) fn forget_waiting<A: AllocHandle>(tables: &mut [AttachedTable<A>])
+// Discards what is staged.
+pub(crate) fn discard_staged<A: AllocHandle>(tables: &mut [AttachedTable<A>])
     ensures same { tables_of tables.new ≡ tables_of tables.old }
-    ensures none { waiting_tables tables.new ≡ tables_of tables.old }
+    ensures none { staged_tables tables.new ≡ tables_of tables.old }
 {
     for table in tables.iter_mut() {
-        table.waiting = None;
+        table.staged = None;
     }
 }
 
-/// Finds what changes make of the tables: the records of those that are attached, and those that the rule attaches,
-/// which go behind the others. On an error they are as before.
+// Stages changes in the tables. Tables that the rule attaches are appended. On an error the published records
+// stay.
 pub(crate) fn note_tables<A: AllocHandle>(
     alloc: A,
     tables: &mut Vec<AttachedTable<A>, A>,
@@ -99,7 +98,7 @@ pub(crate) fn note_tables<A: AllocHandle>(
     changes: &[Change<A>],
 ) -> Result<(), OutOfMemory>
     ensures same { tables_of (take (length tables.old.items) tables.new.items) ≡ tables_of tables.old.items }
-    ensures waiting { OnOk result (waiting_tables tables.new.items
+    ensures staged { OnOk result (staged_tables tables.new.items
         ≡ touch_tables before.now indirect changes.now
         (attach_by_rule rule.now changes.now (tables_of tables.old.items))) }
 {
@@ -143,7 +142,7 @@ fn attach_by<A: AllocHandle>(
     attach_new(alloc, tables, added, name)
 }
 
-// Attaches a table behind these and those that were added, unless it is there.
+// Adds a table unless it is attached or added.
 fn attach_new<A: AllocHandle>(
     alloc: A,
     tables: &[AttachedTable<A>],
@@ -160,7 +159,7 @@ fn attach_new<A: AllocHandle>(
     Ok(())
 }
 
-// Makes the records after these changes, which wait until they are taken over.
+// Stages the records after these changes.
 fn touch_tables<A: AllocHandle>(
     tables: &mut [AttachedTable<A>],
     before: &Database<A>,
@@ -168,29 +167,29 @@ fn touch_tables<A: AllocHandle>(
     changes: &[Change<A>],
 ) -> Result<(), OutOfMemory>
     ensures same { tables_of tables.new ≡ tables_of tables.old }
-    ensures waiting { OnOk result (waiting_tables tables.new
+    ensures staged { OnOk result (staged_tables tables.new
         ≡ touch_tables before.now indirect changes.now (tables_of tables.old)) }
 {
     for table in tables.iter_mut() {
         table.records.settle()?;
-        table.waiting = records_after(&table.name, &table.records, before, indirect, changes)?;
+        table.staged = records_after(&table.name, &table.records, before, indirect, changes)?;
     }
     Ok(())
 }
 
-/// Takes over the records that wait.
-pub(crate) fn take_over<A: AllocHandle>(tables: &mut [AttachedTable<A>])
-    ensures { tables_of tables.new ≡ waiting_tables tables.old }
+// Publishes the staged records.
+pub(crate) fn publish<A: AllocHandle>(tables: &mut [AttachedTable<A>])
+    ensures { tables_of tables.new ≡ staged_tables tables.old }
 {
     for table in tables.iter_mut() {
-        if let Some(records) = table.waiting.take() {
+        if let Some(records) = table.staged.take() {
             table.records = records;
         }
     }
 }
 
-/// Finds what a diff of the table of this name makes of the tables. It goes behind the others unless it is among them.
-/// On an error they are as before.
+// Stages a diff of the table of this name, which is appended unless it is attached. On an error the published
+// records stay.
 pub(crate) fn note_differences<A: AllocHandle>(
     alloc: A,
     tables: &mut Vec<AttachedTable<A>, A>,
@@ -199,7 +198,7 @@ pub(crate) fn note_differences<A: AllocHandle>(
     differences: &[Difference<A>],
 ) -> Result<(), OutOfMemory>
     ensures same { tables_of (take (length tables.old.items) tables.new.items) ≡ tables_of tables.old.items }
-    ensures waiting { OnOk result (waiting_tables tables.new.items ≡ touch_table name.now
+    ensures staged { OnOk result (staged_tables tables.new.items ≡ touch_table name.now
         (touches_found indirect differences.now) (attach name.now (tables_of tables.old.items))) }
 {
     let mut added = Vec::new(alloc);
@@ -210,7 +209,7 @@ pub(crate) fn note_differences<A: AllocHandle>(
     Ok(())
 }
 
-// Makes the records of the table of this name after a diff, which wait until they are taken over.
+// Stages the records of the table of this name after a diff.
 fn touch_table<A: AllocHandle>(
     tables: &mut [AttachedTable<A>],
     name: &Name<A>,
@@ -218,17 +217,17 @@ fn touch_table<A: AllocHandle>(
     differences: &[Difference<A>],
 ) -> Result<(), OutOfMemory>
     ensures same { tables_of tables.new ≡ tables_of tables.old }
-    ensures waiting { OnOk result (waiting_tables tables.new
+    ensures staged { OnOk result (staged_tables tables.new
         ≡ touch_table name.now (touches_found indirect differences.now) (tables_of tables.old)) }
 {
     for table in tables.iter_mut() {
         table.records.settle()?;
-        table.waiting = records_found(&table.name, &table.records, name, indirect, differences)?;
+        table.staged = records_found(&table.name, &table.records, name, indirect, differences)?;
     }
     Ok(())
 }
 
-// The records of a table after a diff of the table of this name, or none where it is another.
+// The records of a table after a diff, `None` where the diff is of another table.
 fn records_found<A: AllocHandle>(
     own: &Name<A>,
     records: &Records<A>,
@@ -245,7 +244,7 @@ fn records_found<A: AllocHandle>(
     Ok(Some(records_after_diff(records, indirect, differences)?))
 }
 
-/// Forgets all records.
+// Clears all records.
 pub(crate) fn forget<A: AllocHandle>(alloc: A, tables: &mut [AttachedTable<A>])
     ensures { tables_of tables.new ≡ forget (tables_of tables.old) }
 {
@@ -254,7 +253,7 @@ pub(crate) fn forget<A: AllocHandle>(alloc: A, tables: &mut [AttachedTable<A>])
     }
 }
 
-/// The records of the table of this name, where it is attached.
+// The records of the table of this name, where it is attached.
 pub(crate) fn records_of<'a, A: AllocHandle>(
     tables: &'a [AttachedTable<A>],
     name: &Name<A>,
@@ -269,7 +268,7 @@ pub(crate) fn records_of<'a, A: AllocHandle>(
     None
 }
 
-/// The number of records.
+// The number of records.
 pub(crate) fn stored<A: AllocHandle>(tables: &[AttachedTable<A>]) -> u128
     ensures { result ≡ stored (tables_of tables.now) }
 {
@@ -280,7 +279,7 @@ pub(crate) fn stored<A: AllocHandle>(tables: &[AttachedTable<A>]) -> u128
     count
 }
 
-/// Whether there is no record.
+// Whether there is no record.
 pub(crate) fn is_empty<A: AllocHandle>(tables: &[AttachedTable<A>]) -> bool
     ensures { result ≡ nat_eq (stored (tables_of tables.now)) 0 }
 {

@@ -1,5 +1,6 @@
-//! Laws of sessions, over the definitions alone. The functions do nothing.
-ghost use Rattle.std.specs.Prelude.{◌≡◌, ℕ, Bool, true, false, Some, None, [], ◌∷◌, ◌&&◌, List, if◌then◌else◌};
+//! Laws of sessions, over the definitions alone. The functions do nothing at run time.
+ghost use Rattle.std.specs.Prelude.{◌≡◌, ℕ, Bool, true, false, Some, None, [], ◌∷◌, ◌&&◌, List};
+ghost use Rattle.std.specs.Prelude.{if◌then◌else◌};
 ghost use Rattle.std.specs.List.{AllByRecursion, list_any};
 ghost use Rattle.std.specs.Option.{option_map};
 ghost use Rattle.cap_value.specs.Bytes.{bytes_eq};
@@ -13,31 +14,33 @@ ghost use Rattle.cap_session.specs.declared.record.Record.{Record};
 ghost use Rattle.cap_session.specs.declared.rule.AutomaticRule.{AutomaticRule};
 ghost use Rattle.cap_session.specs.Note.{attach_by_rule, note, touches_of};
 ghost use Rattle.cap_session.specs.Records.{AreTouched, Records, Touch, with_touches};
-ghost use Rattle.cap_session.specs.Session.{AttachedTables, SessionState, accepts_by, attach_all, records_of, set_filter};
+ghost use Rattle.cap_session.specs.Session.{AttachedTables, SessionState, accepts_by, attach_all, records_of};
+ghost use Rattle.cap_session.specs.Session.{set_filter};
 
 use cap_value::AllocHandle;
 
-/// Touches make these records: a record keeps its image, a key that is touched first has the image of its first
-/// touch, a mark is the old mark and those of all touches of the key together, and no other key gains or loses one.
+/// The records after touches: a record keeps its image, a new record has the image of the first touch of its
+/// key, a record is indirect where it was and every touch of its key is, and no other key gains or loses a
+/// record.
 pub fn touches_make_these_records<A: AllocHandle>()
     ensures { (before : Records A) (touches : List (Touch A))
         → AreTouched before touches (with_touches before touches) }
 {}
 
-/// A mark is direct from the first direct touch of its key on, whatever touches follow.
+/// A record is direct from the first direct touch of its key on, whatever touches follow.
 pub fn marks_stay_direct<A: AllocHandle>()
     ensures { (before : Records A) (t : Touch A) (more : List (Touch A)) (r : Record A) → t.indirect ≡ false
         → get fields_cmp (with_touches before (t ∷ more)) t.key ≡ Some r → r.indirect ≡ false }
 {}
 
-/// The touches by the changes of a commit have the rows of the database before it.
+/// The images of touches by a commit are the rows of the database before it.
 pub fn images_are_the_rows_before<A: AllocHandle>()
     ensures { (before : Tables A) (indirect : Bool) (name : List ℕ) (changes : List (Change A))
         → AllByRecursion (λ (t : Touch A). t.image ≡ row_at before name t.key)
         (touches_of before indirect name changes) }
 {}
 
-/// A commit touches the rows of just the tables that are attached after it, each with its own changes.
+/// A commit touches the rows of exactly the tables that are attached after it, each with its own changes.
 pub fn commits_touch_attached_tables<A: AllocHandle>()
     ensures { (before : Tables A) (changes : List (Change A)) (session : SessionState A) (name : List ℕ)
         → session.enabled ≡ true → records_of (note before changes session).tables name
@@ -45,8 +48,8 @@ pub fn commits_touch_attached_tables<A: AllocHandle>()
         (records_of (attach_by_rule session.rule changes session.tables) name) }
 {}
 
-/// What is attached stays so with its records, and of the other tables just those that the rule accepts and that have a
-/// change are attached, also where its row has no key.
+/// Attached tables stay attached with their records. Of the others exactly those are attached that the rule
+/// accepts and that have a change, even one of a row without a key.
 pub fn rule_attaches_changed_tables<A: AllocHandle>()
     ensures stays { (rule : AutomaticRule A) (changes : List (Change A)) (tables : AttachedTables A)
         (name : List ℕ) (records : Records A) → records_of tables name ≡ Some records
@@ -58,13 +61,13 @@ pub fn rule_attaches_changed_tables<A: AllocHandle>()
         then Some [] else None) }
 {}
 
-/// A session that is not enabled gains nothing from a commit.
+/// A commit leaves a disabled session unchanged.
 pub fn disabled_session_gains_nothing<A: AllocHandle>()
     ensures { (before : Tables A) (changes : List (Change A)) (session : SessionState A)
         → session.enabled ≡ false → note before changes session ≡ session }
 {}
 
-/// Where a filter is set, it decides, in whatever order the rules came.
+/// A filter takes precedence over attaching every table, in whatever order they are set.
 pub fn filter_decides<A: AllocHandle>()
     ensures first { (rule : Rule) (session : SessionState A)
         → attach_all (set_filter rule session) ≡ set_filter rule session }

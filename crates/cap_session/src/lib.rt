@@ -1,4 +1,4 @@
-//! Sessions: which rows were touched, what they were when they were touched first, and whether only indirectly.
+//! Sessions: which rows were touched, their first images, and whether every touch was indirect.
 #![tactic(auto)]
 
 mod attached;

@@ -1,7 +1,8 @@
+//! Sessions by number: staging and publishing their changes.
 ghost use Rattle.std.specs.Prelude.{◌≡◌, IfOk, OnOk, nat_eq};
 ghost use Rattle.std.specs.List.{position};
 ghost use Rattle.std.specs.Option.{option_map};
-ghost use Rattle.cap_session.specs.Code.Numbered.{live_of, waiting_of};
+ghost use Rattle.cap_session.specs.Code.Numbered.{live_of, staged_of};
 ghost use Rattle.cap_session.specs.Note.{note_diff};
 ghost use Rattle.cap_session.specs.Session.{attached};
 ghost use Rattle.cap_session.specs.Sessions.{note_each, session_numbered, with_session_if};
@@ -11,38 +12,38 @@ use cap_compare::Difference;
 use cap_txn::{Change, Database};
 use cap_value::{AllocHandle, Name, OutOfMemory};
 
-/// A session under its number.
+// A session and its number.
 #[derive(Drop)]
 pub(crate) struct Numbered<A: AllocHandle> {
     pub(crate) number: u64,
     pub(crate) parts: Parts<A>,
 }
 
-/// The place of the session with this number.
+// The index of the session with this number.
 pub(crate) fn place_of<A: AllocHandle>(sessions: &[Numbered<A>], number: u64) -> Option<usize>
     ensures { result ≡ position (λ session. nat_eq number session.number) sessions.now }
 {
     sessions.iter().position(|session| number == session.number)
 }
 
-// Forgets what waits.
-fn forget_waiting<A: AllocHandle>(sessions: &mut [Numbered<A>])
+// Discards what is staged.
+fn discard_staged<A: AllocHandle>(sessions: &mut [Numbered<A>])
     ensures kept { live_of sessions.new ≡ live_of sessions.old }
-    ensures none { waiting_of sessions.new ≡ live_of sessions.old }
+    ensures none { staged_of sessions.new ≡ live_of sessions.old }
 {
     for session in sessions.iter_mut() {
-        session.parts.forget_waiting();
+        session.parts.discard_staged();
     }
 }
 
-/// Finds what the changes of one commit make of each session, on tables that were so before it.
+// Stages the changes of one commit in each session. `before` is the database before it.
 pub(crate) fn note<A: AllocHandle>(
     sessions: &mut [Numbered<A>],
     before: &Database<A>,
     changes: &[Change<A>],
 ) -> Result<(), OutOfMemory>
     ensures kept { live_of sessions.new ≡ live_of sessions.old }
-    ensures noted { OnOk result (waiting_of sessions.new
+    ensures staged { OnOk result (staged_of sessions.new
         ≡ note_each before.now changes.now (live_of sessions.old)) }
 {
     for session in sessions.iter_mut() {
@@ -51,24 +52,24 @@ pub(crate) fn note<A: AllocHandle>(
     Ok(())
 }
 
-/// Finds what attaching a table makes of the session with this number, where there is one.
+// Stages attaching a table to the session with this number, if any.
 pub(crate) fn note_attached<A: AllocHandle>(
     sessions: &mut [Numbered<A>],
     number: u64,
     name: &Name<A>,
 ) -> Result<(), OutOfMemory>
     ensures kept { live_of sessions.new ≡ live_of sessions.old }
-    ensures noted { OnOk result (waiting_of sessions.new ≡ with_session_if (live_of sessions.old) number
+    ensures staged { OnOk result (staged_of sessions.new ≡ with_session_if (live_of sessions.old) number
         (option_map (attached name.now) (session_numbered (live_of sessions.old) number))) }
 {
-    forget_waiting(sessions);
+    discard_staged(sessions);
     match place_of(sessions, number) {
         Some(place) => sessions[place].parts.note_attached(name),
         None => Ok(()),
     }
 }
 
-/// Finds what a diff of a table makes of the session with this number, where there is one.
+// Stages a diff of a table in the session with this number, if any.
 pub(crate) fn note_diff<A: AllocHandle>(
     sessions: &mut [Numbered<A>],
     number: u64,
@@ -76,26 +77,26 @@ pub(crate) fn note_diff<A: AllocHandle>(
     differences: &[Difference<A>],
 ) -> Result<(), OutOfMemory>
     ensures kept { live_of sessions.new ≡ live_of sessions.old }
-    ensures noted { OnOk result (waiting_of sessions.new ≡ with_session_if (live_of sessions.old) number
+    ensures staged { OnOk result (staged_of sessions.new ≡ with_session_if (live_of sessions.old) number
         (option_map (note_diff name.now differences.now) (session_numbered (live_of sessions.old) number))) }
 {
-    forget_waiting(sessions);
+    discard_staged(sessions);
     match place_of(sessions, number) {
         Some(place) => sessions[place].parts.note_diff(name, differences),
         None => Ok(()),
     }
 }
 
-/// Takes over what waits.
-pub(crate) fn take_over<A: AllocHandle>(sessions: &mut [Numbered<A>])
-    ensures { live_of sessions.new ≡ waiting_of sessions.old }
+// Publishes what is staged.
+pub(crate) fn publish<A: AllocHandle>(sessions: &mut [Numbered<A>])
+    ensures { live_of sessions.new ≡ staged_of sessions.old }
 {
     for session in sessions.iter_mut() {
-        session.parts.take_over();
+        session.parts.publish();
     }
 }
 
-/// The same sessions.
+// Copies, which share the records.
 pub(crate) fn copies_of<A: AllocHandle>(
     alloc: A,
     sessions: &[Numbered<A>],

@@ -1,20 +1,21 @@
+//! The state of one session: published and staged.
 ghost use Rattle.std.specs.Prelude.{◌≡◌, length, take, IfOk, OnOk};
-ghost use Rattle.cap_session.specs.Code.Parts.{noted_of, state_of};
+ghost use Rattle.cap_session.specs.Code.Parts.{staged_state_of, state_of};
 ghost use Rattle.cap_session.specs.Note.{note, note_diff};
-ghost use Rattle.cap_session.specs.Session.{attach_all, attached, enabled_as, indirect_as, new_session, restart, set_filter};
+ghost use Rattle.cap_session.specs.Session.{attach_all, attached, enabled_as, indirect_as, new_session};
+ghost use Rattle.cap_session.specs.Session.{restart, set_filter};
 
 use crate::AutomaticRule;
 use crate::attached_table::{
-    AttachedTable, copies_of, forget, forget_waiting, is_listed, note_differences, note_tables,
-    take_over,
+    AttachedTable, copies_of, discard_staged, forget, is_listed, note_differences, note_tables,
+    publish,
 };
 use cap_compare::Difference;
 use cap_filter::TableFilter;
 use cap_txn::{Change, Database};
 use cap_value::{AllocHandle, Name, OutOfMemory};
 
-/// What a session is made of. A change that takes memory is found first and waits, and is then taken over, which takes
-/// none.
+// The state of a session. A change that takes memory is staged first, and then published, which takes none.
 #[derive(Drop)]
 pub(crate) struct Parts<A: AllocHandle> {
     alloc: A,
@@ -22,12 +23,12 @@ pub(crate) struct Parts<A: AllocHandle> {
     pub(crate) indirect: bool,
     rule: AutomaticRule<A>,
     tables: Vec<AttachedTable<A>, A>,
-    /// How many of the tables are attached. Those behind them wait for it.
+    // How many of the tables are attached. Those behind them are staged.
     attached: usize,
 }
 
 impl<A: AllocHandle> Parts<A> {
-    /// Those of a session that is enabled, not indirect, and without attached tables.
+    // The state of a new session.
     pub(crate) fn new(alloc: A) -> Self
         ensures { state_of result ≡ new_session }
     {
@@ -41,27 +42,28 @@ impl<A: AllocHandle> Parts<A> {
         }
     }
 
-    /// Forgets what waits.
-    pub(crate) fn forget_waiting(&mut self)
+    // Discards what is staged.
+    pub(crate) fn discard_staged(&mut self)
         ensures same { state_of self.new ≡ state_of self.old }
-        ensures none { noted_of self.new ≡ state_of self.old }
+        ensures none { staged_state_of self.new ≡ state_of self.old }
         ensures all { self.new.attached ≡ length self.new.tables.items }
     {
         self.tables.truncate(self.attached);
         self.attached = self.tables.len();
-        forget_waiting(self.tables.as_mut_slice());
+        discard_staged(self.tables.as_mut_slice());
     }
 
-    /// Finds what the changes of one commit make of the session, on tables that were so before it.
+    // Stages the changes of one commit. `before` is the database before it.
     pub(crate) fn note(
         &mut self,
         before: &Database<A>,
         changes: &[Change<A>],
     ) -> Result<(), OutOfMemory>
         ensures kept { state_of self.new ≡ state_of self.old }
-        ensures noted { OnOk result (noted_of self.new ≡ note before.now changes.now (state_of self.old)) }
+        ensures staged { OnOk result
+            (staged_state_of self.new ≡ note before.now changes.now (state_of self.old)) }
     {
-        self.forget_waiting();
+        self.discard_staged();
         if !self.enabled {
             return Ok(());
         }
@@ -75,12 +77,12 @@ impl<A: AllocHandle> Parts<A> {
         )
     }
 
-    /// Finds what attaching a table makes of the session.
+    // Stages attaching a table.
     pub(crate) fn note_attached(&mut self, name: &Name<A>) -> Result<(), OutOfMemory>
         ensures kept { state_of self.new ≡ state_of self.old }
-        ensures noted { OnOk result (noted_of self.new ≡ attached name.now (state_of self.old)) }
+        ensures staged { OnOk result (staged_state_of self.new ≡ attached name.now (state_of self.old)) }
     {
-        self.forget_waiting();
+        self.discard_staged();
         if is_listed(&self.tables, name) {
             return Ok(());
         }
@@ -89,17 +91,17 @@ impl<A: AllocHandle> Parts<A> {
         Ok(())
     }
 
-    /// Finds what a diff of a table makes of the session.
+    // Stages a diff of a table.
     pub(crate) fn note_diff(
         &mut self,
         name: &Name<A>,
         differences: &[Difference<A>],
     ) -> Result<(), OutOfMemory>
         ensures kept { state_of self.new ≡ state_of self.old }
-        ensures noted { OnOk result (noted_of self.new
+        ensures staged { OnOk result (staged_state_of self.new
             ≡ note_diff name.now differences.now (state_of self.old)) }
     {
-        self.forget_waiting();
+        self.discard_staged();
         note_differences(
             self.alloc,
             &mut self.tables,
@@ -109,15 +111,15 @@ impl<A: AllocHandle> Parts<A> {
         )
     }
 
-    /// Takes over what waits.
-    pub(crate) fn take_over(&mut self)
-        ensures { state_of self.new ≡ noted_of self.old }
+    // Publishes what is staged.
+    pub(crate) fn publish(&mut self)
+        ensures { state_of self.new ≡ staged_state_of self.old }
     {
-        take_over(self.tables.as_mut_slice());
+        publish(self.tables.as_mut_slice());
         self.attached = self.tables.len();
     }
 
-    /// Attaches changed tables from now on, unless a filter decides.
+    // Attaches changed tables from now on, unless a filter is set.
     pub(crate) fn attach_all(&mut self)
         ensures { state_of self.new ≡ attach_all (state_of self.old) }
     {
@@ -127,14 +129,14 @@ impl<A: AllocHandle> Parts<A> {
         }
     }
 
-    /// Attaches changed tables that the filter accepts from now on.
+    // Attaches changed tables that the filter accepts from now on.
     pub(crate) fn set_filter(&mut self, filter: TableFilter<A>)
         ensures { state_of self.new ≡ set_filter filter (state_of self.old) }
     {
         self.rule = AutomaticRule::Filter(filter);
     }
 
-    /// Sets whether the session is enabled, where it is asked for.
+    // Enables or disables the session, or leaves it as it is.
     pub(crate) fn enable(&mut self, asked: Option<bool>)
         ensures { state_of self.new ≡ enabled_as asked (state_of self.old) }
     {
@@ -143,7 +145,7 @@ impl<A: AllocHandle> Parts<A> {
         }
     }
 
-    /// Sets whether all touches are indirect, where it is asked for.
+    // Sets or clears the indirect flag, or leaves it as it is.
     pub(crate) fn set_indirect(&mut self, asked: Option<bool>)
         ensures { state_of self.new ≡ indirect_as asked (state_of self.old) }
     {
@@ -152,15 +154,15 @@ impl<A: AllocHandle> Parts<A> {
         }
     }
 
-    /// Forgets all records.
+    // Clears all records and what is staged.
     pub(crate) fn restart(&mut self)
         ensures { state_of self.new ≡ restart (state_of self.old) }
     {
-        self.forget_waiting();
+        self.discard_staged();
         forget(self.alloc, self.tables.as_mut_slice());
     }
 
-    /// The attached tables.
+    // The attached tables, without the staged ones.
     pub(crate) fn tables(&self) -> &[AttachedTable<A>]
         ensures { result.now ≡ take self.now.attached self.now.tables.items }
     {
@@ -171,7 +173,7 @@ impl<A: AllocHandle> Parts<A> {
         }
     }
 
-    /// The same, which share the records.
+    // A copy without what is staged, which shares the records.
     pub(crate) fn copy(&self) -> Result<Self, OutOfMemory>
         ensures { IfOk result (λ copy. state_of copy ≡ state_of self.now) }
     {

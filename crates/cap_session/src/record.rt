@@ -1,19 +1,22 @@
+//! The record of one touched row.
+
 use cap_row::Row;
 use cap_value::{AllocHandle, Exact, OutOfMemory};
 
-/// What a session keeps of a row that was touched.
+/// The record of a touched row.
 #[derive(Drop)]
 pub struct Record<A: AllocHandle> {
-    /// The first image: the row with the key before the commit that touched it first, or its absence.
+    /// The first image: the row under the key before the commit that touched it first, `None` where there was
+    /// none.
     pub image: Option<Row<A>>,
-    /// The mark: whether every touch of the key was indirect.
+    /// The indirect flag: whether every touch of the key was indirect.
     pub indirect: bool,
 }
 
 impl<A: AllocHandle> Record<A> {
     ghost use Rattle.std.specs.Prelude.{◌≡◌, IfOk};
 
-    /// The same record, which shares the row.
+    /// A copy, which shares the row.
     pub fn copy(&self) -> Result<Self, OutOfMemory>
         ensures { IfOk result (λ copy. copy ≡ self.now) }
     {
@@ -28,7 +31,7 @@ impl<A: AllocHandle> Record<A> {
     }
 }
 
-/// The same record, which shares the row.
+/// A clone shares the row.
 impl<A: AllocHandle> Clone for Record<A> {
     ghost use Rattle.std.specs.Prelude.{◌≡◌};
 

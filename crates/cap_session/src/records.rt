@@ -14,11 +14,11 @@ use cap_tree::Tree;
 use cap_value::{AllocHandle, OutOfMemory};
 use std::marker::Model;
 
-/// The records of one table: its touched keys in their order, each with what is kept of its row.
+/// The records of one table: its touched keys in order, each with its record.
 ///
-/// The record that was put last stands beside the tree of the others, and goes into it when the next one comes. So a
-/// copy with one more record, which waits until a step outside agrees, shares every node with the records of before,
-/// and once it has taken their place the tree changes where it stands.
+/// The record that was put last is stored beside the tree of the others, and moves into it before the next
+/// one is put. So a staged copy with one more record shares every node of the tree, and once it is published
+/// the tree is changed in place.
 pub struct Records<A: AllocHandle> {
     settled: Tree<Key<A>, Record<A>, A>,
     latest: Option<(Key<A>, Record<A>)>,
@@ -48,7 +48,7 @@ impl<A: AllocHandle> Drop for Records<A> {
 }
 
 impl<A: AllocHandle> Records<A> {
-    /// No records, which takes no memory.
+    // No records. Takes no memory.
     pub(crate) fn empty(alloc: A) -> Self
         ensures { result ≡ [] }
     {
@@ -74,7 +74,7 @@ impl<A: AllocHandle> Records<A> {
         }
     }
 
-    /// The keys are in order. This does nothing: the type keeps them so.
+    // A lemma: the keys are in order. It does nothing at run time.
     #[inline]
     pub(crate) fn in_order(&self)
         ensures { IsOrdered fields_cmp self.now }
@@ -92,7 +92,7 @@ impl<A: AllocHandle> Records<A> {
         }
     }
 
-    /// The record of a key.
+    /// The record of a key, if any.
     pub fn get(&self, key: &Key<A>) -> Option<&Record<A>>
         ensures { option_copied result ≡ get fields_cmp self.now key.now }
     {
@@ -108,7 +108,7 @@ impl<A: AllocHandle> Records<A> {
         }
     }
 
-    /// The same records, which share their nodes with these.
+    /// A copy, which shares the nodes of the tree.
     pub fn copy(&self) -> Result<Self, OutOfMemory>
         ensures { IfOk result (λ copy. copy ≡ self.now) }
     {
@@ -122,7 +122,7 @@ impl<A: AllocHandle> Records<A> {
         })
     }
 
-    /// Puts the latest record into the tree of the others.
+    // Moves the latest record into the tree of the others.
     pub(crate) fn settle(&mut self) -> Result<(), OutOfMemory>
         ensures { self.new ≡ self.old }
     {
@@ -135,7 +135,7 @@ impl<A: AllocHandle> Records<A> {
         Ok(())
     }
 
-    /// Puts a record at its key.
+    // Puts a record at its key.
     pub(crate) fn put(&mut self, key: Key<A>, kept: Record<A>) -> Result<(), OutOfMemory>
         ensures put { OnOk result (self.new ≡ put_entry fields_cmp self.old key kept) }
         ensures err { OnErr result (self.new ≡ self.old) }

@@ -1,11 +1,11 @@
-//! Going over the records of a table.
+//! An iterator over the records of a table.
 ghost use Rattle.std.specs.Prelude.{◌≡◌, length};
 ghost use Rattle.std.specs.Iterator.{at_most};
 ghost use Rattle.std.specs.Map.Iter.{TakesFirst, deref_pair};
 ghost use Rattle.cap_session.specs.Code.Latest.{before_tree};
 
 use crate::Record;
-use cap_compare::Ahead;
+use cap_compare::Peekable;
 use cap_row::Key;
 use cap_tree::Iter;
 use cap_value::AllocHandle;
@@ -13,11 +13,11 @@ use std::cmp::Ordering;
 use std::iter::FusedIterator;
 use std::marker::Model;
 
-/// Records that are still to come, in the order of their keys.
+/// An iterator over the records of a table, in the order of their keys.
 #[derive(Drop)]
 pub struct RecordsIter<'a, A: AllocHandle> {
     latest: Option<(&'a Key<A>, &'a Record<A>)>,
-    rest: Ahead<'a, Key<A>, Record<A>, A>,
+    rest: Peekable<'a, Key<A>, Record<A>, A>,
 }
 
 impl<'a, A: AllocHandle> Model for RecordsIter<'a, A> {
@@ -30,7 +30,7 @@ impl<'a, A: AllocHandle> Model for RecordsIter<'a, A> {
 }
 
 impl<'a, A: AllocHandle> RecordsIter<'a, A> {
-    // Those of a tree, and one that was put last, if any.
+    // The records of a tree, and the one that was put last, if any.
     pub(crate) fn over(
         latest: Option<(&'a Key<A>, &'a Record<A>)>,
         settled: Iter<'a, Key<A>, Record<A>, A>,
@@ -39,7 +39,7 @@ impl<'a, A: AllocHandle> RecordsIter<'a, A> {
     {
         RecordsIter {
             latest,
-            rest: Ahead::of(settled),
+            rest: Peekable::of(settled),
         }
     }
 }

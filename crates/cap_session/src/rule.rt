@@ -1,11 +1,12 @@
+//! The rule by which a session attaches tables by itself.
 ghost use Rattle.std.specs.Prelude.{◌≡◌, IfOk};
 ghost use Rattle.cap_session.specs.Session.{accepts_by};
 
 use cap_filter::TableFilter;
 use cap_value::{AllocHandle, Name, OutOfMemory};
 
-/// Which tables a session attaches by itself when one of their rows changes (SQLite's sqlite3session_attach with no
-/// name, and sqlite3session_table_filter).
+/// Which tables a session attaches by itself when one of their rows changes (SQLite's sqlite3session_attach
+/// with no name, and sqlite3session_table_filter).
 #[derive(Drop)]
 pub enum AutomaticRule<A: AllocHandle> {
     /// No table.

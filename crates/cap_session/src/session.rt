@@ -1,7 +1,9 @@
+//! One session.
 ghost use Rattle.std.specs.Prelude.{◌≡◌, ◌<◌, ◌^◌, ◌↔◌, length, IfOk, IsTrue, OnOk, OnErr};
 ghost use Rattle.std.specs.Option.{option_copied};
 ghost use Rattle.cap_session.specs.Note.{note, note_diff};
-ghost use Rattle.cap_session.specs.Session.{attach_all, attached, enabled_as, indirect_as, new_session, record_of, records_of, restart, set_filter, stored};
+ghost use Rattle.cap_session.specs.Session.{attach_all, attached, enabled_as, indirect_as, new_session};
+ghost use Rattle.cap_session.specs.Session.{record_of, records_of, restart, set_filter, stored};
 
 use crate::attached::Attached;
 use crate::attached_table::{is_empty, records_of, stored};
@@ -14,11 +16,11 @@ use cap_txn::{Change, Database};
 use cap_value::{AllocHandle, Exact, Name, OutOfMemory};
 use std::marker::Model;
 
-/// What is kept of the rows that changes touch: of each attached table the touched keys, each with the row as it was
-/// before the commit that touched it first, and whether every touch was indirect (The Session Extension,
-/// "Recording Changes").
+/// A session. It records, for each attached table, the keys that changes touched, each with the row before
+/// the commit that touched it first, and whether every touch was indirect (The Session Extension, "Recording
+/// Changes").
 ///
-/// A copy of a session shares its records. On an error a session is as before.
+/// Copies share the records. On an error the session is unchanged.
 pub struct Session<A: AllocHandle> {
     parts: Parts<A>,
 }
@@ -45,7 +47,7 @@ impl<A: AllocHandle> Drop for Session<A> {
 }
 
 impl<A: AllocHandle> Session<A> {
-    /// A session that is enabled, not indirect, and without attached tables.
+    /// A session that is enabled, not indirect, and has no attached tables.
     pub fn new(alloc: A) -> Self
         ensures { result ≡ new_session }
     {
@@ -54,34 +56,34 @@ impl<A: AllocHandle> Session<A> {
         }
     }
 
-    /// Attaches a table, last in the list, unless it is attached. The table need not exist. On an error the session
-    /// is as before.
+    /// Attaches a table, last in the list, unless it is attached. The table need not exist.
     pub fn attach(&mut self, name: &Name<A>) -> Result<(), OutOfMemory>
         ensures attached { OnOk result (self.new ≡ attached name.now self.old) }
         ensures err { OnErr result (self.new ≡ self.old) }
     {
         self.parts.note_attached(name)?;
-        self.parts.take_over();
+        self.parts.publish();
         Ok(())
     }
 
-    /// From now on a table is attached when one of its rows changes, unless a filter was or will be set, which decides.
+    /// Attaches every table from now on when one of its rows changes. A filter, set before or later, takes
+    /// precedence.
     pub fn attach_all(&mut self)
         ensures { self.new ≡ attach_all self.old }
     {
         self.parts.attach_all();
     }
 
-    /// From now on a table is attached when one of its rows changes and the filter accepts its name. Tables that are
-    /// attached stay so.
+    /// Attaches a table from now on when one of its rows changes and the filter accepts its name. Attached
+    /// tables stay attached.
     pub fn set_filter(&mut self, filter: TableFilter<A>)
         ensures { self.new ≡ set_filter filter self.old }
     {
         self.parts.set_filter(filter);
     }
 
-    /// Sets whether the session is enabled, or only asks, and answers whether it is now. A session that is not
-    /// enabled gains no records and attaches nothing by rule.
+    /// Enables or disables the session, or leaves it as it is (`None`), and answers whether it is enabled. A
+    /// disabled session records no commit and attaches no table by itself.
     pub fn enable(&mut self, asked: Option<bool>) -> bool
         ensures set { self.new ≡ enabled_as asked self.old }
         ensures answer { result ≡ self.new.enabled }
@@ -90,7 +92,7 @@ impl<A: AllocHandle> Session<A> {
         self.parts.enabled
     }
 
-    /// Sets whether all touches are indirect, or only asks, and answers whether they are now.
+    /// Sets or clears the indirect flag, or leaves it as it is (`None`), and answers it.
     pub fn indirect(&mut self, asked: Option<bool>) -> bool
         ensures set { self.new ≡ indirect_as asked self.old }
         ensures answer { result ≡ self.new.indirect }
@@ -99,40 +101,39 @@ impl<A: AllocHandle> Session<A> {
         self.parts.indirect
     }
 
-    /// Notes the changes of one commit, on tables that were so before it. On an error the session is as before.
+    /// Records the changes of one commit. `before` is the database before it.
     pub fn note(&mut self, before: &Database<A>, changes: &[Change<A>]) -> Result<(), OutOfMemory>
-        ensures noted { OnOk result (self.new ≡ note before.now changes.now self.old) }
+        ensures staged { OnOk result (self.new ≡ note before.now changes.now self.old) }
         ensures err { OnErr result (self.new ≡ self.old) }
     {
         self.parts.note(before, changes)?;
-        self.parts.take_over();
+        self.parts.publish();
         Ok(())
     }
 
-    /// Notes a diff of a table (SQLite's sqlite3session_diff): attaches it unless it is attached, and touches each key
-    /// that differs, also where the session is not enabled. On an error the session is as before.
+    /// Records a diff of a table (SQLite's sqlite3session_diff): attaches the table unless it is attached,
+    /// and touches each key that differs, even where the session is disabled.
     pub fn note_diff(
         &mut self,
         name: &Name<A>,
         differences: &[Difference<A>],
     ) -> Result<(), OutOfMemory>
-        ensures noted { OnOk result (self.new ≡ note_diff name.now differences.now self.old) }
+        ensures staged { OnOk result (self.new ≡ note_diff name.now differences.now self.old) }
         ensures err { OnErr result (self.new ≡ self.old) }
     {
         self.parts.note_diff(name, differences)?;
-        self.parts.take_over();
+        self.parts.publish();
         Ok(())
     }
 
-    /// Forgets all records. Flags, rule and attach list stay.
+    /// Clears all records. The flags, the rule and the attached tables stay.
     pub fn restart(&mut self)
         ensures { self.new ≡ restart self.old }
     {
         self.parts.restart();
     }
 
-    /// Whether there is no record (SQLite's sqlite3session_isempty). Where there is one, its row may still be as it
-    /// was.
+    /// Whether there is no record (SQLite's sqlite3session_isempty). The row of a record may be unchanged.
     pub fn is_empty(&self) -> bool
         ensures { IsTrue result ↔ (stored self.now.tables ≡ 0) }
     {
@@ -154,21 +155,21 @@ impl<A: AllocHandle> Session<A> {
         Attached::over(self.parts.tables())
     }
 
-    /// The records of a table in the order of their keys, where it is attached.
+    /// The records of a table in the order of their keys, `None` where it is not attached.
     pub fn records(&self, name: &Name<A>) -> Option<&Records<A>>
         ensures { option_copied result ≡ records_of self.now.tables name.now }
     {
         records_of(self.parts.tables(), name)
     }
 
-    /// The record of a key, where there is one.
+    /// The record of a key, if any.
     pub fn record(&self, name: &Name<A>, key: &Key<A>) -> Option<&Record<A>>
         ensures { option_copied result ≡ record_of self.now.tables name.now key.now }
     {
         self.records(name)?.get(key)
     }
 
-    /// The same session, which shares its records.
+    /// A copy, which shares the records.
     pub fn copy(&self) -> Result<Self, OutOfMemory>
         ensures { IfOk result (λ copy. copy ≡ self.now) }
     {
@@ -178,7 +179,7 @@ impl<A: AllocHandle> Session<A> {
     }
 }
 
-/// The same session, which shares its records.
+/// A clone shares the records.
 impl<A: AllocHandle> Clone for Session<A> {
     ghost use Rattle.std.specs.Prelude.{◌≡◌};
 

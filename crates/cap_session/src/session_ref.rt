@@ -1,3 +1,4 @@
+//! Read access to one of several sessions.
 ghost use Rattle.std.specs.Prelude.{◌≡◌, ◌<◌, ◌^◌, length, nat_eq};
 ghost use Rattle.cap_session.specs.Code.Parts.{state_of};
 ghost use Rattle.cap_session.specs.Session.{stored};
@@ -8,7 +9,7 @@ use crate::parts::Parts;
 use cap_value::AllocHandle;
 use std::marker::Model;
 
-/// One of several sessions, to be read.
+/// A reference to one of several sessions.
 #[derive(Drop)]
 pub struct SessionRef<'a, A: AllocHandle> {
     parts: &'a Parts<A>,
@@ -35,22 +36,20 @@ impl<'a, A: AllocHandle> SessionRef<'a, A> {
         SessionRef { parts }
     }
 
-    /// Whether it is enabled.
     pub fn is_enabled(&self) -> bool
         ensures { result ≡ self.now.enabled }
     {
         self.parts.enabled
     }
 
-    /// Whether all its touches are indirect.
+    /// The indirect flag: whether every touch is indirect.
     pub fn is_indirect(&self) -> bool
         ensures { result ≡ self.now.indirect }
     {
         self.parts.indirect
     }
 
-    /// Whether there is no record (SQLite's sqlite3session_isempty). Where there is one, its row may still be as it
-    /// was.
+    /// Whether there is no record (SQLite's sqlite3session_isempty). The row of a record may be unchanged.
     pub fn is_empty(&self) -> bool
         ensures { result ≡ nat_eq (stored self.now.tables) 0 }
     {

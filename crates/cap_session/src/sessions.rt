@@ -1,25 +1,27 @@
+//! All sessions of a core, by number.
 ghost use Rattle.std.specs.Prelude.{◌≡◌, [], ◌∷◌, ◌++◌, Ok, Err, IfOk, IfErr, OnOk, OnErr, length};
 ghost use Rattle.std.specs.Option.{option_map};
 ghost use Rattle.cap_value.specs.Memory.{MatchFault};
 ghost use Rattle.cap_session.specs.Note.{note_diff};
-ghost use Rattle.cap_session.specs.Session.{attach_all, attached, enabled_as, indirect_as, new_session, restart, set_filter};
+ghost use Rattle.cap_session.specs.Session.{attach_all, attached, enabled_as, indirect_as, new_session};
+ghost use Rattle.cap_session.specs.Session.{restart, set_filter};
 ghost use Rattle.cap_session.specs.Sessions.{note_each, session_numbered, with_session_if, without_session};
 
 use crate::SessionRef;
-use crate::numbered::{Numbered, copies_of, note, note_attached, note_diff, place_of, take_over};
+use crate::numbered::{Numbered, copies_of, note, note_attached, note_diff, place_of, publish};
 use crate::parts::Parts;
 use cap_compare::Difference;
 use cap_filter::TableFilter;
-use cap_tree::Confirm;
+use cap_tree::CommitHook;
 use cap_txn::{Change, Database};
 use cap_value::{AllocHandle, Fault, Name, OutOfMemory};
 use std::marker::Model;
 
-/// Sessions under their numbers.
+/// Sessions by number.
 ///
-/// A change that takes memory comes in two calls: the first finds all memory and leaves the sessions as they are, and
-/// `take_over` puts in place what was found last. Between the two nothing has to be undone: whoever calls does
-/// something else that may fail, or drops what was found by another call.
+/// A change that takes memory is two calls: the first stages it and leaves the sessions unchanged, and
+/// `publish`, which takes no memory, puts in place what was staged last. Nothing has to be undone where a
+/// step between the two fails: the next call discards what is staged.
 pub struct Sessions<A: AllocHandle> {
     alloc: A,
     sessions: Vec<Numbered<A>, A>,
@@ -27,7 +29,7 @@ pub struct Sessions<A: AllocHandle> {
 
 impl<A: AllocHandle> Model for Sessions<A> {
     ghost use Rattle.cap_session.specs.Sessions.{SessionsState};
-    ghost use Rattle.cap_session.specs.Code.Numbered.{live_of, waiting_of};
+    ghost use Rattle.cap_session.specs.Code.Numbered.{live_of, staged_of};
 
     ghost Value = { SessionsState A };
 
@@ -36,7 +38,7 @@ impl<A: AllocHandle> Model for Sessions<A> {
 
     ghost coded = { Prim.hlevel (codes, coded_rule) };
 
-    ghost view = { λ s. record { live = live_of s.sessions.items; noted = waiting_of s.sessions.items } };
+    ghost view = { λ s. record { live = live_of s.sessions.items; staged = staged_of s.sessions.items } };
 }
 
 // A derived `Drop` would be opened in each caller's loop.
@@ -50,7 +52,7 @@ impl<A: AllocHandle> Drop for Sessions<A> {
 }
 
 impl<A: AllocHandle> Sessions<A> {
-    /// No sessions, which takes no memory.
+    /// No sessions. Takes no memory.
     pub fn new(alloc: A) -> Self
         ensures live { result.live ≡ [] }
     {
@@ -60,14 +62,14 @@ impl<A: AllocHandle> Sessions<A> {
         }
     }
 
-    /// How many sessions there are.
+    /// The number of sessions.
     pub fn len(&self) -> usize
         ensures { result ≡ length self.now.live }
     {
         self.sessions.len()
     }
 
-    /// The session with this number.
+    /// The session with this number, if any.
     pub fn get(&self, number: u64) -> Option<SessionRef<'_, A>>
         ensures { result ≡ session_numbered self.now.live number }
     {
@@ -75,22 +77,22 @@ impl<A: AllocHandle> Sessions<A> {
         Some(SessionRef::of(&self.sessions[place].parts))
     }
 
-    /// Adds a new session under this number, once the step outside agrees. The step is asked once, when all memory was
-    /// found. On an error the sessions are as before.
-    pub fn add_after<C: Confirm>(
+    /// Adds a new session with this number, where the commit hook allows it. The hook is asked once, after
+    /// all memory is reserved. On an error the sessions are unchanged.
+    pub fn add_with_hook<C: CommitHook>(
         &mut self,
         number: u64,
-        confirm: &mut C,
+        hook: &mut C,
     ) -> Result<(), Fault<C::Refusal>>
-        requires { C.can_confirm confirm.old }
+        requires { C.can_ask hook.old }
         ensures added { OnOk result (self.new.live ≡ self.old.live ++ (number, new_session) ∷ []) }
-        ensures agreed { OnOk result (C.gives confirm.old (Ok tt) confirm.new) }
+        ensures allowed { OnOk result (C.gives hook.old (Ok tt) hook.new) }
         ensures err { OnErr result (self.new.live ≡ self.old.live) }
-        ensures refused { IfErr result (λ fault. MatchFault fault (confirm.new ≡ confirm.old)
-            (λ why. C.gives confirm.old (Err why) confirm.new)) }
+        ensures refused { IfErr result (λ fault. MatchFault fault (hook.new ≡ hook.old)
+            (λ why. C.gives hook.old (Err why) hook.new)) }
     {
         self.sessions.reserve(1)?;
-        if let Err(why) = confirm.confirm() {
+        if let Err(why) = hook.before_commit() {
             return Err(Fault::Refused(why));
         }
         let parts = Parts::new(self.alloc);
@@ -98,7 +100,7 @@ impl<A: AllocHandle> Sessions<A> {
         Ok(())
     }
 
-    /// Takes the session with this number out, where there is one.
+    /// Removes the session with this number, if any.
     pub fn remove(&mut self, number: u64)
         ensures { self.new.live ≡ without_session self.old.live number }
     {
@@ -107,24 +109,24 @@ impl<A: AllocHandle> Sessions<A> {
         }
     }
 
-    /// Finds what the changes of one commit make of each session, on tables that were so before it.
+    /// Stages the changes of one commit in each session. `before` is the database before it.
     pub fn note(&mut self, before: &Database<A>, changes: &[Change<A>]) -> Result<(), OutOfMemory>
         ensures kept { self.new.live ≡ self.old.live }
-        ensures noted { OnOk result (self.new.noted ≡ note_each before.now changes.now self.old.live) }
+        ensures staged { OnOk result (self.new.staged ≡ note_each before.now changes.now self.old.live) }
     {
         note(self.sessions.as_mut_slice(), before, changes)
     }
 
-    /// Finds what attaching a table makes of the session with this number, where there is one.
+    /// Stages attaching a table to the session with this number, if any.
     pub fn note_attached(&mut self, number: u64, name: &Name<A>) -> Result<(), OutOfMemory>
         ensures kept { self.new.live ≡ self.old.live }
-        ensures noted { OnOk result (self.new.noted ≡ with_session_if self.old.live number
+        ensures staged { OnOk result (self.new.staged ≡ with_session_if self.old.live number
             (option_map (attached name.now) (session_numbered self.old.live number))) }
     {
         note_attached(self.sessions.as_mut_slice(), number, name)
     }
 
-    /// Finds what a diff of a table makes of the session with this number, where there is one.
+    /// Stages a diff of a table in the session with this number, if any.
     pub fn note_diff(
         &mut self,
         number: u64,
@@ -132,21 +134,21 @@ impl<A: AllocHandle> Sessions<A> {
         differences: &[Difference<A>],
     ) -> Result<(), OutOfMemory>
         ensures kept { self.new.live ≡ self.old.live }
-        ensures noted { OnOk result (self.new.noted ≡ with_session_if self.old.live number
+        ensures staged { OnOk result (self.new.staged ≡ with_session_if self.old.live number
             (option_map (note_diff name.now differences.now) (session_numbered self.old.live number))) }
     {
         note_diff(self.sessions.as_mut_slice(), number, name, differences)
     }
 
-    /// Takes over what was noted last.
-    pub fn take_over(&mut self)
-        ensures { self.new.live ≡ self.old.noted }
+    /// Publishes what was staged last.
+    pub fn publish(&mut self)
+        ensures { self.new.live ≡ self.old.staged }
     {
-        take_over(self.sessions.as_mut_slice());
+        publish(self.sessions.as_mut_slice());
     }
 
-    /// From now on a table is attached to the session with this number when one of its rows changes, unless a filter
-    /// decides.
+    /// The session with this number attaches every table from now on when one of its rows changes. A filter
+    /// takes precedence.
     pub fn attach_all(&mut self, number: u64)
         ensures { self.new.live ≡ with_session_if self.old.live number
             (option_map attach_all (session_numbered self.old.live number)) }
@@ -156,7 +158,7 @@ impl<A: AllocHandle> Sessions<A> {
         }
     }
 
-    /// From now on a table is attached to the session with this number when one of its rows changes and the filter
+    /// The session with this number attaches a table from now on when one of its rows changes and the filter
     /// accepts its name.
     pub fn set_filter(&mut self, number: u64, filter: TableFilter<A>)
         ensures { self.new.live ≡ with_session_if self.old.live number
@@ -167,7 +169,7 @@ impl<A: AllocHandle> Sessions<A> {
         }
     }
 
-    /// Sets whether the session with this number is enabled, where it is asked for.
+    /// Enables or disables the session with this number, or leaves it as it is (`None`).
     pub fn enable(&mut self, number: u64, asked: Option<bool>)
         ensures { self.new.live ≡ with_session_if self.old.live number
             (option_map (enabled_as asked) (session_numbered self.old.live number)) }
@@ -177,7 +179,7 @@ impl<A: AllocHandle> Sessions<A> {
         }
     }
 
-    /// Sets whether all touches of the session with this number are indirect, where it is asked for.
+    /// Sets or clears the indirect flag of the session with this number, or leaves it as it is (`None`).
     pub fn indirect(&mut self, number: u64, asked: Option<bool>)
         ensures { self.new.live ≡ with_session_if self.old.live number
             (option_map (indirect_as asked) (session_numbered self.old.live number)) }
@@ -187,7 +189,7 @@ impl<A: AllocHandle> Sessions<A> {
         }
     }
 
-    /// Forgets all records of the session with this number. Its flags, its rule and its attach list stay.
+    /// Clears all records of the session with this number. Its flags, rule and attached tables stay.
     pub fn restart(&mut self, number: u64)
         ensures { self.new.live ≡ with_session_if self.old.live number
             (option_map restart (session_numbered self.old.live number)) }
@@ -197,7 +199,7 @@ impl<A: AllocHandle> Sessions<A> {
         }
     }
 
-    /// The same sessions, which share their records.
+    /// A copy, which shares the records.
     pub fn copy(&self) -> Result<Self, OutOfMemory>
         ensures { IfOk result (λ copy. copy.live ≡ self.now.live) }
     {

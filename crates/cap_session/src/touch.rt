@@ -1,4 +1,4 @@
-//! One touch of a key, and the touches by changes.
+//! The records after touches: by the changes of a commit, and by a diff.
 ghost use Rattle.std.specs.Prelude.{◌≡◌, IsTrue, IfOk, Some, map};
 ghost use Rattle.std.specs.Option.{option_copied, unwrap_or};
 ghost use Rattle.cap_row.specs.Key.{fields_cmp};
@@ -13,7 +13,7 @@ use cap_row::{Key, Row};
 use cap_txn::{Cause, Change, Database};
 use cap_value::{AllocHandle, Name, OutOfMemory};
 
-/// The records of the table of this name after changes of rows of any table, or none where they stay the same.
+// The records of the table of this name after changes to rows of any table, `None` where they stay the same.
 pub(crate) fn records_after<A: AllocHandle>(
     name: &Name<A>,
     records: &Records<A>,
@@ -36,8 +36,8 @@ pub(crate) fn records_after<A: AllocHandle>(
     Ok(after)
 }
 
-// Whether a change is the last one once more, which touches nothing anew. An update tells the key of the old row and
-// that of the new one, which are mostly the same.
+// Whether a change repeats the last one, and so touches nothing new. An update gives one change for the old
+// row and one for the new row, mostly under the same key.
 fn is_again<A: AllocHandle>(last: Option<&Change<A>>, change: &Change<A>) -> bool
     ensures { IsTrue result → option_copied last.entry ≡ Some change.now }
 {
@@ -69,7 +69,7 @@ fn have_same_key<A: AllocHandle>(one: &Option<Key<A>>, other: &Option<Key<A>>) -
     }
 }
 
-// The records that come after these, or none, with one change more.
+// `after`, or where it is `None` the records, after one more change.
 fn after_change<A: AllocHandle>(
     name: &Name<A>,
     records: &Records<A>,
@@ -102,7 +102,7 @@ fn is_cascade(cause: Cause) -> bool
     }
 }
 
-// The records that come after these, or none, with a touch more. Its key is looked up once.
+// `after`, or where it is `None` the records, after one more touch. The key is searched once.
 fn after_touch<A: AllocHandle>(
     name: &Name<A>,
     records: &Records<A>,
@@ -130,7 +130,7 @@ fn after_touch<A: AllocHandle>(
     Ok(Some(after))
 }
 
-// The records that come after these, or these.
+// `after`, or where it is `None` the records.
 fn current<'a, A: AllocHandle>(
     records: &'a Records<A>,
     after: &'a Option<Records<A>>,
@@ -143,7 +143,7 @@ fn current<'a, A: AllocHandle>(
     }
 }
 
-// The records that come after these, or a copy of these.
+// `after`, or where it is `None` a copy of the records.
 fn after_or_copy<A: AllocHandle>(
     records: &Records<A>,
     after: Option<Records<A>>,
@@ -156,7 +156,7 @@ fn after_or_copy<A: AllocHandle>(
     }
 }
 
-// The row with this primary key, or its absence.
+// The row with this primary key, if any.
 fn row_at<'a, A: AllocHandle>(
     tables: &'a Database<A>,
     name: &Name<A>,
@@ -170,8 +170,8 @@ fn row_at<'a, A: AllocHandle>(
     }
 }
 
-// Whether a touch of a key with this record leaves the records as they are, whatever its image: the key was touched
-// directly, or indirectly as now.
+// Whether a touch of a key with this record leaves the records as they are, whatever its image: the record is
+// direct, or this touch is indirect too.
 fn is_noted<A: AllocHandle>(found: Option<&Record<A>>, indirect: bool) -> bool
     ensures { IsTrue result → (records : Records A) (t : Touch A) → IsOrdered fields_cmp records
         → get fields_cmp records t.key ≡ option_copied found.entry → t.indirect ≡ indirect
@@ -183,7 +183,7 @@ fn is_noted<A: AllocHandle>(found: Option<&Record<A>>, indirect: bool) -> bool
     }
 }
 
-// What is kept of a row after a touch: a record keeps its image.
+// The record of a key after a touch. A record keeps its image.
 fn record_after<A: AllocHandle>(
     before: Option<&Record<A>>,
     image: Option<&Row<A>>,
@@ -214,7 +214,7 @@ fn copy_of<A: AllocHandle>(row: Option<&Row<A>>) -> Result<Option<Row<A>>, OutOf
     }
 }
 
-/// These records with a touch of each key that differs.
+// The records after a touch of each key that differs.
 pub(crate) fn records_after_diff<A: AllocHandle>(
     records: &Records<A>,
     indirect: bool,

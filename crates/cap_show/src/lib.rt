@@ -1,4 +1,4 @@
-//! What is in a changeset or a patchset, as text.
+//! Prints the content of a changeset or a patchset as text.
 #![tactic(auto)]
 
 mod list;

@@ -1,24 +1,25 @@
+//! Prints changesets and patchsets.
 ghost use Rattle.std.specs.Prelude.{◌≡◌, ◌∷◌, ◌++◌, [], OnOk, codes};
 ghost use Rattle.std.specs.Io.KnownBytes.{Appends};
 
 use crate::text::{DefinedText, RecordText, SchemaText};
-use cap_changes::{Change, ChangeList, Patch, PatchList};
+use cap_changes::{ChangeList, Patch, PatchList, RowChange};
 use cap_value::AllocHandle;
 use std::io;
 use std::io::Write;
 
-/// The line of a blob without groups.
+// The line of a blob without groups.
 const EMPTY: &[u8] = b"empty\n";
 
 /// Writes a changeset: a line for it, for each group and for each change, or `empty` where it has no group.
 ///
-/// A change's line has its kind, `direct` or `indirect`, and its fields between parentheses, `-` for each that is
-/// undefined. The error is the writer's.
+/// The line of a change has its kind, `direct` or `indirect`, and its fields in parentheses, with `-` for
+/// each undefined field. The error is the writer's.
 pub fn write_changeset<A: AllocHandle, W: Write>(
     changes: &ChangeList<A>,
     output: &mut W,
 ) -> io::Result<()>
-    // A list without groups is a line of its own.
+    // A list without groups is one line.
     ensures empty { changes.now ≡ [] → OnOk result (Appends (W.contents output.old) (W.contents output.new)
         (codes "empty" ++ 10 ∷ [])) }
 {
@@ -38,13 +39,13 @@ pub fn write_changeset<A: AllocHandle, W: Write>(
 
 /// Writes a patchset: a line for it, for each group and for each change, or `empty` where it has no group.
 ///
-/// As of a changeset, but an update has only its key and new values, and a delete only its key. The error is the
-/// writer's.
+/// As for a changeset, but an update has only its key and new values, and a delete only its key. The error is
+/// the writer's.
 pub fn write_patchset<A: AllocHandle, W: Write>(
     patches: &PatchList<A>,
     output: &mut W,
 ) -> io::Result<()>
-    // A list without groups is a line of its own.
+    // A list without groups is one line.
     ensures empty { patches.now ≡ [] → OnOk result (Appends (W.contents output.old) (W.contents output.new)
         (codes "empty" ++ 10 ∷ [])) }
 {
@@ -62,21 +63,35 @@ pub fn write_patchset<A: AllocHandle, W: Write>(
     Ok(())
 }
 
-fn mark(indirect: bool) -> &'static str {
+fn flag_text(indirect: bool) -> &'static str {
     if indirect { "indirect" } else { "direct" }
 }
 
-fn write_change<A: AllocHandle, W: Write>(change: &Change<A>, output: &mut W) -> io::Result<()> {
+fn write_change<A: AllocHandle, W: Write>(change: &RowChange<A>, output: &mut W) -> io::Result<()> {
     match change {
-        Change::Insert { indirect, new } => {
-            writeln!(output, "insert {} {}", mark(*indirect), RecordText(new))
+        RowChange::Insert { indirect, new } => {
+            writeln!(
+                output,
+                "insert {} {}",
+                flag_text(*indirect),
+                RecordText(new)
+            )
         }
-        Change::Update { indirect, old, new } => {
+        RowChange::Update { indirect, old, new } => {
             let (old, new) = (RecordText(old), RecordText(new));
-            writeln!(output, "update {} old {old} new {new}", mark(*indirect))
+            writeln!(
+                output,
+                "update {} old {old} new {new}",
+                flag_text(*indirect)
+            )
         }
-        Change::Delete { indirect, old } => {
-            writeln!(output, "delete {} {}", mark(*indirect), RecordText(old))
+        RowChange::Delete { indirect, old } => {
+            writeln!(
+                output,
+                "delete {} {}",
+                flag_text(*indirect),
+                RecordText(old)
+            )
         }
     }
 }
@@ -84,13 +99,28 @@ fn write_change<A: AllocHandle, W: Write>(change: &Change<A>, output: &mut W) ->
 fn write_patch<A: AllocHandle, W: Write>(patch: &Patch<A>, output: &mut W) -> io::Result<()> {
     match patch {
         Patch::Insert { indirect, new } => {
-            writeln!(output, "insert {} {}", mark(*indirect), RecordText(new))
+            writeln!(
+                output,
+                "insert {} {}",
+                flag_text(*indirect),
+                RecordText(new)
+            )
         }
         Patch::Update { indirect, new } => {
-            writeln!(output, "update {} {}", mark(*indirect), RecordText(new))
+            writeln!(
+                output,
+                "update {} {}",
+                flag_text(*indirect),
+                RecordText(new)
+            )
         }
         Patch::Delete { indirect, key } => {
-            writeln!(output, "delete {} {}", mark(*indirect), DefinedText(key))
+            writeln!(
+                output,
+                "delete {} {}",
+                flag_text(*indirect),
+                DefinedText(key)
+            )
         }
     }
 }

@@ -1,10 +1,12 @@
-use cap_changes::Record;
+//! The text of values, columns and records.
+
+use cap_changes::FieldRecord;
 use cap_row::Schema;
 use cap_value::{AllocHandle, Value};
 use std::fmt;
 use std::fmt::{Display, Formatter, Write};
 
-/// A value as text: `null`, decimal digits, a quoted text, or the hex digits of a blob.
+// A value as text: `null`, decimal digits, a quoted text, or the hex digits of a blob.
 #[derive(Drop)]
 pub(crate) struct ValueText<'a, A: AllocHandle>(pub(crate) &'a Value<A>);
 
@@ -19,7 +21,7 @@ impl<'a, A: AllocHandle> Display for ValueText<'a, A> {
     }
 }
 
-/// A quote in the text stands twice.
+// Quotes the text, and doubles each quote in it.
 fn write_quoted<W: Write>(f: &mut Formatter<W>, text: &str) -> fmt::Result {
     f.write_str("'")?;
     for (place, part) in text.split('\'').enumerate() {
@@ -39,7 +41,7 @@ fn write_digits<W: Write>(f: &mut Formatter<W>, bytes: &[u8]) -> fmt::Result {
     f.write_str("'")
 }
 
-/// The columns of a table as text: `k` for each column of the primary key, and `v` for each other.
+// The columns of a table as text: `k` for each column of the primary key, and `v` for each other.
 #[derive(Drop)]
 pub(crate) struct SchemaText<'a, A: AllocHandle>(pub(crate) &'a Schema<A>);
 
@@ -52,9 +54,9 @@ impl<'a, A: AllocHandle> Display for SchemaText<'a, A> {
     }
 }
 
-/// A record as text: its fields between parentheses, with `-` for each that is undefined.
+// A record as text: its fields in parentheses, with `-` for each undefined field.
 #[derive(Drop)]
-pub(crate) struct RecordText<'a, A: AllocHandle>(pub(crate) &'a Record<A>);
+pub(crate) struct RecordText<'a, A: AllocHandle>(pub(crate) &'a FieldRecord<A>);
 
 impl<'a, A: AllocHandle> Display for RecordText<'a, A> {
     fn fmt<W: Write>(&self, f: &mut Formatter<W>) -> fmt::Result {
@@ -72,9 +74,9 @@ impl<'a, A: AllocHandle> Display for RecordText<'a, A> {
     }
 }
 
-/// The defined fields of a record as text, between parentheses.
+// The defined fields of a record as text, in parentheses.
 #[derive(Drop)]
-pub(crate) struct DefinedText<'a, A: AllocHandle>(pub(crate) &'a Record<A>);
+pub(crate) struct DefinedText<'a, A: AllocHandle>(pub(crate) &'a FieldRecord<A>);
 
 impl<'a, A: AllocHandle> Display for DefinedText<'a, A> {
     fn fmt<W: Write>(&self, f: &mut Formatter<W>) -> fmt::Result {

@@ -1,4 +1,4 @@
--- Tables go from one thread to another where their allocator does.
+-- Tables and their rows go from one thread to another where their allocator does.
 use denote.RattleType.{RattleType}
 use denote.Param.Send.{IsSend, IsSync, Frees, sendable}
 use Rattle.std.specs.declared.alloc.Allocator as allocator
@@ -8,6 +8,7 @@ use Rattle.cap_row.proofs.key.Key.TheSendSync as key
 use Rattle.cap_row.proofs.row.Row.TheSendSync as row
 use Rattle.cap_row.proofs.schema.Schema.TheSendSync as schema
 use Rattle.cap_tree.proofs.Crossing.{tree_send, tree_sync}
+use Rattle.cap_table.specs.contracts.rows.Rows as Rows
 use Rattle.cap_table.specs.contracts.table.Table as Table
 
 module _ (A : RattleType) (h : handle.Ghosts A.Denot) (a : allocator.Ghosts A.Denot) (c : clone.Ghosts A.Denot)
@@ -17,3 +18,9 @@ module _ (A : RattleType) (h : handle.Ghosts A.Denot) (a : allocator.Ghosts A.De
 
   pub table_sync : IsSync (Table.the_row A h a c)
   table_sync = search (tree_sync, key.the_send, key.the_sync, row.the_send, row.the_sync, schema.the_sync, sendable) depth 20
+
+  pub rows_send : IsSend (Rows.the_row A h a c)
+  rows_send = search (tree_send, key.the_send, key.the_sync, row.the_send, row.the_sync, sendable) depth 20
+
+  pub rows_sync : IsSync (Rows.the_row A h a c)
+  rows_sync = search (tree_sync, key.the_send, key.the_sync, row.the_send, row.the_sync, sendable) depth 20

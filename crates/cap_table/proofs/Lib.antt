@@ -1,7 +1,8 @@
 pub mod Crossing
-pub mod AfterLemmas
+pub mod WithHookLemmas
 pub mod BackLemmas
 pub mod IdLemmas
 pub mod KeptLemmas
 pub mod LawLemmas
 pub mod TableLemmas
+pub mod RenewLemmas

@@ -9,8 +9,10 @@ module _ {A : Type 0} where
   pub record GivesIdsOnce (before after : TableState A) : Type 0 where
     -- the next id never falls
     pub next : before.next_id ≤ after.next_id
-    -- a row under an id that no row had stands under one that was not given before, and is given now
-    pub new : (id : ℕ) → is_some (get nat_cmp before.loose id) ≡ false → is_some (get nat_cmp after.loose id) ≡ true
+    -- a row under an id that no row had is under one that was not given before, and is given now
+    pub new : (id : ℕ) → is_some (get nat_cmp before.loose id) ≡ false
+        → is_some (get nat_cmp after.loose id) ≡ true
         → (before.next_id ≤ id) × (id < after.next_id)
     -- an id that was given and names no row names none ever after
-    pub gone : (id : ℕ) → id < before.next_id → get nat_cmp before.loose id ≡ None → get nat_cmp after.loose id ≡ None
+    pub gone : (id : ℕ) → id < before.next_id → get nat_cmp before.loose id ≡ None
+        → get nat_cmp after.loose id ≡ None

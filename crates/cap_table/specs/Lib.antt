@@ -1,7 +1,8 @@
-pub mod After
+pub mod WithHook
 pub mod Ids
 pub mod Operation
 pub mod Scan
 pub mod Sound
 pub mod Table
 pub mod NotMade
+pub mod Hooked

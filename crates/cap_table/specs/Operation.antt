@@ -1,8 +1,10 @@
 -- One operation on one table: the table that it leaves, or the first refusal that applies.
-use Rattle.std.specs.Prelude.{ℕ, ◌+◌, ◌^◌, Option, Some, None, Result, Ok, Err, Bool, List, [], length, is_some, nat_lt, ◌==◌, if◌then◌else◌}
+use Rattle.std.specs.Prelude.{ℕ, ◌+◌, ◌^◌, Option, Some, None, Result, Ok, Err, Bool, List, [], length}
+use Rattle.std.specs.Prelude.{is_some, nat_lt, ◌==◌, if◌then◌else◌}
 use Rattle.std.specs.Ordering.{nat_cmp}
 use Rattle.cap_value.specs.declared.refusal.Refusal.{Refusal}
-use Rattle.cap_value.specs.declared.refusal.Refusal.TheVariants.{WrongWidth, BadColumn, Duplicate, NoRow, IdsSpent}
+use Rattle.cap_value.specs.declared.refusal.Refusal.TheVariants.{WrongWidth, BadColumn, Duplicate, NoRow}
+use Rattle.cap_value.specs.declared.refusal.Refusal.TheVariants.{IdsSpent}
 use Rattle.cap_value.specs.declared.value.Value.{Value}
 use Rattle.cap_row.specs.Fields.{Fields}
 use Rattle.cap_row.specs.Key.{fields_cmp, fields_eq, key_of}
@@ -44,7 +46,8 @@ module _ {A : Type 0} where
   -- a row under the next id, which is then given
   abbrev pub under_next_id : TableState A → Fields A → Result (TableState A) Refusal
   under_next_id table row =
-      if nat_lt table.next_id (2 ^ 63) then Ok (record (with_id table table.next_id row) { next_id = table.next_id + 1 }) else Err IdsSpent
+      if nat_lt table.next_id (2 ^ 63)
+      then Ok (record (with_id table table.next_id row) { next_id = table.next_id + 1 }) else Err IdsSpent
 
   -- a new row, under its key if it has one
   abbrev pub placed : TableState A → Fields A → Option (Fields A) → Result (TableState A) Refusal
@@ -52,7 +55,8 @@ module _ {A : Type 0} where
   placed table row None = under_next_id table row
 
   abbrev pub insert_row : TableState A → Fields A → Result (TableState A) Refusal
-  insert_row table row = if length row == length table.schema then placed table row (key_of table.schema row) else Err WrongWidth
+  insert_row table row =
+      if length row == length table.schema then placed table row (key_of table.schema row) else Err WrongWidth
 
   -- a row that keeps its key stays under it, and one that changes it needs a key that no row has
   abbrev pub rekeyed : TableState A → Fields A → Fields A → Fields A → Result (TableState A) Refusal
@@ -60,24 +64,32 @@ module _ {A : Type 0} where
       if fields_eq old new then Ok (with_key table new row)
       else under_key (is_some (get fields_cmp table.keyed new)) (without table (Key old)) new row
 
-  -- a keyed row that loses its key takes the next id, a loose row that gets one gives its id up, and one that stays loose
-  -- keeps it
+  -- a keyed row that loses its key takes the next id, a loose row that gets one gives its id up, and one that
+  -- stays loose keeps it
   abbrev pub moved : TableState A → RowRef A → Fields A → Option (Fields A) → Result (TableState A) Refusal
   moved table (Key old) row (Some new) = rekeyed table old row new
   moved table (Key old) row None = under_next_id (without table (Key old)) row
-  moved table (Loose id) row (Some new) = under_key (is_some (get fields_cmp table.keyed new)) (without table (Loose id)) new row
+  moved table (Loose id) row (Some new) =
+      under_key (is_some (get fields_cmp table.keyed new)) (without table (Loose id)) new row
   moved table (Loose id) row None = Ok (with_id table id row)
 
-  abbrev pub updated : TableState A → RowRef A → List (ℕ × Value A) → Option (Fields A) → Result (TableState A) Refusal
+  abbrev pub updated : TableState A → RowRef A → List (ℕ × Value A) → Option (Fields A)
+      → Result (TableState A) Refusal
   updated table name changes None = Err NoRow
-  updated table name changes (Some row) = moved table name (row_with changes row) (key_of table.schema (row_with changes row))
+  updated table name changes (Some row) =
+      moved table name (row_with changes row) (key_of table.schema (row_with changes row))
 
   abbrev pub update_row : TableState A → RowRef A → List (ℕ × Value A) → Result (TableState A) Refusal
   update_row table name changes =
-      if are_columns (length table.schema) (columns_of changes) then updated table name changes (row_of table name) else Err BadColumn
+      if are_columns (length table.schema) (columns_of changes)
+      then updated table name changes (row_of table name) else Err BadColumn
 
   abbrev pub delete_row : TableState A → RowRef A → Result (TableState A) Refusal
   delete_row table name = if is_some (row_of table name) then Ok (without table name) else Err NoRow
+
+  -- what a delete is refused, always before memory is needed
+  abbrev pub refused_delete : TableState A → RowRef A → Option Refusal
+  refused_delete table name = if is_some (row_of table name) then None else Some NoRow
 
   -- what an insert is refused before its key is made
   abbrev pub refused_insert : TableState A → Fields A → Option Refusal
@@ -86,4 +98,5 @@ module _ {A : Type 0} where
   -- what an update is refused before its new row is made
   abbrev pub refused_update : TableState A → RowRef A → List (ℕ × Value A) → Option Refusal
   refused_update table name changes =
-      if are_columns (length table.schema) (columns_of changes) then (if is_some (row_of table name) then None else Some NoRow) else Some BadColumn
+      if are_columns (length table.schema) (columns_of changes)
+      then (if is_some (row_of table name) then None else Some NoRow) else Some BadColumn

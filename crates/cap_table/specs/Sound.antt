@@ -1,5 +1,6 @@
--- What holds of every table: keyed rows stand under their own keys, loose rows under ids that were given.
-use Rattle.std.specs.Prelude.{ℕ, ◌≤◌, ◌^◌, Bool, false, Option, Some, None, List, length, is_some, nat_lt, ◌==◌, ◌&&◌, not, IsTrue}
+-- What holds of every table: keyed rows are under their own keys, loose rows under ids that were given.
+use Rattle.std.specs.Prelude.{ℕ, ◌≤◌, ◌^◌, Bool, false, Option, Some, None, List, length, is_some, nat_lt}
+use Rattle.std.specs.Prelude.{◌==◌, ◌&&◌, not, IsTrue}
 use Rattle.std.specs.List.{list_all}
 use Rattle.std.specs.Ordering.{nat_cmp}
 use Rattle.std.specs.FinMap.Entries.{is_sorted}
@@ -18,7 +19,8 @@ module _ {A : Type 0} where
 
   -- a row of a table with these columns that has no key, under an id below the next one
   abbrev pub loose_stands : List Bool → ℕ → ℕ → Fields A → Bool
-  loose_stands schema next id row = (length row == length schema) && not (is_some (key_of schema row)) && nat_lt id next
+  loose_stands schema next id row =
+      (length row == length schema) && not (is_some (key_of schema row)) && nat_lt id next
 
   -- ids start at 1, and the last one that is given is 2 ^ 63 - 1
   pub record IsTable (table : TableState A) : Type 0 where

@@ -2,7 +2,7 @@
 use Rattle.std.specs.Prelude.{ℕ, Bool, List}
 use Rattle.cap_row.specs.Fields.{Fields}
 
--- keyed rows stand in the order of their keys, loose rows in the order of their ids
+-- keyed rows are in the order of their keys, loose rows in the order of their ids
 pub record TableState (A : Type 0) : Type 0 where
   pub schema : List Bool
   pub keyed : List (Fields A × Fields A)

@@ -20,7 +20,7 @@ pub fn delete_undoes_insert<A: AllocHandle>()
         insert_row before row ≡ Ok after → delete_row after (RowRef.Key key) ≡ Ok before }
 {}
 
-/// A new row without a key stands under the next id, which is never the next one again.
+/// A new row without a key gets the next id, which is never the next one again.
 pub fn insert_takes_next_id<A: AllocHandle>()
     ensures { (before after : TableState A) (row : Fields A) → key_of before.schema row ≡ None
         → insert_row before row ≡ Ok after →

@@ -1,16 +1,18 @@
 //! Tables: rows under their primary keys, and rows without a key under ids.
 #![tactic(auto)]
 
-mod after;
-mod change;
+mod changes_in_place;
+mod hooked;
+mod keyed_rows;
 mod laws;
 mod not_made;
-mod put;
 mod replaced;
 mod row_name;
 mod row_ref;
+mod rows;
 mod scan;
 mod table;
+mod with_hook;
 
 pub use laws::{
     delete_undoes_insert, ids_are_given_once, insert_takes_next_id, keyed_rows_go_back,
@@ -20,5 +22,6 @@ pub use not_made::NotMade;
 pub use replaced::Replaced;
 pub use row_name::RowName;
 pub use row_ref::RowRef;
+pub use rows::Rows;
 pub use scan::Scan;
 pub use table::{IDS_END, Table};

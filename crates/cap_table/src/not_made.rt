@@ -1,12 +1,13 @@
+//! Why a change with a commit hook was not made.
 use cap_value::Refusal;
 
-/// Why a change that waits for a step outside was not made.
+/// Why a change with a commit hook was not made.
 #[derive(Clone, Copy, Debug, PartialEq, Eq, Drop)]
 pub enum NotMade<E> {
-    /// The rules refuse it. The step was not asked.
+    /// The rules refuse it. The hook was not asked.
     Refused(Refusal),
-    /// There was no memory. The step was not asked.
+    /// Out of memory. The hook was not asked.
     OutOfMemory,
-    /// The step does not agree.
-    Disagreed(E),
+    /// The hook refused it.
+    Vetoed(E),
 }

@@ -1,7 +1,8 @@
+//! What an update answers.
 use cap_row::{Key, Row};
 use cap_value::AllocHandle;
 
-/// What an update tells: the new row's name, and what stood there before.
+/// What an update answers: the new row's key, and the old row.
 #[derive(Drop)]
 pub struct Replaced<A: AllocHandle> {
     /// The primary key of the new row, or none where it has none.

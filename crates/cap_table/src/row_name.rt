@@ -1,7 +1,8 @@
+//! Names of rows, borrowed from their table.
 use cap_row::Key;
 use cap_value::AllocHandle;
 
-/// The name of a row within its table, lent by the table.
+/// The name of a row within its table, borrowed from the table.
 #[derive(Drop)]
 pub enum RowName<'a, A: AllocHandle> {
     /// The row with this primary key.

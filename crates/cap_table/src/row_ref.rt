@@ -1,5 +1,8 @@
+//! Names of rows.
+ghost use Rattle.std.specs.Prelude.{◌≡◌, IfOk};
+
 use cap_row::Key;
-use cap_value::AllocHandle;
+use cap_value::{AllocHandle, OutOfMemory};
 
 /// The name of a row within its table.
 #[derive(Drop)]
@@ -8,4 +11,16 @@ pub enum RowRef<A: AllocHandle> {
     Key(Key<A>),
     /// The row without a key that has this id. The ids of a table start at 1.
     Loose(u64),
+}
+
+impl<A: AllocHandle> RowRef<A> {
+    /// The same name, which shares the key.
+    pub fn copy(&self) -> Result<Self, OutOfMemory>
+        ensures { IfOk result (λ copy. copy ≡ self.now) }
+    {
+        match self {
+            RowRef::Key(key) => Ok(RowRef::Key(key.copy()?)),
+            RowRef::Loose(id) => Ok(RowRef::Loose(*id)),
+        }
+    }
 }

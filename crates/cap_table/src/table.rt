@@ -1,10 +1,11 @@
+//! Tables: their columns, keyed rows and loose rows.
 ghost use Rattle.std.specs.Prelude.{◌≡◌, ◌≤◌, ◌^◌, IfOk, IfSome, length};
 ghost use Rattle.std.specs.Option.{option_copied};
 ghost use Rattle.cap_table.specs.Operation.{empty_table, row_of};
 ghost use Rattle.cap_table.specs.Scan.{rows};
 ghost use Rattle.cap_table.specs.Sound.{IsTable};
 
-use crate::{RowRef, Scan};
+use crate::{RowRef, Rows, Scan};
 use cap_row::{Key, Row, Schema};
 use cap_tree::Tree;
 use cap_value::{AllocHandle, Exact, OutOfMemory};
@@ -14,8 +15,8 @@ use std::marker::Model;
 /// (Rowid Tables).
 pub const IDS_END: u64 = 1 << 63;
 
-/// A table: its columns and its rows. A row whose key columns are all there and not NULL stands under its primary
-/// key; every other row stands under an id. The ids start at 1, count upwards, and are never given again.
+/// A table: its columns and its rows. A row whose key columns are all there and not NULL is stored under its primary
+/// key; every other row is stored under an id. The ids start at 1, count upwards, and are never given again.
 ///
 /// Copies share rows and nodes.
 pub struct Table<A: AllocHandle> {
@@ -132,6 +133,13 @@ impl<A: AllocHandle> Table<A> {
         ensures { result ≡ rows self.now }
     {
         Scan::over(&self.keyed, &self.loose)
+    }
+
+    /// All rows as they stand, in the time of two snapshots.
+    pub fn rows(&self) -> Result<Rows<A>, OutOfMemory>
+        ensures { IfOk result (λ all. all ≡ rows self.now) }
+    {
+        Rows::of(&self.keyed, &self.loose)
     }
 
     /// The same table, which shares its rows.

@@ -5,7 +5,7 @@ use Rattle.std.specs.declared.cmp.Ordering.{Ordering}
 use Rattle.std.specs.declared.cmp.Ordering.TheVariants.{Greater}
 use Rattle.std.specs.List.{AllByRecursion}
 use Rattle.std.specs.Map.{keys_of}
-use Rattle.cap_tree.specs.declared.node.Part.{Part}
+use Rattle.cap_tree.specs.declared.node.Child.{Child}
 use Rattle.cap_tree.specs.Shape.{seen, entries_of, EachBelow}
 
 -- ---- how many entries each child gets
@@ -67,8 +67,8 @@ module _ {K V : Type 0} where
       ((here.0, rest.0), (here.1, rest.1))
 
   -- a child more in front
-  pub more_entries : {Z : Type 0} (parts : List (Part K V Z)) (part : Part K V Z) (whole old front : List (K × V)) → whole ≡ old ++ entries_of (seen parts) → old ≡ front ++ part.node.value.0 → whole ≡ front ++ entries_of (seen (part ∷ parts))
-  more_entries parts part whole old front all is = all ∙ ap (λ l. l ++ entries_of (seen parts)) is ∙ append_assoc front part.node.value.0 (entries_of (seen parts))
+  pub more_entries : {Z : Type 0} (children : List (Child K V Z)) (child : Child K V Z) (whole old front : List (K × V)) → whole ≡ old ++ entries_of (seen children) → old ≡ front ++ child.node.value.0 → whole ≡ front ++ entries_of (seen (child ∷ children))
+  more_entries children child whole old front all is = all ∙ ap (λ l. l ++ entries_of (seen children)) is ∙ append_assoc front child.node.value.0 (entries_of (seen children))
 
-  pub more_count : {Z : Type 0} (parts : List (Part K V Z)) (part : Part K V Z) (size : ℕ) → length part.node.value.0 ≡ size → length (entries_of (seen (part ∷ parts))) ≡ size + length (entries_of (seen parts))
-  more_count parts part size is = rw (← is) (length-append part.node.value.0 (entries_of (seen parts)))
+  pub more_count : {Z : Type 0} (children : List (Child K V Z)) (child : Child K V Z) (size : ℕ) → length child.node.value.0 ≡ size → length (entries_of (seen (child ∷ children))) ≡ size + length (entries_of (seen children))
+  more_count children child size is = rw (← is) (length-append child.node.value.0 (entries_of (seen children)))

@@ -4,10 +4,10 @@ use Rattle.std.specs.declared.cmp.Ordering.{Ordering}
 use Rattle.std.specs.declared.vec.Vec.{Vec}
 use Rattle.std.specs.Cmp.{IsTotalOrder}
 use Rattle.std.proofs.lemmas.List.{take-append-drop}
-use Rattle.cap_tree.specs.declared.node.Part.{Part}
+use Rattle.cap_tree.specs.declared.node.Child.{Child}
 use Rattle.cap_tree.specs.Tree.{IsOrdered}
-use Rattle.cap_tree.specs.Shape.{seen, entries_of, IsParts}
-use Rattle.cap_tree.specs.Cut.{IsCut, of_entries, of_parts}
+use Rattle.cap_tree.specs.Shape.{seen, entries_of, AreChildren}
+use Rattle.cap_tree.specs.Cut.{IsCut, of_entries, of_children}
 use Rattle.cap_tree.proofs.SplitLemmas.{leaf_below, leaf_above, inner_below, inner_above, inner_entries}
 
 -- contents of one height, part by part
@@ -26,13 +26,13 @@ module _ {K V Z : Type 0} (cmp : K → K → Ordering) (o : IsTotalOrder cmp) (a
     not_below = rw b (leaf_above cmp o es at d k within is key s);
   }
 
-  pub inner_cut : (height : ℕ) (es : List (K × V)) (parts : List (Part K V Z)) (front back : Vec (Part K V Z) Z) (d : Part K V Z) (k : K) → es ≡ entries_of (seen parts) → at < length parts → d ≡ get_or parts at d → k ≡ d.least → IsParts cmp height (seen parts) → front.items ≡ take at parts → back.items ≡ drop at parts → vec_len front ≡ at → vec_len back + at ≡ n → IsCut cmp at (es, height, n) (of_parts height front) (of_parts height back) k
-  inner_cut height es parts front back d k whole within is key h f b len back_len = record {
-    entries = rw (f, b) (whole ∙ inner_entries cmp o parts at);
+  pub inner_cut : (height : ℕ) (es : List (K × V)) (children : List (Child K V Z)) (front back : Vec (Child K V Z) Z) (d : Child K V Z) (k : K) → es ≡ entries_of (seen children) → at < length children → d ≡ get_or children at d → k ≡ d.least → AreChildren cmp height (seen children) → front.items ≡ take at children → back.items ≡ drop at children → vec_len front ≡ at → vec_len back + at ≡ n → IsCut cmp at (es, height, n) (of_children height front) (of_children height back) k
+  inner_cut height es children front back d k whole within is key h f b len back_len = record {
+    entries = rw (f, b) (whole ∙ inner_entries cmp o children at);
     height = refl;
     back_height = refl;
     len = len;
     back_len = back_len;
-    below = rw f (inner_below cmp o height parts at d k within is key h);
-    not_below = rw b (inner_above cmp o height parts at d k within is key h);
+    below = rw f (inner_below cmp o height children at d k within is key h);
+    not_below = rw b (inner_above cmp o height children at d k within is key h);
   }

@@ -313,14 +313,14 @@ module _ {K V : Type 0} (cmp : K → K → Ordering) where
 
   module _ (o : IsTotalOrder cmp) where
     -- the entries below a key stand before the others
-    pub parts_at : (k : K) (es : List (K × V)) → IsOrdered cmp es → es ≡ entries_below (cmp k) es ++ entries_from (cmp k) es
+    pub children_at : (k : K) (es : List (K × V)) → IsOrdered cmp es → es ≡ entries_below (cmp k) es ++ entries_from (cmp k) es
     unfolding IsStrictlySortedBy
-    parts_at k [] s = refl
-    parts_at k (e ∷ es) s =
+    children_at k [] s = refl
+    children_at k (e ∷ es) s =
         elim (cmp k e.0) as (λ r. cmp k e.0 ≡ r → e ∷ es ≡ cond (is_gt r) (e ∷ entries_below (cmp k) es) (entries_below (cmp k) es) ++ cond (is_le r) (e ∷ entries_from (cmp k) es) (entries_from (cmp k) es)) [
           | Less ↦ λ h. let later = less_than_back o k [] e es s h in rw (entries_below-none k es later, entries_from-below k es later)
           | Equal ↦ λ h. let later = equal_before_back o k [] e es s h in rw (entries_below-none k es later, entries_from-below k es later)
-          | Greater ↦ λ h. ap (λ t. e ∷ t) (parts_at k es s.1)
+          | Greater ↦ λ h. ap (λ t. e ∷ t) (children_at k es s.1)
         ] refl
 
   -- ---- a list and its first entries: whether it is in order

@@ -3,7 +3,7 @@ use Rattle.std.proofs.Common.{◌≡◌, ℕ, ◌+◌, ◌*◌, ◌^◌, ◌<◌
 use Rattle.std.specs.declared.cmp.Ordering.{Ordering}
 use Rattle.std.proofs.Math.Nat.{mul-le-mul_right, pow-le-pow_right}
 use Rattle.std.proofs.lemmas.Grind.{pow_more}
-use Rattle.cap_tree.specs.Shape.{entries_of, IsFilled, IsFit, AreFit, IsParts}
+use Rattle.cap_tree.specs.Shape.{entries_of, IsFilled, IsFit, AreFit, AreChildren}
 use Rattle.cap_tree.proofs.PlaceLemmas.{Seen}
 
 module _ {K V : Type 0} where
@@ -26,10 +26,10 @@ module _ {K V : Type 0} where
       omega (arith, one, low, filled.0)
 
   module _ (cmp : K → K → Ordering) where
-    pub parts_filled : (height : ℕ) (ps : List (Seen K V)) → IsParts cmp height ps → AreFit ps → (length ps * 4 ^ height ≤ length (entries_of ps)) × (length (entries_of ps) ≤ length ps * 16 ^ height)
-    parts_filled height [] h fit = (omega arith, omega arith)
-    parts_filled height (p ∷ ps) h fit =
+    pub children_filled : (height : ℕ) (ps : List (Seen K V)) → AreChildren cmp height ps → AreFit ps → (length ps * 4 ^ height ≤ length (entries_of ps)) × (length (entries_of ps) ≤ length ps * 16 ^ height)
+    children_filled height [] h fit = (omega arith, omega arith)
+    children_filled height (p ∷ ps) h fit =
         let here = child_filled height p.1 h.0.0 fit.0 in
-        let rest = parts_filled height ps h.3 fit.1 in
+        let rest = children_filled height ps h.3 fit.1 in
         let whole = length-append p.1.0 (entries_of ps) in
         (omega (arith, here.0, rest.0, whole), omega (arith, here.1, rest.1, whole))

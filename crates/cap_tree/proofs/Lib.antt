@@ -3,10 +3,10 @@ mod CutLemmas
 pub mod Crossing
 pub mod EntryLemmas
 mod HeightLemmas
-mod JoinLemmas
+mod MergeLemmas
 mod LeafLemmas
 mod PairLemmas
-mod PartLemmas
+mod ChildLemmas
 mod PathLemmas
 mod PlaceLemmas
 mod PutLemmas
@@ -14,3 +14,4 @@ mod RootLemmas
 mod SplitLemmas
 mod TreeLemmas
 mod WayLemmas
+pub mod ReplaceLemmas

@@ -5,14 +5,14 @@ use Rattle.std.specs.declared.cmp.Ordering.{Ordering}
 use Rattle.std.specs.Ordering.{is_le}
 use Rattle.std.specs.BTreeMap.Range.{entries_from}
 use Rattle.std.specs.Cmp.{IsTotalOrder}
-use Rattle.cap_tree.specs.declared.node.Part.{Part}
+use Rattle.cap_tree.specs.declared.node.Child.{Child}
 use Rattle.std.proofs.Math.Nat.{mul-le-mul_right, pow-le-pow_right, pow-suc}
 use Rattle.cap_tree.specs.declared.node.Link.{Link}
 use Rattle.cap_tree.specs.declared.node.Link.TheVariants.{Leaf, Inner}
-use Rattle.cap_tree.proofs.HeightLemmas.{parts_filled}
-use Rattle.cap_tree.proofs.PartLemmas.{length_seen}
+use Rattle.cap_tree.proofs.HeightLemmas.{children_filled}
+use Rattle.cap_tree.proofs.ChildLemmas.{length_seen}
 use Rattle.cap_tree.specs.Path.{pending, FitInto, IsPath}
-use Rattle.cap_tree.specs.Shape.{seen, shape, entries_of, IsNode, IsParts, place}
+use Rattle.cap_tree.specs.Shape.{seen, shape, entries_of, IsNode, AreChildren, place}
 use Rattle.cap_tree.proofs.WayLemmas.{child_and_behind, from_child}
 
 -- the lesser power has the lesser exponent
@@ -38,38 +38,38 @@ all_room : (room : ℕ) → room - 0 ≡ room
 all_room room = omega arith
 
 module _ {K V Z : Type 0} where
-  pub pending-push : (path : List (Bor (List (Part K V Z)))) (parts : Bor (List (Part K V Z))) → pending (path ++ parts ∷ []) ≡ entries_of (seen parts.now) ++ pending path
-  pending-push [] parts = sym (append-nil (entries_of (seen parts.now)))
-  pending-push (x ∷ xs) parts = ap (λ t. t ++ entries_of (seen x.now)) (pending-push xs parts) ∙ append_assoc (entries_of (seen parts.now)) (pending xs) (entries_of (seen x.now))
+  pub pending-push : (path : List (Bor (List (Child K V Z)))) (children : Bor (List (Child K V Z))) → pending (path ++ children ∷ []) ≡ entries_of (seen children.now) ++ pending path
+  pending-push [] children = sym (append-nil (entries_of (seen children.now)))
+  pending-push (x ∷ xs) children = ap (λ t. t ++ entries_of (seen x.now)) (pending-push xs children) ∙ append_assoc (entries_of (seen children.now)) (pending xs) (entries_of (seen x.now))
 
-  less_room : (room : ℕ) (xs : List (Bor (List (Part K V Z)))) → room - suc (length xs) ≡ room - 1 - length xs
+  less_room : (room : ℕ) (xs : List (Bor (List (Child K V Z)))) → room - suc (length xs) ≡ room - 1 - length xs
   less_room room xs = omega arith
 
-  pub path_push : (room : ℕ) (path : List (Bor (List (Part K V Z)))) (parts : Bor (List (Part K V Z))) → IsPath room path → FitInto (room - length path) parts.now → IsPath room (path ++ parts ∷ [])
-  path_push room [] parts p f = (subst (λ r. FitInto r parts.now) (all_room room) f, tt)
-  path_push room (x ∷ xs) parts p f = (p.0, path_push (room - 1) xs parts p.1 (subst (λ r. FitInto r parts.now) (less_room room xs) f))
+  pub path_push : (room : ℕ) (path : List (Bor (List (Child K V Z)))) (children : Bor (List (Child K V Z))) → IsPath room path → FitInto (room - length path) children.now → IsPath room (path ++ children ∷ [])
+  path_push room [] children p f = (subst (λ r. FitInto r children.now) (all_room room) f, tt)
+  path_push room (x ∷ xs) children p f = (p.0, path_push (room - 1) xs children p.1 (subst (λ r. FitInto r children.now) (less_room room xs) f))
 
-  pub path_front : (room : ℕ) (path : List (Bor (List (Part K V Z)))) (parts : Bor (List (Part K V Z))) → IsPath room (path ++ parts ∷ []) → IsPath room path
-  path_front room [] parts p = tt
-  path_front room (x ∷ xs) parts p = (p.0, path_front (room - 1) xs parts p.1)
+  pub path_front : (room : ℕ) (path : List (Bor (List (Child K V Z)))) (children : Bor (List (Child K V Z))) → IsPath room (path ++ children ∷ []) → IsPath room path
+  path_front room [] children p = tt
+  path_front room (x ∷ xs) children p = (p.0, path_front (room - 1) xs children p.1)
 
-  pub path_last : (room : ℕ) (path : List (Bor (List (Part K V Z)))) (parts : Bor (List (Part K V Z))) → IsPath room (path ++ parts ∷ []) → FitInto (room - length path) parts.now
-  path_last room [] parts p = subst (λ r. FitInto r parts.now) (sym (all_room room)) p.0
-  path_last room (x ∷ xs) parts p = subst (λ r. FitInto r parts.now) (sym (less_room room xs)) (path_last (room - 1) xs parts p.1)
+  pub path_last : (room : ℕ) (path : List (Bor (List (Child K V Z)))) (children : Bor (List (Child K V Z))) → IsPath room (path ++ children ∷ []) → FitInto (room - length path) children.now
+  path_last room [] children p = subst (λ r. FitInto r children.now) (sym (all_room room)) p.0
+  path_last room (x ∷ xs) children p = subst (λ r. FitInto r children.now) (sym (less_room room xs)) (path_last (room - 1) xs children p.1)
 
   -- children of a node that is no higher than the room fit
-  pub parts_fit : (cmp : K → K → Ordering) (height room : ℕ) (parts : List (Part K V Z)) → IsParts cmp height (seen parts) → height ≤ room → FitInto room parts
-  parts_fit cmp height room [] h low = tt
-  parts_fit cmp height room (x ∷ xs) h low = ((h.0.1, omega (arith, h.0.0)), parts_fit cmp height room xs h.3 low)
+  pub children_fit : (cmp : K → K → Ordering) (height room : ℕ) (children : List (Child K V Z)) → AreChildren cmp height (seen children) → height ≤ room → FitInto room children
+  children_fit cmp height room [] h low = tt
+  children_fit cmp height room (x ∷ xs) h low = ((h.0.1, omega (arith, h.0.0)), children_fit cmp height room xs h.3 low)
 
-  all_entries : (path : List (Bor (List (Part K V Z)))) (behind : Bor (List (Part K V Z))) (front : List (K × V)) → front ++ pending (path ++ behind ∷ []) ≡ (front ++ entries_of (seen behind.now)) ++ pending path
+  all_entries : (path : List (Bor (List (Child K V Z)))) (behind : Bor (List (Child K V Z))) (front : List (K × V)) → front ++ pending (path ++ behind ∷ []) ≡ (front ++ entries_of (seen behind.now)) ++ pending path
   all_entries path behind front = ap (λ t. front ++ t) (pending-push path behind) ∙ sym (append_assoc front (entries_of (seen behind.now)) (pending path))
 
   -- ---- from a node that stands so far down into one of its children
 
-  module _ (cmp : K → K → Ordering) (height : ℕ) (parts : List (Part K V Z)) (n : ℕ) (child : Part K V Z) (behind : Bor (List (Part K V Z))) (there : drop n parts ≡ child ∷ behind.now) (h : IsParts cmp height (seen parts)) (path : List (Bor (List (Part K V Z)))) (fits : length path + height ≤ 32) where
-    those : IsParts cmp height (seen (child ∷ behind.now))
-    those = child_and_behind cmp parts n child behind.now there height h
+  module _ (cmp : K → K → Ordering) (height : ℕ) (children : List (Child K V Z)) (n : ℕ) (child : Child K V Z) (behind : Bor (List (Child K V Z))) (there : drop n children ≡ child ∷ behind.now) (h : AreChildren cmp height (seen children)) (path : List (Bor (List (Child K V Z)))) (fits : length path + height ≤ 32) where
+    those : AreChildren cmp height (seen (child ∷ behind.now))
+    those = child_and_behind cmp children n child behind.now there height h
 
     pub down_lower : child.node.value.1 < height
     down_lower = let t = those in omega (arith, t.0.0)
@@ -78,7 +78,7 @@ module _ {K V Z : Type 0} where
     down_room = let t = those in omega (arith, t.0.0)
 
     pub down_path : IsPath 32 path → IsPath 32 (path ++ behind ∷ [])
-    down_path p = path_push 32 path behind p (parts_fit cmp height (32 - length path) behind.now those.3 (omega arith))
+    down_path p = path_push 32 path behind p (children_fit cmp height (32 - length path) behind.now those.3 (omega arith))
 
     pub down_fits : length (path ++ behind ∷ []) + child.node.value.1 ≤ 32
     down_fits = let t = those in omega (arith, t.0.0, length-append path (behind ∷ []))
@@ -87,37 +87,37 @@ module _ {K V Z : Type 0} where
     down_some leaf some = some those.0.1
 
   -- to the first child
-  pub down_first : (parts : List (Part K V Z)) (child : Part K V Z) (behind : Bor (List (Part K V Z))) → parts ≡ child ∷ behind.now → (path : List (Bor (List (Part K V Z)))) → child.node.value.0 ++ pending (path ++ behind ∷ []) ≡ entries_of (seen parts) ++ pending path
-  down_first parts child behind is path = all_entries path behind child.node.value.0 ∙ ap (λ l. entries_of (seen l) ++ pending path) (sym is)
+  pub down_first : (children : List (Child K V Z)) (child : Child K V Z) (behind : Bor (List (Child K V Z))) → children ≡ child ∷ behind.now → (path : List (Bor (List (Child K V Z)))) → child.node.value.0 ++ pending (path ++ behind ∷ []) ≡ entries_of (seen children) ++ pending path
+  down_first children child behind is path = all_entries path behind child.node.value.0 ∙ ap (λ l. entries_of (seen l) ++ pending path) (sym is)
 
   -- to the child among whose entries the key belongs
-  pub down_key : (cmp : K → K → Ordering) → IsTotalOrder cmp → (k : K) (height : ℕ) (parts : List (Part K V Z)) (child : Part K V Z) (behind : Bor (List (Part K V Z))) → drop (place cmp k (seen parts) - 1) parts ≡ child ∷ behind.now → IsParts cmp height (seen parts) → (path : List (Bor (List (Part K V Z)))) → entries_from (cmp k) child.node.value.0 ++ pending (path ++ behind ∷ []) ≡ entries_from (cmp k) (entries_of (seen parts)) ++ pending path
-  down_key cmp o k height parts child behind there h path =
+  pub down_key : (cmp : K → K → Ordering) → IsTotalOrder cmp → (k : K) (height : ℕ) (children : List (Child K V Z)) (child : Child K V Z) (behind : Bor (List (Child K V Z))) → drop (place cmp k (seen children) - 1) children ≡ child ∷ behind.now → AreChildren cmp height (seen children) → (path : List (Bor (List (Child K V Z)))) → entries_from (cmp k) child.node.value.0 ++ pending (path ++ behind ∷ []) ≡ entries_from (cmp k) (entries_of (seen children)) ++ pending path
+  down_key cmp o k height children child behind there h path =
       all_entries path behind (entries_from (cmp k) child.node.value.0)
-      ∙ ap (λ t. t ++ pending path) (sym (from_child cmp parts (place cmp k (seen parts) - 1) child behind.now there o k height h refl))
+      ∙ ap (λ t. t ++ pending path) (sym (from_child cmp children (place cmp k (seen children) - 1) child behind.now there o k height h refl))
 
   -- ---- to the first child of the node that comes last on the path
 
-  module _ (path whole : List (Bor (List (Part K V Z)))) (parts : Bor (List (Part K V Z))) (is : whole ≡ path ++ parts ∷ []) (p : IsPath 32 whole) where
-    here : IsPath 32 (path ++ parts ∷ [])
+  module _ (path whole : List (Bor (List (Child K V Z)))) (children : Bor (List (Child K V Z))) (is : whole ≡ path ++ children ∷ []) (p : IsPath 32 whole) where
+    here : IsPath 32 (path ++ children ∷ [])
     here = subst (IsPath 32) is p
 
     pub next_path : IsPath 32 path
-    next_path = path_front 32 path parts here
+    next_path = path_front 32 path children here
 
     pub next_shorter : length path < length whole
-    next_shorter = rw is (omega (arith, length-append path (parts ∷ [])))
+    next_shorter = rw is (omega (arith, length-append path (children ∷ [])))
 
-    pub next_none : length parts.now ≡ 0 → pending path ≡ pending whole
-    next_none none = sym (ap pending is ∙ pending-push path parts ∙ rw (none_left parts.now none))
+    pub next_none : length children.now ≡ 0 → pending path ≡ pending whole
+    next_none none = sym (ap pending is ∙ pending-push path children ∙ rw (none_left children.now none))
       where
-        none_left : (xs : List (Part K V Z)) → length xs ≡ 0 → xs ≡ []
+        none_left : (xs : List (Child K V Z)) → length xs ≡ 0 → xs ≡ []
         none_left [] e = refl
         none_left (x ∷ xs) e = absurd (omega arith)
 
-    module _ (child : Part K V Z) (behind : Bor (List (Part K V Z))) (first : parts.now ≡ child ∷ behind.now) where
+    module _ (child : Child K V Z) (behind : Bor (List (Child K V Z))) (first : children.now ≡ child ∷ behind.now) where
       fit : FitInto (32 - length path) (child ∷ behind.now)
-      fit = subst (FitInto (32 - length path)) first (path_last 32 path parts here)
+      fit = subst (FitInto (32 - length path)) first (path_last 32 path children here)
 
       pub next_room : length path < 32
       next_room = let f = fit in omega (arith, f.0.1)
@@ -132,29 +132,29 @@ module _ {K V Z : Type 0} where
       next_some leaf some = some fit.0.0
 
       pub next_pending : child.node.value.0 ++ pending (path ++ behind ∷ []) ≡ pending whole
-      next_pending = down_first parts.now child behind first path ∙ sym (ap pending is ∙ pending-push path parts)
+      next_pending = down_first children.now child behind first path ∙ sym (ap pending is ∙ pending-push path children)
 
   -- ---- how high a node is whose entries can be counted
 
   pub is_low : (cmp : K → K → Ordering) (link : Link K V Z) (node : List (K × V) × ℕ × ℕ) → shape link ≡ node → IsNode cmp link → length node.0 < 2 ^ 64 → node.1 < 32
   is_low cmp (Leaf entries) node seen_as h fits = rw (← seen_as) (lit< tt)
-  is_low cmp (Inner height count parts) node seen_as h fits =
-      let filled = (parts_filled cmp height (seen parts.items) h.2 h.3).0 in
-      let some : 1 * 4 ^ height ≤ length (seen parts.items) * 4 ^ height = mul-le-mul_right (4 ^ height) (omega (arith, h.0, parts.ok.0, length_seen parts.items)) in
-      let all : length (entries_of (seen parts.items)) < 2 ^ 64 = rw (← ap (λ n. n.0) seen_as) at fits in
+  is_low cmp (Inner height count children) node seen_as h fits =
+      let filled = (children_filled cmp height (seen children.items) h.2 h.3).0 in
+      let some : 1 * 4 ^ height ≤ length (seen children.items) * 4 ^ height = mul-le-mul_right (4 ^ height) (omega (arith, h.0, children.ok.0, length_seen children.items)) in
+      let all : length (entries_of (seen children.items)) < 2 ^ 64 = rw (← ap (λ n. n.0) seen_as) at fits in
       let low : height < 32 = lower height 32 (omega (arith, filled, some, all)) in
       rw (← ap (λ n. n.1) seen_as) low
 
   -- the entries to come from the item at i on are its own and those of the items behind it
-  pub path_count : (path : List (Bor (List (Part K V Z)))) (i : ℕ) (d : Bor (List (Part K V Z))) → i < length path → d ≡ get_or path i d → length (pending (drop i path)) ≡ length (entries_of (seen d.now)) + length (pending (drop (i + 1) path))
+  pub path_count : (path : List (Bor (List (Child K V Z)))) (i : ℕ) (d : Bor (List (Child K V Z))) → i < length path → d ≡ get_or path i d → length (pending (drop i path)) ≡ length (entries_of (seen d.now)) + length (pending (drop (i + 1) path))
   path_count path i d within is = rw add-one (step path i within is)
     where
-      step : (path : List (Bor (List (Part K V Z)))) (i : ℕ) → i < length path → d ≡ get_or path i d → length (pending (drop i path)) ≡ length (entries_of (seen d.now)) + length (pending (drop (suc i) path))
+      step : (path : List (Bor (List (Child K V Z)))) (i : ℕ) → i < length path → d ≡ get_or path i d → length (pending (drop i path)) ≡ length (entries_of (seen d.now)) + length (pending (drop (suc i) path))
       step [] i within is = absurd (omega arith)
       step (p ∷ ps) zero within is = rw is (omega (arith, length-append (pending ps) (entries_of (seen p.now))))
       step (p ∷ ps) (suc i) within is = step ps i (omega arith) is
 
   -- where the leaf is at its end, the path leads to all that is still to come
-  pub next_up : (leaf : List (K × V)) (path : List (Bor (List (Part K V Z)))) (whole : List (K × V)) → length leaf ≡ 0 → leaf ++ pending path ≡ whole → pending path ≡ whole
+  pub next_up : (leaf : List (K × V)) (path : List (Bor (List (Child K V Z)))) (whole : List (K × V)) → length leaf ≡ 0 → leaf ++ pending path ≡ whole → pending path ≡ whole
   next_up [] path whole none all = all
   next_up (x ∷ xs) path whole none all = absurd (omega arith)

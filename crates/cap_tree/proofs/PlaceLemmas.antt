@@ -8,7 +8,7 @@ use Rattle.std.specs.List.{AllByRecursion}
 use Rattle.std.specs.Cmp.{IsTotalOrder, alike_right}
 use Rattle.std.specs.Map.{keys_of}
 use Rattle.cap_tree.specs.Tree.{IsOrdered, get, put_entry, take_entry}
-use Rattle.cap_tree.specs.Shape.{entries_of, IsChild, NoneBelow, EachBelow, IsParts, IsFit, AreFit, place}
+use Rattle.cap_tree.specs.Shape.{entries_of, IsChild, NoneBelow, EachBelow, AreChildren, IsFit, AreFit, place}
 use Rattle.cap_tree.proofs.EntryLemmas.{Each, reversed, each_turn, each_put, each_take, put_entry-past, take_entry-past, take_entry-before, get-past, get-before, get-below, ordered_front, ordered_rest}
 
 -- what holds of each element holds by what follows from it
@@ -92,9 +92,9 @@ module _ {K V : Type 0} where
         ] h
 
     -- k is below every part
-    pub below_parts : (k : K) (height : ℕ) (ps : List (Seen K V)) → IsParts cmp height ps → place cmp k ps ≡ 0 → AllByRecursion (λ q. cmp k q.0 ≡ Less) ps
-    below_parts k height [] h none = tt
-    below_parts k height (p ∷ ps) h none =
+    pub below_children : (k : K) (height : ℕ) (ps : List (Seen K V)) → AreChildren cmp height ps → place cmp k ps ≡ 0 → AllByRecursion (λ q. cmp k q.0 ≡ Less) ps
+    below_children k height [] h none = tt
+    below_children k height (p ∷ ps) h none =
         let here = place_none k p ps none in
         (here, below_later p.1.0 h.0.1 h.1 h.2 here)
       where
@@ -102,7 +102,7 @@ module _ {K V : Type 0} where
         below_later [] fed not_below each here = absurd (omega arith)
         below_later (e ∷ es) fed not_below each here = all_turn (λ q. EachBelow cmp q.0 (e ∷ es)) (λ q. cmp k q.0 ≡ Less) (λ q a. below_next cmp o k e.0 q.0 (below_least cmp o k p.0 e.0 here not_below.0) a.0) ps each
 
-    pub below_entries : (k : K) (height : ℕ) (ps : List (Seen K V)) → IsParts cmp height ps → AllByRecursion (λ q. cmp k q.0 ≡ Less) ps → Each cmp Less k (entries_of ps)
+    pub below_entries : (k : K) (height : ℕ) (ps : List (Seen K V)) → AreChildren cmp height ps → AllByRecursion (λ q. cmp k q.0 ≡ Less) ps → Each cmp Less k (entries_of ps)
     below_entries k height [] h b = tt
     below_entries k height (p ∷ ps) h b = keys_append (λ y. cmp k y ≡ Less) p.1.0 (entries_of ps) (each_turn cmp (λ y. cmp p.0 y ≢ Greater) (λ y. cmp k y ≡ Less) (λ y not. below_least cmp o k p.0 y b.0 not) p.1.0 h.1) (below_entries k height ps h.3 b.1)
 
@@ -123,58 +123,58 @@ module _ {K V : Type 0} where
 
     -- ---- the part at j is the one into which k belongs
 
-    pub put_parts : (k : K) (v : V) (height : ℕ) (ps : List (Seen K V)) (j : ℕ) (d : Seen K V) (c : List (K × V) × ℕ × ℕ) → IsParts cmp height ps → place cmp k ps ≡ j + 1 → c.0 ≡ put_entry cmp (get_or ps j d).1.0 k v → entries_of (set ps j ((get_or ps j d).0, c)) ≡ put_entry cmp (entries_of ps) k v
-    put_parts k v height [] j d c h is new = absurd (omega arith)
-    put_parts k v height (p ∷ ps) zero d c h is new =
+    pub put_children : (k : K) (v : V) (height : ℕ) (ps : List (Seen K V)) (j : ℕ) (d : Seen K V) (c : List (K × V) × ℕ × ℕ) → AreChildren cmp height ps → place cmp k ps ≡ j + 1 → c.0 ≡ put_entry cmp (get_or ps j d).1.0 k v → entries_of (set ps j ((get_or ps j d).0, c)) ≡ put_entry cmp (entries_of ps) k v
+    put_children k v height [] j d c h is new = absurd (omega arith)
+    put_children k v height (p ∷ ps) zero d c h is new =
         let none = (place_step k p ps 0 is).0 in
-        rw (new, put_before k v p.1.0 (entries_of ps) (below_entries k height ps h.3 (below_parts k height ps h.3 none)))
-    put_parts k v height (p ∷ ps) (suc j) d c h is new =
+        rw (new, put_before k v p.1.0 (entries_of ps) (below_entries k height ps h.3 (below_children k height ps h.3 none)))
+    put_children k v height (p ∷ ps) (suc j) d c h is new =
         let next : place cmp k ps ≡ j + 1 = (place_step k p ps (suc j) is).0 ∙ omega arith in
-        rw (put_entry-past cmp k v p.1.0 (entries_of ps) (above_front k p.1.0 ps j h.2 next)) (ap (λ t. p.1.0 ++ t) (put_parts k v height ps j d c h.3 next new))
+        rw (put_entry-past cmp k v p.1.0 (entries_of ps) (above_front k p.1.0 ps j h.2 next)) (ap (λ t. p.1.0 ++ t) (put_children k v height ps j d c h.3 next new))
 
-    pub get_parts : (k : K) (height : ℕ) (ps : List (Seen K V)) (j : ℕ) (d : Seen K V) → IsParts cmp height ps → place cmp k ps ≡ j + 1 → get cmp (entries_of ps) k ≡ get cmp (get_or ps j d).1.0 k
-    get_parts k height [] j d h is = absurd (omega arith)
-    get_parts k height (p ∷ ps) zero d h is =
+    pub get_children : (k : K) (height : ℕ) (ps : List (Seen K V)) (j : ℕ) (d : Seen K V) → AreChildren cmp height ps → place cmp k ps ≡ j + 1 → get cmp (entries_of ps) k ≡ get cmp (get_or ps j d).1.0 k
+    get_children k height [] j d h is = absurd (omega arith)
+    get_children k height (p ∷ ps) zero d h is =
         let none = (place_step k p ps 0 is).0 in
-        get-before cmp k p.1.0 (entries_of ps) (below_entries k height ps h.3 (below_parts k height ps h.3 none))
-    get_parts k height (p ∷ ps) (suc j) d h is =
+        get-before cmp k p.1.0 (entries_of ps) (below_entries k height ps h.3 (below_children k height ps h.3 none))
+    get_children k height (p ∷ ps) (suc j) d h is =
         let next : place cmp k ps ≡ j + 1 = (place_step k p ps (suc j) is).0 ∙ omega arith in
-        get-past cmp k p.1.0 (entries_of ps) (above_front k p.1.0 ps j h.2 next) ∙ get_parts k height ps j d h.3 next
+        get-past cmp k p.1.0 (entries_of ps) (above_front k p.1.0 ps j h.2 next) ∙ get_children k height ps j d h.3 next
 
-    pub get_none : (k : K) (height : ℕ) (ps : List (Seen K V)) → IsParts cmp height ps → place cmp k ps ≡ 0 → get cmp (entries_of ps) k ≡ None
-    get_none k height ps h none = get-below cmp k (entries_of ps) (below_entries k height ps h (below_parts k height ps h none))
+    pub get_none : (k : K) (height : ℕ) (ps : List (Seen K V)) → AreChildren cmp height ps → place cmp k ps ≡ 0 → get cmp (entries_of ps) k ≡ None
+    get_none k height ps h none = get-below cmp k (entries_of ps) (below_entries k height ps h (below_children k height ps h none))
 
     -- the changed part has k at least where it belongs
-    pub parts_put : (k : K) (v : V) (height : ℕ) (ps : List (Seen K V)) (j : ℕ) (d : Seen K V) (c : List (K × V) × ℕ × ℕ) → IsParts cmp height ps → place cmp k ps ≡ j + 1 → IsChild height c → c.0 ≡ put_entry cmp (get_or ps j d).1.0 k v → IsParts cmp height (set ps j ((get_or ps j d).0, c))
-    parts_put k v height [] j d c h is child new = absurd (omega arith)
-    parts_put k v height (p ∷ ps) zero d c h is child new =
+    pub children_put : (k : K) (v : V) (height : ℕ) (ps : List (Seen K V)) (j : ℕ) (d : Seen K V) (c : List (K × V) × ℕ × ℕ) → AreChildren cmp height ps → place cmp k ps ≡ j + 1 → IsChild height c → c.0 ≡ put_entry cmp (get_or ps j d).1.0 k v → AreChildren cmp height (set ps j ((get_or ps j d).0, c))
+    children_put k v height [] j d c h is subtree new = absurd (omega arith)
+    children_put k v height (p ∷ ps) zero d c h is subtree new =
         let step = place_step k p ps 0 is in
-        let later = below_parts k height ps h.3 step.0 in
+        let later = below_children k height ps h.3 step.0 in
         let low : NoneBelow cmp p.0 (put_entry cmp p.1.0 k v) = each_put cmp o (λ y. cmp p.0 y ≢ Greater) k v p.1.0 (turn_not_less cmp o k p.0 step.1) h.1 in
-        (child, rw new low, rw new (high ps h.2 later), h.3)
+        (subtree, rw new low, rw new (high ps h.2 later), h.3)
       where
         high : (qs : List (Seen K V)) → AllByRecursion (λ q. EachBelow cmp q.0 p.1.0) qs → AllByRecursion (λ q. cmp k q.0 ≡ Less) qs → AllByRecursion (λ q. EachBelow cmp q.0 (put_entry cmp p.1.0 k v)) qs
         high [] a b = tt
         high (q ∷ qs) a b = (each_put cmp o (λ y. cmp q.0 y ≡ Greater) k v p.1.0 (reversed o k q.0 Less b.0) a.0, high qs a.1 b.1)
-    parts_put k v height (p ∷ ps) (suc j) d c h is child new =
+    children_put k v height (p ∷ ps) (suc j) d c h is subtree new =
         let next : place cmp k ps ≡ j + 1 = (place_step k p ps (suc j) is).0 ∙ omega arith in
-        (h.0, h.1, all_set (λ q. EachBelow cmp q p.1.0) ps j d c h.2, parts_put k v height ps j d c h.3 next child new)
+        (h.0, h.1, all_set (λ q. EachBelow cmp q p.1.0) ps j d c h.2, children_put k v height ps j d c h.3 next subtree new)
 
-    pub take_parts : (k : K) (height : ℕ) (ps : List (Seen K V)) (j : ℕ) (d : Seen K V) (c : List (K × V) × ℕ × ℕ) → IsParts cmp height ps → place cmp k ps ≡ j + 1 → c.0 ≡ take_entry cmp (get_or ps j d).1.0 k → entries_of (set ps j ((get_or ps j d).0, c)) ≡ take_entry cmp (entries_of ps) k
-    take_parts k height [] j d c h is new = absurd (omega arith)
-    take_parts k height (p ∷ ps) zero d c h is new =
+    pub take_children : (k : K) (height : ℕ) (ps : List (Seen K V)) (j : ℕ) (d : Seen K V) (c : List (K × V) × ℕ × ℕ) → AreChildren cmp height ps → place cmp k ps ≡ j + 1 → c.0 ≡ take_entry cmp (get_or ps j d).1.0 k → entries_of (set ps j ((get_or ps j d).0, c)) ≡ take_entry cmp (entries_of ps) k
+    take_children k height [] j d c h is new = absurd (omega arith)
+    take_children k height (p ∷ ps) zero d c h is new =
         let none = (place_step k p ps 0 is).0 in
-        rw (new, take_entry-before cmp k p.1.0 (entries_of ps) (below_entries k height ps h.3 (below_parts k height ps h.3 none)))
-    take_parts k height (p ∷ ps) (suc j) d c h is new =
+        rw (new, take_entry-before cmp k p.1.0 (entries_of ps) (below_entries k height ps h.3 (below_children k height ps h.3 none)))
+    take_children k height (p ∷ ps) (suc j) d c h is new =
         let next : place cmp k ps ≡ j + 1 = (place_step k p ps (suc j) is).0 ∙ omega arith in
-        rw (take_entry-past cmp k p.1.0 (entries_of ps) (above_front k p.1.0 ps j h.2 next)) (ap (λ t. p.1.0 ++ t) (take_parts k height ps j d c h.3 next new))
+        rw (take_entry-past cmp k p.1.0 (entries_of ps) (above_front k p.1.0 ps j h.2 next)) (ap (λ t. p.1.0 ++ t) (take_children k height ps j d c h.3 next new))
 
-    pub parts_take : (k : K) (height : ℕ) (ps : List (Seen K V)) (j : ℕ) (d : Seen K V) (c : List (K × V) × ℕ × ℕ) → IsParts cmp height ps → IsChild height c → c.0 ≡ take_entry cmp (get_or ps j d).1.0 k → IsParts cmp height (set ps j ((get_or ps j d).0, c))
-    parts_take k height [] j d c h child new = tt
-    parts_take k height (p ∷ ps) zero d c h child new =
+    pub children_take : (k : K) (height : ℕ) (ps : List (Seen K V)) (j : ℕ) (d : Seen K V) (c : List (K × V) × ℕ × ℕ) → AreChildren cmp height ps → IsChild height c → c.0 ≡ take_entry cmp (get_or ps j d).1.0 k → AreChildren cmp height (set ps j ((get_or ps j d).0, c))
+    children_take k height [] j d c h subtree new = tt
+    children_take k height (p ∷ ps) zero d c h subtree new =
         let low : NoneBelow cmp p.0 (take_entry cmp p.1.0 k) = each_take cmp o (λ y. cmp p.0 y ≢ Greater) k p.1.0 h.1 in
-        (child, rw new low, rw new (all_turn (λ q. EachBelow cmp q.0 p.1.0) (λ q. EachBelow cmp q.0 (take_entry cmp p.1.0 k)) (λ q. each_take cmp o (λ y. cmp q.0 y ≡ Greater) k p.1.0) ps h.2), h.3)
-    parts_take k height (p ∷ ps) (suc j) d c h child new = (h.0, h.1, all_set (λ q. EachBelow cmp q p.1.0) ps j d c h.2, parts_take k height ps j d c h.3 child new)
+        (subtree, rw new low, rw new (all_turn (λ q. EachBelow cmp q.0 p.1.0) (λ q. EachBelow cmp q.0 (take_entry cmp p.1.0 k)) (λ q. each_take cmp o (λ y. cmp q.0 y ≡ Greater) k p.1.0) ps h.2), h.3)
+    children_take k height (p ∷ ps) (suc j) d c h subtree new = (h.0, h.1, all_set (λ q. EachBelow cmp q p.1.0) ps j d c h.2, children_take k height ps j d c h.3 subtree new)
 
     pub place_within : (k : K) (ps : List (Seen K V)) → place cmp k ps ≤ length ps
     place_within k [] = omega arith
@@ -194,12 +194,12 @@ module _ {K V : Type 0} where
         ] not
 
     -- a key that is not below the last part's least key is below no part's
-    pub place_last : (k : K) (height : ℕ) (ps : List (Seen K V)) (i : ℕ) (d : Seen K V) → IsParts cmp height ps → i + 1 ≡ length ps → cmp k (get_or ps i d).0 ≢ Less → place cmp k ps ≡ length ps
+    pub place_last : (k : K) (height : ℕ) (ps : List (Seen K V)) (i : ℕ) (d : Seen K V) → AreChildren cmp height ps → i + 1 ≡ length ps → cmp k (get_or ps i d).0 ≢ Less → place cmp k ps ≡ length ps
     place_last k height [] i d h is not = absurd (omega arith)
     place_last k height (p ∷ []) zero d h is not = step_up k p [] not
     place_last k height (p ∷ q ∷ qs) zero d h is not = absurd (omega arith)
     place_last k height (p ∷ ps) (suc i) d h is not =
-        step_up k p ps (λ less. not (later ps i (omega arith) (below_parts k height (p ∷ ps) h (rw less refl)).1)) ∙ omega (arith, place_last k height ps i d h.3 (omega arith) not)
+        step_up k p ps (λ less. not (later ps i (omega arith) (below_children k height (p ∷ ps) h (rw less refl)).1)) ∙ omega (arith, place_last k height ps i d h.3 (omega arith) not)
       where
         later : (qs : List (Seen K V)) (j : ℕ) → j < length qs → AllByRecursion (λ q. cmp k q.0 ≡ Less) qs → cmp k (get_or qs j d).0 ≡ Less
         later [] j within h = absurd (omega arith)
@@ -207,18 +207,18 @@ module _ {K V : Type 0} where
         later (q ∷ qs) (suc j) within h = later qs j (omega arith) h.1
 
     -- the least key of the first part is lowered to k
-    pub parts_lowered : (k : K) (height : ℕ) (ps : List (Seen K V)) (d : Seen K V) → IsParts cmp height ps → place cmp k ps ≡ 0 → IsParts cmp height (set ps 0 (k, (get_or ps 0 d).1))
-    parts_lowered k height [] d h none = tt
-    parts_lowered k height (p ∷ ps) d h none =
+    pub children_lowered : (k : K) (height : ℕ) (ps : List (Seen K V)) (d : Seen K V) → AreChildren cmp height ps → place cmp k ps ≡ 0 → AreChildren cmp height (set ps 0 (k, (get_or ps 0 d).1))
+    children_lowered k height [] d h none = tt
+    children_lowered k height (p ∷ ps) d h none =
         (h.0, each_turn cmp (λ y. cmp p.0 y ≢ Greater) (λ y. cmp k y ≢ Greater) (λ y not above. distinct (sym (below_least cmp o k p.0 y (place_none k p ps none) not) ∙ above)) p.1.0 h.1, h.2, h.3)
       where
         distinct : Less ≡ Greater → ⊥
         distinct e = cc
 
-    pub place_lowered : (k : K) (height : ℕ) (ps : List (Seen K V)) (d : Seen K V) → IsParts cmp height ps → 0 < length ps → place cmp k ps ≡ 0 → place cmp k (set ps 0 (k, (get_or ps 0 d).1)) ≡ 1
+    pub place_lowered : (k : K) (height : ℕ) (ps : List (Seen K V)) (d : Seen K V) → AreChildren cmp height ps → 0 < length ps → place cmp k ps ≡ 0 → place cmp k (set ps 0 (k, (get_or ps 0 d).1)) ≡ 1
     place_lowered k height [] d h some none = absurd (omega arith)
     place_lowered k height (p ∷ ps) d h some none =
-        let all = below_parts k height (p ∷ ps) h none in
+        let all = below_children k height (p ∷ ps) h none in
         one (cmp k k) (not_less_self cmp o k) (first ps all.1)
       where
         one : (r : Ordering) → r ≢ Less → place cmp k ps + 1 ≡ 1 → match_ordering r 0 (place cmp k ps + 1) (place cmp k ps + 1) ≡ 1
@@ -242,12 +242,12 @@ module _ {K V : Type 0} where
   entries_same (p ∷ ps) zero d c l same = rw same
   entries_same (p ∷ ps) (suc j) d c l same = ap (λ t. p.1.0 ++ t) (entries_same ps j d c l same)
 
-  pub parts_same : (cmp : K → K → Ordering) (height : ℕ) (ps : List (Seen K V)) (j : ℕ) (d : Seen K V) (c : List (K × V) × ℕ × ℕ) → IsParts cmp height ps → IsChild height c → c.0 ≡ (get_or ps j d).1.0 → IsParts cmp height (set ps j ((get_or ps j d).0, c))
-  parts_same cmp height [] j d c h child same = tt
-  parts_same cmp height (p ∷ ps) zero d c h child same = (child, rw same h.1, rw same h.2, h.3)
-  parts_same cmp height (p ∷ ps) (suc j) d c h child same = (h.0, h.1, all_set (λ q. EachBelow cmp q p.1.0) ps j d c h.2, parts_same cmp height ps j d c h.3 child same)
+  pub children_same : (cmp : K → K → Ordering) (height : ℕ) (ps : List (Seen K V)) (j : ℕ) (d : Seen K V) (c : List (K × V) × ℕ × ℕ) → AreChildren cmp height ps → IsChild height c → c.0 ≡ (get_or ps j d).1.0 → AreChildren cmp height (set ps j ((get_or ps j d).0, c))
+  children_same cmp height [] j d c h subtree same = tt
+  children_same cmp height (p ∷ ps) zero d c h subtree same = (subtree, rw same h.1, rw same h.2, h.3)
+  children_same cmp height (p ∷ ps) (suc j) d c h subtree same = (h.0, h.1, all_set (λ q. EachBelow cmp q p.1.0) ps j d c h.2, children_same cmp height ps j d c h.3 subtree same)
 
-  pub child_at : (cmp : K → K → Ordering) (height : ℕ) (ps : List (Seen K V)) (j : ℕ) (d : Seen K V) → IsParts cmp height ps → j < length ps → IsChild height (get_or ps j d).1
+  pub child_at : (cmp : K → K → Ordering) (height : ℕ) (ps : List (Seen K V)) (j : ℕ) (d : Seen K V) → AreChildren cmp height ps → j < length ps → IsChild height (get_or ps j d).1
   child_at cmp height [] j d h within = absurd (omega arith)
   child_at cmp height (p ∷ ps) zero d h within = h.0
   child_at cmp height (p ∷ ps) (suc j) d h within = child_at cmp height ps j d h.3 (omega arith)

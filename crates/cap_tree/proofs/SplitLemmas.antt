@@ -7,11 +7,11 @@ use Rattle.std.specs.List.Sorted.{IsStrictlySortedBy}
 use Rattle.std.specs.Cmp.{IsTotalOrder}
 use Rattle.std.specs.Map.{keys_of}
 use Rattle.std.proofs.lemmas.List.{append_assoc, take-map, map-append}
-use Rattle.cap_tree.specs.declared.node.Part.{Part}
+use Rattle.cap_tree.specs.declared.node.Child.{Child}
 use Rattle.cap_tree.specs.Tree.{IsOrdered}
-use Rattle.cap_tree.specs.Shape.{seen, entries_of, IsChild, NoneBelow, EachBelow, IsParts, IsFit, AreFit, place}
+use Rattle.cap_tree.specs.Shape.{seen, entries_of, IsChild, NoneBelow, EachBelow, AreChildren, IsFit, AreFit, place}
 use Rattle.cap_tree.proofs.EntryLemmas.{reversed, each_turn}
-use Rattle.cap_tree.proofs.PartLemmas.{at_seen, seen_set, length_seen}
+use Rattle.cap_tree.proofs.ChildLemmas.{at_seen, seen_set, length_seen}
 use Rattle.cap_tree.proofs.PlaceLemmas.{Seen, all_turn, keys_append, below_entries, place_step, step_up, fit_renamed}
 use Rattle.cap_tree.proofs.LeafLemmas.{all_at}
 
@@ -77,39 +77,39 @@ module _ {K V : Type 0} (cmp : K → K → Ordering) (o : IsTotalOrder cmp) wher
   all_take P [] (suc i) h = tt
   all_take P (p ∷ ps) (suc i) h = (h.0, all_take P ps i h.1)
 
-  pub parts_front : (height : ℕ) (ps : List (Seen K V)) (i : ℕ) → IsParts cmp height ps → IsParts cmp height (take i ps)
-  parts_front height ps zero h = tt
-  parts_front height [] (suc i) h = tt
-  parts_front height (p ∷ ps) (suc i) h = (h.0, h.1, all_take (λ q. EachBelow cmp q.0 p.1.0) ps i h.2, parts_front height ps i h.3)
+  pub children_front : (height : ℕ) (ps : List (Seen K V)) (i : ℕ) → AreChildren cmp height ps → AreChildren cmp height (take i ps)
+  children_front height ps zero h = tt
+  children_front height [] (suc i) h = tt
+  children_front height (p ∷ ps) (suc i) h = (h.0, h.1, all_take (λ q. EachBelow cmp q.0 p.1.0) ps i h.2, children_front height ps i h.3)
 
-  pub parts_back : (height : ℕ) (ps : List (Seen K V)) (i : ℕ) → IsParts cmp height ps → IsParts cmp height (drop i ps)
-  parts_back height ps zero h = h
-  parts_back height [] (suc i) h = tt
-  parts_back height (p ∷ ps) (suc i) h = parts_back height ps i h.3
+  pub children_back : (height : ℕ) (ps : List (Seen K V)) (i : ℕ) → AreChildren cmp height ps → AreChildren cmp height (drop i ps)
+  children_back height ps zero h = h
+  children_back height [] (suc i) h = tt
+  children_back height (p ∷ ps) (suc i) h = children_back height ps i h.3
 
-  pub all_parts_at : (P : Seen K V → Type 0) (ps : List (Seen K V)) (i : ℕ) (d : Seen K V) → i < length ps → AllByRecursion P ps → P (get_or ps i d)
-  all_parts_at P [] i d within h = absurd (omega arith)
-  all_parts_at P (p ∷ ps) zero d within h = h.0
-  all_parts_at P (p ∷ ps) (suc i) d within h = all_parts_at P ps i d (omega arith) h.1
+  pub all_children_at : (P : Seen K V → Type 0) (ps : List (Seen K V)) (i : ℕ) (d : Seen K V) → i < length ps → AllByRecursion P ps → P (get_or ps i d)
+  all_children_at P [] i d within h = absurd (omega arith)
+  all_children_at P (p ∷ ps) zero d within h = h.0
+  all_children_at P (p ∷ ps) (suc i) d within h = all_children_at P ps i d (omega arith) h.1
 
-  pub parts_cut_below : (height : ℕ) (ps : List (Seen K V)) (i : ℕ) (d : Seen K V) → i < length ps → IsParts cmp height ps → EachBelow cmp (get_or ps i d).0 (entries_of (take i ps))
-  parts_cut_below height [] i d within h = absurd (omega arith)
-  parts_cut_below height (p ∷ ps) zero d within h = tt
-  parts_cut_below height (p ∷ ps) (suc i) d within h = keys_append (λ y. cmp (get_or ps i d).0 y ≡ Greater) p.1.0 (entries_of (take i ps)) (all_parts_at (λ q. EachBelow cmp q.0 p.1.0) ps i d (omega arith) h.2) (parts_cut_below height ps i d (omega arith) h.3)
+  pub children_cut_below : (height : ℕ) (ps : List (Seen K V)) (i : ℕ) (d : Seen K V) → i < length ps → AreChildren cmp height ps → EachBelow cmp (get_or ps i d).0 (entries_of (take i ps))
+  children_cut_below height [] i d within h = absurd (omega arith)
+  children_cut_below height (p ∷ ps) zero d within h = tt
+  children_cut_below height (p ∷ ps) (suc i) d within h = keys_append (λ y. cmp (get_or ps i d).0 y ≡ Greater) p.1.0 (entries_of (take i ps)) (all_children_at (λ q. EachBelow cmp q.0 p.1.0) ps i d (omega arith) h.2) (children_cut_below height ps i d (omega arith) h.3)
 
   -- the least key of a part is below those that follow
   leasts_below : (l : K) (es : List (K × V)) (ps : List (Seen K V)) → 0 < length es → NoneBelow cmp l es → AllByRecursion (λ q. EachBelow cmp q.0 es) ps → AllByRecursion (λ q. cmp l q.0 ≡ Less) ps
   leasts_below l [] ps fed not each = absurd (omega arith)
   leasts_below l (e ∷ es) ps fed not each = all_turn (λ q. EachBelow cmp q.0 (e ∷ es)) (λ q. cmp l q.0 ≡ Less) (λ q a. least_below cmp o l e.0 q.0 not.0 a.0) ps each
 
-  pub parts_cut_above : (height : ℕ) (ps : List (Seen K V)) (i : ℕ) (d : Seen K V) → i < length ps → IsParts cmp height ps → NoneBelow cmp (get_or ps i d).0 (entries_of (drop i ps))
-  parts_cut_above height [] i d within h = absurd (omega arith)
-  parts_cut_above height (p ∷ ps) zero d within h = keys_append (λ y. cmp p.0 y ≢ Greater) p.1.0 (entries_of ps) h.1 (each_turn cmp (λ y. cmp p.0 y ≡ Less) (λ y. cmp p.0 y ≢ Greater) (λ y. less_not_greater cmp o p.0 y) (entries_of ps) (below_entries cmp o p.0 height ps h.3 (leasts_below p.0 p.1.0 ps h.0.1 h.1 h.2)))
-  parts_cut_above height (p ∷ ps) (suc i) d within h = parts_cut_above height ps i d (omega arith) h.3
+  pub children_cut_above : (height : ℕ) (ps : List (Seen K V)) (i : ℕ) (d : Seen K V) → i < length ps → AreChildren cmp height ps → NoneBelow cmp (get_or ps i d).0 (entries_of (drop i ps))
+  children_cut_above height [] i d within h = absurd (omega arith)
+  children_cut_above height (p ∷ ps) zero d within h = keys_append (λ y. cmp p.0 y ≢ Greater) p.1.0 (entries_of ps) h.1 (each_turn cmp (λ y. cmp p.0 y ≡ Less) (λ y. cmp p.0 y ≢ Greater) (λ y. less_not_greater cmp o p.0 y) (entries_of ps) (below_entries cmp o p.0 height ps h.3 (leasts_below p.0 p.1.0 ps h.0.1 h.1 h.2)))
+  children_cut_above height (p ∷ ps) (suc i) d within h = children_cut_above height ps i d (omega arith) h.3
 
-  pub parts_fed : (height : ℕ) (ps : List (Seen K V)) → 0 < length ps → IsParts cmp height ps → 0 < length (entries_of ps)
-  parts_fed height [] some h = absurd (omega arith)
-  parts_fed height (p ∷ ps) some h = omega (arith, length-append p.1.0 (entries_of ps), h.0.1)
+  pub children_fed : (height : ℕ) (ps : List (Seen K V)) → 0 < length ps → AreChildren cmp height ps → 0 < length (entries_of ps)
+  children_fed height [] some h = absurd (omega arith)
+  children_fed height (p ∷ ps) some h = omega (arith, length-append p.1.0 (entries_of ps), h.0.1)
 
   -- ---- the part at j becomes two
 
@@ -134,7 +134,7 @@ module _ {K V : Type 0} (cmp : K → K → Ordering) (o : IsTotalOrder cmp) wher
   first_is l s [] fed not each = absurd (omega arith)
   first_is l s (e ∷ es) fed not each = least_below cmp o l e.0 s not.0 each.0
 
-  -- ---- neither too full nor too lean
+  -- ---- neither too full nor too underfull
 
   pub fit_front : (ps : List (Seen K V)) (i : ℕ) → AreFit ps → AreFit (take i ps)
   fit_front ps i h = all_take (λ p. IsFit p.1) ps i h
@@ -167,13 +167,13 @@ module _ {K V : Type 0} (cmp : K → K → Ordering) (o : IsTotalOrder cmp) wher
   entries_renamed k [] d = refl
   entries_renamed k (y ∷ ys) d = refl
 
-  pub parts_joined : (height : ℕ) (k : K) (xs ys : List (Seen K V)) (d : Seen K V) → IsParts cmp height xs → IsParts cmp height ys → EachBelow cmp k (entries_of xs) → NoneBelow cmp k (entries_of ys) → IsParts cmp height (xs ++ set ys 0 (k, (get_or ys 0 d).1))
-  parts_joined height k [] [] d hx hy below not = tt
-  parts_joined height k [] (y ∷ ys) d hx hy below not = (hy.0, keys_front (λ z. cmp k z ≢ Greater) y.1.0 (entries_of ys) not, hy.2, hy.3)
-  parts_joined height k (x ∷ xs) ys d hx hy below not =
-      (hx.0, hx.1, all_append (λ q. EachBelow cmp q.0 x.1.0) xs (set ys 0 (k, (get_or ys 0 d).1)) hx.2 (over ys hy not (keys_front (λ z. cmp k z ≡ Greater) x.1.0 (entries_of xs) below)), parts_joined height k xs ys d hx.3 hy (keys_back (λ z. cmp k z ≡ Greater) x.1.0 (entries_of xs) below) not)
+  pub children_merged : (height : ℕ) (k : K) (xs ys : List (Seen K V)) (d : Seen K V) → AreChildren cmp height xs → AreChildren cmp height ys → EachBelow cmp k (entries_of xs) → NoneBelow cmp k (entries_of ys) → AreChildren cmp height (xs ++ set ys 0 (k, (get_or ys 0 d).1))
+  children_merged height k [] [] d hx hy below not = tt
+  children_merged height k [] (y ∷ ys) d hx hy below not = (hy.0, keys_front (λ z. cmp k z ≢ Greater) y.1.0 (entries_of ys) not, hy.2, hy.3)
+  children_merged height k (x ∷ xs) ys d hx hy below not =
+      (hx.0, hx.1, all_append (λ q. EachBelow cmp q.0 x.1.0) xs (set ys 0 (k, (get_or ys 0 d).1)) hx.2 (over ys hy not (keys_front (λ z. cmp k z ≡ Greater) x.1.0 (entries_of xs) below)), children_merged height k xs ys d hx.3 hy (keys_back (λ z. cmp k z ≡ Greater) x.1.0 (entries_of xs) below) not)
     where
-      over : (ys : List (Seen K V)) → IsParts cmp height ys → NoneBelow cmp k (entries_of ys) → EachBelow cmp k x.1.0 → AllByRecursion (λ q. EachBelow cmp q.0 x.1.0) (set ys 0 (k, (get_or ys 0 d).1))
+      over : (ys : List (Seen K V)) → AreChildren cmp height ys → NoneBelow cmp k (entries_of ys) → EachBelow cmp k x.1.0 → AllByRecursion (λ q. EachBelow cmp q.0 x.1.0) (set ys 0 (k, (get_or ys 0 d).1))
       over [] hy not here = tt
       over (y ∷ ys) hy not here = (here, all_turn (λ q. cmp k q.0 ≡ Less) (λ q. EachBelow cmp q.0 x.1.0) (λ q less. each_turn cmp (λ z. cmp k z ≡ Greater) (λ z. cmp q.0 z ≡ Greater) (λ z above. above_least cmp o k q.0 z less above) x.1.0 here) ys (leasts_below k y.1.0 ys hy.0.1 (keys_front (λ z. cmp k z ≢ Greater) y.1.0 (entries_of ys) not) hy.2))
 
@@ -183,18 +183,18 @@ module _ {K V : Type 0} (cmp : K → K → Ordering) (o : IsTotalOrder cmp) wher
     entries_two (p ∷ ps) zero d l within is = rw is (sym (append_assoc a.0 b.0 (entries_of ps)))
     entries_two (p ∷ ps) (suc j) d l within is = ap (λ t. p.1.0 ++ t) (entries_two ps j d l (omega arith) is)
 
-    pub parts_two : (ps : List (Seen K V)) (j : ℕ) (d : Seen K V) → j < length ps → (get_or ps j d).1.0 ≡ a.0 ++ b.0 → IsParts cmp height ps → IsParts cmp height (insert (set ps j ((get_or ps j d).0, a)) (suc j) (s, b))
-    parts_two [] j d within is h = absurd (omega arith)
-    parts_two (p ∷ ps) zero d within is h =
+    pub children_two : (ps : List (Seen K V)) (j : ℕ) (d : Seen K V) → j < length ps → (get_or ps j d).1.0 ≡ a.0 ++ b.0 → AreChildren cmp height ps → AreChildren cmp height (insert (set ps j ((get_or ps j d).0, a)) (suc j) (s, b))
+    children_two [] j d within is h = absurd (omega arith)
+    children_two (p ∷ ps) zero d within is h =
         let not = rw is at h.1 in
         let each = rw is at h.2 in
         (child_a, keys_front (λ y. cmp p.0 y ≢ Greater) a.0 b.0 not, (below, all_turn (λ q. EachBelow cmp q.0 (a.0 ++ b.0)) (λ q. EachBelow cmp q.0 a.0) (λ q. keys_front (λ y. cmp q.0 y ≡ Greater) a.0 b.0) ps each), (child_b, not_below, all_turn (λ q. EachBelow cmp q.0 (a.0 ++ b.0)) (λ q. EachBelow cmp q.0 b.0) (λ q. keys_back (λ y. cmp q.0 y ≡ Greater) a.0 b.0) ps each, h.3))
-    parts_two (p ∷ ps) (suc j) d within is h =
-        let here = all_parts_at (λ q. EachBelow cmp q.0 p.1.0) ps j d (omega arith) h.2 in
+    children_two (p ∷ ps) (suc j) d within is h =
+        let here = all_children_at (λ q. EachBelow cmp q.0 p.1.0) ps j d (omega arith) h.2 in
         let order = first_is (get_or ps j d).0 s a.0 child_a.1 (low ps j (omega arith) is h.3) below in
-        (h.0, h.1, all_insert (λ q. EachBelow cmp q p.1.0) ps j ((get_or ps j d).0, a) (s, b) (omega arith) h.2 here (each_turn cmp (λ y. cmp (get_or ps j d).0 y ≡ Greater) (λ y. cmp s y ≡ Greater) (λ y above. above_least cmp o (get_or ps j d).0 s y order above) p.1.0 here), parts_two ps j d (omega arith) is h.3)
+        (h.0, h.1, all_insert (λ q. EachBelow cmp q p.1.0) ps j ((get_or ps j d).0, a) (s, b) (omega arith) h.2 here (each_turn cmp (λ y. cmp (get_or ps j d).0 y ≡ Greater) (λ y. cmp s y ≡ Greater) (λ y above. above_least cmp o (get_or ps j d).0 s y order above) p.1.0 here), children_two ps j d (omega arith) is h.3)
       where
-        low : (ps : List (Seen K V)) (j : ℕ) → j < length ps → (get_or ps j d).1.0 ≡ a.0 ++ b.0 → IsParts cmp height ps → NoneBelow cmp (get_or ps j d).0 a.0
+        low : (ps : List (Seen K V)) (j : ℕ) → j < length ps → (get_or ps j d).1.0 ≡ a.0 ++ b.0 → AreChildren cmp height ps → NoneBelow cmp (get_or ps j d).0 a.0
         low [] j within is h = absurd (omega arith)
         low (q ∷ qs) zero within is h = keys_front (λ y. cmp q.0 y ≢ Greater) a.0 b.0 (rw is at h.1)
         low (q ∷ qs) (suc j) within is h = low qs j (omega arith) is h.3
@@ -237,98 +237,98 @@ module _ {K V : Type 0} (cmp : K → K → Ordering) (o : IsTotalOrder cmp) wher
   leaf_above es i d k within is key s = rw (key ∙ ap (λ e. e.0) is) (cut_above cmp o es i d within s)
 
 module _ {K V Z : Type 0} (cmp : K → K → Ordering) (o : IsTotalOrder cmp) where
-  least_at : (parts : List (Part K V Z)) (i : ℕ) (d : Part K V Z) → i < length parts → d ≡ get_or parts i d → (get_or (seen parts) i (d.least, d.node.value)).0 ≡ d.least
-  least_at parts i d within is = ap (λ p. p.0) (at_seen parts i d within is)
+  least_at : (children : List (Child K V Z)) (i : ℕ) (d : Child K V Z) → i < length children → d ≡ get_or children i d → (get_or (seen children) i (d.least, d.node.value)).0 ≡ d.least
+  least_at children i d within is = ap (λ p. p.0) (at_seen children i d within is)
 
-  pub seen_take : (parts : List (Part K V Z)) (i : ℕ) → seen (take i parts) ≡ take i (seen parts)
-  seen_take parts i = sym (take-map (λ (p : Part K V Z). (p.least, p.node.value)) i parts)
+  pub seen_take : (children : List (Child K V Z)) (i : ℕ) → seen (take i children) ≡ take i (seen children)
+  seen_take children i = sym (take-map (λ (p : Child K V Z). (p.least, p.node.value)) i children)
 
-  pub seen_drop : (parts : List (Part K V Z)) (i : ℕ) → seen (drop i parts) ≡ drop i (seen parts)
-  seen_drop parts zero = refl
+  pub seen_drop : (children : List (Child K V Z)) (i : ℕ) → seen (drop i children) ≡ drop i (seen children)
+  seen_drop children zero = refl
   seen_drop [] (suc i) = refl
   seen_drop (p ∷ ps) (suc i) = seen_drop ps i
 
-  pub inner_below : (height : ℕ) (parts : List (Part K V Z)) (i : ℕ) (d : Part K V Z) (k : K) → i < length parts → d ≡ get_or parts i d → k ≡ d.least → IsParts cmp height (seen parts) → EachBelow cmp k (entries_of (seen (take i parts)))
-  inner_below height parts i d k within is key h = rw (key, seen_take, ← least_at parts i d within is) (parts_cut_below cmp o height (seen parts) i (d.least, d.node.value) (rw length_seen within) h)
+  pub inner_below : (height : ℕ) (children : List (Child K V Z)) (i : ℕ) (d : Child K V Z) (k : K) → i < length children → d ≡ get_or children i d → k ≡ d.least → AreChildren cmp height (seen children) → EachBelow cmp k (entries_of (seen (take i children)))
+  inner_below height children i d k within is key h = rw (key, seen_take, ← least_at children i d within is) (children_cut_below cmp o height (seen children) i (d.least, d.node.value) (rw length_seen within) h)
 
-  pub inner_above : (height : ℕ) (parts : List (Part K V Z)) (i : ℕ) (d : Part K V Z) (k : K) → i < length parts → d ≡ get_or parts i d → k ≡ d.least → IsParts cmp height (seen parts) → NoneBelow cmp k (entries_of (seen (drop i parts)))
-  inner_above height parts i d k within is key h = rw (key, seen_drop, ← least_at parts i d within is) (parts_cut_above cmp o height (seen parts) i (d.least, d.node.value) (rw length_seen within) h)
+  pub inner_above : (height : ℕ) (children : List (Child K V Z)) (i : ℕ) (d : Child K V Z) (k : K) → i < length children → d ≡ get_or children i d → k ≡ d.least → AreChildren cmp height (seen children) → NoneBelow cmp k (entries_of (seen (drop i children)))
+  inner_above height children i d k within is key h = rw (key, seen_drop, ← least_at children i d within is) (children_cut_above cmp o height (seen children) i (d.least, d.node.value) (rw length_seen within) h)
 
-  pub inner_entries : (parts : List (Part K V Z)) (i : ℕ) → entries_of (seen parts) ≡ entries_of (seen (take i parts)) ++ entries_of (seen (drop i parts))
-  inner_entries parts i = rw (seen_take, seen_drop) (entries_cut cmp o (seen parts) i)
+  pub inner_entries : (children : List (Child K V Z)) (i : ℕ) → entries_of (seen children) ≡ entries_of (seen (take i children)) ++ entries_of (seen (drop i children))
+  inner_entries children i = rw (seen_take, seen_drop) (entries_cut cmp o (seen children) i)
 
-  pub inner_front : (height : ℕ) (parts : List (Part K V Z)) (i : ℕ) → IsParts cmp height (seen parts) → IsParts cmp height (seen (take i parts))
-  inner_front height parts i h = rw seen_take (parts_front cmp o height (seen parts) i h)
+  pub inner_front : (height : ℕ) (children : List (Child K V Z)) (i : ℕ) → AreChildren cmp height (seen children) → AreChildren cmp height (seen (take i children))
+  inner_front height children i h = rw seen_take (children_front cmp o height (seen children) i h)
 
-  pub inner_back : (height : ℕ) (parts : List (Part K V Z)) (i : ℕ) → IsParts cmp height (seen parts) → IsParts cmp height (seen (drop i parts))
-  inner_back height parts i h = rw seen_drop (parts_back cmp o height (seen parts) i h)
+  pub inner_back : (height : ℕ) (children : List (Child K V Z)) (i : ℕ) → AreChildren cmp height (seen children) → AreChildren cmp height (seen (drop i children))
+  inner_back height children i h = rw seen_drop (children_back cmp o height (seen children) i h)
 
-  pub inner_fit_front : (parts : List (Part K V Z)) (i : ℕ) → AreFit (seen parts) → AreFit (seen (take i parts))
-  inner_fit_front parts i h = rw seen_take (fit_front cmp o (seen parts) i h)
+  pub inner_fit_front : (children : List (Child K V Z)) (i : ℕ) → AreFit (seen children) → AreFit (seen (take i children))
+  inner_fit_front children i h = rw seen_take (fit_front cmp o (seen children) i h)
 
-  pub inner_fit_back : (parts : List (Part K V Z)) (i : ℕ) → AreFit (seen parts) → AreFit (seen (drop i parts))
-  inner_fit_back parts i h = rw seen_drop (fit_back cmp o (seen parts) i h)
+  pub inner_fit_back : (children : List (Child K V Z)) (i : ℕ) → AreFit (seen children) → AreFit (seen (drop i children))
+  inner_fit_back children i h = rw seen_drop (fit_back cmp o (seen children) i h)
 
-  pub inner_count : (parts : List (Part K V Z)) (i : ℕ) → length (entries_of (seen parts)) ≡ length (entries_of (seen (take i parts))) + length (entries_of (seen (drop i parts)))
-  inner_count parts i = ap length (inner_entries parts i) ∙ length-append (entries_of (seen (take i parts))) (entries_of (seen (drop i parts)))
+  pub inner_count : (children : List (Child K V Z)) (i : ℕ) → length (entries_of (seen children)) ≡ length (entries_of (seen (take i children))) + length (entries_of (seen (drop i children)))
+  inner_count children i = ap length (inner_entries children i) ∙ length-append (entries_of (seen (take i children))) (entries_of (seen (drop i children)))
 
-  pub inner_fed : (height : ℕ) (parts : List (Part K V Z)) → 0 < length parts → IsParts cmp height (seen parts) → 0 < length (entries_of (seen parts))
-  inner_fed height parts some h = parts_fed cmp o height (seen parts) (rw length_seen some) h
+  pub inner_fed : (height : ℕ) (children : List (Child K V Z)) → 0 < length children → AreChildren cmp height (seen children) → 0 < length (entries_of (seen children))
+  inner_fed height children some h = children_fed cmp o height (seen children) (rw length_seen some) h
 
-  seen_insert : (parts : List (Part K V Z)) (i : ℕ) (y : Part K V Z) → seen (insert parts i y) ≡ insert (seen parts) i (y.least, y.node.value)
-  seen_insert parts i y = rw (map-append, seen_take, seen_drop)
+  seen_insert : (children : List (Child K V Z)) (i : ℕ) (y : Child K V Z) → seen (insert children i y) ≡ insert (seen children) i (y.least, y.node.value)
+  seen_insert children i y = rw (map-append, seen_take, seen_drop)
 
   -- the part d at j is x and then y, which have its entries
-  module _ (height : ℕ) (parts : List (Part K V Z)) (j : ℕ) (d x y : Part K V Z) (within : j < length parts) (is : d ≡ get_or parts j d) (least : x.least ≡ d.least) where
-    at : get_or (seen parts) j (d.least, d.node.value) ≡ (d.least, d.node.value)
-    at = at_seen parts j d within is
+  module _ (height : ℕ) (children : List (Child K V Z)) (j : ℕ) (d x y : Child K V Z) (within : j < length children) (is : d ≡ get_or children j d) (least : x.least ≡ d.least) where
+    at : get_or (seen children) j (d.least, d.node.value) ≡ (d.least, d.node.value)
+    at = at_seen children j d within is
 
-    two_seen : seen (insert (set parts j x) (j + 1) y) ≡ insert (set (seen parts) j ((get_or (seen parts) j (d.least, d.node.value)).0, x.node.value)) (suc j) (y.least, y.node.value)
+    two_seen : seen (insert (set children j x) (j + 1) y) ≡ insert (set (seen children) j ((get_or (seen children) j (d.least, d.node.value)).0, x.node.value)) (suc j) (y.least, y.node.value)
     two_seen = rw (add-one, seen_insert, seen_set, at, least)
 
     module _ (child_x : IsChild height x.node.value) (child_y : IsChild height y.node.value) (below : EachBelow cmp y.least x.node.value.0) (not_below : NoneBelow cmp y.least y.node.value.0) (cut : d.node.value.0 ≡ x.node.value.0 ++ y.node.value.0) where
-      pub two_entries : entries_of (seen (insert (set parts j x) (j + 1) y)) ≡ entries_of (seen parts)
-      two_entries = rw two_seen (entries_two cmp o height y.least x.node.value y.node.value child_x child_y below not_below (seen parts) j (d.least, d.node.value) _ (rw length_seen within) (rw at cut))
+      pub two_entries : entries_of (seen (insert (set children j x) (j + 1) y)) ≡ entries_of (seen children)
+      two_entries = rw two_seen (entries_two cmp o height y.least x.node.value y.node.value child_x child_y below not_below (seen children) j (d.least, d.node.value) _ (rw length_seen within) (rw at cut))
 
-      pub two_parts : IsParts cmp height (seen parts) → IsParts cmp height (seen (insert (set parts j x) (j + 1) y))
-      two_parts h = rw two_seen (parts_two cmp o height y.least x.node.value y.node.value child_x child_y below not_below (seen parts) j (d.least, d.node.value) (rw length_seen within) (rw at cut) h)
+      pub two_children : AreChildren cmp height (seen children) → AreChildren cmp height (seen (insert (set children j x) (j + 1) y))
+      two_children h = rw two_seen (children_two cmp o height y.least x.node.value y.node.value child_x child_y below not_below (seen children) j (d.least, d.node.value) (rw length_seen within) (rw at cut) h)
 
-      pub two_fit : AreFit (seen parts) → IsFit x.node.value → IsFit y.node.value → AreFit (seen (insert (set parts j x) (j + 1) y))
-      two_fit h a b = rw two_seen (fit_two cmp o (seen parts) j _ (y.least, y.node.value) (rw length_seen within) h a b)
+      pub two_fit : AreFit (seen children) → IsFit x.node.value → IsFit y.node.value → AreFit (seen (insert (set children j x) (j + 1) y))
+      two_fit h a b = rw two_seen (fit_two cmp o (seen children) j _ (y.least, y.node.value) (rw length_seen within) h a b)
 
-      pub two_place_first : (k : K) → place cmp k (seen parts) ≡ j + 1 → cmp k y.least ≡ Less → place cmp k (seen (insert (set parts j x) (j + 1) y)) ≡ j + 1
-      two_place_first k belongs h = rw two_seen (place_first cmp o height y.least x.node.value y.node.value child_x child_y below not_below k (seen parts) j (d.least, d.node.value) belongs h)
+      pub two_place_first : (k : K) → place cmp k (seen children) ≡ j + 1 → cmp k y.least ≡ Less → place cmp k (seen (insert (set children j x) (j + 1) y)) ≡ j + 1
+      two_place_first k belongs h = rw two_seen (place_first cmp o height y.least x.node.value y.node.value child_x child_y below not_below k (seen children) j (d.least, d.node.value) belongs h)
 
-      pub two_place_second : (k : K) → place cmp k (seen parts) ≡ j + 1 → cmp k y.least ≢ Less → place cmp k (seen (insert (set parts j x) (j + 1) y)) ≡ j + 1 + 1
-      two_place_second k belongs h = rw two_seen (place_second cmp o height y.least x.node.value y.node.value child_x child_y below not_below k (seen parts) j (d.least, d.node.value) belongs h ∙ omega arith)
+      pub two_place_second : (k : K) → place cmp k (seen children) ≡ j + 1 → cmp k y.least ≢ Less → place cmp k (seen (insert (set children j x) (j + 1) y)) ≡ j + 1 + 1
+      two_place_second k belongs h = rw two_seen (place_second cmp o height y.least x.node.value y.node.value child_x child_y below not_below k (seen children) j (d.least, d.node.value) belongs h ∙ omega arith)
 
-      pub two_first : (e : Seen K V) → x.node.value.2 < 16 → (get_or (seen (insert (set parts j x) (j + 1) y)) j e).1.2 < 16
-      two_first e room = rw (two_seen, at_two_first cmp o height y.least x.node.value y.node.value child_x child_y below not_below (seen parts) j e _ (rw length_seen within)) room
+      pub two_first : (e : Seen K V) → x.node.value.2 < 16 → (get_or (seen (insert (set children j x) (j + 1) y)) j e).1.2 < 16
+      two_first e room = rw (two_seen, at_two_first cmp o height y.least x.node.value y.node.value child_x child_y below not_below (seen children) j e _ (rw length_seen within)) room
 
-      pub two_second : (e : Seen K V) → y.node.value.2 < 16 → (get_or (seen (insert (set parts j x) (j + 1) y)) (j + 1) e).1.2 < 16
-      two_second e room = rw two_seen (subst (λ i. (get_or (insert (set (seen parts) j ((get_or (seen parts) j (d.least, d.node.value)).0, x.node.value)) (suc j) (y.least, y.node.value)) i e).1.2 < 16) (sym (add-one j)) (rw (at_two_second cmp o height y.least x.node.value y.node.value child_x child_y below not_below (seen parts) j e _ (rw length_seen within)) room))
+      pub two_second : (e : Seen K V) → y.node.value.2 < 16 → (get_or (seen (insert (set children j x) (j + 1) y)) (j + 1) e).1.2 < 16
+      two_second e room = rw two_seen (subst (λ i. (get_or (insert (set (seen children) j ((get_or (seen children) j (d.least, d.node.value)).0, x.node.value)) (suc j) (y.least, y.node.value)) i e).1.2 < 16) (sym (add-one j)) (rw (at_two_second cmp o height y.least x.node.value y.node.value child_x child_y below not_below (seen children) j e _ (rw length_seen within)) room))
 
   -- a change of the item behind the front ones is not seen at another place
-  pub other_read : (xs ys : List (Part K V Z)) (y : Part K V Z) (i : ℕ) (d : Part K V Z) → i ≢ length xs → get_or (xs ++ set ys 0 y) i d ≡ get_or (xs ++ ys) i d
+  pub other_read : (xs ys : List (Child K V Z)) (y : Child K V Z) (i : ℕ) (d : Child K V Z) → i ≢ length xs → get_or (xs ++ set ys 0 y) i d ≡ get_or (xs ++ ys) i d
   other_read [] [] y i d not = refl
   other_read [] (z ∷ zs) y zero d not = absurd (not refl)
   other_read [] (z ∷ zs) y (suc i) d not = refl
   other_read (x ∷ xs) ys y zero d not = refl
   other_read (x ∷ xs) ys y (suc i) d not = other_read xs ys y i d (λ e. not (ap suc e))
 
-  seen_append : (xs ys : List (Part K V Z)) → seen (xs ++ ys) ≡ seen xs ++ seen ys
-  seen_append xs ys = map-append (λ (p : Part K V Z). (p.least, p.node.value)) xs ys
+  seen_append : (xs ys : List (Child K V Z)) → seen (xs ++ ys) ≡ seen xs ++ seen ys
+  seen_append xs ys = map-append (λ (p : Child K V Z). (p.least, p.node.value)) xs ys
 
   -- the parts xs, and ys with k as the first least key
-  module _ (height : ℕ) (k : K) (xs ys : List (Part K V Z)) (d y : Part K V Z) (within : 0 < length ys) (is : d ≡ get_or ys 0 d) (least : y.least ≡ k) (node : y.node.value ≡ d.node.value) where
+  module _ (height : ℕ) (k : K) (xs ys : List (Child K V Z)) (d y : Child K V Z) (within : 0 < length ys) (is : d ≡ get_or ys 0 d) (least : y.least ≡ k) (node : y.node.value ≡ d.node.value) where
     joined_seen : seen (xs ++ set ys 0 y) ≡ seen xs ++ set (seen ys) 0 (k, (get_or (seen ys) 0 (d.least, d.node.value)).1)
     joined_seen = rw (seen_append, seen_set, at_seen ys 0 d within is, least, node)
 
     pub joined_entries : entries_of (seen (xs ++ set ys 0 y)) ≡ entries_of (seen xs) ++ entries_of (seen ys)
     joined_entries = rw (joined_seen, entries_append cmp o, entries_renamed cmp o k)
 
-    pub joined_parts : IsParts cmp height (seen xs) → IsParts cmp height (seen ys) → EachBelow cmp k (entries_of (seen xs)) → NoneBelow cmp k (entries_of (seen ys)) → IsParts cmp height (seen (xs ++ set ys 0 y))
-    joined_parts hx hy below not = rw joined_seen (parts_joined cmp o height k (seen xs) (seen ys) (d.least, d.node.value) hx hy below not)
+    pub merged_children : AreChildren cmp height (seen xs) → AreChildren cmp height (seen ys) → EachBelow cmp k (entries_of (seen xs)) → NoneBelow cmp k (entries_of (seen ys)) → AreChildren cmp height (seen (xs ++ set ys 0 y))
+    merged_children hx hy below not = rw joined_seen (children_merged cmp o height k (seen xs) (seen ys) (d.least, d.node.value) hx hy below not)
 
     pub joined_fit : AreFit (seen xs) → AreFit (seen ys) → AreFit (seen (xs ++ set ys 0 y))
     joined_fit hx hy = rw joined_seen (fit_append cmp o (seen xs) (set (seen ys) 0 (k, (get_or (seen ys) 0 (d.least, d.node.value)).1)) hx (fit_renamed (seen ys) (d.least, d.node.value) k hy))

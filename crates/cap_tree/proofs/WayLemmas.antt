@@ -9,10 +9,10 @@ use Rattle.cap_tree.specs.Tree.{IsOrdered, get}
 use Rattle.std.specs.Prelude.{Option, Some, None, IfNone, IfSome, slice_get}
 use Rattle.std.proofs.lemmas.Option.{slice_get_within}
 use Rattle.std.proofs.lemmas.List.{append-nil, drop-map}
-use Rattle.cap_tree.specs.declared.node.Part.{Part}
-use Rattle.cap_tree.specs.Shape.{seen, entries_of, IsParts, place}
+use Rattle.cap_tree.specs.declared.node.Child.{Child}
+use Rattle.cap_tree.specs.Shape.{seen, entries_of, AreChildren, place}
 use Rattle.cap_tree.proofs.EntryLemmas.{Each, get-past, get-before, entries_from-past, entries_from-before, ordered_front, ordered_rest}
-use Rattle.cap_tree.proofs.PlaceLemmas.{Seen, keys_append, below_parts, below_entries, above_front, place_step}
+use Rattle.cap_tree.proofs.PlaceLemmas.{Seen, keys_append, below_children, below_entries, above_front, place_step}
 
 -- a list that begins with an element has it and what follows
 same_first : {X : Type 0} (x y : X) (xs ys : List X) → x ∷ xs ≡ y ∷ ys → (x ≡ y) × (xs ≡ ys)
@@ -30,10 +30,10 @@ module _ {K V : Type 0} where
   entries_around (q ∷ qs) (suc n) p back is = ap (λ t. q.1.0 ++ t) (entries_around qs n p back is) ∙ sym (append_assoc q.1.0 (entries_of (take n qs)) (p.1.0 ++ entries_of back))
 
   module _ (cmp : K → K → Ordering) where
-    pub parts_at : (height : ℕ) (ps : List (Seen K V)) (n : ℕ) (p : Seen K V) (back : List (Seen K V)) → IsParts cmp height ps → drop n ps ≡ p ∷ back → IsParts cmp height (p ∷ back)
-    parts_at height ps zero p back h is = subst (IsParts cmp height) is h
-    parts_at height [] (suc n) p back h is = cc
-    parts_at height (q ∷ qs) (suc n) p back h is = parts_at height qs n p back h.3 is
+    pub children_at : (height : ℕ) (ps : List (Seen K V)) (n : ℕ) (p : Seen K V) (back : List (Seen K V)) → AreChildren cmp height ps → drop n ps ≡ p ∷ back → AreChildren cmp height (p ∷ back)
+    children_at height ps zero p back h is = subst (AreChildren cmp height) is h
+    children_at height [] (suc n) p back h is = cc
+    children_at height (q ∷ qs) (suc n) p back h is = children_at height qs n p back h.3 is
 
     -- the entries of a child are in order where all are
     pub ordered_within : (ps : List (Seen K V)) (n : ℕ) (p : Seen K V) (back : List (Seen K V)) → IsOrdered cmp (entries_of ps) → drop n ps ≡ p ∷ back → IsOrdered cmp p.1.0
@@ -41,21 +41,21 @@ module _ {K V : Type 0} where
 
     module _ (o : IsTotalOrder cmp) (k : K) where
       -- k is below each child behind the one where it belongs
-      later : (height : ℕ) (q : Seen K V) (qs : List (Seen K V)) (count : ℕ) → IsParts cmp height (q ∷ qs) → place cmp k (q ∷ qs) ≡ count → count - 1 ≡ 0 → AllByRecursion (λ r. cmp k r.0 ≡ Less) qs
-      later height q qs zero h is none = (below_parts cmp o k height (q ∷ qs) h is).1
-      later height q qs (suc count) h is none = below_parts cmp o k height qs h.3 (place_step cmp o k q qs 0 (is ∙ omega arith)).0
+      later : (height : ℕ) (q : Seen K V) (qs : List (Seen K V)) (count : ℕ) → AreChildren cmp height (q ∷ qs) → place cmp k (q ∷ qs) ≡ count → count - 1 ≡ 0 → AllByRecursion (λ r. cmp k r.0 ≡ Less) qs
+      later height q qs zero h is none = (below_children cmp o k height (q ∷ qs) h is).1
+      later height q qs (suc count) h is none = below_children cmp o k height qs h.3 (place_step cmp o k q qs 0 (is ∙ omega arith)).0
 
       next_place : (q : Seen K V) (qs : List (Seen K V)) (n : ℕ) → place cmp k (q ∷ qs) - 1 ≡ suc n → place cmp k qs ≡ n + 1
       next_place q qs n is = (place_step cmp o k q qs (n + 1) (omega arith)).0
 
-      above_those_in_front : (height : ℕ) (ps : List (Seen K V)) (n : ℕ) → IsParts cmp height ps → place cmp k ps - 1 ≡ n → Each cmp Greater k (entries_of (take n ps))
+      above_those_in_front : (height : ℕ) (ps : List (Seen K V)) (n : ℕ) → AreChildren cmp height ps → place cmp k ps - 1 ≡ n → Each cmp Greater k (entries_of (take n ps))
       above_those_in_front height ps zero h is = tt
       above_those_in_front height [] (suc n) h is = tt
       above_those_in_front height (q ∷ qs) (suc n) h is =
           let next = next_place q qs n is in
           keys_append (λ y. cmp k y ≡ Greater) q.1.0 (entries_of (take n qs)) (above_front cmp o k q.1.0 qs n h.2 next) (above_those_in_front height qs n h.3 (omega arith))
 
-      below_those_behind : (height : ℕ) (ps : List (Seen K V)) (n : ℕ) (p : Seen K V) (back : List (Seen K V)) → IsParts cmp height ps → place cmp k ps - 1 ≡ n → drop n ps ≡ p ∷ back → Each cmp Less k (entries_of back)
+      below_those_behind : (height : ℕ) (ps : List (Seen K V)) (n : ℕ) (p : Seen K V) (back : List (Seen K V)) → AreChildren cmp height ps → place cmp k ps - 1 ≡ n → drop n ps ≡ p ∷ back → Each cmp Less k (entries_of back)
       below_those_behind height [] zero p back h is there = cc
       below_those_behind height (q ∷ qs) zero p back h is there =
           let same = (same_first q p qs back there).1 in
@@ -63,7 +63,7 @@ module _ {K V : Type 0} where
       below_those_behind height [] (suc n) p back h is there = cc
       below_those_behind height (q ∷ qs) (suc n) p back h is there = below_those_behind height qs n p back h.3 (let next = next_place q qs n is in omega arith) there
 
-      module _ (height : ℕ) (ps : List (Seen K V)) (n : ℕ) (p : Seen K V) (back : List (Seen K V)) (h : IsParts cmp height ps) (is : place cmp k ps - 1 ≡ n) (there : drop n ps ≡ p ∷ back) where
+      module _ (height : ℕ) (ps : List (Seen K V)) (n : ℕ) (p : Seen K V) (back : List (Seen K V)) (h : AreChildren cmp height ps) (is : place cmp k ps - 1 ≡ n) (there : drop n ps ≡ p ∷ back) where
         above : Each cmp Greater k (entries_of (take n ps))
         above = above_those_in_front height ps n h is
 
@@ -93,41 +93,41 @@ last_entry front es e h =
     let some = slice_get_within es (length es - 1) e h in
     entry_at front es e (length es - 1) (length (front ++ es) - 1) (omega (arith, length-append front es)) h
 
-module _ {K V Z : Type 0} (cmp : K → K → Ordering) (parts : List (Part K V Z)) (n : ℕ) (child : Part K V Z) (behind : List (Part K V Z)) (there : drop n parts ≡ child ∷ behind) where
-  seen_there : drop n (seen parts) ≡ (child.least, child.node.value) ∷ seen behind
-  seen_there = drop-map (λ (p : Part K V Z). (p.least, p.node.value)) n parts ∙ ap seen there
+module _ {K V Z : Type 0} (cmp : K → K → Ordering) (children : List (Child K V Z)) (n : ℕ) (child : Child K V Z) (behind : List (Child K V Z)) (there : drop n children ≡ child ∷ behind) where
+  seen_there : drop n (seen children) ≡ (child.least, child.node.value) ∷ seen behind
+  seen_there = drop-map (λ (p : Child K V Z). (p.least, p.node.value)) n children ∙ ap seen there
 
-  pub child_ordered : IsOrdered cmp (entries_of (seen parts)) → IsOrdered cmp child.node.value.0
-  child_ordered s = ordered_within cmp (seen parts) n (child.least, child.node.value) (seen behind) s seen_there
+  pub child_ordered : IsOrdered cmp (entries_of (seen children)) → IsOrdered cmp child.node.value.0
+  child_ordered s = ordered_within cmp (seen children) n (child.least, child.node.value) (seen behind) s seen_there
 
-  pub child_and_behind : (height : ℕ) → IsParts cmp height (seen parts) → IsParts cmp height (seen (child ∷ behind))
-  child_and_behind height h = parts_at cmp height (seen parts) n (child.least, child.node.value) (seen behind) h seen_there
+  pub child_and_behind : (height : ℕ) → AreChildren cmp height (seen children) → AreChildren cmp height (seen (child ∷ behind))
+  child_and_behind height h = children_at cmp height (seen children) n (child.least, child.node.value) (seen behind) h seen_there
 
-  module _ (o : IsTotalOrder cmp) (k : K) (height : ℕ) (h : IsParts cmp height (seen parts)) (is : place cmp k (seen parts) - 1 ≡ n) where
-    pub get_child : get cmp (entries_of (seen parts)) k ≡ get cmp child.node.value.0 k
-    get_child = get_within cmp o k height (seen parts) n (child.least, child.node.value) (seen behind) h is seen_there
+  module _ (o : IsTotalOrder cmp) (k : K) (height : ℕ) (h : AreChildren cmp height (seen children)) (is : place cmp k (seen children) - 1 ≡ n) where
+    pub get_child : get cmp (entries_of (seen children)) k ≡ get cmp child.node.value.0 k
+    get_child = get_within cmp o k height (seen children) n (child.least, child.node.value) (seen behind) h is seen_there
 
-    pub from_child : entries_from (cmp k) (entries_of (seen parts)) ≡ entries_from (cmp k) child.node.value.0 ++ entries_of (seen behind)
-    from_child = from_within cmp o k height (seen parts) n (child.least, child.node.value) (seen behind) h is seen_there
+    pub from_child : entries_from (cmp k) (entries_of (seen children)) ≡ entries_from (cmp k) child.node.value.0 ++ entries_of (seen behind)
+    from_child = from_within cmp o k height (seen children) n (child.least, child.node.value) (seen behind) h is seen_there
 
 module _ {K V Z : Type 0} where
   -- ---- the last child
 
-  fed_last : (cmp : K → K → Ordering) (height : ℕ) (front : List (Part K V Z)) (child : Part K V Z) → IsParts cmp height (seen (front ++ child ∷ [])) → 0 < length child.node.value.0
+  fed_last : (cmp : K → K → Ordering) (height : ℕ) (front : List (Child K V Z)) (child : Child K V Z) → AreChildren cmp height (seen (front ++ child ∷ [])) → 0 < length child.node.value.0
   fed_last cmp height [] child h = h.0.1
   fed_last cmp height (x ∷ xs) child h = fed_last cmp height xs child h.3
 
-  entries_to_last : (front : List (Part K V Z)) (child : Part K V Z) → entries_of (seen (front ++ child ∷ [])) ≡ entries_of (seen front) ++ child.node.value.0
+  entries_to_last : (front : List (Child K V Z)) (child : Child K V Z) → entries_of (seen (front ++ child ∷ [])) ≡ entries_of (seen front) ++ child.node.value.0
   entries_to_last [] child = append-nil child.node.value.0
   entries_to_last (x ∷ xs) child = ap (λ t. x.node.value.0 ++ t) (entries_to_last xs child) ∙ sym (append_assoc x.node.value.0 (entries_of (seen xs)) child.node.value.0)
 
-  module _ (cmp : K → K → Ordering) (height : ℕ) (parts front : List (Part K V Z)) (child : Part K V Z) (is : parts ≡ front ++ child ∷ []) where
-    pub last_none : {X : Type 0} (r : Option X) → IsParts cmp height (seen parts) → IfNone r (child.node.value.0 ≡ []) → IfNone r (entries_of (seen parts) ≡ [])
+  module _ (cmp : K → K → Ordering) (height : ℕ) (children front : List (Child K V Z)) (child : Child K V Z) (is : children ≡ front ++ child ∷ []) where
+    pub last_none : {X : Type 0} (r : Option X) → AreChildren cmp height (seen children) → IfNone r (child.node.value.0 ≡ []) → IfNone r (entries_of (seen children) ≡ [])
     last_none None h none =
-        let fed = fed_last cmp height front child (subst (λ l. IsParts cmp height (seen l)) is h) in
+        let fed = fed_last cmp height front child (subst (λ l. AreChildren cmp height (seen l)) is h) in
         absurd (omega (arith, ap length none))
     last_none (Some x) h none = tt
 
-    pub last_some : {X : Type 0} (r : Option X) (entry : X → K × V) → IfSome r (λ x. slice_get child.node.value.0 (length child.node.value.0 - 1) ≡ Some (entry x)) → IfSome r (λ x. slice_get (entries_of (seen parts)) (length (entries_of (seen parts)) - 1) ≡ Some (entry x))
+    pub last_some : {X : Type 0} (r : Option X) (entry : X → K × V) → IfSome r (λ x. slice_get child.node.value.0 (length child.node.value.0 - 1) ≡ Some (entry x)) → IfSome r (λ x. slice_get (entries_of (seen children)) (length (entries_of (seen children)) - 1) ≡ Some (entry x))
     last_some None entry h = tt
     last_some (Some x) entry h = rw (is, entries_to_last front child) (last_entry (entries_of (seen front)) child.node.value.0 (entry x) h)

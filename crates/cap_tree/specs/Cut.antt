@@ -1,17 +1,18 @@
--- Nodes that change, are cut in two, or become one, each as it is seen.
+-- Nodes that change, are split in two, or merged, each as it is seen.
 use Rattle.std.specs.Prelude.{◌≡◌, ℕ, ◌+◌, ◌≤◌, List, ◌++◌, vec_len}
 use Rattle.std.specs.declared.cmp.Ordering.{Ordering}
 use Rattle.std.specs.declared.vec.Vec.{Vec}
-use Rattle.cap_tree.specs.declared.node.Part.{Part}
+use Rattle.cap_tree.specs.declared.node.Child.{Child}
 use Rattle.cap_tree.specs.Shape.{seen, entries_of, EachBelow, NoneBelow}
 
 module _ {K V : Type 0} where
   -- two nodes of one height as one, the items of the second behind those of the first
-  abbrev pub joined : List (K × V) × ℕ × ℕ → List (K × V) × ℕ × ℕ → List (K × V) × ℕ × ℕ
-  joined c d = (c.0 ++ d.0, c.1, c.2 + d.2)
+  abbrev pub merged : List (K × V) × ℕ × ℕ → List (K × V) × ℕ × ℕ → List (K × V) × ℕ × ℕ
+  merged c d = (c.0 ++ d.0, c.1, c.2 + d.2)
 
-  -- the first items of a whole node, so many of them, stand in front, and the others behind, from the key k on
-  pub record IsCut (cmp : K → K → Ordering) (at : ℕ) (whole front back : List (K × V) × ℕ × ℕ) (k : K) : Type 0 where
+  -- the first items of a whole node, so many of them, are in front, and the others behind, from the key k on
+  pub record IsCut (cmp : K → K → Ordering) (at : ℕ) (whole front back : List (K × V) × ℕ × ℕ)
+      (k : K) : Type 0 where
     pub entries : whole.0 ≡ front.0 ++ back.0
     pub height : front.1 ≡ whole.1
     pub back_height : back.1 ≡ whole.1
@@ -38,5 +39,5 @@ module _ {K V Z : Type 0} where
   of_entries entries = (entries.items, 0, vec_len entries)
 
   -- a node with these children
-  abbrev pub of_parts : ℕ → Vec (Part K V Z) Z → List (K × V) × ℕ × ℕ
-  of_parts height parts = (entries_of (seen parts.items), height, vec_len parts)
+  abbrev pub of_children : ℕ → Vec (Child K V Z) Z → List (K × V) × ℕ × ℕ
+  of_children height children = (entries_of (seen children.items), height, vec_len children)

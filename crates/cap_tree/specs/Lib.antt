@@ -4,3 +4,4 @@ pub mod Cut
 pub mod Falls
 pub mod Path
 pub mod Root
+pub mod Replace

@@ -1,15 +1,14 @@
 //! The nodes of a whole list of entries at once, as full as they can be.
 ghost use Rattle.std.specs.Prelude.{◌≡◌, ℕ, ◌+◌, ◌-◌, ◌*◌, ◌^◌, ◌<◌, ◌≤◌, ◌++◌, length, vec_len, IsTrue, IfOk, ◌↔◌};
 ghost use Rattle.std.specs.Arc.{arc_value};
-ghost use Rattle.cap_tree.specs.Shape.{seen, entries_of, IsParts, IsFit, AreFit, EachBelow, NoneBelow};
+ghost use Rattle.cap_tree.specs.Shape.{seen, entries_of, AreChildren, IsFit, AreFit, EachBelow, NoneBelow};
 ghost use Rattle.cap_tree.specs.Root.{root_entries, IsRoot};
 ghost use Rattle.cap_tree.specs.Tree.{IsOrdered};
 
-use crate::node::{Link, MOST, Node, Part};
+use crate::node::{Child, Link, MOST, Node};
 use crate::room::insert_in_room;
 use crate::shift::shift_back;
-use cap_value::{AllocHandle, Exact};
-use std::alloc::AllocError;
+use cap_value::{AllocHandle, Exact, OutOfMemory};
 use std::cmp::Ordering;
 use std::sync::Arc;
 
@@ -57,7 +56,7 @@ fn last_leaf<K: Ord + Drop, V: Drop, A: AllocHandle>(
     alloc: A,
     entries: &mut Vec<(K, V), A>,
     count: usize,
-) -> Result<Node<K, V, A>, AllocError>
+) -> Result<Node<K, V, A>, OutOfMemory>
     requires within { count ≤ vec_len entries.old }
     requires most { count ≤ 16 }
     ensures entries { IfOk result (λ n. entries.old.items ≡ entries.new.items ++ n.0) }
@@ -81,7 +80,7 @@ fn last_node<K: Ord + Exact + Drop, V: Drop, A: AllocHandle>(
     height: u64,
     share: usize,
     count: usize,
-) -> Result<Node<K, V, A>, AllocError>
+) -> Result<Node<K, V, A>, OutOfMemory>
     requires share { share ≡ 16 ^ height }
     requires some { 0 < count }
     requires half { share ≤ 2 * count }
@@ -96,21 +95,21 @@ fn last_node<K: Ord + Exact + Drop, V: Drop, A: AllocHandle>(
     if height == 0 {
         return last_leaf(alloc, entries, count);
     }
-    let parts = last_parts(alloc, entries, height, share, count)?;
+    let children = last_children(alloc, entries, height, share, count)?;
     Ok(Node {
-        link: Link::Inner(height, count, parts),
+        link: Link::Inner(height, count, children),
     })
 }
 
 // The last entries of the list, so many of them, which leave it, as the children of a node of this height.
 #[cycle(last)]
-fn last_parts<K: Ord + Exact + Drop, V: Drop, A: AllocHandle>(
+fn last_children<K: Ord + Exact + Drop, V: Drop, A: AllocHandle>(
     alloc: A,
     entries: &mut Vec<(K, V), A>,
     height: u64,
     share: usize,
     count: usize,
-) -> Result<Vec<Part<K, V, A>, A>, AllocError>
+) -> Result<Vec<Child<K, V, A>, A>, OutOfMemory>
     requires inner { 0 < height }
     requires share { share ≡ 16 ^ height }
     requires some { 0 < count }
@@ -121,31 +120,31 @@ fn last_parts<K: Ord + Exact + Drop, V: Drop, A: AllocHandle>(
     ensures entries { IfOk result (λ ps. entries.old.items
         ≡ entries.new.items ++ entries_of (seen ps.items)) }
     ensures count { IfOk result (λ ps. length (entries_of (seen ps.items)) ≡ count) }
-    ensures parts { IfOk result (λ ps. IsParts K.cmp height (seen ps.items)) }
+    ensures children { IfOk result (λ ps. AreChildren K.cmp height (seen ps.items)) }
     ensures fit { IfOk result (λ ps. AreFit (seen ps.items)) }
     ensures most { IfOk result (λ ps. vec_len ps ≤ 16) }
     ensures items { IfOk result (λ ps. count ≤ vec_len ps * share) }
 {
-    let mut parts = Vec::with_capacity(alloc, MOST)?;
+    let mut children = Vec::with_capacity(alloc, MOST)?;
     let mut rest = count;
     while rest > 0 {
         let size = last_share(rest, share);
-        let part = last_part(alloc, entries, height - 1, share / 16, size)?;
-        insert_in_room(&mut parts, 0, part);
+        let child = last_child(alloc, entries, height - 1, share / 16, size)?;
+        insert_in_room(&mut children, 0, child);
         rest -= size;
     }
-    Ok(parts)
+    Ok(children)
 }
 
 // The last entries of the list, so many of them, which leave it, as a child of this height.
 #[cycle(last)]
-fn last_part<K: Ord + Exact + Drop, V: Drop, A: AllocHandle>(
+fn last_child<K: Ord + Exact + Drop, V: Drop, A: AllocHandle>(
     alloc: A,
     entries: &mut Vec<(K, V), A>,
     height: u64,
     share: usize,
     count: usize,
-) -> Result<Part<K, V, A>, AllocError>
+) -> Result<Child<K, V, A>, OutOfMemory>
     requires share { share ≡ 16 ^ height }
     requires some { 0 < count }
     requires half { 16 * share ≤ 2 * count }
@@ -164,7 +163,7 @@ fn last_part<K: Ord + Exact + Drop, V: Drop, A: AllocHandle>(
     // The length shows how many entries there are.
     let _length = node.len();
     let node = Arc::new(alloc, node)?;
-    Ok(Part { least, node })
+    Ok(Child { least, node })
 }
 
 // The least height at which a node has room for so many entries, and how many of them each of its children has room
@@ -189,7 +188,7 @@ fn lowest_for(count: usize) -> (u64, usize)
 pub(crate) fn build<K: Ord + Exact + Drop, V: Drop, A: AllocHandle>(
     alloc: A,
     entries: Vec<(K, V), A>,
-) -> Result<Option<Arc<Node<K, V, A>, A>>, AllocError>
+) -> Result<Option<Arc<Node<K, V, A>, A>>, OutOfMemory>
     requires { IsOrdered K.cmp entries.items }
     ensures entries { IfOk result (λ root. root_entries root ≡ entries.items) }
     ensures two { IfOk result (λ root. IsRoot root) }

@@ -2,25 +2,25 @@
 ghost use Rattle.std.specs.Prelude.{◌≡◌, ℕ, ◌-◌, ◌<◌, [], ◌∷◌, drop, length, Some, slice_get, IfNone, IfSome};
 ghost use Rattle.std.specs.Option.{option_copied};
 ghost use Rattle.cap_tree.specs.Tree.{IsOrdered, get};
-ghost use Rattle.cap_tree.specs.Shape.{seen, place, IsParts};
+ghost use Rattle.cap_tree.specs.Shape.{seen, place, AreChildren};
 
+use crate::child::count_up_to;
 use crate::leaf::search;
-use crate::node::{Link, Node, Part};
-use crate::part::count_up_to;
+use crate::node::{Child, Link, Node};
 use cap_value::AllocHandle;
 
 // The child among whose entries the key belongs, and the children behind it. It is the first one where all entries
 // are above the key.
 #[inline]
 pub(crate) fn child_for<'a, K: Ord, V, A: AllocHandle>(
-    parts: &'a [Part<K, V, A>],
+    children: &'a [Child<K, V, A>],
     key: &K,
-) -> (&'a Part<K, V, A>, &'a [Part<K, V, A>])
-    requires { 0 < length parts.now }
-    ensures { (h : ℕ) → IsParts K.cmp h (seen parts.now)
-        → drop (place K.cmp key.now (seen parts.now) - 1) parts.now ≡ result.0.now ∷ result.1.now }
+) -> (&'a Child<K, V, A>, &'a [Child<K, V, A>])
+    requires { 0 < length children.now }
+    ensures { (h : ℕ) → AreChildren K.cmp h (seen children.now)
+        → drop (place K.cmp key.now (seen children.now) - 1) children.now ≡ result.0.now ∷ result.1.now }
 {
-    let (_, from) = parts.split_at(count_up_to(parts, key).saturating_sub(1));
+    let (_, from) = children.split_at(count_up_to(children, key).saturating_sub(1));
     let Some((child, behind)) = from.split_first() else {
         unreachable!()
     };
@@ -37,8 +37,8 @@ pub(crate) fn find<'a, K: Ord, V, A: AllocHandle>(node: &'a Node<K, V, A>, key: 
             Ok(at) => return Some(&entries[at].1),
             Err(_) => return None,
         },
-        Link::Inner(_, _, parts) => {
-            let (child, _) = child_for(parts.as_slice(), key);
+        Link::Inner(_, _, children) => {
+            let (child, _) = child_for(children.as_slice(), key);
             return find(&child.node, key);
         }
     }
@@ -51,8 +51,8 @@ pub(crate) fn last<K: Ord, V, A: AllocHandle>(node: &Node<K, V, A>) -> Option<&(
 {
     match &node.link {
         Link::Leaf(entries) => return entries.as_slice().last(),
-        Link::Inner(_, _, parts) => {
-            let (child, _) = parts.as_slice().split_last()?;
+        Link::Inner(_, _, children) => {
+            let (child, _) = children.as_slice().split_last()?;
             return last(&child.node);
         }
     }

@@ -7,7 +7,7 @@ ghost use Rattle.cap_tree.specs.Root.{root_entries};
 ghost use Rattle.cap_tree.specs.Tree.{IsOrdered};
 ghost use Rattle.std.specs.Map.Iter.{TakesFirst, deref_pair};
 
-use crate::node::{Node, Part};
+use crate::node::{Child, Node};
 use crate::path::{Path, count_of_path, depth, descend, next_leaf, seek, start};
 use cap_value::AllocHandle;
 use std::iter::{ExactSizeIterator, FusedIterator};

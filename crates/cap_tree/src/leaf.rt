@@ -5,10 +5,7 @@ ghost use Rattle.std.specs.Vec.{vec_capacity};
 ghost use Rattle.cap_tree.specs.Tree.{IsOrdered, get, put_entry, take_entry};
 ghost use Rattle.cap_tree.specs.Shape.{EachBelow};
 
-use crate::room::insert_in_room;
-use cap_value::AllocHandle;
 use std::cmp::Ordering;
-use std::mem;
 
 // Whether the key is above that of the last entry.
 #[inline]
@@ -25,7 +22,7 @@ fn is_past_last<K: Ord, V>(entries: &[(K, V)], key: &K) -> bool
     }
 }
 
-// The place of the key, or the place where it would stand. It looks at the last entry first, since rising keys belong
+// The index of the key, or the index where it belongs. It looks at the last entry first, since rising keys belong
 // behind it.
 #[inline]
 pub(crate) fn search<K: Ord, V>(entries: &[(K, V)], key: &K) -> Result<usize, usize>
@@ -53,49 +50,4 @@ pub(crate) fn search<K: Ord, V>(entries: &[(K, V)], key: &K) -> Result<usize, us
         }
     }
     Err(at)
-}
-
-// Puts the entry, for which there is room, and answers the value in whose place it stands.
-pub(crate) fn put_in_leaf<K: Ord + Drop, V: Drop, A: AllocHandle>(
-    entries: &mut Vec<(K, V), A>,
-    key: K,
-    value: V,
-) -> Option<V>
-    requires ordered { IsOrdered K.cmp entries.old.items }
-    requires room { vec_len entries.old < vec_capacity entries.old }
-    ensures put { entries.new.items ≡ put_entry K.cmp entries.old.items key value }
-    ensures replaced { result ≡ get K.cmp entries.old.items key }
-    ensures not_less { vec_len entries.old ≤ vec_len entries.new }
-    ensures one_more { vec_len entries.new ≤ vec_len entries.old + 1 }
-{
-    match search(entries.as_slice(), &key) {
-        Ok(at) => {
-            let (_, replaced) = mem::replace(&mut entries[at], (key, value));
-            Some(replaced)
-        }
-        Err(at) => {
-            insert_in_room(entries, at, (key, value));
-            None
-        }
-    }
-}
-
-// Takes the entry at the key out, if there is one.
-pub(crate) fn take_from_leaf<K: Ord + Drop, V: Drop, A: AllocHandle>(
-    entries: &mut Vec<(K, V), A>,
-    key: &K,
-) -> Option<V>
-    requires { IsOrdered K.cmp entries.old.items }
-    ensures items { entries.new.items ≡ take_entry K.cmp entries.old.items key.now }
-    ensures removed { result ≡ get K.cmp entries.old.items key.now }
-    ensures not_more { vec_len entries.new ≤ vec_len entries.old }
-    ensures one_less { vec_len entries.old ≤ vec_len entries.new + 1 }
-{
-    match search(entries.as_slice(), key) {
-        Ok(at) => {
-            let (_, removed) = entries.remove(at);
-            Some(removed)
-        }
-        Err(_) => None,
-    }
 }

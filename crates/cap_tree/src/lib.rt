@@ -1,28 +1,31 @@
 //! Ordered maps whose old versions stay readable: a [`Tree`] is a B+ tree with up to sixteen items a node. Trees share
-//! nodes through `Arc`; a change copies the shared ones on one way down, and changes the others where they stand.
+//! nodes through `Arc`. A change copies the shared nodes on the path from the root, and changes the others in place.
 #![tactic(auto)]
 
-mod agree;
 mod build;
-mod change;
-mod confirm;
-mod each;
-mod fill;
+mod child;
+mod commit_hook;
 mod find;
 mod grow;
+mod hook;
 mod iter;
 mod leaf;
+mod no_hook;
 mod node;
-mod part;
 mod path;
-mod put_after;
+mod put;
+mod rebalance;
+mod remake;
+mod replace;
 mod room;
+mod root;
 mod shift;
 mod split;
-mod take_after;
+mod take;
 mod tree;
 
-pub use confirm::Confirm;
-pub use each::insert_each_after;
+pub use commit_hook::CommitHook;
+pub use hook::Hook;
 pub use iter::Iter;
+pub use remake::Remake;
 pub use tree::Tree;

@@ -2,9 +2,8 @@
 ghost use Rattle.std.specs.Prelude.{◌≡◌, ℕ, ◌≤◌, [], length, IfOk, vec_len};
 ghost use Rattle.cap_tree.specs.Shape.{IsFilled};
 
-use crate::part::copy_parts;
-use cap_value::{AllocHandle, Exact};
-use std::alloc::AllocError;
+use crate::child::copy_children;
+use cap_value::{AllocHandle, Exact, OutOfMemory};
 use std::marker::Model;
 use std::sync::Arc;
 
@@ -26,13 +25,13 @@ pub(crate) struct Node<K: Ord, V, A: AllocHandle> {
 pub(crate) enum Link<K: Ord, V, A: AllocHandle> {
     Leaf(Vec<(K, V), A>),
     // The height, the number of entries, and the children.
-    Inner(u64, usize, Vec<Part<K, V, A>, A>),
+    Inner(u64, usize, Vec<Child<K, V, A>, A>),
 }
 
 /// A child, and a key that none of its entries is below and that each entry in front of it is below.
 #[cycle(node)]
 #[derive(Drop)]
-pub(crate) struct Part<K: Ord, V, A: AllocHandle> {
+pub(crate) struct Child<K: Ord, V, A: AllocHandle> {
     pub(crate) least: K,
     pub(crate) node: Arc<Node<K, V, A>, A>,
 }
@@ -59,7 +58,7 @@ impl<K: Ord, V, A: AllocHandle> Model for Node<K, V, A> {
 // The same entries, in a vector with room for as many as a leaf can have.
 fn copy_entries<K: Exact + Drop, V: Exact + Drop, A: AllocHandle>(
     entries: &Vec<(K, V), A>,
-) -> Result<Vec<(K, V), A>, AllocError>
+) -> Result<Vec<(K, V), A>, OutOfMemory>
     requires { vec_len entries.now ≤ 16 }
     ensures items { IfOk result (λ r. r.items ≡ entries.now.items) }
     ensures len { IfOk result (λ r. vec_len r ≡ vec_len entries.now) }
@@ -74,13 +73,13 @@ fn copy_entries<K: Exact + Drop, V: Exact + Drop, A: AllocHandle>(
 impl<K: Ord + Exact + Drop, V: Exact + Drop, A: AllocHandle> Clone for Node<K, V, A> {
     ghost is_clone = { λ n m. m ≡ n };
 
-    fn clone(&self) -> Result<Self, AllocError> {
+    fn clone(&self) -> Result<Self, OutOfMemory> {
         match &self.link {
             Link::Leaf(entries) => Ok(Node {
                 link: Link::Leaf(copy_entries(entries)?),
             }),
-            Link::Inner(height, count, parts) => Ok(Node {
-                link: Link::Inner(*height, *count, copy_parts(parts)?),
+            Link::Inner(height, count, children) => Ok(Node {
+                link: Link::Inner(*height, *count, copy_children(children)?),
             }),
         }
     }
@@ -100,7 +99,7 @@ impl<K: Ord, V, A: AllocHandle> Node<K, V, A> {
     pub(crate) fn allocator(&self) -> A {
         match &self.link {
             Link::Leaf(entries) => *entries.allocator(),
-            Link::Inner(_, _, parts) => *parts.allocator(),
+            Link::Inner(_, _, children) => *children.allocator(),
         }
     }
 
@@ -132,7 +131,7 @@ impl<K: Ord, V, A: AllocHandle> Node<K, V, A> {
     {
         match &self.link {
             Link::Leaf(entries) => entries.len(),
-            Link::Inner(_, _, parts) => parts.len(),
+            Link::Inner(_, _, children) => children.len(),
         }
     }
 }

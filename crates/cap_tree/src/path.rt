@@ -4,9 +4,9 @@ ghost use Rattle.std.specs.BTreeMap.Range.{entries_from};
 ghost use Rattle.cap_tree.specs.Tree.{IsOrdered};
 ghost use Rattle.cap_tree.specs.Path.{pending, IsPath, FitInto};
 
+use crate::child::count_of;
 use crate::find::child_for;
-use crate::node::{Link, Node, Part};
-use crate::part::count_of;
+use crate::node::{Child, Link, Node};
 use arrayvec::ArrayVec;
 use cap_value::AllocHandle;
 use std::cmp::Ordering;
@@ -16,7 +16,7 @@ use std::cmp::Ordering;
 pub(crate) const ROOM: usize = 32;
 
 /// The children that are still to come of each inner node on the way down, the highest node first.
-pub(crate) type Path<'a, K, V, A> = ArrayVec<&'a [Part<K, V, A>], ROOM>;
+pub(crate) type Path<'a, K, V, A> = ArrayVec<&'a [Child<K, V, A>], ROOM>;
 
 // How many levels there are below the node: fewer than a path has room for.
 pub(crate) fn depth<K: Ord, V, A: AllocHandle>(node: &Node<K, V, A>) -> u64
@@ -50,8 +50,8 @@ pub(crate) fn descend<'a, K: Ord, V, A: AllocHandle>(
 {
     match &node.link {
         Link::Leaf(entries) => return entries.as_slice(),
-        Link::Inner(_, _, parts) => {
-            let Some((child, behind)) = parts.as_slice().split_first() else {
+        Link::Inner(_, _, children) => {
+            let Some((child, behind)) = children.as_slice().split_first() else {
                 unreachable!()
             };
             path.push(behind);
@@ -69,8 +69,8 @@ pub(crate) fn next_leaf<'a, K: Ord, V, A: AllocHandle>(
     ensures gives { MatchOption result ((pending path.old.items ≡ []) × (pending path.new.items ≡ []))
         (λ leaf. (pending path.old.items ≡ leaf.now ++ pending path.new.items) × (0 < length leaf.now)) }
 {
-    while let Some(parts) = path.pop() {
-        if let Some((child, behind)) = parts.split_first() {
+    while let Some(children) = path.pop() {
+        if let Some((child, behind)) = children.split_first() {
             path.push(behind);
             return Some(descend(path, &child.node));
         }
@@ -108,8 +108,8 @@ pub(crate) fn seek<'a, K: Ord, V, A: AllocHandle>(
 {
     match &node.link {
         Link::Leaf(entries) => return entries_not_below(entries.as_slice(), key),
-        Link::Inner(_, _, parts) => {
-            let (child, behind) = child_for(parts.as_slice(), key);
+        Link::Inner(_, _, children) => {
+            let (child, behind) = child_for(children.as_slice(), key);
             path.push(behind);
             return seek(path, &child.node, key);
         }
@@ -117,13 +117,13 @@ pub(crate) fn seek<'a, K: Ord, V, A: AllocHandle>(
 }
 
 // The number of entries that are still to come on the path.
-pub(crate) fn count_of_path<K: Ord, V, A: AllocHandle>(path: &[&[Part<K, V, A>]]) -> usize
+pub(crate) fn count_of_path<K: Ord, V, A: AllocHandle>(path: &[&[Child<K, V, A>]]) -> usize
     requires fits { length (pending path.now) < 2 ^ 64 }
     ensures { result ≡ length (pending path.now) }
 {
     let mut count = 0;
-    for parts in path {
-        count += count_of(parts);
+    for children in path {
+        count += count_of(children);
     }
     count
 }

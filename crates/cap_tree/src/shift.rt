@@ -3,8 +3,7 @@ ghost use Rattle.std.specs.Prelude.{◌≡◌, ◌+◌, ◌<◌, ◌≤◌, ◌+
 ghost use Rattle.std.specs.Vec.{vec_capacity};
 
 use crate::room::insert_in_room;
-use cap_value::AllocHandle;
-use std::alloc::AllocError;
+use cap_value::{AllocHandle, OutOfMemory};
 
 // Moves the items of the front one from `at` on to the back one, which has room for them.
 pub(crate) fn shift_back<T: Drop, A: AllocHandle>(
@@ -50,7 +49,7 @@ pub(crate) fn shift_front<T: Drop, A: AllocHandle>(
     }
 }
 
-// Divides the items of both anew, so that the front one has `at` of them.
+// Redistributes the items of both, so that the front one has `at` of them.
 pub(crate) fn divide<T: Drop, A: AllocHandle>(
     front: &mut Vec<T, A>,
     back: &mut Vec<T, A>,
@@ -71,12 +70,12 @@ pub(crate) fn divide<T: Drop, A: AllocHandle>(
     }
 }
 
-// Finds the memory for `at` items in the front one and for the others in the back one.
+// Reserves memory for `at` items in the front one and for the others in the back one.
 pub(crate) fn reserve_for<T, A: AllocHandle>(
     front: &mut Vec<T, A>,
     back: &mut Vec<T, A>,
     at: usize,
-) -> Result<(), AllocError>
+) -> Result<(), OutOfMemory>
     requires front_small { vec_len front.old ≤ 16 }
     requires back_small { vec_len back.old ≤ 16 }
     requires enough { at ≤ vec_len front.old + vec_len back.old }

@@ -1,21 +1,20 @@
-//! Full nodes are cut in two.
+//! Full nodes are split in two.
 ghost use Rattle.std.specs.Prelude.{List, ◌≡◌, ℕ, ◌+◌, ◌<◌, ◌≤◌, ◌^◌, ◌++◌, length, vec_len, take, drop, slice_index_or, IfOk, OnOk, OnErr};
 ghost use Rattle.std.specs.Arc.{arc_value};
 ghost use Rattle.cap_tree.specs.Tree.{IsOrdered};
-ghost use Rattle.cap_tree.specs.Shape.{seen, place, entries_of, IsParts, AreFit, IsFilled};
-ghost use Rattle.cap_tree.specs.Cut.{IsCut, of_entries, of_parts};
+ghost use Rattle.cap_tree.specs.Shape.{seen, place, entries_of, AreChildren, AreFit, IsFilled};
+ghost use Rattle.cap_tree.specs.Cut.{IsCut, of_entries, of_children};
 
-use crate::node::{Link, MOST, Node, Part};
-use crate::part::{count_of, part_for};
+use crate::child::{child_index_for, count_of};
+use crate::node::{Child, Link, MOST, Node};
 use crate::room::insert_in_room;
 use crate::shift::shift_back;
-use cap_value::{AllocHandle, Exact};
-use std::alloc::AllocError;
+use cap_value::{AllocHandle, Exact, OutOfMemory};
 use std::cmp::Ordering;
 use std::sync::Arc;
 
 impl<K: Ord, V, A: AllocHandle> Node<K, V, A> {
-    // Where a full node is cut into which the key is to be put: near its end where the key belongs behind all items,
+    // Where a full node is split into which the key is to be put: near its end where the key belongs behind all items,
     // near its start where it belongs in front of all, so that rising and falling keys leave full nodes behind, and
     // else in the middle.
     pub(crate) fn cut_for(&self, key: &K) -> usize
@@ -27,7 +26,7 @@ impl<K: Ord, V, A: AllocHandle> Node<K, V, A> {
                 [first, .., last] => (&first.0, &last.0),
                 _ => return 8,
             },
-            Link::Inner(_, _, parts) => match parts.as_slice() {
+            Link::Inner(_, _, children) => match children.as_slice() {
                 [first, .., last] => (&first.least, &last.least),
                 _ => return 8,
             },
@@ -42,11 +41,11 @@ impl<K: Ord, V, A: AllocHandle> Node<K, V, A> {
     }
 }
 
-// Cuts the entries of a leaf in two: those from `at` on are answered behind the least of their keys.
+// Splits the entries of a leaf: answers the least key of those from `at` on, and those entries.
 fn split_entries<K: Ord + Exact + Drop, V: Drop, A: AllocHandle>(
     entries: &mut Vec<(K, V), A>,
     at: usize,
-) -> Result<(K, Vec<(K, V), A>), AllocError>
+) -> Result<(K, Vec<(K, V), A>), OutOfMemory>
     requires small { vec_len entries.old ≤ 16 }
     requires within { at < vec_len entries.old }
     requires ordered { IsOrdered K.cmp entries.old.items }
@@ -60,38 +59,39 @@ fn split_entries<K: Ord + Exact + Drop, V: Drop, A: AllocHandle>(
     Ok((least, back))
 }
 
-// Cuts the children of a node in two: those from `at` on are answered behind their least key, and in front of the
+// Splits the children of a node: those from `at` on are answered behind their least key, and in front of the
 // number of their entries.
-fn split_parts<K: Ord + Exact + Drop, V: Drop, A: AllocHandle>(
-    parts: &mut Vec<Part<K, V, A>, A>,
+fn split_child_list<K: Ord + Exact + Drop, V: Drop, A: AllocHandle>(
+    children: &mut Vec<Child<K, V, A>, A>,
     height: u64,
     at: usize,
-) -> Result<(K, Vec<Part<K, V, A>, A>, usize), AllocError>
-    requires small { vec_len parts.old ≤ 16 }
-    requires within { at < vec_len parts.old }
-    requires parts { IsParts K.cmp height (seen parts.old.items) }
-    requires fit { AreFit (seen parts.old.items) }
-    requires fits { length (entries_of (seen parts.old.items)) < 2 ^ 64 }
-    ensures err { OnErr result (parts.new.items ≡ parts.old.items) }
-    ensures cut { IfOk result (λ r. IsCut K.cmp at (of_parts height parts.old) (of_parts height parts.new)
-        (of_parts height r.1) r.0) }
-    ensures front_parts { OnOk result (IsParts K.cmp height (seen parts.new.items)) }
-    ensures front_fit { OnOk result (AreFit (seen parts.new.items)) }
-    ensures back_parts { IfOk result (λ r. IsParts K.cmp height (seen r.1.items)) }
+) -> Result<(K, Vec<Child<K, V, A>, A>, usize), OutOfMemory>
+    requires small { vec_len children.old ≤ 16 }
+    requires within { at < vec_len children.old }
+    requires children { AreChildren K.cmp height (seen children.old.items) }
+    requires fit { AreFit (seen children.old.items) }
+    requires fits { length (entries_of (seen children.old.items)) < 2 ^ 64 }
+    ensures err { OnErr result (children.new.items ≡ children.old.items) }
+    ensures cut { IfOk result
+        (λ r. IsCut K.cmp at (of_children height children.old) (of_children height children.new)
+        (of_children height r.1) r.0) }
+    ensures front_children { OnOk result (AreChildren K.cmp height (seen children.new.items)) }
+    ensures front_fit { OnOk result (AreFit (seen children.new.items)) }
+    ensures back_children { IfOk result (λ r. AreChildren K.cmp height (seen r.1.items)) }
     ensures back_fit { IfOk result (λ r. AreFit (seen r.1.items)) }
     ensures count { IfOk result (λ r. r.2 ≡ length (entries_of (seen r.1.items))) }
 {
-    let least = parts[at].least.clone()?;
-    let mut back = Vec::with_capacity(*parts.allocator(), MOST)?;
-    shift_back(parts, &mut back, at);
+    let least = children[at].least.clone()?;
+    let mut back = Vec::with_capacity(*children.allocator(), MOST)?;
+    shift_back(children, &mut back, at);
     let count = count_of(back.as_slice());
     Ok((least, back, count))
 }
 
 impl<K: Ord + Exact + Drop, V: Drop, A: AllocHandle> Node<K, V, A> {
-    // Cuts the node in two: its items from `at` on take the place of those of the back one, whose least key is
+    // Splits the node: its items from `at` on replace those of the back one, whose least key is
     // answered.
-    fn split_into(&mut self, back: &mut Node<K, V, A>, at: usize) -> Result<K, AllocError>
+    fn split_into(&mut self, back: &mut Node<K, V, A>, at: usize) -> Result<K, OutOfMemory>
         requires front { 0 < at }
         requires back { at < self.old.2 }
         requires ordered { IsOrdered K.cmp self.old.0 }
@@ -106,8 +106,8 @@ impl<K: Ord + Exact + Drop, V: Drop, A: AllocHandle> Node<K, V, A> {
                 };
                 return Ok(least);
             }
-            Link::Inner(height, count, parts) => {
-                let (least, moved, behind) = split_parts(parts, *height, at)?;
+            Link::Inner(height, count, children) => {
+                let (least, moved, behind) = split_child_list(children, *height, at)?;
                 *count -= behind;
                 *back = Node {
                     link: Link::Inner(*height, behind, moved),
@@ -117,8 +117,8 @@ impl<K: Ord + Exact + Drop, V: Drop, A: AllocHandle> Node<K, V, A> {
         }
     }
 
-    // Cuts the node in two: its items from `at` on become a child of their own.
-    pub(crate) fn split(&mut self, at: usize) -> Result<Part<K, V, A>, AllocError>
+    // Splits the node: its items from `at` on become a child of their own.
+    pub(crate) fn split(&mut self, at: usize) -> Result<Child<K, V, A>, OutOfMemory>
         requires front { 0 < at }
         requires back { at < self.old.2 }
         requires ordered { IsOrdered K.cmp self.old.0 }
@@ -128,66 +128,67 @@ impl<K: Ord + Exact + Drop, V: Drop, A: AllocHandle> Node<K, V, A> {
         let alloc = self.allocator();
         let mut node = Arc::new(alloc, Node::empty(alloc))?;
         let Some(back) = Arc::get_mut(&mut node) else {
-            return Err(AllocError);
+            return Err(OutOfMemory);
         };
         let least = self.split_into(back, at)?;
-        Ok(Part { least, node })
+        Ok(Child { least, node })
     }
 }
 
-// Cuts a child in two: its items from `at` on become the child that is answered.
-fn split_part<K: Ord + Exact + Drop, V: Exact + Drop, A: AllocHandle>(
-    part: &mut Part<K, V, A>,
+// Splits a child: its items from `at` on become the child that is answered.
+fn split_sibling<K: Ord + Exact + Drop, V: Exact + Drop, A: AllocHandle>(
+    child: &mut Child<K, V, A>,
     at: usize,
-) -> Result<Part<K, V, A>, AllocError>
+) -> Result<Child<K, V, A>, OutOfMemory>
     requires front { 0 < at }
-    requires back { at < (arc_value part.old.node).2 }
-    requires ordered { IsOrdered K.cmp (arc_value part.old.node).0 }
-    ensures least { part.new.least ≡ part.old.least }
-    ensures err { OnErr result (arc_value part.new.node ≡ arc_value part.old.node) }
-    ensures cut { IfOk result (λ p. IsCut K.cmp at (arc_value part.old.node) (arc_value part.new.node)
+    requires back { at < (arc_value child.old.node).2 }
+    requires ordered { IsOrdered K.cmp (arc_value child.old.node).0 }
+    ensures least { child.new.least ≡ child.old.least }
+    ensures err { OnErr result (arc_value child.new.node ≡ arc_value child.old.node) }
+    ensures cut { IfOk result (λ p. IsCut K.cmp at (arc_value child.old.node) (arc_value child.new.node)
         (arc_value p.node) p.least) }
-    ensures filled { OnOk result (IsFilled (arc_value part.new.node)) }
+    ensures filled { OnOk result (IsFilled (arc_value child.new.node)) }
     ensures back_filled { IfOk result (λ p. IsFilled (arc_value p.node)) }
 {
-    let child = Arc::make_mut(&mut part.node)?;
-    let next = child.split(at)?;
+    let subtree = Arc::make_mut(&mut child.node)?;
+    let next = subtree.split(at)?;
     // The lengths show how many entries there are.
-    let _lengths = (child.len(), next.node.len());
+    let _lengths = (subtree.len(), next.node.len());
     Ok(next)
 }
 
-// Cuts the full child at `at` in two, and answers which of the two the key belongs to.
+// Splits the full child at `at`, and answers which of the two the key belongs to.
 fn split_child<K: Ord + Exact + Drop, V: Exact + Drop, A: AllocHandle>(
-    parts: &mut Vec<Part<K, V, A>, A>,
+    children: &mut Vec<Child<K, V, A>, A>,
     height: u64,
     at: usize,
     cut: usize,
     key: &K,
-) -> Result<usize, AllocError>
-    requires within { at < vec_len parts.old }
-    requires parts { IsParts K.cmp height (seen parts.old.items) }
-    requires fit { AreFit (seen parts.old.items) }
-    requires ordered { IsOrdered K.cmp (entries_of (seen parts.old.items)) }
-    requires place { place K.cmp key.now (seen parts.old.items) ≡ at + 1 }
-    requires full { (d : K × (List (K × V) × ℕ × ℕ)) → (slice_index_or (seen parts.old.items) at d).1.2 ≡ 16 }
+) -> Result<usize, OutOfMemory>
+    requires within { at < vec_len children.old }
+    requires children { AreChildren K.cmp height (seen children.old.items) }
+    requires fit { AreFit (seen children.old.items) }
+    requires ordered { IsOrdered K.cmp (entries_of (seen children.old.items)) }
+    requires place { place K.cmp key.now (seen children.old.items) ≡ at + 1 }
+    requires full { (d : K × (List (K × V) × ℕ × ℕ)) → (slice_index_or (seen children.old.items) at d).1.2
+        ≡ 16 }
     requires front { 4 ≤ cut }
     requires back { cut ≤ 12 }
-    ensures entries { entries_of (seen parts.new.items) ≡ entries_of (seen parts.old.items) }
-    ensures parts { IsParts K.cmp height (seen parts.new.items) }
-    ensures fit { AreFit (seen parts.new.items) }
-    ensures not_less { vec_len parts.old ≤ vec_len parts.new }
-    ensures one_more { vec_len parts.new ≤ vec_len parts.old + 1 }
-    ensures within { IfOk result (λ i. i < vec_len parts.new) }
-    ensures place { IfOk result (λ i. place K.cmp key.now (seen parts.new.items) ≡ i + 1) }
+    ensures entries { entries_of (seen children.new.items) ≡ entries_of (seen children.old.items) }
+    ensures children { AreChildren K.cmp height (seen children.new.items) }
+    ensures fit { AreFit (seen children.new.items) }
+    ensures not_less { vec_len children.old ≤ vec_len children.new }
+    ensures one_more { vec_len children.new ≤ vec_len children.old + 1 }
+    ensures within { IfOk result (λ i. i < vec_len children.new) }
+    ensures place { IfOk result (λ i. place K.cmp key.now (seen children.new.items) ≡ i + 1) }
     ensures room { IfOk result (λ i. (d : K × (List (K × V) × ℕ × ℕ))
-        → (slice_index_or (seen parts.new.items) i d).1.2 < 16) }
+        → (slice_index_or (seen children.new.items) i d).1.2 < 16) }
 {
-    parts.try_reserve(1)?;
-    let part = &mut parts[at];
-    let next = split_part(part, cut)?;
+    children.try_reserve(1)?;
+    let child = &mut children[at];
+    let next = split_sibling(child, cut)?;
     let below = key.cmp(&next.least);
-    insert_in_room(parts, at + 1, next);
+    insert_in_room(children, at + 1, next);
     match below {
         Ordering::Less => Ok(at),
         Ordering::Equal | Ordering::Greater => Ok(at + 1),
@@ -196,29 +197,29 @@ fn split_child<K: Ord + Exact + Drop, V: Exact + Drop, A: AllocHandle>(
 
 // Finds the child into which the key belongs, sees to it that it is not full, and answers which it is then.
 pub(crate) fn make_room<K: Ord + Exact + Drop, V: Exact + Drop, A: AllocHandle>(
-    parts: &mut Vec<Part<K, V, A>, A>,
+    children: &mut Vec<Child<K, V, A>, A>,
     height: u64,
     key: &K,
-) -> Result<usize, AllocError>
-    requires some { 0 < vec_len parts.old }
-    requires parts { IsParts K.cmp height (seen parts.old.items) }
-    requires fit { AreFit (seen parts.old.items) }
-    requires ordered { IsOrdered K.cmp (entries_of (seen parts.old.items)) }
-    ensures entries { entries_of (seen parts.new.items) ≡ entries_of (seen parts.old.items) }
-    ensures parts { IsParts K.cmp height (seen parts.new.items) }
-    ensures fit { AreFit (seen parts.new.items) }
-    ensures not_less { vec_len parts.old ≤ vec_len parts.new }
-    ensures one_more { vec_len parts.new ≤ vec_len parts.old + 1 }
-    ensures within { IfOk result (λ i. i < vec_len parts.new) }
-    ensures place { IfOk result (λ i. place K.cmp key.now (seen parts.new.items) ≡ i + 1) }
+) -> Result<usize, OutOfMemory>
+    requires some { 0 < vec_len children.old }
+    requires children { AreChildren K.cmp height (seen children.old.items) }
+    requires fit { AreFit (seen children.old.items) }
+    requires ordered { IsOrdered K.cmp (entries_of (seen children.old.items)) }
+    ensures entries { entries_of (seen children.new.items) ≡ entries_of (seen children.old.items) }
+    ensures children { AreChildren K.cmp height (seen children.new.items) }
+    ensures fit { AreFit (seen children.new.items) }
+    ensures not_less { vec_len children.old ≤ vec_len children.new }
+    ensures one_more { vec_len children.new ≤ vec_len children.old + 1 }
+    ensures within { IfOk result (λ i. i < vec_len children.new) }
+    ensures place { IfOk result (λ i. place K.cmp key.now (seen children.new.items) ≡ i + 1) }
     ensures room { IfOk result (λ i. (d : K × (List (K × V) × ℕ × ℕ))
-        → (slice_index_or (seen parts.new.items) i d).1.2 < 16) }
+        → (slice_index_or (seen children.new.items) i d).1.2 < 16) }
 {
-    let at = part_for(parts, height, key)?;
-    let child = &parts[at].node;
-    if child.len() < MOST {
+    let at = child_index_for(children, height, key)?;
+    let subtree = &children[at].node;
+    if subtree.len() < MOST {
         return Ok(at);
     }
-    let cut = child.cut_for(key);
-    split_child(parts, height, at, cut, key)
+    let cut = subtree.cut_for(key);
+    split_child(children, height, at, cut, key)
 }

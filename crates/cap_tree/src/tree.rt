@@ -5,26 +5,29 @@ ghost use Rattle.std.specs.List.{All};
 ghost use Rattle.std.specs.BTreeMap.Range.{entries_below, entries_from};
 ghost use Rattle.std.specs.Map.Iter.{ShowsInOrder, ShowsValuesInOrder, deref_pair};
 ghost use Rattle.cap_value.specs.Memory.{MatchFault};
+ghost use Rattle.cap_tree.specs.Replace.{Replaces};
 ghost use Rattle.cap_tree.specs.Tree.{IsOrdered, get, put_entry, take_entry, Updates};
 
-use crate::agree::Agree;
 use crate::build::{build, is_ordered};
-use crate::change::{leaf_of, put_below, take_below};
-use crate::confirm::{Confirm, ask};
+use crate::commit_hook::CommitHook;
 use crate::find::{find, last};
+use crate::hook::{Hook, Unseen};
 use crate::iter::Iter;
+use crate::no_hook::NoHook;
 use crate::node::Node;
 use crate::path::depth;
-use crate::take_after::ask_for_none;
+use crate::remake::Remake;
+use crate::replace::replace_in_root;
+use crate::root::{empty_leaf, put_in_root, take_from_root};
+use crate::take::ask_for_none;
 use cap_value::{AllocHandle, Exact, Fault, OutOfMemory};
-use std::alloc::AllocError;
 use std::marker::Model;
 use std::sync::Arc;
 
 /// A map whose old versions stay readable: a snapshot costs the same whatever the tree holds.
 ///
 /// A tree and its snapshots share nodes. A change copies the shared nodes on one way down, at most once each, and
-/// changes the others where they stand, so it takes time in proportion to the logarithm of the number of entries.
+/// changes the others in place, so it takes time in proportion to the logarithm of the number of entries.
 /// Errors are those of the allocator; an error leaves every tree as it was.
 ///
 /// In a clause a tree is the list of its entries, in the order of the keys. No two keys are equal by `Ord`.
@@ -37,6 +40,7 @@ pub struct Tree<K: Ord, V, A: AllocHandle> {
 impl<K: Ord, V, A: AllocHandle> Model for Tree<K, V, A> {
     ghost use Rattle.std.specs.Prelude.{List};
     ghost use Rattle.cap_tree.specs.Root.{root_entries, IsRoot};
+    ghost use Rattle.cap_tree.specs.Replace.{Replaces};
     ghost use Rattle.cap_tree.specs.Tree.{IsOrdered};
 
     ghost Value = { List (K × V) };
@@ -98,8 +102,8 @@ impl<K: Ord, V, A: AllocHandle> Tree<K, V, A> {
 
     /// The same tree once more, which shares every node with this one and takes no memory.
     ///
-    /// `AllocError` where the root has as many owners as can be counted.
-    pub fn snapshot(&self) -> Result<Self, AllocError>
+    /// `OutOfMemory` where the root has as many owners as can be counted.
+    pub fn snapshot(&self) -> Result<Self, OutOfMemory>
         ensures { IfOk result (λ t. t ≡ self.now) }
     {
         let root = match &self.root {
@@ -137,7 +141,7 @@ impl<K: Ord, V, A: AllocHandle> Tree<K, V, A> {
     /// The entries from the first whose key is not below this one.
     pub fn seek(&self, key: &K) -> Iter<'_, K, V, A>
         ensures rest { result ≡ entries_from (K.cmp key.now) self.now }
-        ensures parts { self.now ≡ entries_below (K.cmp key.now) self.now ++ result }
+        ensures children { self.now ≡ entries_below (K.cmp key.now) self.now ++ result }
         ensures ordered { IsOrdered K.cmp result }
         ensures fits { length result < 2 ^ 64 }
         ensures runs { ShowsInOrder (deref_pair {K = K} {X = V}) }
@@ -186,20 +190,21 @@ impl<'a, K: Ord, V, A: AllocHandle> IntoIterator for &'a Tree<K, V, A> {
 }
 
 impl<K: Ord + Exact + Drop, V: Exact + Drop, A: AllocHandle> Tree<K, V, A> {
-    /// Puts the value at the key, once the last step of another change is done, and answers the value that was there.
+    /// Puts the value at the key if the hook allows it, and answers the value that was there. It searches once.
     ///
-    /// `confirm` is asked once, when all memory has been found. Where it refuses, or there is no memory, the tree is
-    /// as it was.
-    pub fn insert_after<C: Confirm>(
+    /// `hook` is asked once, after all memory is reserved, and is shown the present value of the key, if any, and the
+    /// new one. If it refuses, or on `OutOfMemory`, the tree is as it was.
+    pub fn insert_hooked<H: Hook<V>>(
         &mut self,
         key: K,
         value: V,
-        confirm: &mut C,
-    ) -> Result<Option<V>, Fault<C::Refusal>>
-        requires { C.can_confirm confirm.old }
-        ensures confirmed { OnOk result (C.gives confirm.old (Ok tt) confirm.new) }
-        ensures refused { IfErr result (λ fault. MatchFault fault (confirm.new ≡ confirm.old)
-            (λ why. C.gives confirm.old (Err why) confirm.new)) }
+        hook: &mut H,
+    ) -> Result<Option<V>, Fault<H::Refusal>>
+        requires { H.can_ask hook.old (get K.cmp self.old key) (Some value) }
+        ensures allowed { OnOk result
+            (H.gives hook.old (get K.cmp self.old key) (Some value) (Ok tt) hook.new) }
+        ensures refused { IfErr result (λ fault. MatchFault fault (hook.new ≡ hook.old)
+            (λ why. H.gives hook.old (get K.cmp self.old key) (Some value) (Err why) hook.new)) }
         ensures err { OnErr result (self.new ≡ self.old) }
         ensures ok { OnOk result (self.new ≡ put_entry K.cmp self.old key value) }
         ensures replaced { IfOk result (λ o. o ≡ get K.cmp self.old key) }
@@ -207,42 +212,102 @@ impl<K: Ord + Exact + Drop, V: Exact + Drop, A: AllocHandle> Tree<K, V, A> {
         let alloc = self.alloc;
         match &mut self.root {
             None => {
-                let leaf = leaf_of(alloc, key, value)?;
-                ask(confirm)?;
+                let mut leaf = empty_leaf(alloc)?;
+                let replaced = put_in_root(&mut leaf, alloc, key, value, hook)?;
                 self.root = Some(leaf);
-                Ok(None)
+                Ok(replaced)
             }
-            Some(node) => put_below(node, alloc, key, value, confirm),
+            Some(node) => put_in_root(node, alloc, key, value, hook),
         }
     }
 
-    /// Takes the entry at the key out, if there is one, once the last step of another change is done, and answers its
-    /// value.
+    /// Removes the entry at the key, if there is one, if the hook allows it, and answers its value. It searches once.
     ///
-    /// `confirm` is asked once, when all memory has been found, also where no key is equal. Where it refuses, or there
-    /// is no memory, the tree is as it was.
-    pub fn remove_after<C: Confirm>(
+    /// `hook` is asked once, after all memory is reserved, and is shown the present value of the key, if any. If it
+    /// refuses, or on `OutOfMemory`, the tree is as it was.
+    pub fn remove_hooked<H: Hook<V>>(
         &mut self,
         key: &K,
-        confirm: &mut C,
-    ) -> Result<Option<V>, Fault<C::Refusal>>
-        requires { C.can_confirm confirm.old }
-        ensures confirmed { OnOk result (C.gives confirm.old (Ok tt) confirm.new) }
-        ensures refused { IfErr result (λ fault. MatchFault fault (confirm.new ≡ confirm.old)
-            (λ why. C.gives confirm.old (Err why) confirm.new)) }
+        hook: &mut H,
+    ) -> Result<Option<V>, Fault<H::Refusal>>
+        requires { H.can_ask hook.old (get K.cmp self.old key.now) None }
+        ensures allowed { OnOk result (H.gives hook.old (get K.cmp self.old key.now) None (Ok tt) hook.new) }
+        ensures refused { IfErr result (λ fault. MatchFault fault (hook.new ≡ hook.old)
+            (λ why. H.gives hook.old (get K.cmp self.old key.now) None (Err why) hook.new)) }
         ensures err { OnErr result (self.new ≡ self.old) }
         ensures ok { OnOk result (self.new ≡ take_entry K.cmp self.old key.now) }
         ensures removed { IfOk result (λ o. o ≡ get K.cmp self.old key.now) }
     {
         match &mut self.root {
-            None => ask_for_none(confirm),
-            Some(node) => take_below(node, key, confirm),
+            None => ask_for_none(hook),
+            Some(node) => take_from_root(node, key, hook),
         }
+    }
+
+    /// Replaces the value at the key by one that `hook` makes of it, and answers the value that was there, or none
+    /// where no key is equal. It searches once, and splits or merges no node.
+    ///
+    /// `hook` is asked once, after all other memory is reserved, and only if there is a value. If it refuses, or on
+    /// `OutOfMemory`, the tree is as it was.
+    pub fn replace_hooked<H: Remake<V>>(
+        &mut self,
+        key: &K,
+        hook: &mut H,
+    ) -> Result<Option<V>, Fault<H::Refusal>>
+        requires { (v : V) → get K.cmp self.old key.now ≡ Some v → H.can_remake hook.old v }
+        ensures { Replaces K.cmp H.gives result self.old key.now self.new hook.old hook.new }
+    {
+        match &mut self.root {
+            None => Ok(None),
+            Some(node) => replace_in_root(node, key, hook),
+        }
+    }
+
+    /// Puts the value at the key if the commit hook allows it, and answers the value that was there.
+    ///
+    /// `hook` is asked once, after all memory is reserved. If it refuses, or on `OutOfMemory`, the tree is as it was.
+    pub fn insert_with_hook<C: CommitHook>(
+        &mut self,
+        key: K,
+        value: V,
+        hook: &mut C,
+    ) -> Result<Option<V>, Fault<C::Refusal>>
+        requires { C.can_ask hook.old }
+        ensures allowed { OnOk result (C.gives hook.old (Ok tt) hook.new) }
+        ensures refused { IfErr result (λ fault. MatchFault fault (hook.new ≡ hook.old)
+            (λ why. C.gives hook.old (Err why) hook.new)) }
+        ensures err { OnErr result (self.new ≡ self.old) }
+        ensures ok { OnOk result (self.new ≡ put_entry K.cmp self.old key value) }
+        ensures replaced { IfOk result (λ o. o ≡ get K.cmp self.old key) }
+    {
+        let mut unseen = Unseen { hook };
+        self.insert_hooked(key, value, &mut unseen)
+    }
+
+    /// Removes the entry at the key, if there is one, if the commit hook allows it, and answers its value.
+    ///
+    /// `hook` is asked once, after all memory is reserved, also where no key is equal. If it refuses, or on
+    /// `OutOfMemory`, the tree is as it was.
+    pub fn remove_with_hook<C: CommitHook>(
+        &mut self,
+        key: &K,
+        hook: &mut C,
+    ) -> Result<Option<V>, Fault<C::Refusal>>
+        requires { C.can_ask hook.old }
+        ensures allowed { OnOk result (C.gives hook.old (Ok tt) hook.new) }
+        ensures refused { IfErr result (λ fault. MatchFault fault (hook.new ≡ hook.old)
+            (λ why. C.gives hook.old (Err why) hook.new)) }
+        ensures err { OnErr result (self.new ≡ self.old) }
+        ensures ok { OnOk result (self.new ≡ take_entry K.cmp self.old key.now) }
+        ensures removed { IfOk result (λ o. o ≡ get K.cmp self.old key.now) }
+    {
+        let mut unseen = Unseen { hook };
+        self.remove_hooked(key, &mut unseen)
     }
 
     /// Puts the value at the key, and answers the value that was there. It searches once.
     ///
-    /// An entry whose key is equal gives way to the new entry, key and all. `OutOfMemory` leaves the tree as it was.
+    /// An entry whose key is equal is replaced, key and all. `OutOfMemory` leaves the tree as it was.
     pub fn insert(&mut self, key: K, value: V) -> Result<Option<V>, OutOfMemory>
         ensures err { OnErr result (self.new ≡ self.old) }
         ensures ok { OnOk result (self.new ≡ put_entry K.cmp self.old key value) }
@@ -253,7 +318,7 @@ impl<K: Ord + Exact + Drop, V: Exact + Drop, A: AllocHandle> Tree<K, V, A> {
     {
         // The length shows that the entries are ordered.
         let _length = self.len();
-        match self.insert_after(key, value, &mut Agree) {
+        match self.insert_hooked(key, value, &mut NoHook) {
             Ok(replaced) => Ok(replaced),
             Err(_) => Err(OutOfMemory),
         }
@@ -272,7 +337,7 @@ impl<K: Ord + Exact + Drop, V: Exact + Drop, A: AllocHandle> Tree<K, V, A> {
     {
         // The length shows that the entries are ordered.
         let _length = self.len();
-        match self.remove_after(key, &mut Agree) {
+        match self.remove_hooked(key, &mut NoHook) {
             Ok(removed) => Ok(removed),
             Err(_) => Err(OutOfMemory),
         }
@@ -281,7 +346,7 @@ impl<K: Ord + Exact + Drop, V: Exact + Drop, A: AllocHandle> Tree<K, V, A> {
 
 impl<K: Ord + Exact + Drop, V: Exact + Drop, A: AllocHandle> Tree<K, V, A> {
     /// A tree without the entry at the key, which has the same entries where no key is equal.
-    pub fn take(&self, key: &K) -> Result<Self, AllocError>
+    pub fn take(&self, key: &K) -> Result<Self, OutOfMemory>
         ensures entries { IfOk result (λ t. t ≡ take_entry K.cmp self.now key.now) }
         ensures updates { IfOk result (λ t. Updates K.cmp self.now t key.now None) }
         ensures len { IfOk result (λ t. length t + (if is_some (get K.cmp self.now key.now) then 1 else 0)
@@ -295,8 +360,8 @@ impl<K: Ord + Exact + Drop, V: Exact + Drop, A: AllocHandle> Tree<K, V, A> {
 
     /// A tree that has the value at the key.
     ///
-    /// An entry whose key is equal gives way to the new entry, key and all.
-    pub fn put(&self, key: K, value: V) -> Result<Self, AllocError>
+    /// An entry whose key is equal is replaced, key and all.
+    pub fn put(&self, key: K, value: V) -> Result<Self, OutOfMemory>
         ensures entries { IfOk result (λ t. t ≡ put_entry K.cmp self.now key value) }
         ensures updates { IfOk result (λ t. Updates K.cmp self.now t key (Some value)) }
         ensures len { IfOk result (λ t. length t ≡ length self.now
@@ -310,7 +375,7 @@ impl<K: Ord + Exact + Drop, V: Exact + Drop, A: AllocHandle> Tree<K, V, A> {
 
     /// The tree of a list of entries, or none where some key is not below the one that follows it. It takes time in
     /// proportion to the number of entries, and its nodes are as full as they can be.
-    pub fn from_sorted(alloc: A, entries: Vec<(K, V), A>) -> Result<Option<Self>, AllocError>
+    pub fn from_sorted(alloc: A, entries: Vec<(K, V), A>) -> Result<Option<Self>, OutOfMemory>
         ensures entries { IfOk result (λ o. IfSome o (λ t. t ≡ entries.items)) }
         ensures ordered { IfOk result (λ o. IsSome o ↔ IsOrdered K.cmp entries.items) }
     {

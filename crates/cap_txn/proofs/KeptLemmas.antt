@@ -15,7 +15,7 @@ use Rattle.cap_value.specs.declared.refusal.Refusal.{Refusal}
 use Rattle.cap_value.specs.declared.refusal.Refusal.TheVariants.{TableExists, TooMany}
 use Rattle.cap_row.specs.Fields.{Fields}
 use Rattle.cap_tree.specs.Tree.{get, put_entry}
-use Rattle.cap_table.specs.After.{LeavesOnceAgreed}
+use Rattle.cap_table.specs.WithHook.{LeavesOnceAllowed}
 use Rattle.cap_table.specs.Operation.{delete_row, empty_table, insert_row, update_row}
 use Rattle.cap_table.specs.Sound.{IsRising}
 use Rattle.cap_table.specs.Table.{TableState}
@@ -185,7 +185,7 @@ module _ {A : Type 0} where
 
     -- the same where it waits for a step outside
     pub agreed-each : {E : Type 0} (r : Result (Unit {0}) (NotMade E)) (tables left : Tables A) (op : Op A) (unasked : Type 0) (gives : Result (Unit {0}) E → Type 0) → EachRises tables
-        → LeavesOnceAgreed r (step tables op) left unasked gives → OnErr r (left ≡ tables) → EachRises left
+        → LeavesOnceAllowed r (step tables op) left unasked gives → OnErr r (left ≡ tables) → EachRises left
     agreed-each (Ok done) tables left op unasked gives each is same = step-each tables left op each is.0
     agreed-each (Err e) tables left op unasked gives each is same = subst EachRises (sym same) each
 

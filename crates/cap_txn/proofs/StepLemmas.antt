@@ -1,8 +1,8 @@
 -- An operation on the table at its place, and what it does to the database.
-use Rattle.std.proofs.Common.{Bool, true, false, ◌≡◌, ℕ, zero, suc, ◌+◌, ◌<◌, ◌≤◌, Option, Some, None, Result, Ok, Err, List, [], ◌∷◌, ◌++◌, length, take, get_or, set, refl, sym, ap, subst, ◌∙◌, arith}
+use Rattle.std.proofs.Common.{Bool, true, false, cond, ◌==◌, ◌≡◌, ℕ, zero, suc, ◌+◌, ◌<◌, ◌≤◌, Option, Some, None, Result, Ok, Err, List, [], ◌∷◌, ◌++◌, length, take, get_or, set, refl, sym, ap, subst, ◌∙◌, arith}
 use Rattle.std.specs.Prelude.{IfOk, OnErr, is_some, nat_lt}
 use Rattle.std.proofs.lemmas.Bool.Decides.{nat_tests}
-use Rattle.cap_value.specs.declared.refusal.Refusal.TheVariants.{TableExists, TooMany}
+use Rattle.cap_value.specs.declared.refusal.Refusal.TheVariants.{BadColumn, NoRow, TableExists, TooMany, WrongWidth}
 use Rattle.cap_txn.specs.Tables.{refused_create}
 use Rattle.std.proofs.lemmas.Cmp.{nat_list_cmp_total}
 use Rattle.cap_value.specs.Bytes.{bytes_cmp}
@@ -12,14 +12,20 @@ use Rattle.cap_value.specs.declared.refusal.Refusal.{Refusal}
 use Rattle.cap_row.specs.Fields.{Fields}
 use Rattle.cap_tree.specs.Tree.{IsOrdered, put_entry}
 use Rattle.cap_value.specs.Memory.{LeavesUnlessMemory, RefusesFirst}
-use Rattle.cap_table.specs.Operation.{empty_table}
+use Rattle.cap_row.specs.Key.{key_of}
+use Rattle.cap_row.specs.Row.{are_columns, columns_of}
+use Rattle.cap_table.specs.Operation.{empty_table, placed, row_of, updated, without}
+use Rattle.cap_table.specs.declared.row_ref.RowRef.{RowRef}
+use Rattle.cap_txn.specs.Assigned.{Assigned}
+use Rattle.cap_txn.specs.declared.op.Action.{Action}
+use Rattle.cap_txn.specs.declared.op.Action.TheVariants.{Insert, Update, Delete}
 use Rattle.cap_table.specs.Sound.{IsRising}
 use Rattle.std.proofs.lemmas.List.{take_more}
 use Rattle.cap_txn.specs.Tables.{create, created}
 use Rattle.cap_table.specs.Table.{TableState}
 use Rattle.cap_txn.specs.declared.change.Change.{Change}
 use Rattle.cap_txn.specs.declared.op.Op.{Op}
-use Rattle.cap_txn.specs.Operation.{act, changed_keys, changes_in, changes_to, changes, in_place, old_row, row_before, step, stepped}
+use Rattle.cap_txn.specs.Operation.{act, changed_keys, changes_in, changes_to, changes, in_place, refused_act, step, stepped}
 use Rattle.cap_txn.specs.Tables.{AreTables, EachRises, Tables, table_of}
 use Rattle.cap_txn.proofs.KeptLemmas.{each-put}
 use Rattle.cap_txn.proofs.PlaceLemmas.{ordered_put, put_entry-longer}
@@ -38,13 +44,6 @@ module _ {A : Type 0} (ts : Tables A) (op : Op A) (t : TableState A) (there : ta
   pub told : {X : Type 0} (r : Result X (Fault Refusal)) (f : X → List (Change A)) → IfOk r (λ x. f x ≡ changes_to op.table op.cause (changed_keys t op.action)) → IfOk r (λ x. f x ≡ changes ts op)
   told (Ok x) f l = l ∙ ap (λ found. changes_in found op) (sym there)
   told (Err e) f l = tt
-
-  pub row_told : {X : Type 0} (r : Result X (Fault Refusal)) (f : X → Option (Fields A)) → IfOk r (λ x. f x ≡ old_row t op.action) → IfOk r (λ x. f x ≡ row_before ts op)
-  row_told (Ok x) f l = l ∙ sym (before there)
-    where
-      before : table_of ts op.table ≡ Some t → row_before ts op ≡ old_row t op.action
-      before is = rw is
-  row_told (Err e) f l = tt
 
 -- what an operation on its table leaves of the database
 pub act_step : {A : Type 0} (ts : Tables A) (op : Op A) (t after : TableState A) → table_of ts op.table ≡ Some t → act t op.action ≡ Ok after → step ts op ≡ Ok (put_entry bytes_cmp ts op.table after)
@@ -90,3 +89,26 @@ module _ {A : Type 0} (ts : Tables A) (name : List ℕ) where
 
 pub take_item : {X : Type 0} (xs : List X) (i : ℕ) (x : X) → i < length xs → x ≡ get_or xs i x → take (i + 1) xs ≡ take i xs ++ x ∷ []
 take_item xs i x within is = take_more xs i x within ∙ ap (λ y. take i xs ++ y ∷ []) (sym is)
+
+-- what is refused before memory is needed is refused
+refused_by : {X : Type 0} (holds : Bool) (inner : Option Refusal) (answer : Result X Refusal) (otherwise why : Refusal) → (inner ≡ Some why → answer ≡ Err why) → cond holds inner (Some otherwise) ≡ Some why → cond holds answer (Err otherwise) ≡ Err why
+refused_by true inner answer otherwise why inside is = inside is
+refused_by false inner answer otherwise why inside is = cc
+
+module _ {A : Type 0} (t : TableState A) where
+  not_there : (name : RowRef A) (fields : Assigned A) (row : Option (Fields A)) (why : Refusal) → cond (is_some row) None (Some NoRow) ≡ Some why → updated t name fields row ≡ Err why
+  not_there name fields None why is = cc
+  not_there name fields (Some row) why is = cc
+
+  pub refused_act_is : (action : Action A) (why : Refusal) → refused_act t action ≡ Some why → act t action ≡ Err why
+  refused_act_is (Insert row) why is = refused_by (length row == length t.schema) None (placed t row (key_of t.schema row)) WrongWidth why (λ none. cc) is
+  refused_act_is (Update name fields) why is =
+      refused_by (are_columns (length t.schema) (columns_of fields)) (cond (is_some (row_of t name)) None (Some NoRow)) (updated t name fields (row_of t name)) BadColumn why (not_there name fields (row_of t name) why) is
+  refused_act_is (Delete name) why is = refused_by (is_some (row_of t name)) None (Ok (without t name)) NoRow why (λ none. cc) is
+
+  pub refused_act_first : (X : Type 0) (action : Action A) (why : Refusal) → act t action ≡ Err why → RefusesFirst {X = X} (refused_act t action) (Err (Refused why))
+  refused_act_first X action why is = first (refused_act t action) (refused_act_is action)
+    where
+      first : (known : Option Refusal) → ((w : Refusal) → known ≡ Some w → act t action ≡ Err w) → RefusesFirst {X = X} known (Err (Refused why))
+      first None refuses = tt
+      first (Some w) refuses = let same = refuses w refl in cc

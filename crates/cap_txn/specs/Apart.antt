@@ -17,10 +17,12 @@ use Rattle.cap_txn.specs.declared.op.Action.TheVariants.{Insert, Update, Delete}
 use Rattle.cap_txn.specs.declared.op.Op.{Op}
 
 module _ {A : Type 0} where
-  -- the key of the row that an accepted operation leaves, none where the row has no key or there is no such row
+  -- the key of the row that an accepted operation leaves, none where the row has no key or there is no such
+  -- row
   abbrev pub key_left : TableState A → Action A → Option (Fields A)
   key_left table (Insert row) = key_of table.schema row
-  key_left table (Update name fields) = option_and_then (λ row. key_of table.schema (row_with fields row)) (row_of table name)
+  key_left table (Update name fields) =
+      option_and_then (λ row. key_of table.schema (row_with fields row)) (row_of table name)
   key_left table (Delete name) = None
 
   abbrev pub by_key : Option (Fields A) → List (RowRef A)
@@ -37,8 +39,8 @@ module _ {A : Type 0} where
   abbrev pub AreApart : List (RowRef A) → List (RowRef A) → Type 0
   AreApart these those = AllByRecursion (λ this. AllByRecursion (λ that. this ≡ that → ⊥) those) these
 
-  -- the first one is accepted after the second one too; the keyed rows and the next id are what the other order leaves,
-  -- and where only one of them gives an id, so is the whole table
+  -- the first one is accepted after the second one too; the keyed rows and the next id are what the other
+  -- order leaves, and where only one of them gives an id, so is the whole table
   pub record Commute (table one other both : TableState A) (first : Action A) : Type 0 where
     pub last : TableState A
     pub accepted : act other first ≡ Ok last

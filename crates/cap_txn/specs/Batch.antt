@@ -1,5 +1,7 @@
--- A batch: operations, and the version that they were made on, if any. A snapshot: a database and its version.
-use Rattle.std.specs.Prelude.{ℕ, Option, Some, None, Result, Ok, Err, List, [], ◌∷◌, ◌++◌, length, nat_lt, if◌then◌else◌}
+-- A batch: operations, and the version that they were made on, if any. A snapshot: a database and its
+-- version.
+use Rattle.std.specs.Prelude.{ℕ, Option, Some, None, Result, Ok, Err, List, [], ◌∷◌, ◌++◌, length, nat_lt}
+use Rattle.std.specs.Prelude.{if◌then◌else◌}
 use Rattle.cap_value.specs.declared.refusal.Refusal.{Refusal}
 use Rattle.cap_value.specs.declared.refusal.Refusal.TheVariants.{TooMany}
 use Rattle.cap_txn.specs.Tables.{Tables}

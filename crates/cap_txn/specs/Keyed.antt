@@ -23,10 +23,12 @@ module _ {A : Type 0} where
   abbrev pub row_set : Tables A → List ℕ → Fields A → Option (Fields A) → Tables A
   row_set tables name key row = set_in tables name key row (table_of tables name)
 
-  -- a row that may stand under the key in the table of the name: it has the table's width, and the key is its own
+  -- a row that may be stored under the key in the table of the name: it has the table's width, and the key is
+  -- its own
   abbrev pub IsOwnRow : Tables A → List ℕ → Fields A → Fields A → Type 0
   IsOwnRow tables name key row =
-      (table : TableState A) → table_of tables name ≡ Some table → (length row ≡ length table.schema) × (key_of table.schema row ≡ Some key)
+      (table : TableState A) → table_of tables name ≡ Some table → (length row ≡ length table.schema)
+      × (key_of table.schema row ≡ Some key)
 
   -- the row may go back under the key, and the database is then as it was
   pub record GoesBack (before after : Tables A) (name : List ℕ) (key row : Fields A) : Type 0 where

@@ -1,4 +1,5 @@
--- What stands of a transaction, whatever calls were made: its database is what its operations leave of the snapshot's.
+-- What stands of a transaction, whatever calls were made: its database is what its operations leave of the
+-- snapshot's.
 use Rattle.std.specs.Prelude.{◌≡◌, ◌≤◌, ⊤, Ok, List, [], ◌∷◌, length, take}
 use Rattle.std.specs.List.{AllByRecursion}
 use Rattle.cap_txn.specs.Operation.{run}

@@ -1,5 +1,7 @@
--- A transaction: the snapshot that it stands on, the operations that stand, and the savepoints that were not undone.
-use Rattle.std.specs.Prelude.{ℕ, ◌+◌, Option, Some, None, Result, Ok, Err, List, [], ◌∷◌, ◌++◌, length, take, nat_lt, ◌==◌, if◌then◌else◌}
+-- A transaction: the snapshot that it stands on, the operations that stand, and the savepoints that were not
+-- undone.
+use Rattle.std.specs.Prelude.{ℕ, ◌+◌, Option, Some, None, Result, Ok, Err, List, [], ◌∷◌, ◌++◌, length, take}
+use Rattle.std.specs.Prelude.{nat_lt, ◌==◌, if◌then◌else◌}
 use Rattle.cap_value.specs.declared.refusal.Refusal.{Refusal}
 use Rattle.cap_value.specs.declared.refusal.Refusal.TheVariants.{TooMany, NoMark}
 use Rattle.cap_txn.specs.Batch.{BatchState, SnapshotState, refused_push}
@@ -19,7 +21,8 @@ pub record TxnState (A : Type 0) : Type 0 where
 module _ {A : Type 0} where
   -- nothing was done yet
   abbrev pub begin : SnapshotState A → TxnState A
-  begin snapshot = record { base = snapshot; database = snapshot.database; ops = []; savepoints = []; made = 0 }
+  begin snapshot =
+      record { base = snapshot; database = snapshot.database; ops = []; savepoints = []; made = 0 }
 
   abbrev pub op_made : TxnState A → Op A → Result (Tables A) Refusal → Result (TxnState A) Refusal
   op_made txn op (Ok next) = Ok (record txn { database = next; ops = txn.ops ++ op ∷ [] })
@@ -40,7 +43,13 @@ module _ {A : Type 0} where
   abbrev pub savepoint_unless : Option Refusal → TxnState A → Result (TxnState A) Refusal
   savepoint_unless (Some why) txn = Err why
   savepoint_unless None txn =
-      Ok (record txn { savepoints = txn.savepoints ++ record { number = txn.made; ops = length txn.ops; database = txn.database } ∷ []; made = txn.made + 1 })
+      Ok (record txn {
+        savepoints =
+            txn.savepoints
+            ++ record { number = txn.made; ops = length txn.ops; database = txn.database } ∷ [];
+        made =
+            txn.made + 1;
+      })
 
   -- one savepoint more, whose number is how many were made before it
   abbrev pub after_savepoint : TxnState A → Result (TxnState A) Refusal
@@ -58,7 +67,13 @@ module _ {A : Type 0} where
 
   abbrev pub back_at : TxnState A → ℕ → Option (Savepoint A) → Result (TxnState A) Refusal
   back_at txn number None = Err NoMark
-  back_at txn number (Some s) = Ok (record txn { database = s.database; ops = take s.ops txn.ops; savepoints = up_to number txn.savepoints })
+  back_at txn number (Some s) =
+      Ok (record txn {
+        database = s.database;
+        ops = take s.ops txn.ops;
+        savepoints =
+            up_to number txn.savepoints;
+      })
 
   -- back to a savepoint, which stays; all later ones are undone
   abbrev pub after_back : TxnState A → ℕ → Result (TxnState A) Refusal

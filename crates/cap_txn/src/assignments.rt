@@ -1,3 +1,4 @@
+//! The columns that an update sets.
 ghost use Rattle.std.specs.Prelude.{◌≡◌};
 
 use cap_value::{AllocHandle, Value};

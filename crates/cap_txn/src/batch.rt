@@ -1,3 +1,4 @@
+//! Batches: lists of operations that are committed together.
 ghost use Rattle.std.specs.Prelude.{◌≡◌, ◌≤◌, Some, None, [], length, OnErr};
 ghost use Rattle.cap_value.specs.Memory.{LeavesUnlessMemory, RefusesFirst};
 ghost use Rattle.cap_txn.specs.Batch.{push, refused_push};
@@ -6,7 +7,7 @@ use crate::Op;
 use cap_value::{AllocHandle, Fault, Refusal};
 use std::marker::Model;
 
-/// The most operations of a batch, and of a transaction those that stand.
+/// The most operations of a batch, and of a transaction those that are not undone.
 pub const OPS_MAX: usize = 10_000;
 
 /// Operations that are made whole or not at all, on any version or on one alone.

@@ -1,8 +1,9 @@
+//! What caused an operation.
 /// Why a row changed.
 #[derive(Clone, Copy, Debug, PartialEq, Eq, Drop)]
 pub enum Cause {
     /// The operation itself.
     Direct,
-    /// A trigger or a foreign key action, of which the operation stands for the doing.
+    /// A trigger or a foreign key action: the operation is what it did.
     Cascade,
 }

@@ -1,3 +1,4 @@
+//! Changes of rows, as sessions note them.
 use crate::Cause;
 use cap_row::Key;
 use cap_value::{AllocHandle, Name};

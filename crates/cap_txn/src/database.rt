@@ -1,21 +1,24 @@
-ghost use Rattle.std.specs.Prelude.{◌≡◌, ◌≤◌, [], length, Ok, Some, None, IfOk, IfSome, IfNone, IsTrue, OnOk, OnErr, is_some};
+//! Databases: tables under their names.
+ghost use Rattle.std.specs.Prelude.{◌≡◌, ◌≤◌, [], length, Ok, Err, Some, None, IfOk, IfSome, IfNone, IsTrue, OnOk, OnErr, is_some};
 ghost use Rattle.std.specs.Option.{option_copied};
 ghost use Rattle.cap_value.specs.Bytes.{bytes_cmp};
+ghost use Rattle.cap_value.specs.declared.refusal.Refusal.{Refusal};
 ghost use Rattle.cap_tree.specs.Tree.{IsOrdered};
-ghost use Rattle.cap_table.specs.After.{LeavesOnceAgreed};
+ghost use Rattle.cap_table.specs.WithHook.{LeavesOnceAllowed};
 ghost use Rattle.cap_value.specs.Memory.{LeavesUnlessMemory, RefusesFirst};
 ghost use Rattle.cap_txn.specs.Tables.{EachRises, Tables, create, refused_create, table_of};
-ghost use Rattle.cap_txn.specs.Operation.{step, changes_told, changes, row_before};
+ghost use Rattle.cap_table.specs.NotMade.{RefusesAtOnce};
+ghost use Rattle.cap_txn.specs.Operation.{step, changes_made, changes, refused_step};
 ghost use Rattle.cap_txn.specs.Keyed.{GoesBack, IsOwnRow, row_set};
 ghost use Rattle.cap_txn.specs.Read.{read, row_at, rows_of, Lends};
 
+use crate::expected_changes::changes_in;
 use crate::keyed::{put_under, take_under};
-use crate::place::{copies, place_of, put_at, step_at, step_at_after};
-use crate::told::changes_in;
-use crate::{Change, Op, Step};
+use crate::place::{copies, place_of, put_at, step_at, step_at_with_hook};
+use crate::{Change, Effect, Op};
 use cap_row::{Key, Row, Schema};
 use cap_table::{NotMade, RowRef, Scan, Table, operations_keep_tables};
-use cap_tree::Confirm;
+use cap_tree::CommitHook;
 use cap_value::{AllocHandle, Exact, Fault, Name, OutOfMemory, Refusal};
 use std::marker::Model;
 
@@ -24,7 +27,7 @@ pub const TABLES_MAX: usize = 64;
 
 /// Tables by name.
 ///
-/// They stand in one list, which a snapshot copies: at most 64 counts of owners. The rows are shared.
+/// They are in one list, which a snapshot copies: at most 64 reference counts. The rows are shared.
 pub struct Database<A: AllocHandle> {
     tables: Vec<(Name<A>, Table<A>), A>,
 }
@@ -68,7 +71,7 @@ impl<A: AllocHandle> Database<A> {
     }
 
     /// A law of every database, for who keeps rows of it: in each table keys and ids rise, each row has the table's
-    /// width, and stands under its own key, or where it has none under an id that was given. The call does nothing.
+    /// width, and is stored under its own key, or where it has none under an id that was given. The call does nothing.
     pub fn rows_stand(&self)
         ensures { EachRises self.now }
     {
@@ -105,13 +108,13 @@ impl<A: AllocHandle> Database<A> {
         Ok(())
     }
 
-    /// Makes one operation, and tells its changes. Refused with `NoTable` where no table has the name, and then as
+    /// Makes one operation, and answers its changes. Refused with `NoTable` where no table has the name, and then as
     /// the table's call refuses it. On an error the database is as before.
-    pub fn step(&mut self, op: &Op<A>) -> Result<Step<A>, Fault<Refusal>>
+    pub fn step(&mut self, op: &Op<A>) -> Result<Effect<A>, Fault<Refusal>>
         ensures tables { LeavesUnlessMemory result (step self.old op.now) self.new }
         ensures kept { OnErr result (self.new ≡ self.old) }
-        ensures changes { IfOk result (λ step. changes_told step ≡ changes self.old op.now) }
-        ensures row { IfOk result (λ step. step.row ≡ row_before self.old op.now) }
+        ensures changes { IfOk result (λ step. changes_made step ≡ changes self.old op.now) }
+        ensures first { RefusesFirst (refused_step self.old op.now) result }
     {
         operations_keep_tables::<A>();
         match place_of(&self.tables, &op.table) {
@@ -120,21 +123,22 @@ impl<A: AllocHandle> Database<A> {
         }
     }
 
-    /// Makes one operation once the step outside agrees, with `step`'s refusals. The step is asked once, when all
-    /// memory was found, and only where nothing refuses the operation. On an error the database is as before.
-    pub fn step_after<C: Confirm>(
+    /// Makes one operation if the commit hook allows it, with `step`'s refusals. The hook is asked once, after all
+    /// memory is reserved, and only if the rules accept the operation. On an error the database is as before.
+    pub fn step_with_hook<C: CommitHook>(
         &mut self,
         op: &Op<A>,
-        confirm: &mut C,
+        hook: &mut C,
     ) -> Result<(), NotMade<C::Refusal>>
-        requires { (after : Tables A) → step self.old op.now ≡ Ok after → C.can_confirm confirm.old }
-        ensures tables { LeavesOnceAgreed result (step self.old op.now) self.new
-            (confirm.new ≡ confirm.old) (λ answer. C.gives confirm.old answer confirm.new) }
+        requires { (after : Tables A) → step self.old op.now ≡ Ok after → C.can_ask hook.old }
+        ensures tables { LeavesOnceAllowed result (step self.old op.now) self.new
+            (hook.new ≡ hook.old) (λ answer. C.gives hook.old answer hook.new) }
         ensures kept { OnErr result (self.new ≡ self.old) }
+        ensures first { RefusesAtOnce (refused_step self.old op.now) result }
     {
         operations_keep_tables::<A>();
         match place_of(&self.tables, &op.table) {
-            Ok(place) => step_at_after(&mut self.tables, place, op, confirm),
+            Ok(place) => step_at_with_hook(&mut self.tables, place, op, hook),
             Err(_) => Err(NotMade::Refused(Refusal::NoTable)),
         }
     }
@@ -172,10 +176,12 @@ impl<A: AllocHandle> Database<A> {
         take_under(&mut self.tables, table, key)
     }
 
-    /// The changes that an operation makes if it is accepted, in order.
+    /// The changes that an operation makes, in order: none where it is refused.
     pub fn changes_of(&self, op: &Op<A>) -> Result<Vec<Change<A>, A>, OutOfMemory>
-        ensures { (after : Tables A) → step self.now op.now ≡ Ok after →
-            IfOk result (λ told. told.items ≡ changes self.now op.now) }
+        ensures changes { (after : Tables A) → step self.now op.now ≡ Ok after →
+            IfOk result (λ all. all.items ≡ changes self.now op.now) }
+        ensures refused { (why : Refusal) → step self.now op.now ≡ Err why →
+            IfOk result (λ all. all.items ≡ []) }
     {
         let alloc = *self.tables.allocator();
         match self.table(&op.table) {

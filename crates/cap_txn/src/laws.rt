@@ -37,7 +37,7 @@ pub fn first_refusal_ends_the_list<A: AllocHandle>()
 {}
 
 /// A list that is refused has operations in front of the refused one that are all accepted, and leave what they leave
-/// alone; on that the one at the place that is told is refused.
+/// alone; on that the one at the index answered is refused.
 pub fn operations_in_front_are_accepted<A: AllocHandle>()
     ensures { (tables : Tables A) (ops : List (Op A)) (refused : RefusedAt) → run tables ops ≡ Err refused →
         IsFirstRefused tables ops refused }
@@ -98,8 +98,8 @@ pub fn deletes_undo_inserts<A: AllocHandle>()
     delete_undoes_insert::<A>();
 }
 
-/// Over any list of operations each table's next id never falls, a row under an id that no row had stands under one
-/// that was not given before, and an id that was given and whose row is gone names no row ever after.
+/// Over any list of operations each table's next id never falls, a row under an id that no row had is under one
+/// that was not given before, and an id that was given and whose row was deleted names no row ever after.
 pub fn lists_give_ids_once<A: AllocHandle>()
     ensures { (tables : Tables A) (ops : List (Op A)) →
         IfOk (run tables ops) (λ left. GiveIdsOnce tables left.database) }
@@ -107,7 +107,7 @@ pub fn lists_give_ids_once<A: AllocHandle>()
     ids_are_given_once::<A>();
 }
 
-/// A transaction's database is always what the operations that stand leave of the snapshot's, and so is that of each
+/// A transaction's database is always what its operations leave of the snapshot's, and so is that of each
 /// savepoint: it holds at first and after each call. So the batch of a transaction, made on the database that the
 /// transaction began with, is accepted and leaves what the transaction showed.
 pub fn transactions_stand<A: AllocHandle>()
@@ -132,7 +132,7 @@ pub fn tables_keep_columns<A: AllocHandle>()
 }
 
 /// In a database that tables and operations were made in, names, keys and ids rise, each row has its table's width, and
-/// stands under its own key, or where it has none under an id that was given.
+/// is stored under its own key, or where it has none under an id that was given.
 pub fn tables_keep_order<A: AllocHandle>()
     ensures empty { AreRising {A = A} [] }
     ensures run { (tables : Tables A) (ops : List (Op A)) → AreRising tables

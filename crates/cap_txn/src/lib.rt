@@ -6,6 +6,8 @@ mod batch;
 mod cause;
 mod change;
 mod database;
+mod effect;
+mod expected_changes;
 mod keyed;
 mod laws;
 mod op;
@@ -15,8 +17,6 @@ mod refused_at;
 mod run;
 mod savepoint;
 mod snapshot;
-mod step;
-mod told;
 mod txn;
 
 pub use assignments::Assignments;
@@ -24,6 +24,7 @@ pub use batch::{Batch, OPS_MAX};
 pub use cause::Cause;
 pub use change::Change;
 pub use database::{Database, TABLES_MAX};
+pub use effect::Effect;
 pub use laws::{
     deletes_undo_inserts, first_refusal_ends_the_list, last_operation_adds_its_changes,
     lists_give_ids_once, operations_in_front_are_accepted, operations_on_different_rows_commute,
@@ -36,5 +37,4 @@ pub use refused_at::RefusedAt;
 pub use run::run_ops;
 pub use savepoint::Mark;
 pub use snapshot::Snapshot;
-pub use step::Step;
 pub use txn::{SAVEPOINTS_MAX, Txn};

@@ -1,3 +1,4 @@
+//! Operations.
 use crate::{Assignments, Cause};
 use cap_row::Row;
 use cap_table::RowRef;

@@ -1,3 +1,4 @@
+//! What a list of operations leaves.
 ghost use Rattle.std.specs.Prelude.{◌≡◌};
 
 use crate::{Change, Database};
@@ -40,16 +41,6 @@ impl<A: AllocHandle> Outcome<A> {
         self.changes.as_slice()
     }
 
-    /// The database, and the changes are let go.
-    pub fn into_database(self) -> Database<A>
-        ensures { result ≡ self.database }
-    {
-        let Outcome {
-            database,
-            changes: _,
-        } = self;
-        database
-    }
     /// The database and the changes.
     pub fn into_parts(self) -> (Database<A>, Vec<Change<A>, A>)
         ensures database { result.0 ≡ self.database }

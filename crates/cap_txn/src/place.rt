@@ -1,21 +1,24 @@
-//! The place of a name among tables in the order of their names.
+//! The tables of a database, in the order of their names: where a name is, and changes at that index.
 ghost use Rattle.std.specs.Prelude.{◌≡◌, ◌<◌, ◌≤◌, List, ℕ, length, slice_set, slice_index_or, MatchResult, Some, None, Ok, IfOk, OnOk, OnErr, is_some, true, false};
 ghost use Rattle.std.specs.List.{insert};
 ghost use Rattle.cap_value.specs.Bytes.{bytes_cmp};
 ghost use Rattle.cap_tree.specs.Tree.{IsOrdered, get, put_entry};
-ghost use Rattle.cap_table.specs.After.{LeavesOnceAgreed};
+ghost use Rattle.cap_table.specs.WithHook.{LeavesOnceAllowed};
 ghost use Rattle.cap_txn.specs.Tables.{Tables};
-ghost use Rattle.cap_value.specs.Memory.{LeavesUnlessMemory};
+ghost use Rattle.cap_value.specs.Memory.{LeavesUnlessMemory, RefusesFirst};
+ghost use Rattle.cap_table.specs.NotMade.{RefusesAtOnce};
+ghost use Rattle.cap_table.specs.Operation.{insert_row, refused_insert};
 ghost use Rattle.cap_table.specs.Table.{TableState};
-ghost use Rattle.cap_txn.specs.Operation.{act, step, changes_told, changes, row_before};
+ghost use Rattle.cap_txn.specs.Operation.{act, step, changes_made, changes, refused_act, refused_step};
 
-use crate::{Action, Op, Step};
+use crate::{Action, Effect, Op};
+use cap_row::Row;
 use cap_table::{NotMade, Table};
-use cap_tree::Confirm;
+use cap_tree::CommitHook;
 use cap_value::{AllocHandle, Fault, Name, OutOfMemory, Refusal};
 use std::cmp::Ordering;
 
-// The place of the name, or the place where it would stand.
+// The index of the name, or the index where it belongs.
 pub(crate) fn place_of<A: AllocHandle>(
     tables: &[(Name<A>, Table<A>)],
     name: &Name<A>,
@@ -46,7 +49,7 @@ pub(crate) fn place_of<A: AllocHandle>(
     Err(at)
 }
 
-// Puts a table in at the place.
+// Inserts a table at the index.
 pub(crate) fn put_at<A: AllocHandle>(
     tables: &mut Vec<(Name<A>, Table<A>), A>,
     place: usize,
@@ -61,12 +64,12 @@ pub(crate) fn put_at<A: AllocHandle>(
     Ok(())
 }
 
-// Makes an operation on the table at the place of its name.
+// Makes an operation on the table at the index of its name.
 pub(crate) fn step_at<A: AllocHandle>(
     tables: &mut [(Name<A>, Table<A>)],
     place: usize,
     op: &Op<A>,
-) -> Result<Step<A>, Fault<Refusal>>
+) -> Result<Effect<A>, Fault<Refusal>>
     requires within { place < length tables.old }
     requires get { (d : List ℕ × TableState A) → get bytes_cmp tables.old op.now.table ≡ Some
         (slice_index_or tables.old place d).1 }
@@ -75,20 +78,20 @@ pub(crate) fn step_at<A: AllocHandle>(
         ≡ slice_set tables.old place ((slice_index_or tables.old place d).0, t) }
     ensures tables { LeavesUnlessMemory result (step tables.old op.now) tables.new }
     ensures kept { OnErr result (tables.new ≡ tables.old) }
-    ensures changes { IfOk result (λ step. changes_told step ≡ changes tables.old op.now) }
-    ensures row { IfOk result (λ step. step.row ≡ row_before tables.old op.now) }
+    ensures changes { IfOk result (λ step. changes_made step ≡ changes tables.old op.now) }
+    ensures first { RefusesFirst (refused_step tables.old op.now) result }
     ensures ordered { IsOrdered bytes_cmp tables.old → IsOrdered bytes_cmp tables.new }
 {
     let (_, table) = &mut tables[place];
-    Step::make(table, op)
+    Effect::make(table, op)
 }
 
-// Makes an operation on the table at the place of its name, once the step outside agrees.
-pub(crate) fn step_at_after<A: AllocHandle, C: Confirm>(
+// Makes an operation on the table at the index of its name, if the commit hook allows it.
+pub(crate) fn step_at_with_hook<A: AllocHandle, C: CommitHook>(
     tables: &mut [(Name<A>, Table<A>)],
     place: usize,
     op: &Op<A>,
-    confirm: &mut C,
+    hook: &mut C,
 ) -> Result<(), NotMade<C::Refusal>>
     requires within { place < length tables.old }
     requires get { (d : List ℕ × TableState A) → get bytes_cmp tables.old op.now.table ≡ Some
@@ -96,35 +99,54 @@ pub(crate) fn step_at_after<A: AllocHandle, C: Confirm>(
     requires put { (d : List ℕ × TableState A) (t : TableState A)
         → put_entry bytes_cmp tables.old op.now.table t
         ≡ slice_set tables.old place ((slice_index_or tables.old place d).0, t) }
-    requires can_confirm { (after : Tables A) → step tables.old op.now ≡ Ok after
-        → C.can_confirm confirm.old }
-    ensures tables { LeavesOnceAgreed result (step tables.old op.now) tables.new
-        (confirm.new ≡ confirm.old) (λ answer. C.gives confirm.old answer confirm.new) }
+    requires can_ask { (after : Tables A) → step tables.old op.now ≡ Ok after
+        → C.can_ask hook.old }
+    ensures tables { LeavesOnceAllowed result (step tables.old op.now) tables.new
+        (hook.new ≡ hook.old) (λ answer. C.gives hook.old answer hook.new) }
     ensures kept { OnErr result (tables.new ≡ tables.old) }
+    ensures first { RefusesAtOnce (refused_step tables.old op.now) result }
     ensures ordered { IsOrdered bytes_cmp tables.old → IsOrdered bytes_cmp tables.new }
 {
     let (_, table) = &mut tables[place];
-    act_after(table, &op.action, confirm)
+    act_with_hook(table, &op.action, hook)
 }
 
-// Makes what an operation does to its table, once the step outside agrees.
-fn act_after<A: AllocHandle, C: Confirm>(
+// Makes what an operation does to its table, if the commit hook allows it.
+fn act_with_hook<A: AllocHandle, C: CommitHook>(
     table: &mut Table<A>,
     action: &Action<A>,
-    confirm: &mut C,
+    hook: &mut C,
 ) -> Result<(), NotMade<C::Refusal>>
-    requires { (after : TableState A) → act table.old action.now ≡ Ok after → C.can_confirm confirm.old }
-    ensures table { LeavesOnceAgreed result (act table.old action.now) table.new
-        (confirm.new ≡ confirm.old) (λ answer. C.gives confirm.old answer confirm.new) }
+    requires { (after : TableState A) → act table.old action.now ≡ Ok after → C.can_ask hook.old }
+    ensures table { LeavesOnceAllowed result (act table.old action.now) table.new
+        (hook.new ≡ hook.old) (λ answer. C.gives hook.old answer hook.new) }
     ensures kept { OnErr result (table.new ≡ table.old) }
+    ensures first { RefusesAtOnce (refused_act table.old action.now) result }
 {
     match action {
-        Action::Insert(row) => match row.copy() {
-            Ok(row) => table.insert_after(row, confirm),
-            Err(_) => Err(NotMade::OutOfMemory),
+        Action::Insert(row) => insert_with_hook(table, row, hook),
+        Action::Update(name, fields) => table.update_with_hook(name, fields.fields(), hook),
+        Action::Delete(name) => table.delete_with_hook(name, hook),
+    }
+}
+
+fn insert_with_hook<A: AllocHandle, C: CommitHook>(
+    table: &mut Table<A>,
+    row: &Row<A>,
+    hook: &mut C,
+) -> Result<(), NotMade<C::Refusal>>
+    requires { (after : TableState A) → insert_row table.old row.now ≡ Ok after → C.can_ask hook.old }
+    ensures table { LeavesOnceAllowed result (insert_row table.old row.now) table.new
+        (hook.new ≡ hook.old) (λ answer. C.gives hook.old answer hook.new) }
+    ensures kept { OnErr result (table.new ≡ table.old) }
+    ensures first { RefusesAtOnce (refused_insert table.old row.now) result }
+{
+    match row.copy() {
+        Ok(row) => table.insert_with_hook(row, hook),
+        Err(_) => match table.refused_insert(row) {
+            Some(why) => Err(NotMade::Refused(why)),
+            None => Err(NotMade::OutOfMemory),
         },
-        Action::Update(name, fields) => table.update_after(name, fields.fields(), confirm),
-        Action::Delete(name) => table.delete_after(name, confirm),
     }
 }
 

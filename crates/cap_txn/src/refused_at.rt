@@ -1,3 +1,4 @@
+//! The first refused operation of a list.
 use cap_value::Refusal;
 
 /// Which operation of a list is refused, and why.

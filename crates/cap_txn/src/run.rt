@@ -1,8 +1,9 @@
+//! A list of operations, all or nothing.
 ghost use Rattle.std.specs.Prelude.{◌≡◌, ◌++◌, OnOk};
 ghost use Rattle.cap_value.specs.Memory.{AnswersUnlessMemory};
-ghost use Rattle.cap_txn.specs.Operation.{run, changes_told};
+ghost use Rattle.cap_txn.specs.Operation.{run, changes_made};
 
-use crate::{Change, Database, Op, Outcome, RefusedAt, Step};
+use crate::{Change, Database, Effect, Op, Outcome, RefusedAt};
 use cap_value::{AllocHandle, Fault, OutOfMemory};
 
 /// Makes operations one after another, all of them or none: the database after them and all their changes, or the
@@ -21,7 +22,7 @@ pub fn run_ops<A: AllocHandle>(
     let mut changes = Vec::with_capacity(alloc, ops.len())?;
     for (at, op) in ops.iter().enumerate() {
         match next.step(op) {
-            Ok(step) => tell(&mut changes, step)?,
+            Ok(step) => push_changes(&mut changes, step)?,
             Err(Fault::Refused(why)) => return Err(Fault::Refused(RefusedAt { at, why })),
             Err(Fault::OutOfMemory) => return Err(Fault::OutOfMemory),
         }
@@ -29,14 +30,13 @@ pub fn run_ops<A: AllocHandle>(
     Ok(Outcome::new(next, changes))
 }
 
-fn tell<A: AllocHandle>(changes: &mut Vec<Change<A>, A>, step: Step<A>) -> Result<(), OutOfMemory>
-    ensures { OnOk result (changes.new.items ≡ changes.old.items ++ changes_told step) }
+fn push_changes<A: AllocHandle>(
+    changes: &mut Vec<Change<A>, A>,
+    step: Effect<A>,
+) -> Result<(), OutOfMemory>
+    ensures { OnOk result (changes.new.items ≡ changes.old.items ++ changes_made step) }
 {
-    let Step {
-        first,
-        second,
-        row: _,
-    } = step;
+    let Effect { first, second } = step;
     changes.push(first)?;
     match second {
         None => Ok(()),

@@ -1,3 +1,4 @@
+//! Savepoints of a transaction, and their marks.
 use crate::Database;
 use cap_value::AllocHandle;
 

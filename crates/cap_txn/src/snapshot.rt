@@ -1,3 +1,4 @@
+//! Snapshots: a database and its version.
 ghost use Rattle.std.specs.Prelude.{◌≡◌, IfOk};
 ghost use Rattle.cap_txn.specs.Read.{read, rows_of, Lends};
 

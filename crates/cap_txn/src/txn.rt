@@ -1,4 +1,6 @@
+//! Transactions.
 ghost use Rattle.std.specs.Prelude.{◌≡◌, ◌<◌, ◌≤◌, ◌+◌, Some, None, length, take, slice_index_or, MatchOption, IfOk, OnErr};
+ghost use Rattle.std.specs.Result.{result_err};
 ghost use Rattle.cap_value.specs.Memory.{LeavesUnlessMemory, RefusesFirst};
 ghost use Rattle.cap_txn.specs.Batch.{refused_push};
 ghost use Rattle.cap_txn.specs.Read.{read, rows_of, Lends};
@@ -120,6 +122,7 @@ impl<A: AllocHandle> Txn<A> {
     pub fn back_to(&mut self, mark: Mark) -> Result<(), Fault<Refusal>>
         ensures txn { LeavesUnlessMemory result (after_back self.old mark.number) self.new }
         ensures kept { OnErr result (self.new ≡ self.old) }
+        ensures first { RefusesFirst (result_err (after_back self.old mark.number)) result }
     {
         let Some(place) = place_of(&self.savepoints, mark.number) else {
             return Err(Fault::Refused(Refusal::NoMark));

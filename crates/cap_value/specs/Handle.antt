@@ -6,4 +6,5 @@ use prog.Memory.{size, align}
 
 -- no size, or that of a reference
 abbrev pub IsHandle : RattleType → Type 0
-IsHandle R = ((size (layout R) ≡ 0) × (align (layout R) ≡ 1)) ⊎ ((size (layout R) ≡ 8) × (align (layout R) ≡ 8))
+IsHandle R = ((size (layout R) ≡ 0) × (align (layout R) ≡ 1))
+    ⊎ ((size (layout R) ≡ 8) × (align (layout R) ≡ 8))

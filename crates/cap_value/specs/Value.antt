@@ -1,12 +1,14 @@
 -- The order of values (Datatypes In SQLite, "Sort Order", at the BINARY collation).
-use Rattle.std.specs.Prelude.{◌≡◌, ◌≤◌, ◌↔◌, ⊤, ℕ, ℤ, pos, Bool, true, false, List, [], Result, length, FitsSigned, IsUtf8}
+use Rattle.std.specs.Prelude.{◌≡◌, ◌≤◌, ◌↔◌, ⊤, ℕ, ℤ, pos, Bool, true, false, List, [], Result, length}
+use Rattle.std.specs.Prelude.{FitsSigned, IsUtf8}
 use Rattle.std.specs.Int.{w64}
 use Rattle.std.specs.declared.cmp.Ordering.{Ordering}
 use Rattle.std.specs.declared.cmp.Ordering.TheVariants.{Less, Equal, Greater}
 use Rattle.std.specs.Ordering.{nat_cmp, int_cmp, on, then_cmp, ordering_then, is_eq}
 use Rattle.std.specs.Result.{result_map_both}
 use Rattle.std.proofs.Common.{refl, ap, sym, subst}
-use Rattle.std.specs.FinMap.{IsAntisymmetric, nat_cmp-IsAntisymmetric, int_cmp-IsAntisymmetric, slice_cmp-IsAntisymmetric}
+use Rattle.std.specs.FinMap.{IsAntisymmetric, nat_cmp-IsAntisymmetric, int_cmp-IsAntisymmetric}
+use Rattle.std.specs.FinMap.{slice_cmp-IsAntisymmetric}
 use Rattle.std.specs.Bool.{Decides}
 use Rattle.std.specs.Cmp.{IsTotalOrder, Equal-is, tied_itself}
 use Rattle.std.proofs.lemmas.Cmp.{on_total, then_total, nat_cmp_total, int_cmp_total, nat_list_cmp_total}
@@ -48,7 +50,7 @@ module _ {A : Type 0} where
   value_cmp (Blob s) (Blob t) = bytes_cmp s t
   value_cmp a b = nat_cmp (storage_class a) (storage_class b)
 
-  -- two values that the order does not tell apart
+  -- two values that are equal in the order
   abbrev pub value_eq : Value A → Value A → Bool
   value_eq a b = is_eq (value_cmp a b)
 
@@ -97,12 +99,14 @@ module _ {A : Type 0} where
 
   parts_total : IsTotalOrder parts_cmp
   unfolding parts_cmp
-  parts_total = then_total (on_total storage_class nat_cmp_total) (then_total (on_total number_of int_cmp_total) (on_total bytes_of nat_list_cmp_total))
+  parts_total = then_total (on_total storage_class nat_cmp_total)
+      (then_total (on_total number_of int_cmp_total) (on_total bytes_of nat_list_cmp_total))
 
   pub value_cmp_total : IsTotalOrder value_cmp
-  value_cmp_total = subst (λ (R : Value A → Value A → Ordering). IsTotalOrder R) (λ i a b. sym (by_parts a b) i) parts_total
+  value_cmp_total =
+      subst (λ (R : Value A → Value A → Ordering). IsTotalOrder R) (λ i a b. sym (by_parts a b) i) parts_total
 
-  -- two values that the order does not tell apart are the same
+  -- two values that are equal in the order are the same
   pub value_cmp-IsAntisymmetric : IsAntisymmetric value_cmp
   value_cmp-IsAntisymmetric Null Null e = refl
   value_cmp-IsAntisymmetric Null (Int n) e = cc
@@ -114,17 +118,26 @@ module _ {A : Type 0} where
   value_cmp-IsAntisymmetric (Int m) (Blob b) e = cc
   value_cmp-IsAntisymmetric (Text s) Null e = cc
   value_cmp-IsAntisymmetric (Text s) (Int n) e = cc
-  value_cmp-IsAntisymmetric (Text s) (Text t) e = ap Text (slice_cmp-IsAntisymmetric nat_cmp-IsAntisymmetric s t e)
+  value_cmp-IsAntisymmetric (Text s) (Text t) e =
+      ap Text (slice_cmp-IsAntisymmetric nat_cmp-IsAntisymmetric s t e)
   value_cmp-IsAntisymmetric (Text s) (Blob b) e = cc
   value_cmp-IsAntisymmetric (Blob s) Null e = cc
   value_cmp-IsAntisymmetric (Blob s) (Int n) e = cc
   value_cmp-IsAntisymmetric (Blob s) (Text t) e = cc
-  value_cmp-IsAntisymmetric (Blob s) (Blob t) e = ap Blob (slice_cmp-IsAntisymmetric nat_cmp-IsAntisymmetric s t e)
+  value_cmp-IsAntisymmetric (Blob s) (Blob t) e =
+      ap Blob (slice_cmp-IsAntisymmetric nat_cmp-IsAntisymmetric s t e)
 
-  -- the order tells different values apart
+  -- different values are unequal in the order
   pub value_cmp-Equal : (a b : Value A) → (value_cmp a b ≡ Equal) ↔ (a ≡ b)
-  value_cmp-Equal a b = (value_cmp-IsAntisymmetric a b, λ e. subst (λ c. value_cmp a c ≡ Equal) e (tied_itself value_cmp_total a))
+  value_cmp-Equal a b = (
+    value_cmp-IsAntisymmetric a b,
+    λ e. subst (λ c. value_cmp a c ≡ Equal) e
+        (tied_itself value_cmp_total a),
+  )
 
   pub value_eq_decides : (a b : Value A) → Decides (value_eq a b) (a ≡ b)
-  value_eq_decides a b =
-      (λ e. (value_cmp-Equal a b).0 ((Equal-is (value_cmp a b)).0 e), λ e. (Equal-is (value_cmp a b)).1 ((value_cmp-Equal a b).1 e))
+  value_eq_decides a b = (
+    λ e. (value_cmp-Equal a b).0 ((Equal-is (value_cmp a b)).0 e),
+    λ e. (Equal-is (value_cmp a b)).1
+        ((value_cmp-Equal a b).1 e),
+  )

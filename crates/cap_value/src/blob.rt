@@ -1,6 +1,8 @@
+//! Blobs of at most 1,000,000,000 bytes.
 ghost use Rattle.std.specs.Prelude.{◌≡◌, ◌≤◌, ℕ, List, length, IfOk};
 ghost use Rattle.cap_value.specs.declared.text.TheConstants.{BYTES_MAX};
-ghost use Rattle.cap_value.specs.Memory.{AnswersUnlessMemory};
+ghost use Rattle.std.specs.Result.{result_err};
+ghost use Rattle.cap_value.specs.Memory.{AnswersUnlessMemory, RefusesFirst};
 ghost use Rattle.cap_value.specs.Bytes.{AreBytes, within_limit};
 
 use crate::text::BYTES_MAX;
@@ -30,7 +32,8 @@ impl<A: AllocHandle> Model for Blob<A> {
 impl<A: AllocHandle> Blob<A> {
     /// The blob of these bytes. Refused with `TooLong` where they are more than `BYTES_MAX`.
     pub fn new(alloc: A, bytes: &[u8]) -> Result<Self, Fault<Refusal>>
-        ensures { AnswersUnlessMemory result (within_limit bytes.now) }
+        ensures blob { AnswersUnlessMemory result (within_limit bytes.now) }
+        ensures first { RefusesFirst (result_err (within_limit bytes.now)) result }
     {
         if bytes.len() > BYTES_MAX {
             return Err(Fault::Refused(Refusal::TooLong));
@@ -61,7 +64,7 @@ impl<A: AllocHandle> Blob<A> {
     }
 }
 
-/// Tells a proof, which sees numbers, that each is a byte.
+// Shows to a proof, which sees numbers, that each is a byte.
 #[inline]
 pub(crate) fn are_bytes(bytes: &[u8])
     ensures { AreBytes bytes.now }

@@ -1,3 +1,4 @@
+//! Clones that equal what they were made from.
 ghost use Rattle.std.specs.Prelude.{◌≡◌};
 
 /// A type whose clones equal what they were made from, as every key and value of a tree's do.

@@ -1,9 +1,10 @@
+//! Out of memory, refusals beside it, and the bound on allocators.
 ghost use Rattle.std.specs.Prelude.{◌≡◌};
 ghost use Rattle.cap_value.specs.Handle.{IsHandle};
 
 use std::alloc::{Allocator, Global};
 
-/// Memory was asked for and refused. Every call that allocates may answer it, and then it has changed nothing.
+/// Out of memory. Every call that allocates may answer it, and then it has changed nothing.
 pub use std::alloc::AllocError as OutOfMemory;
 
 /// A handle to an allocator that every value can keep a copy of: `Global`, and each reference to an allocator.
@@ -26,12 +27,12 @@ impl<'a, A: Allocator> AllocHandle for &'a A {
     ghost handle = { inr (refl, refl) };
 }
 
-/// Why a call gave no answer: the rules refuse it, or there was no memory.
+/// Why a call gave no answer: the rules refuse it, or it ran out of memory.
 #[derive(Clone, Copy, Debug, PartialEq, Eq, Drop)]
 pub enum Fault<E> {
     /// Refused by the rules. The same call is refused again.
     Refused(E),
-    /// There was no memory, whatever the rules say. Nothing has changed, and the call may be made again.
+    /// Out of memory, whatever the rules say. Nothing has changed, and the call may be made again.
     OutOfMemory,
 }
 

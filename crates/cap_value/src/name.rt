@@ -1,5 +1,7 @@
+//! Names of tables and saved databases.
 ghost use Rattle.std.specs.Prelude.{◌≡◌, ◌≤◌, ◌↔◌, ℕ, List, IfOk, IsTrue, IsUtf8};
-ghost use Rattle.cap_value.specs.Memory.{AnswersUnlessMemory};
+ghost use Rattle.std.specs.Result.{result_err};
+ghost use Rattle.cap_value.specs.Memory.{AnswersUnlessMemory, RefusesFirst};
 ghost use Rattle.cap_value.specs.Bytes.{AreBytes, name_of, is_name, bytes_cmp, bytes_eq};
 
 use crate::blob::are_bytes;
@@ -36,7 +38,8 @@ impl<A: AllocHandle> Name<A> {
     /// The name with these bytes. Refused with `BadName` where it is empty, longer than `NAME_MAX` bytes,
     /// or has a zero byte.
     pub fn new(alloc: A, name: &str) -> Result<Self, Fault<Refusal>>
-        ensures { AnswersUnlessMemory result (name_of name.now) }
+        ensures name { AnswersUnlessMemory result (name_of name.now) }
+        ensures first { RefusesFirst (result_err (name_of name.now)) result }
     {
         if !fits(name.as_bytes()) {
             return Err(Fault::Refused(Refusal::BadName));

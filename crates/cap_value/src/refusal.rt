@@ -1,3 +1,6 @@
+//! The refusals of the rules, by number.
+use std::fmt;
+use std::fmt::{Display, Formatter, Write};
 use thiserror::Error;
 
 /// Why the rules refuse a call. Its text is its number and name; the numbers never change.
@@ -33,13 +36,17 @@ pub enum Refusal {
     /// One more than a limit allows.
     #[error("E10 TooMany")]
     TooMany,
-    /// A batch was made on version `base`, and the version is `now`.
-    #[error("E11 Stale base {base} now {now}")]
+    /// A batch was made on version `base`, and the version is `now`; where it is a transaction's, something that the
+    /// transaction looked at has changed since.
+    #[error("E11 Stale base {base} now {now}{}", ItemText(*.item))]
     Stale {
         /// The version that the batch was made on.
         base: u64,
         /// The version of the database.
         now: u64,
+        /// The first item of the batch's footprint that has changed, counted from 0; none where its base is a number
+        /// alone.
+        item: Option<u64>,
     },
     /// A filter's text is not in the grammar, from byte `at` on.
     #[error("E12 BadFilter")]
@@ -77,4 +84,17 @@ pub enum Refusal {
     /// The transaction has no savepoint of the mark's number, or it was undone.
     #[error("E20 NoMark")]
     NoMark,
+}
+
+// The place of an item, where there is one.
+#[derive(Clone, Copy, Drop)]
+struct ItemText(Option<u64>);
+
+impl Display for ItemText {
+    fn fmt<W: Write>(&self, f: &mut Formatter<W>) -> fmt::Result {
+        match self.0 {
+            Some(place) => write!(f, " item {place}"),
+            None => Ok(()),
+        }
+    }
 }

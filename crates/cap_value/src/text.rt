@@ -1,5 +1,7 @@
+//! Texts of at most 1,000,000,000 bytes.
 ghost use Rattle.std.specs.Prelude.{◌≡◌, ◌≤◌, ℕ, List, length, IfOk, IsUtf8};
-ghost use Rattle.cap_value.specs.Memory.{AnswersUnlessMemory};
+ghost use Rattle.std.specs.Result.{result_err};
+ghost use Rattle.cap_value.specs.Memory.{AnswersUnlessMemory, RefusesFirst};
 ghost use Rattle.cap_value.specs.Bytes.{AreBytes, within_limit};
 
 use crate::blob::are_bytes;
@@ -34,7 +36,8 @@ impl<A: AllocHandle> Model for Text<A> {
 impl<A: AllocHandle> Text<A> {
     /// The text with these bytes. Refused with `TooLong` where they are more than `BYTES_MAX`.
     pub fn new(alloc: A, text: &str) -> Result<Self, Fault<Refusal>>
-        ensures { AnswersUnlessMemory result (within_limit text.now) }
+        ensures text { AnswersUnlessMemory result (within_limit text.now) }
+        ensures first { RefusesFirst (result_err (within_limit text.now)) result }
     {
         if text.len() > BYTES_MAX {
             return Err(Fault::Refused(Refusal::TooLong));

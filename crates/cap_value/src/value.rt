@@ -1,5 +1,7 @@
+//! Values of the four storage classes, and their order.
 ghost use Rattle.std.specs.Prelude.{◌≡◌, ◌↔◌, List, ℕ, IfOk, IsTrue};
-ghost use Rattle.cap_value.specs.Memory.{AnswersUnlessMemory};
+ghost use Rattle.std.specs.Result.{result_err};
+ghost use Rattle.cap_value.specs.Memory.{AnswersUnlessMemory, RefusesFirst};
 
 use crate::{AllocHandle, Blob, Exact, Fault, OutOfMemory, Refusal, Text};
 use std::cmp::Ordering;
@@ -19,18 +21,21 @@ pub enum Value<A: AllocHandle> {
 }
 
 impl<A: AllocHandle> Value<A> {
+    ghost use Rattle.cap_value.specs.Bytes.{within_limit};
     ghost use Rattle.cap_value.specs.Value.{IsValue, value_cmp, storage_class, is_null, text_value, blob_value};
 
     /// A text value. Refused with `TooLong` where it has more than `BYTES_MAX` bytes.
     pub fn text(alloc: A, text: &str) -> Result<Self, Fault<Refusal>>
-        ensures { AnswersUnlessMemory result (text_value text.now) }
+        ensures value { AnswersUnlessMemory result (text_value text.now) }
+        ensures first { RefusesFirst (result_err (within_limit text.now)) result }
     {
         Ok(Value::Text(Text::new(alloc, text)?))
     }
 
     /// A blob value. Refused with `TooLong` where it has more than `BYTES_MAX` bytes.
     pub fn blob(alloc: A, bytes: &[u8]) -> Result<Self, Fault<Refusal>>
-        ensures { AnswersUnlessMemory result (blob_value bytes.now) }
+        ensures value { AnswersUnlessMemory result (blob_value bytes.now) }
+        ensures first { RefusesFirst (result_err (within_limit bytes.now)) result }
     {
         Ok(Value::Blob(Blob::new(alloc, bytes)?))
     }
@@ -88,7 +93,7 @@ impl<A: AllocHandle> Value<A> {
         self == other
     }
 
-    /// That the value is within the limits of its storage class. It tells a proof, and does nothing when it runs.
+    /// The value is within the limits of its storage class. This shows it to a proof, and does nothing when it runs.
     pub fn keeps_limits(&self)
         ensures { IsValue self.now }
     {

@@ -1,8 +1,8 @@
-//! The program `changecap`. `run` takes a workload on standard input and prints its replies on standard output, and
-//! `show` a blob as hex text, whose changes it prints.
+//! The program `changecap`. `run` runs the workload on standard input and prints the replies; `show` prints
+//! the changes in a blob.
 #![tactic(auto)]
 
-ghost use Rattle.std.specs.Prelude.{◌≤◌};
+ghost use Rattle.cap_run.specs.Options.{IsThreadCount};
 
 use cap_run::{
     NoGate, Options, OptionsFault, RunFault, options, run_core, run_workload, show_blob,
@@ -14,15 +14,15 @@ use std::sync::Wait;
 use std::thread::Threads;
 use std::{env, io};
 
-/// The exit statuses of the program: the input is refused, the command line is refused, or there was no memory, or a
-/// read or write failed.
+// The exit statuses: the input is refused, the command line is refused, or memory ran out or a read or write
+// failed.
 const REFUSED: u8 = 1;
 
 const MISUSED: u8 = 2;
 
 const FAILED: u8 = 3;
 
-/// Prints the fault where the input is refused, and answers the exit status.
+// Prints the fault where the input is refused, and gives the exit status.
 fn report(rt: &impl Eprint, outcome: Result<(), RunFault>) -> u8 {
     let Err(fault) = outcome else {
         return 0;
@@ -34,7 +34,7 @@ fn report(rt: &impl Eprint, outcome: Result<(), RunFault>) -> u8 {
     status
 }
 
-/// Prints what there is to say of a command line that asks for no run, and answers the exit status.
+// Prints the message of a command line that asks for no run, and gives the exit status.
 fn explain(rt: &(impl Print + Eprint), fault: &OptionsFault) -> u8 {
     let printed = match fault {
         OptionsFault::Refused(text) => eprint!(rt; "{text}"),
@@ -47,7 +47,7 @@ fn explain(rt: &(impl Print + Eprint), fault: &OptionsFault) -> u8 {
     fault.status()
 }
 
-/// The exit status where the words of the command line cannot be had.
+// The exit status where the command line cannot be read.
 fn without_words(rt: &impl Eprint, error: &io::Error) -> u8 {
     let is_refused = error.kind() == io::ErrorKind::InvalidData;
     if is_refused && eprintln!(rt; "error: the command line is not UTF-8").is_ok() {
@@ -57,9 +57,9 @@ fn without_words(rt: &impl Eprint, error: &io::Error) -> u8 {
     }
 }
 
-/// Runs the workload on standard input, and answers the exit status. One thread alone is the one that runs already.
+// Runs the workload on standard input, and gives the exit status. One thread needs no other.
 fn run<R: Input + Print + Eprint + AllocGlobal + Threads + Wait + Sync>(rt: &R, threads: u64) -> u8
-    requires threads { (1 ≤ threads) × (threads ≤ 63) }
+    requires threads { IsThreadCount threads }
 {
     let alloc = rt.alloc();
     let mut reader = rt.reader();
@@ -72,8 +72,8 @@ fn run<R: Input + Print + Eprint + AllocGlobal + Threads + Wait + Sync>(rt: &R, 
     report(rt, outcome)
 }
 
-/// Does what the command line asks for, and answers the exit status.
-fn obey<R: Input + Print + Eprint + Env + AllocGlobal + Threads + Wait + Sync>(
+// Does what the command line asks for, and gives the exit status.
+fn run_program<R: Input + Print + Eprint + Env + AllocGlobal + Threads + Wait + Sync>(
     rt: &R,
 ) -> Result<u8, AllocError> {
     let alloc = rt.alloc();
@@ -93,5 +93,5 @@ fn obey<R: Input + Print + Eprint + Env + AllocGlobal + Threads + Wait + Sync>(
 }
 
 fn main(rt: HostRuntime) -> ExitCode {
-    ExitCode::from(obey(&rt).unwrap_or(FAILED))
+    ExitCode::from(run_program(&rt).unwrap_or(FAILED))
 }

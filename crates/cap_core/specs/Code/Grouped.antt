@@ -1,11 +1,11 @@
--- A group of changes while it is made.
+-- A group of changes that is being built.
 use Rattle.std.specs.Prelude.{◌≡◌, ◌≤◌, ℕ, Bool, Option, Some, None, List, [], length}
-use Rattle.cap_changes.specs.declared.change.Change.{Change}
+use Rattle.cap_changes.specs.declared.row_change.RowChange.{RowChange}
 use Rattle.cap_changes.specs.Group.{TableChanges}
 
 module _ {A : Type 0} where
   -- the changes so far
-  abbrev pub changes_in : Option (TableChanges A) → List (Change A)
+  abbrev pub changes_in : Option (TableChanges A) → List (RowChange A)
   changes_in None = []
   changes_in (Some group) = group.changes
 

@@ -1,4 +1,4 @@
--- What a session keeps are rows of its tables, under their own keys.
+-- The records of a session have rows of its tables, under their own keys.
 use Rattle.std.specs.Prelude.{◌≡◌, ℕ, Bool, true, false, Option, Some, None, List}
 use Rattle.std.specs.List.{list_all}
 use Rattle.cap_row.specs.Fields.{Fields}
@@ -28,10 +28,12 @@ module _ {A : Type 0} where
   abbrev pub sessions_stand : Tables A → NumberedSessions A → Bool
   sessions_stand tables sessions = list_all (λ session. session_stands tables session.1) sessions
 
-  -- what a diff found are rows of the table with these columns
+  -- the differences of a diff have rows of the table with these columns
   abbrev pub differences_stand : Option (List Bool) → List (Difference A) → Bool
-  differences_stand schema differences = list_all (λ difference. image_stands schema difference.key difference.image) differences
+  differences_stand schema differences =
+      list_all (λ difference. image_stands schema difference.key difference.image) differences
 
   -- each table that was there is there, with the same columns
   pub record KeepsColumns (before after : Tables A) : Type 0 where
-    pub each : (name : List ℕ) (columns : List Bool) → schema_of before name ≡ Some columns → schema_of after name ≡ Some columns
+    pub each : (name : List ℕ) (columns : List Bool) → schema_of before name ≡ Some columns
+        → schema_of after name ≡ Some columns

@@ -1,5 +1,6 @@
--- What the seats of a run have called, and what of the replies was written.
-use Rattle.std.specs.Prelude.{◌≡◌, ℕ, ◌+◌, List, [], ◌∷◌, ◌++◌, Result, Ok, Err, filter, get_or, is_some, length, nat_eq, suc, true, false, if◌then◌else◌, OnOk}
+-- The calls of the seats of a run, and the output so far.
+use Rattle.std.specs.Prelude.{◌≡◌, ℕ, ◌+◌, List, [], ◌∷◌, ◌++◌, Result, Ok, Err, filter, get_or, is_some}
+use Rattle.std.specs.Prelude.{length, nat_eq, suc, true, false, if◌then◌else◌, OnOk}
 use Rattle.std.specs.List.{AllZip, concat}
 use Rattle.std.specs.Io.KnownBytes.{Appends}
 use mathlib.Core.List.{IsPrefix}
@@ -16,7 +17,7 @@ use Rattle.cap_script.specs.Script.{SpellsScript, begins_at}
 use Rattle.cap_script.specs.declared.line.Line.{Line}
 use Rattle.cap_run.specs.Workload.{AreCalls, HasCount, calls_of, seat_of}
 
--- what a worker has, and what it made of its lines of a block: the texts of their replies, and the fault of the line behind
+-- a worker after its lines of a block: its seat, the texts of their replies, and the fault of the line after
 -- those
 pub record Work (A : Type 0) : Type 0 where
   pub seat : SeatState A
@@ -27,7 +28,7 @@ abbrev pub work : {A : Type 0} → SeatState A → List (List ℕ) → Ended →
 work seat texts ended = record { seat = seat; texts = texts; ended = ended }
 
 module _ {A : Type 0} where
-  -- the seat has made this line's call, and no other, and the text is the reply's
+  -- the seat has made this line's call, and no other; the text is that of the reply
   pub record HasAnswered (line : Line A) (text : List ℕ) (old new : SeatState A) : Type 0 where
     pub reply : Reply A
     pub text_is : text ≡ on_a_line (reply_text line reply)
@@ -35,7 +36,7 @@ module _ {A : Type 0} where
     pub calls_are : calls new ≡ calls old ++ event_by old.number line.command reply ∷ []
     pub seen : IsPrefix new.answered new.seen
 
-  -- the seat keeps the calls that it has made, and may have made more
+  -- the seat has the calls that it had, and may have more
   pub record KeepsCalls (old new : SeatState A) : Type 0 where
     pub number : new.number ≡ old.number
     pub begins : IsPrefix (calls old) (calls new)
@@ -51,9 +52,10 @@ module _ {A : Type 0} where
   reply_texts (line ∷ lines) [] = []
   reply_texts (line ∷ lines) (reply ∷ replies) = on_a_line (reply_text line reply) ∷ reply_texts lines replies
 
-  -- The seat has called these lines, one after the other, up to one whose call had a fault. These are the texts of the
-  -- replies.
-  pub record HasCalledLines (threads : ℕ) (lines : List (Line A)) (ended : Ended) (texts : List (List ℕ)) (old new : SeatState A) : Type 0 where
+  -- The seat has called these lines, one after the other, up to one whose call had a fault. These are the
+  -- texts of the replies.
+  pub record HasCalledLines (threads : ℕ) (lines : List (Line A)) (ended : Ended) (texts : List (List ℕ))
+      (old new : SeatState A) : Type 0 where
     pub replies : List (Reply A)
     pub count : HasCount ended (length replies) (length lines)
     pub texts_are : texts ≡ reply_texts lines replies
@@ -63,43 +65,48 @@ module _ {A : Type 0} where
 
   -- a worker that had this seat has called its lines of a block
   abbrev pub HasWorked : ℕ → List (Line A) → SeatState A → Work A → Type 0
-  HasWorked threads block old new = HasCalledLines threads (lines_of threads old.number block) new.ended new.texts old new.seat
+  HasWorked threads block old new =
+      HasCalledLines threads (lines_of threads old.number block) new.ended new.texts old new.seat
 
   -- those of the texts that are of a seat's lines
   abbrev pub texts_of : ℕ → ℕ → List (Line A) → List (List ℕ) → List (List ℕ)
   texts_of threads number [] texts = []
   texts_of threads number (line ∷ lines) [] = []
   texts_of threads number (line ∷ lines) (text ∷ texts) =
-      if nat_eq (seat_of threads line.worker) number then text ∷ texts_of threads number lines texts else texts_of threads number lines texts
+      if nat_eq (seat_of threads line.worker) number then text ∷ texts_of threads number lines texts
+      else texts_of threads number lines texts
 
-  -- The text is made of a text for each line, in the order of the lines, up to one that has none. Those of each seat's lines
-  -- are the first of what stands in that seat's place, in their order.
-  pub record Gathers (threads : ℕ) (lines : List (Line A)) (texts : List (List (List ℕ))) (ended : Ended) (text : List ℕ) : Type 0 where
+  -- The text has a part for each line, in the order of the lines, up to the first without a reply. The parts
+  -- of each seat's lines are a prefix of that seat's texts.
+  pub record Gathers (threads : ℕ) (lines : List (Line A)) (texts : List (List (List ℕ))) (ended : Ended)
+      (text : List ℕ) : Type 0 where
     pub parts : List (List ℕ)
     pub count : HasCount ended (length parts) (length lines)
     pub text_is : text ≡ concat parts
     pub of_seats : (number : ℕ) → IsPrefix (texts_of threads number lines parts) (get_or texts number [])
 
-  -- to what a seat had called it has added those of the calls that are its own
+  -- the seat has made its own of these calls
   pub record HasCalledOwn (ended : Ended) (made : List (Event A)) (old new : SeatState A) : Type 0 where
     pub number : new.number ≡ old.number
     pub calls_are : AreCalls ended (calls old ++ own old.number made) (calls new)
     pub seen : IsPrefix old.answered old.seen → IsPrefix new.answered new.seen
 
-  -- The seats have called these lines, each its own in their order, up to one that has no reply. This is the text of the
-  -- replies, in the order of the lines.
-  pub record HaveCalled (threads : ℕ) (lines : List (Line A)) (ended : Ended) (text : List ℕ) (old new : List (SeatState A)) : Type 0 where
+  -- The seats have called these lines, each its own in their order, up to one that has no reply. This is the
+  -- text of the replies, in the order of the lines.
+  pub record HaveCalled (threads : ℕ) (lines : List (Line A)) (ended : Ended) (text : List ℕ)
+      (old new : List (SeatState A)) : Type 0 where
     pub replies : List (Reply A)
     pub count : HasCount ended (length replies) (length lines)
     pub text_is : text ≡ reply_lines lines replies
     pub seats : AllZip (HasCalledOwn ended (calls_of threads lines replies)) old new
 
-  -- each seat's number is its place
+  -- each seat's number is its index
   abbrev pub AreNumbered : (ℕ → ℕ) → List (SeatState A) → Type 0
   AreNumbered number [] = Unit {0}
-  AreNumbered number (seat ∷ seats) = (seat.number ≡ number 0) × AreNumbered (λ place. number (suc place)) seats
+  AreNumbered number (seat ∷ seats) =
+      (seat.number ≡ number 0) × AreNumbered (λ place. number (suc place)) seats
 
-  -- the seats of the first caller and of so many workers
+  -- seat 0 and the seats of this many workers
   abbrev pub AreSeats : ℕ → List (SeatState A) → Type 0
   AreSeats threads seats = (length seats ≡ threads + 1) × AreNumbered (λ place. place) seats
 
@@ -109,18 +116,24 @@ unclosed_outcome (Ok done) = Err Close
 unclosed_outcome (Err fault) = Err fault
 
 module _ {A : Type 0} where
-  -- How lines ended that the seats have called, and what of the text of their replies was written. Where a write failed some
-  -- of the lines may not have been called.
-  abbrev pub RunsLines : ℕ → List (Line A) → Result (Unit {0}) RunFault → List (SeatState A) → List (SeatState A) → Known → Known → Type 0
-  RunsLines threads lines (Ok done) a b old new = (text : List ℕ) × HaveCalled threads lines (Ok done) text a b × Appends old new text
-  RunsLines threads lines (Err (Call fault)) a b old new = (text : List ℕ) × HaveCalled threads lines (Err fault) text a b × Appends old new (text ++ ending (Err fault))
+  -- How lines ended that the seats have called, and what of the text of their replies was written. Where a
+  -- write failed some of the lines may not have been called.
+  abbrev pub RunsLines : ℕ → List (Line A) → Result (Unit {0}) RunFault → List (SeatState A)
+      → List (SeatState A) → Known → Known → Type 0
+  RunsLines threads lines (Ok done) a b old new =
+      (text : List ℕ) × HaveCalled threads lines (Ok done) text a b × Appends old new text
+  RunsLines threads lines (Err (Call fault)) a b old new =
+      (text : List ℕ) × HaveCalled threads lines (Err fault) text a b
+      × Appends old new (text ++ ending (Err fault))
   RunsLines threads lines (Err Write) a b old new =
-      (called : List (Line A)) × (others : List (Line A)) × (ended : Ended) × (text : List ℕ) × (lines ≡ called ++ others) × HaveCalled threads called ended text a b
+      (called : List (Line A)) × (others : List (Line A)) × (ended : Ended) × (text : List ℕ)
+      × (lines ≡ called ++ others) × HaveCalled threads called ended text a b
       × AppendsFront old new (text ++ ending ended)
   RunsLines threads lines (Err fault) a b old new = ⊥
 
-  -- the first of some lines were called, and their replies written but for what is left
-  pub record AreUnder (threads : ℕ) (lines : List (Line A)) (rest : List ℕ) (pending : List ℕ) (a b : List (SeatState A)) (old new : Known) : Type 0 where
+  -- a prefix of the lines was called, and their replies are written except what is pending
+  pub record AreUnder (threads : ℕ) (lines : List (Line A)) (rest : List ℕ) (pending : List ℕ)
+      (a b : List (SeatState A)) (old new : Known) : Type 0 where
     pub called : List (Line A)
     pub others : List (Line A)
     pub parts : lines ≡ called ++ others
@@ -134,7 +147,7 @@ module _ {A : Type 0} where
   EachAt [] = Unit {0}
   EachAt (line ∷ lines) = (is_some line.worker ≡ true) × EachAt lines
 
-  -- a line and some of those behind it, each of which begins with `@`, are a block, and what is behind spells the others
+  -- a block is a line and some lines after it, each of which begins with `@`; the rest spells the others
   pub record IsBlock (first : Line A) (rest block : List (Line A)) (behind : List ℕ) : Type 0 where
     pub taken : List (Line A)
     pub left : List (Line A)
@@ -147,8 +160,9 @@ module _ {A : Type 0} where
   abbrev pub IsWholeBlock : Line A → List (Line A) → List (Line A) → List ℕ → Type 0
   IsWholeBlock first rest block behind = (so : IsBlock first rest block behind) × (begins_at so.left ≡ false)
 
-  -- A line was called, and some of those behind it. This is what the text of their replies makes of what is pending.
-  pub record IsNext (threads : ℕ) (line : Line A) (rest : List (Line A)) (ended : Ended) (behind : List ℕ) (old new : List ℕ) (a b : List (SeatState A)) : Type 0 where
+  -- A line was called, and some lines after it. The text of their replies is appended to what is pending.
+  pub record IsNext (threads : ℕ) (line : Line A) (rest : List (Line A)) (ended : Ended) (behind : List ℕ)
+      (old new : List ℕ) (a b : List (SeatState A)) : Type 0 where
     pub taken : List (Line A)
     pub left : List (Line A)
     pub parts : rest ≡ taken ++ left
@@ -158,5 +172,7 @@ module _ {A : Type 0} where
     pub spelled : OnOk ended (SpellsScript left behind)
 
   -- how all lines ended, and what of the replies was written
-  abbrev pub EndSo : ℕ → List (Line A) → Ended → List ℕ → List (SeatState A) → List (SeatState A) → Known → Known → Type 0
-  EndSo threads lines ended pending a b old new = (written : List ℕ) × HaveCalled threads lines ended (written ++ pending) a b × Appends old new written
+  abbrev pub EndSo : ℕ → List (Line A) → Ended → List ℕ → List (SeatState A) → List (SeatState A) → Known
+      → Known → Type 0
+  EndSo threads lines ended pending a b old new =
+      (written : List ℕ) × HaveCalled threads lines ended (written ++ pending) a b × Appends old new written

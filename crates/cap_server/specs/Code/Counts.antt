@@ -1,4 +1,4 @@
--- How many events of a history each seat has.
+-- The number of events of each seat.
 use Rattle.std.specs.Prelude.{◌≡◌, ℕ, ◌<◌, ◌≤◌, List, [], length, slice_index}
 use mathlib.Core.List.{IsPrefix}
 use Rattle.cap_core.specs.declared.event.Event.{Event}
@@ -6,14 +6,14 @@ use Rattle.cap_history.specs.History.{own}
 use Rattle.cap_history.specs.Seat.{SeatState, calls}
 
 module _ {A : Type 0} where
-  -- the counts of as many seats, of which there are some, and no event of another
+  -- the counts of this many seats, at least one, and no event of another
   pub record IsCounted (seats : ℕ) (counts : List ℕ) (history : List (Event A)) : Type 0 where
     pub some : 0 < seats
     pub long : length counts ≡ seats
     pub each : (number : ℕ) → number < seats → slice_index counts number ≡ length (own number history)
     pub others : (number : ℕ) → seats ≤ number → own number history ≡ []
 
-  -- a seat of so many, that had seen what its last call showed, has as many calls as are counted
+  -- a seat of this many, whose last call is in what it has seen, has as many calls as are counted
   pub record Agrees (seats : ℕ) (counts : List ℕ) (seat : SeatState A) : Type 0 where
     pub known : seat.number < seats
     pub begins : IsPrefix seat.answered seat.seen

@@ -1,4 +1,4 @@
--- The records of a table as the code has them: those of a tree, and the one that was put last.
+-- The records of a table in the code: those of a tree, and the one that was put last.
 use Rattle.std.specs.Prelude.{Option, Some, None}
 use Rattle.std.specs.Borrow.{Bor}
 use Rattle.cap_row.specs.Fields.{Fields}
@@ -12,7 +12,7 @@ module _ {A : Type 0} where
   with_latest settled None = settled
   with_latest settled (Some latest) = put_entry fields_cmp settled latest.0 latest.1
 
-  -- the same where the latest is lent
+  -- the same where the latest is a reference
   abbrev pub before_tree : Option (Bor (Fields A) × Bor (Record A)) → Records A → Records A
   before_tree None settled = settled
   before_tree (Some latest) settled = put_entry fields_cmp settled latest.0.now latest.1.now

@@ -5,13 +5,13 @@ use Rattle.cap_apply.proofs.apply_blob.apply_group.Goals as goal
 pub loop-place-preserved : goal.loop-place-preserved
 loop-place-preserved g c =
     let group = c.args.group.now in
-    let asked = g.C.Apply.asked group.schema in
+    let requested = g.C.Apply.requested group.schema in
     let state = c.loop-place.applied in
     let next = c.apply_to.new.applied in
     let i = c.loop-place.place in
     let made = rw (c.table-table.ensures, c.schema-columns.ensures.schema) at c.in_ok-apply_to.ensures in
     let item = rw c.changes-change-items.ensures.changes at c.change-item.is in (
-      sym (changes_more c.args.policy group.table group.schema c.args.number asked group.changes i c.change-item.result (omega (arith, ap length c.changes-change-items.ensures.changes)) item state next made)
+      sym (changes_more c.args.policy group.table group.schema c.args.number requested group.changes i c.change-item.result (omega (arith, ap length c.changes-change-items.ensures.changes)) item state next made)
           ∙ c.loop-place.invariant.0,
-      target_stays c.args.policy (c.args.number + i) group.table group.schema (asked c.change-item.result) state next c.loop-place.invariant.1 made,
+      target_stays c.args.policy (c.args.number + i) group.table group.schema (requested c.change-item.result) state next c.loop-place.invariant.1 made,
     )

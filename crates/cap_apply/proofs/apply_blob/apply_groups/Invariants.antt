@@ -1,10 +1,10 @@
 use Rattle.std.proofs.Common.{◌≡◌, drop, map}
 use Rattle.cap_apply.specs.Apply.{groups_applied}
-use Rattle.cap_apply.specs.Asked.{asked_in}
+use Rattle.cap_apply.specs.Requested.{requested_in}
 use Rattle.cap_apply.proofs.apply_blob.apply_groups.Given as goal
 
 -- the groups that are left give what all of them give
 abbrev pub invariant-loop-place : goal.invariant-loop-place
 invariant-loop-place g l =
-    groups_applied l.policy l.place l.number (map (asked_in g.C.Apply.asked) (drop l.place l.groups)) l.applied
-    ≡ groups_applied l.policy 0 0 (map (asked_in g.C.Apply.asked) l.groups) l.fn.applied
+    groups_applied l.policy l.place l.number (map (requested_in g.C.Apply.requested) (drop l.place l.groups)) l.applied
+    ≡ groups_applied l.policy 0 0 (map (requested_in g.C.Apply.requested) l.groups) l.fn.applied

@@ -1,5 +1,5 @@
 use Rattle.std.proofs.Common.{sym, ◌∙◌}
-use Rattle.cap_changes.specs.declared.change.Change.TheVariants.{Update}
+use Rattle.cap_changes.specs.declared.row_change.RowChange.TheVariants.{Update}
 use Rattle.cap_changes.proofs.InvertLemmas.{inverse_of-fits, inverse_of-back}
 use Rattle.cap_changes.proofs.inverse.inverse_of.Goals as goal
 

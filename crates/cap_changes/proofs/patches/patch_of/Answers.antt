@@ -1,4 +1,4 @@
-use Rattle.cap_changes.specs.declared.change.Change.TheVariants.{Update, Delete}
+use Rattle.cap_changes.specs.declared.row_change.RowChange.TheVariants.{Update, Delete}
 use Rattle.cap_changes.proofs.PatchLemmas.{patch_of-fits}
 use Rattle.cap_changes.proofs.patches.patch_of.Goals as goal
 

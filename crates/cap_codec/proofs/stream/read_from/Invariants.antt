@@ -1,6 +1,6 @@
 use Rattle.std.proofs.Common.{◌≤◌, ℕ}
 use Rattle.std.specs.Io.KnownBytes.{Consumes}
-use Rattle.cap_codec.specs.Calls.{Calls}
+use Rattle.cap_codec.specs.StreamCalls.{Calls}
 use Rattle.cap_codec.proofs.stream.read_from.Given as goal
 
 abbrev pub invariant-loop : goal.invariant-loop

@@ -1,6 +1,6 @@
 use Rattle.std.proofs.Common.{◌≡◌, ◌++◌, List, ℕ, length}
 use Rattle.std.specs.Io.KnownBytes.{Appends}
-use Rattle.cap_codec.specs.Calls.{AllWent}
+use Rattle.cap_codec.specs.StreamCalls.{AllWent}
 use Rattle.cap_codec.proofs.stream.write_whole.Given as goal
 
 abbrev pub invariant-loop-rest : goal.invariant-loop-rest

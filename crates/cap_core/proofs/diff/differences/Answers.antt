@@ -10,5 +10,5 @@ returns-clause-stand g c =
     let name = c.args.name.now in
     let table = c.in-Some.table.now in
     let own : schema_of c.args.main.now name ≡ Some table.schema = ap (option_map (λ (t : TableState g.row.A.Denot). t.schema)) (sym c.table.ensures ∙ ap option_copied c.in-Some.is) in
-    let is = rw c.table-2.ensures at c.in_ok-found.ensures in
+    let is = rw c.table-2.ensures at c.in_ok-found.ensures.found in
     rw own (compared-stand c.in-Some-get.database.now name table c.in_ok-found.found.items c.rows_stand.ensures is)

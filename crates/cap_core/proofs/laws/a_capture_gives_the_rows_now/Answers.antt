@@ -1,5 +1,5 @@
 use Rattle.std.proofs.Common.{refl}
-use Rattle.cap_core.proofs.ElsewhereLemmas.{changeset_applies, patchset_applies}
+use Rattle.cap_core.proofs.AppliedCaptureLemmas.{changeset_applies, patchset_applies}
 use Rattle.cap_core.proofs.laws.a_capture_gives_the_rows_now.Goals as goal
 
 pub returns : goal.returns

@@ -63,54 +63,62 @@ read_filter-returns-in_err-value-in-Or-clause-reads g t c =
 
 pub read_filter-returns-in-All-clause-reads : goal.read_filter-returns-in-All-clause-reads
 read_filter-returns-in-All-clause-reads g t c =
-    λ frames fits. run-behind_keyword frames c.args.room c.args.levels c.in_ok-keyword.keyword keywords.All (tokens_of c.in_ok-keyword.rest.now) (tokens_of c.args.text.now) c.in_ok-keyword.ensures c.in-All.is c.if-room-eq0.false c.if-levels-eq0.false fits ∙ ap (λ (r : Rule). run (behind_filter r frames) (c.args.room - 1) (tokens_of c.in_ok-keyword.rest.now)) (sym (rule_of-All g.row.A.Denot))
+    let p = c.of.ensures in
+    λ frames fits. rw (p.value, p.rest, p.room) (run-behind_keyword frames c.args.room c.args.levels c.in_ok-keyword.keyword keywords.All (tokens_of c.in_ok-keyword.rest.now) (tokens_of c.args.text.now) c.in_ok-keyword.ensures c.in-All.is c.if-room-eq0.false c.if-levels-eq0.false fits ∙ ap (λ (r : Rule). run (behind_filter r frames) (c.args.room - 1) (tokens_of c.in_ok-keyword.rest.now)) (sym (rule_of-All g.row.A.Denot)))
 
 pub read_filter-returns-in-Nothing-clause-reads : goal.read_filter-returns-in-Nothing-clause-reads
 read_filter-returns-in-Nothing-clause-reads g t c =
-    λ frames fits. run-behind_keyword frames c.args.room c.args.levels c.in_ok-keyword.keyword keywords.Nothing (tokens_of c.in_ok-keyword.rest.now) (tokens_of c.args.text.now) c.in_ok-keyword.ensures c.in-Nothing.is c.if-room-eq0.false c.if-levels-eq0.false fits ∙ ap (λ (r : Rule). run (behind_filter r frames) (c.args.room - 1) (tokens_of c.in_ok-keyword.rest.now)) (sym (rule_of-Nothing g.row.A.Denot))
+    let p = c.of-in-Nothing.ensures in
+    λ frames fits. rw (p.value, p.rest, p.room) (run-behind_keyword frames c.args.room c.args.levels c.in_ok-keyword.keyword keywords.Nothing (tokens_of c.in_ok-keyword.rest.now) (tokens_of c.args.text.now) c.in_ok-keyword.ensures c.in-Nothing.is c.if-room-eq0.false c.if-levels-eq0.false fits ∙ ap (λ (r : Rule). run (behind_filter r frames) (c.args.room - 1) (tokens_of c.in_ok-keyword.rest.now)) (sym (rule_of-Nothing g.row.A.Denot)))
 
 pub read_filter-returns-in_ok-word-in-Is-clause-reads : goal.read_filter-returns-in_ok-word-in-Is-clause-reads
 read_filter-returns-in_ok-word-in-Is-clause-reads g t c =
-    λ frames fits. run-behind_keyword frames c.args.room c.args.levels c.in_ok-keyword.keyword keywords.Is (tokens_of c.in_ok-keyword.rest.now) (tokens_of c.args.text.now) c.in_ok-keyword.ensures c.in-Is.is c.if-room-eq0.false c.if-levels-eq0.false fits
+    let p = c.of-in-Is.ensures in
+    λ frames fits. rw (p.value, p.rest, p.room) (run-behind_keyword frames c.args.room c.args.levels c.in_ok-keyword.keyword keywords.Is (tokens_of c.in_ok-keyword.rest.now) (tokens_of c.args.text.now) c.in_ok-keyword.ensures c.in-Is.is c.if-room-eq0.false c.if-levels-eq0.false fits
     ∙ run-text is frames (c.args.room - 1) c.in_ok-word-in-Is.word (tokens_of c.in_ok-word-in-Is.rest.now) (tokens_of c.in_ok-keyword.rest.now) c.in_ok-word-in-Is.ensures
-    ∙ ap (λ (r : Rule). run (behind_filter r frames) (c.args.room - 1) (tokens_of c.in_ok-word-in-Is.rest.now)) (sym (rule_of-Is g.row.A.Denot c.in_ok-word-in-Is.word))
+    ∙ ap (λ (r : Rule). run (behind_filter r frames) (c.args.room - 1) (tokens_of c.in_ok-word-in-Is.rest.now)) (sym (rule_of-Is g.row.A.Denot c.in_ok-word-in-Is.word)))
 
 pub read_filter-returns-in_ok-word-in-Starts-clause-reads : goal.read_filter-returns-in_ok-word-in-Starts-clause-reads
 read_filter-returns-in_ok-word-in-Starts-clause-reads g t c =
-    λ frames fits. run-behind_keyword frames c.args.room c.args.levels c.in_ok-keyword.keyword keywords.Starts (tokens_of c.in_ok-keyword.rest.now) (tokens_of c.args.text.now) c.in_ok-keyword.ensures c.in-Starts.is c.if-room-eq0.false c.if-levels-eq0.false fits
+    let p = c.of-in-Starts.ensures in
+    λ frames fits. rw (p.value, p.rest, p.room) (run-behind_keyword frames c.args.room c.args.levels c.in_ok-keyword.keyword keywords.Starts (tokens_of c.in_ok-keyword.rest.now) (tokens_of c.args.text.now) c.in_ok-keyword.ensures c.in-Starts.is c.if-room-eq0.false c.if-levels-eq0.false fits
     ∙ run-text starts frames (c.args.room - 1) c.in_ok-word-in-Starts.word (tokens_of c.in_ok-word-in-Starts.rest.now) (tokens_of c.in_ok-keyword.rest.now) c.in_ok-word-in-Starts.ensures
-    ∙ ap (λ (r : Rule). run (behind_filter r frames) (c.args.room - 1) (tokens_of c.in_ok-word-in-Starts.rest.now)) (sym (rule_of-StartsWith g.row.A.Denot c.in_ok-word-in-Starts.word))
+    ∙ ap (λ (r : Rule). run (behind_filter r frames) (c.args.room - 1) (tokens_of c.in_ok-word-in-Starts.rest.now)) (sym (rule_of-StartsWith g.row.A.Denot c.in_ok-word-in-Starts.word)))
 
 pub read_filter-returns-in_ok-word-in-Ends-clause-reads : goal.read_filter-returns-in_ok-word-in-Ends-clause-reads
 read_filter-returns-in_ok-word-in-Ends-clause-reads g t c =
-    λ frames fits. run-behind_keyword frames c.args.room c.args.levels c.in_ok-keyword.keyword keywords.Ends (tokens_of c.in_ok-keyword.rest.now) (tokens_of c.args.text.now) c.in_ok-keyword.ensures c.in-Ends.is c.if-room-eq0.false c.if-levels-eq0.false fits
+    let p = c.of-in-Ends.ensures in
+    λ frames fits. rw (p.value, p.rest, p.room) (run-behind_keyword frames c.args.room c.args.levels c.in_ok-keyword.keyword keywords.Ends (tokens_of c.in_ok-keyword.rest.now) (tokens_of c.args.text.now) c.in_ok-keyword.ensures c.in-Ends.is c.if-room-eq0.false c.if-levels-eq0.false fits
     ∙ run-text ends frames (c.args.room - 1) c.in_ok-word-in-Ends.word (tokens_of c.in_ok-word-in-Ends.rest.now) (tokens_of c.in_ok-keyword.rest.now) c.in_ok-word-in-Ends.ensures
-    ∙ ap (λ (r : Rule). run (behind_filter r frames) (c.args.room - 1) (tokens_of c.in_ok-word-in-Ends.rest.now)) (sym (rule_of-EndsWith g.row.A.Denot c.in_ok-word-in-Ends.word))
+    ∙ ap (λ (r : Rule). run (behind_filter r frames) (c.args.room - 1) (tokens_of c.in_ok-word-in-Ends.rest.now)) (sym (rule_of-EndsWith g.row.A.Denot c.in_ok-word-in-Ends.word)))
 
-pub read_filter-returns-in_ok-box_of-in-Not-clause-reads : goal.read_filter-returns-in_ok-box_of-in-Not-clause-reads
-read_filter-returns-in_ok-box_of-in-Not-clause-reads g t c =
+pub read_filter-returns-in_ok-boxed-in-Not-clause-reads : goal.read_filter-returns-in_ok-boxed-in-Not-clause-reads
+read_filter-returns-in_ok-boxed-in-Not-clause-reads g t c =
+    let p = c.of-in-Not.ensures in
     λ frames fits.
     let some_level = c.if-levels-eq0.false in
-    let made : rule_of c.in_ok-box_of-in-Not.field-0.value ≡ rule_of c.in_ok-value-in-Not.field-0.value = ap rule_of c.in_ok-box_of-in-Not.ensures in
-    run-behind_keyword frames c.args.room c.args.levels c.in_ok-keyword.keyword keywords.Not (tokens_of c.in_ok-keyword.rest.now) (tokens_of c.args.text.now) c.in_ok-keyword.ensures c.in-Not.is c.if-room-eq0.false c.if-levels-eq0.false fits
+    let made : rule_of c.in_ok-boxed-in-Not.boxed.value ≡ rule_of c.in_ok-value-in-Not.field-0.value = ap rule_of c.in_ok-boxed-in-Not.ensures in
+    rw (p.value, p.rest, p.room) (run-behind_keyword frames c.args.room c.args.levels c.in_ok-keyword.keyword keywords.Not (tokens_of c.in_ok-keyword.rest.now) (tokens_of c.args.text.now) c.in_ok-keyword.ensures c.in-Not.is c.if-room-eq0.false c.if-levels-eq0.false fits
     ∙ c.in_ok-value-in-Not.ensures.reads (negated ∷ frames) (omega arith)
-    ∙ ap (λ (r : Rule). run (behind_filter r frames) c.in_ok-value-in-Not.field-0.room (tokens_of c.in_ok-value-in-Not.field-0.rest.now)) (ap negation (sym made) ∙ sym (rule_of-Not g.row.A.Denot c.in_ok-box_of-in-Not.field-0))
+    ∙ ap (λ (r : Rule). run (behind_filter r frames) c.in_ok-value-in-Not.field-0.room (tokens_of c.in_ok-value-in-Not.field-0.rest.now)) (ap negation (sym made) ∙ sym (rule_of-Not g.row.A.Denot c.in_ok-boxed-in-Not.boxed)))
 
 pub read_filter-returns-in_ok-value-in-And-clause-reads : goal.read_filter-returns-in_ok-value-in-And-clause-reads
 read_filter-returns-in_ok-value-in-And-clause-reads g t c =
+    let p = c.of-in-And.ensures in
     λ frames fits.
     let some_level = c.if-levels-eq0.false in
-    run-behind_keyword frames c.args.room c.args.levels c.in_ok-keyword.keyword keywords.And (tokens_of c.in_ok-keyword.rest.now) (tokens_of c.args.text.now) c.in_ok-keyword.ensures c.in-And.is c.if-room-eq0.false c.if-levels-eq0.false fits
+    rw (p.value, p.rest, p.room) (run-behind_keyword frames c.args.room c.args.levels c.in_ok-keyword.keyword keywords.And (tokens_of c.in_ok-keyword.rest.now) (tokens_of c.args.text.now) c.in_ok-keyword.ensures c.in-And.is c.if-room-eq0.false c.if-levels-eq0.false fits
     ∙ c.in_ok-value-in-And.ensures.reads true frames (omega arith)
-    ∙ ap (λ (r : Rule). run (behind_filter r frames) c.in_ok-value-in-And.field-0.room (tokens_of c.in_ok-value-in-And.field-0.rest.now)) (sym (rule_of-And g.row.A.Denot c.in_ok-value-in-And.field-0.value))
+    ∙ ap (λ (r : Rule). run (behind_filter r frames) c.in_ok-value-in-And.field-0.room (tokens_of c.in_ok-value-in-And.field-0.rest.now)) (sym (rule_of-And g.row.A.Denot c.in_ok-value-in-And.field-0.value)))
 
 pub read_filter-returns-in_ok-value-in-Or-clause-reads : goal.read_filter-returns-in_ok-value-in-Or-clause-reads
 read_filter-returns-in_ok-value-in-Or-clause-reads g t c =
+    let p = c.of-in-Or.ensures in
     λ frames fits.
     let some_level = c.if-levels-eq0.false in
-    run-behind_keyword frames c.args.room c.args.levels c.in_ok-keyword.keyword keywords.Or (tokens_of c.in_ok-keyword.rest.now) (tokens_of c.args.text.now) c.in_ok-keyword.ensures c.in-Or.is c.if-room-eq0.false c.if-levels-eq0.false fits
+    rw (p.value, p.rest, p.room) (run-behind_keyword frames c.args.room c.args.levels c.in_ok-keyword.keyword keywords.Or (tokens_of c.in_ok-keyword.rest.now) (tokens_of c.args.text.now) c.in_ok-keyword.ensures c.in-Or.is c.if-room-eq0.false c.if-levels-eq0.false fits
     ∙ c.in_ok-value-in-Or.ensures.reads false frames (omega arith)
-    ∙ ap (λ (r : Rule). run (behind_filter r frames) c.in_ok-value-in-Or.field-0.room (tokens_of c.in_ok-value-in-Or.field-0.rest.now)) (sym (rule_of-Or g.row.A.Denot c.in_ok-value-in-Or.field-0.value))
+    ∙ ap (λ (r : Rule). run (behind_filter r frames) c.in_ok-value-in-Or.field-0.room (tokens_of c.in_ok-value-in-Or.field-0.rest.now)) (sym (rule_of-Or g.row.A.Denot c.in_ok-value-in-Or.field-0.value)))
 
 pub read_members-returns-in_err-rest-clause-reads : goal.read_members-returns-in_err-rest-clause-reads
 read_members-returns-in_err-rest-clause-reads g t c =

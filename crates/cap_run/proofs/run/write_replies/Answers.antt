@@ -38,7 +38,7 @@ loop-line-preserved-in_ok-write_long-3 g c = λ spelled is.
     let next = at_next spelled c.loop-line.lines c.next_line.new.self c.loop-line.core c.run_line.new.core (string_bytes c.loop-line.pending) (string_bytes c.run_line.new.pending) _ _ c.in-Ok-Some.line so taken c.in-Ok.ensures.history c.in-Ok.ensures.room in
     at_written spelled c.next_line.new.self c.run_line.new.core (string_bytes c.run_line.new.pending) (string_bytes c.write_long.new.pending) _ _ _ next c.in_ok-write_long.ensures.ok
 
--- there is no memory for the line
+-- out of memory for the line
 pub returns-in-Err-clause-ok : goal.returns-in-Err-clause-ok
 returns-in-Err-clause-ok g c = λ spelled is.
     let so = c.loop-line.invariant spelled is in

@@ -32,7 +32,7 @@ returns-in-Ok-None-clause-called g c = λ spelled is.
     under_end c.args.shared.now.threads spelled c.loop-line.lines c.next_line.new.self (string_bytes c.loop-line.pending) _ _ _ _ so
     (subst (λ (o : Option (Line g.row.A.Denot)). TakesFirst o so.others c.next_line.new.self) c.in-Ok-None.field-0-is (c.in-Ok-None.ensures.next so.others so.spelled))
 
--- there is no memory for the next
+-- out of memory for the next line
 pub returns-in-Err-clause-called : goal.returns-in-Err-clause-called
 returns-in-Err-clause-called g c = λ spelled is.
     let so = c.loop-line.invariant.called spelled is in

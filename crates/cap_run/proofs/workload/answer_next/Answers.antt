@@ -1,7 +1,24 @@
-use Rattle.std.proofs.Common.{[], ◌∷◌, arith}
-use Rattle.cap_run.proofs.NextLemmas.{next_alone, of_ended}
+use Rattle.std.proofs.Common.{[], ◌∷◌, arith, refl, sym, subst, List}
+use Rattle.cap_run.specs.Code.Calls.{IsWholeBlock}
+use Rattle.cap_run.proofs.NextLemmas.{next_alone, next_block, next_refused, of_ended}
 use Rattle.cap_run.proofs.SeatLemmas.{still_seats}
+use Rattle.cap_script.specs.declared.line.Line.{Line}
+use Rattle.cap_server.specs.declared.fault.CallFault.TheVariants.{OutOfMemory}
 use Rattle.cap_run.proofs.workload.answer_next.Goals as goal
+
+-- out of memory for the block
+pub returns-in_default-clause-called : goal.returns-in_default-clause-called
+returns-in_default-clause-called g c = λ rest spelled.
+    next_refused c.args.shared.now.threads OutOfMemory c.args.line rest _ _ _ _ refl
+
+pub returns-then-is_some-clause-left : goal.returns-then-is_some-clause-left
+returns-then-is_some-clause-left g c = of_ended c.answer_block.result.1 c.in-Ok.ensures.left
+
+pub returns-then-is_some-clause-called : goal.returns-then-is_some-clause-called
+returns-then-is_some-clause-called g c = λ rest spelled.
+    let called = c.answer_block.ensures.called in
+    let whole = subst (λ (l : List (Line g.row.A.Denot)). IsWholeBlock c.args.line rest l c.block_from.new.lines) (sym c.as_slice.ensures.value) (c.in-Ok.ensures.block rest spelled) in
+    next_block c.args.shared.now.threads c.args.line rest c.as_slice.result.now c.answer_block.result.1 _ _ _ called.0 _ _ whole called.1 called.2
 
 pub returns-clause-seats : goal.returns-clause-seats
 returns-clause-seats g c =

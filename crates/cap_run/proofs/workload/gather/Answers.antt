@@ -20,7 +20,7 @@ returns-in_default-get g c = record {
       c.requires.threads.0 c.requires.threads.1 c.loop-line-test.true c.loop-line.invariant;
 }
 
--- there is no memory for it
+-- out of memory
 pub returns-in-Err : goal.returns-in-Err
 returns-in-Err g c = record {
   gathered = gathered_stopped c.args.threads c.loop-line.line-index OutOfMemory c.args.block.now c.line-item.result _ c.loop-line.taken (string_bytes c.args.pending.now) (string_bytes c.push_str.new.self)

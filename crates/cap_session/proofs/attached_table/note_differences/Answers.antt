@@ -29,7 +29,7 @@ pub returns : goal.returns
 returns g c =
     let both = both-changed (λ attached. cond (bytes_eq c.args.name.now attached.0) (attached.0, with_touches attached.1 (touches_found c.args.indirect c.args.differences.now)) attached)
     c.args.tables.now.items c.as_mut_slice.result.now c.touch_table.new.tables c.attach_new.new.added.items c.as_mut_slice-2.result.now c.touch_table-2.new.tables c.append.new.self.items c.args.tables.now.len c.attach_new.new.added.len _
-    c.as_mut_slice.ensures.value (omega (arith, c.as_mut_slice.ensures.len, ap length c.as_mut_slice.ensures.value)) c.touch_table.ensures.same c.in_ok-touch_table.ensures.waiting
-    c.as_mut_slice-2.ensures.value (omega (arith, c.as_mut_slice-2.ensures.len, ap length c.as_mut_slice-2.ensures.value)) c.touch_table-2.ensures.same c.in_ok-touch_table-2.ensures.waiting
+    c.as_mut_slice.ensures.value (omega (arith, c.as_mut_slice.ensures.len, ap length c.as_mut_slice.ensures.value)) c.touch_table.ensures.same c.in_ok-touch_table.ensures.staged
+    c.as_mut_slice-2.ensures.value (omega (arith, c.as_mut_slice-2.ensures.len, ap length c.as_mut_slice-2.ensures.value)) c.touch_table-2.ensures.same c.in_ok-touch_table-2.ensures.staged
     c.in_ok-append.ensures.items (rw c.deref.ensures.value at (c.in_ok-attach_new.ensures ∙ ap (λ ts. attach c.args.name.now (tables_of c.deref.result.now ++ tables_of ts)) c.new-added.ensures.items ∙ ap (attach c.args.name.now) (append-nil (tables_of c.deref.result.now)))) in
-    record { same = both.0; waiting = both.1 }
+    record { same = both.0; staged = both.1 }

@@ -26,7 +26,7 @@ pub returns : goal.returns
 returns g c =
     let both = both-changed (λ attached. (attached.0, with_touches attached.1 (touches_of c.args.before.now c.args.indirect attached.0 c.args.changes.now)))
     c.args.tables.now.items c.as_mut_slice.result.now c.touch_tables.new.tables c.in_ok-added.added.items c.as_mut_slice-2.result.now c.touch_tables-2.new.tables c.append.new.self.items c.args.tables.now.len c.in_ok-added.added.len _
-    c.as_mut_slice.ensures.value (omega (arith, c.as_mut_slice.ensures.len, ap length c.as_mut_slice.ensures.value)) c.touch_tables.ensures.same c.in_ok-touch_tables.ensures.waiting
-    c.as_mut_slice-2.ensures.value (omega (arith, c.as_mut_slice-2.ensures.len, ap length c.as_mut_slice-2.ensures.value)) c.touch_tables-2.ensures.same c.in_ok-touch_tables-2.ensures.waiting
+    c.as_mut_slice.ensures.value (omega (arith, c.as_mut_slice.ensures.len, ap length c.as_mut_slice.ensures.value)) c.touch_tables.ensures.same c.in_ok-touch_tables.ensures.staged
+    c.as_mut_slice-2.ensures.value (omega (arith, c.as_mut_slice-2.ensures.len, ap length c.as_mut_slice-2.ensures.value)) c.touch_tables-2.ensures.same c.in_ok-touch_tables-2.ensures.staged
     c.in_ok-append.ensures.items (rw c.deref.ensures.value at c.in_ok-added.ensures) in
-    record { same = both.0; waiting = both.1 }
+    record { same = both.0; staged = both.1 }

@@ -16,15 +16,15 @@ invariant_of-whole g c =
     let front_fit : IsFit front.node.value = (omega (arith, r.cut.len, c.requires.front), omega (arith, r.cut.len, c.requires.back), r.filled) in
     let back_fit : IsFit back.node.value = (omega (arith, r.cut.back_len, c.requires.full, c.requires.back), omega (arith, r.cut.back_len, c.requires.full, c.requires.front), r.back_filled) in
     let low : NoneBelow g.K.Ord.cmp front.least front.node.value.0 = none_below_front g.K.Ord.cmp g.met.K.Ord.total front.least front.node.value.0 back.node.value.0 (rw (← r.cut.entries) r.least) in
-    let two : vec_len c.insert_in_room-2.new.items ≡ 2 = omega (arith, c.insert_in_room-2.ensures.len, c.insert_in_room.ensures.len, c.in_ok-parts.ensures.len) in
-    (omega (arith, two), omega (arith, two), rw (c.insert_in_room-2.ensures.items, c.insert_in_room.ensures.items, c.in_ok-parts.ensures.items) (front_child, low, (r.cut.below, tt), (back_child, r.cut.not_below, tt, tt)), rw (c.insert_in_room-2.ensures.items, c.insert_in_room.ensures.items, c.in_ok-parts.ensures.items) (front_fit, (back_fit, tt)), rw (c.insert_in_room-2.ensures.items, c.insert_in_room.ensures.items, c.in_ok-parts.ensures.items) (c.count-count.ensures ∙ ap length (r.cut.entries ∙ rw append-nil refl)))
+    let two : vec_len c.insert_in_room-2.new.items ≡ 2 = omega (arith, c.insert_in_room-2.ensures.len, c.insert_in_room.ensures.len, c.in_ok-children.ensures.len) in
+    (omega (arith, two), omega (arith, two), rw (c.insert_in_room-2.ensures.items, c.insert_in_room.ensures.items, c.in_ok-children.ensures.items) (front_child, low, (r.cut.below, tt), (back_child, r.cut.not_below, tt, tt)), rw (c.insert_in_room-2.ensures.items, c.insert_in_room.ensures.items, c.in_ok-children.ensures.items) (front_fit, (back_fit, tt)), rw (c.insert_in_room-2.ensures.items, c.insert_in_room.ensures.items, c.in_ok-children.ensures.items) (c.count-count.ensures ∙ ap length (r.cut.entries ∙ rw append-nil refl)))
 
 pub returns : goal.returns
 returns g c =
     let r = c.in_ok-front.ensures in
-    let two : vec_len c.insert_in_room-2.new.items ≡ 2 = omega (arith, c.insert_in_room-2.ensures.len, c.insert_in_room.ensures.len, c.in_ok-parts.ensures.len) in
+    let two : vec_len c.insert_in_room-2.new.items ≡ 2 = omega (arith, c.insert_in_room-2.ensures.len, c.insert_in_room.ensures.len, c.in_ok-children.ensures.len) in
     record {
-      entries = rw (c.insert_in_room-2.ensures.items, c.insert_in_room.ensures.items, c.in_ok-parts.ensures.items) (rw append-nil (sym r.cut.entries));
+      entries = rw (c.insert_in_room-2.ensures.items, c.insert_in_room.ensures.items, c.in_ok-children.ensures.items) (rw append-nil (sym r.cut.entries));
       two = omega (arith, two);
       room = omega (arith, two);
     }

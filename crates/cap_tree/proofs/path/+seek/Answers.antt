@@ -8,7 +8,7 @@ use Rattle.cap_tree.proofs.path.+seek.Goals as goal
 pub child_for-requires : goal.child_for-requires
 child_for-requires g t c =
     let n = rw c.in-Inner.is at c.node.invariant in
-    rw c.as_slice-in-Inner.ensures.value (omega (arith, c.in-Inner.parts.ok.0, n.0))
+    rw c.as_slice-in-Inner.ensures.value (omega (arith, c.in-Inner.children.ok.0, n.0))
 
 pub push-requires : goal.push-requires
 push-requires g t c =
@@ -16,7 +16,7 @@ push-requires g t c =
     let view = rw c.in-Inner.is at c.node.view_is in
     let there = rw c.as_slice-in-Inner.ensures.value at (c.child_for.ensures c.in-Inner.field-0 (rw c.as_slice-in-Inner.ensures.value n.2)) in
     let fits : length c.args.path.now.items + c.in-Inner.field-0 ≤ 32 = omega (arith, c.requires.fits, ap (λ n. n.1) view) in
-    (lit< tt, down_room g.K.Ord.cmp c.in-Inner.field-0 c.in-Inner.parts.items _ c.child_for.result.0.now c.child_for.result.1 there n.2 c.args.path.now.items fits)
+    (lit< tt, down_room g.K.Ord.cmp c.in-Inner.field-0 c.in-Inner.children.items _ c.child_for.result.0.now c.child_for.result.1 there n.2 c.args.path.now.items fits)
 
 pub seek-requires : goal.seek-requires
 seek-requires g t c =
@@ -25,10 +25,10 @@ seek-requires g t c =
     let there = rw c.as_slice-in-Inner.ensures.value at (c.child_for.ensures c.in-Inner.field-0 (rw c.as_slice-in-Inner.ensures.value n.2)) in
     let fits : length c.args.path.now.items + c.in-Inner.field-0 ≤ 32 = omega (arith, c.requires.fits, ap (λ n. n.1) view) in
     let size : 520 < 9223372036854775808 = lit< tt in
-    let ordered : IsOrdered g.K.Ord.cmp c.deref.result.now.0 = rw c.deref.ensures (child_ordered g.K.Ord.cmp c.in-Inner.parts.items _ c.child_for.result.0.now c.child_for.result.1.now there (rw (ap (λ n. n.0) view) c.requires.ordered)) in
-    let path : IsPath 32 c.push.new.self.items = rw c.push.ensures.items (down_path g.K.Ord.cmp c.in-Inner.field-0 c.in-Inner.parts.items _ c.child_for.result.0.now c.child_for.result.1 there n.2 c.args.path.now.items fits c.requires.path) in
-    let room : length c.push.new.self.items + c.deref.result.now.1 ≤ 32 = rw (c.push.ensures.items, c.deref.ensures) (down_fits g.K.Ord.cmp c.in-Inner.field-0 c.in-Inner.parts.items _ c.child_for.result.0.now c.child_for.result.1 there n.2 c.args.path.now.items fits) in
-    let level : c.deref.result.now.1 < c.args.node.now.1 = rw (c.deref.ensures, ← ap (λ n. n.1) view) (down_lower g.K.Ord.cmp c.in-Inner.field-0 c.in-Inner.parts.items _ c.child_for.result.0.now c.child_for.result.1 there n.2 c.args.path.now.items fits) in
+    let ordered : IsOrdered g.K.Ord.cmp c.deref.result.now.0 = rw c.deref.ensures (child_ordered g.K.Ord.cmp c.in-Inner.children.items _ c.child_for.result.0.now c.child_for.result.1.now there (rw (ap (λ n. n.0) view) c.requires.ordered)) in
+    let path : IsPath 32 c.push.new.self.items = rw c.push.ensures.items (down_path g.K.Ord.cmp c.in-Inner.field-0 c.in-Inner.children.items _ c.child_for.result.0.now c.child_for.result.1 there n.2 c.args.path.now.items fits c.requires.path) in
+    let room : length c.push.new.self.items + c.deref.result.now.1 ≤ 32 = rw (c.push.ensures.items, c.deref.ensures) (down_fits g.K.Ord.cmp c.in-Inner.field-0 c.in-Inner.children.items _ c.child_for.result.0.now c.child_for.result.1 there n.2 c.args.path.now.items fits) in
+    let level : c.deref.result.now.1 < c.args.node.now.1 = rw (c.deref.ensures, ← ap (λ n. n.1) view) (down_lower g.K.Ord.cmp c.in-Inner.field-0 c.in-Inner.children.items _ c.child_for.result.0.now c.child_for.result.1 there n.2 c.args.path.now.items fits) in
     λ κs h. search rules
 
 pub returns-in-Inner-clause-pending : goal.returns-in-Inner-clause-pending
@@ -36,4 +36,4 @@ returns-in-Inner-clause-pending g t c =
     let n = rw c.in-Inner.is at c.node.invariant in
     let view = rw c.in-Inner.is at c.node.view_is in
     let there = rw c.as_slice-in-Inner.ensures.value at (c.child_for.ensures c.in-Inner.field-0 (rw c.as_slice-in-Inner.ensures.value n.2)) in
-    rw (← ap (λ n. n.0) view) (c.seek.ensures.pending ∙ rw (c.push.ensures.items, c.deref.ensures) (down_key g.K.Ord.cmp g.met.K.Ord.total c.args.key.now c.in-Inner.field-0 c.in-Inner.parts.items c.child_for.result.0.now c.child_for.result.1 there n.2 c.args.path.now.items))
+    rw (← ap (λ n. n.0) view) (c.seek.ensures.pending ∙ rw (c.push.ensures.items, c.deref.ensures) (down_key g.K.Ord.cmp g.met.K.Ord.total c.args.key.now c.in-Inner.field-0 c.in-Inner.children.items c.child_for.result.0.now c.child_for.result.1 there n.2 c.args.path.now.items))

@@ -4,10 +4,10 @@ use Rattle.cap_tree.proofs.path.count_of_path.Goals as goal
 
 pub count_of-count-requires : goal.count_of-count-requires
 count_of-count-requires g c =
-    let more = path_count c.args.path.now c.loop-parts.parts-index c.parts-item.result c.loop-parts-test.true c.parts-item.is in
-    record { fits = omega (arith, more, c.loop-parts.invariant, c.requires.fits) }
+    let more = path_count c.args.path.now c.loop-children.children-index c.children-item.result c.loop-children-test.true c.children-item.is in
+    record { fits = omega (arith, more, c.loop-children.invariant, c.requires.fits) }
 
-pub loop-parts-preserved : goal.loop-parts-preserved
-loop-parts-preserved g c =
-    let more = path_count c.args.path.now c.loop-parts.parts-index c.parts-item.result c.loop-parts-test.true c.parts-item.is in
-    omega (arith, more, c.loop-parts.invariant, c.count_of-count.ensures)
+pub loop-children-preserved : goal.loop-children-preserved
+loop-children-preserved g c =
+    let more = path_count c.args.path.now c.loop-children.children-index c.children-item.result c.loop-children-test.true c.children-item.is in
+    omega (arith, more, c.loop-children.invariant, c.count_of-count.ensures)

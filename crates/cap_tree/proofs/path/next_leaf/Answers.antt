@@ -4,15 +4,15 @@ use Rattle.cap_tree.proofs.path.next_leaf.Goals as goal
 
 pub push-requires : goal.push-requires
 push-requires g c =
-    (lit< tt, next_room c.pop.new.self.items c.loop-parts.path.items c.in-Some.parts c.in-Some.ensures.items c.loop-parts.invariant.path c.in-Some-split_first.child.now c.in-Some-split_first.behind c.in-Some-split_first.ensures.cases.0)
+    (lit< tt, next_room c.pop.new.self.items c.loop-children.path.items c.in-Some.children c.in-Some.ensures.items c.loop-children.invariant.path c.in-Some-split_first.child.now c.in-Some-split_first.behind c.in-Some-split_first.ensures.cases.0)
 
 pub descend-requires : goal.descend-requires
 descend-requires g c =
     let child = c.in-Some-split_first.child.now in
     let behind = c.in-Some-split_first.behind in
     let is = c.in-Some-split_first.ensures.cases.0 in
-    let path = next_down c.pop.new.self.items c.loop-parts.path.items c.in-Some.parts c.in-Some.ensures.items c.loop-parts.invariant.path child behind is in
-    let fits = next_fits c.pop.new.self.items c.loop-parts.path.items c.in-Some.parts c.in-Some.ensures.items c.loop-parts.invariant.path child behind is in
+    let path = next_down c.pop.new.self.items c.loop-children.path.items c.in-Some.children c.in-Some.ensures.items c.loop-children.invariant.path child behind is in
+    let fits = next_fits c.pop.new.self.items c.loop-children.path.items c.in-Some.children c.in-Some.ensures.items c.loop-children.invariant.path child behind is in
     (lit< tt, (rw c.push.ensures.items path, rw (c.push.ensures.items, c.deref.ensures) fits))
 
 pub returns-in-Some-split_first-clause-gives : goal.returns-in-Some-split_first-clause-gives
@@ -20,15 +20,15 @@ returns-in-Some-split_first-clause-gives g c =
     let child = c.in-Some-split_first.child.now in
     let behind = c.in-Some-split_first.behind in
     let is = c.in-Some-split_first.ensures.cases.0 in
-    let i = c.loop-parts.invariant in
+    let i = c.loop-children.invariant in
     let down = rw (c.push.ensures.items, c.deref.ensures) at c.descend.ensures.pending in
-    let whole = next_pending c.pop.new.self.items c.loop-parts.path.items c.in-Some.parts c.in-Some.ensures.items i.path child behind is in
-    (sym i.pending ∙ sym whole ∙ sym down, next_some c.pop.new.self.items c.loop-parts.path.items c.in-Some.parts c.in-Some.ensures.items i.path child behind is c.descend.result.now (rw c.deref.ensures at c.descend.ensures.some))
+    let whole = next_pending c.pop.new.self.items c.loop-children.path.items c.in-Some.children c.in-Some.ensures.items i.path child behind is in
+    (sym i.pending ∙ sym whole ∙ sym down, next_some c.pop.new.self.items c.loop-children.path.items c.in-Some.children c.in-Some.ensures.items i.path child behind is c.descend.result.now (rw c.deref.ensures at c.descend.ensures.some))
 
-pub loop-parts-preserved : goal.loop-parts-preserved
-loop-parts-preserved g c =
-    let i = c.loop-parts.invariant in
+pub loop-children-preserved : goal.loop-children-preserved
+loop-children-preserved g c =
+    let i = c.loop-children.invariant in
     record {
-      path = next_path c.pop.new.self.items c.loop-parts.path.items c.in-Some.parts c.in-Some.ensures.items i.path;
-      pending = next_none c.pop.new.self.items c.loop-parts.path.items c.in-Some.parts c.in-Some.ensures.items i.path c.in_default-split_first.ensures.cases ∙ i.pending;
+      path = next_path c.pop.new.self.items c.loop-children.path.items c.in-Some.children c.in-Some.ensures.items i.path;
+      pending = next_none c.pop.new.self.items c.loop-children.path.items c.in-Some.children c.in-Some.ensures.items i.path c.in_default-split_first.ensures.cases ∙ i.pending;
     }

@@ -20,4 +20,4 @@ left tables changes = Ok (record { database = tables; changes = changes })
 pub loop-at-preserved : goal.loop-at-preserved
 loop-at-preserved g c =
     run-more c.args.database.now c.args.ops.now c.loop-at.at c.index-ops-at.result (omega arith) c.index-ops-at.is (record { database = c.loop-at.next; changes = c.loop-at.changes.items }) c.loop-at.invariant c.step.new.self c.in-Ok.ensures.tables
-    ∙ ap (left c.step.new.self) (sym (c.in_ok-tell-in-Ok.ensures ∙ ap (λ (l : List (Change g.row.A.Denot)). c.loop-at.changes.items ++ l) c.in-Ok.ensures.changes))
+    ∙ ap (left c.step.new.self) (sym (c.in_ok-push_changes-in-Ok.ensures ∙ ap (λ (l : List (Change g.row.A.Denot)). c.loop-at.changes.items ++ l) c.in-Ok.ensures.changes))

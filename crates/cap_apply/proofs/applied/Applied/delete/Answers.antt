@@ -5,7 +5,7 @@ use Rattle.cap_txn.specs.Keyed.{IsOwnRow}
 use Rattle.cap_txn.specs.Tables.{Tables, table_of}
 use Rattle.cap_changes.specs.declared.patch.Patch.TheVariants as patched
 use Rattle.cap_apply.specs.Apply.{change_applied}
-use Rattle.cap_apply.specs.Asked.{Asked}
+use Rattle.cap_apply.specs.Requested.{Requested}
 use Rattle.cap_apply.specs.Policy.{is_made}
 use Rattle.cap_apply.specs.Row.{key_values, missed}
 use Rattle.cap_apply.proofs.ChangeLemmas.{change_refused, has_target, judged_err}
@@ -20,8 +20,8 @@ returns-in_err-judge g c =
     let state = c.args.self.now in
     let name = c.args.table.now in
     let flags = c.args.columns.now in
-    let policy = c.args.turn.policy in
-    let number = c.args.turn.number in
+    let policy = c.args.decision.policy in
+    let number = c.args.decision.number in
     let old = c.args.old.now in
     let fields = c.args.key.now in
     let h = has_target state.database name flags c.requires.target in
@@ -33,9 +33,9 @@ returns-in_err-judge g c =
     let met : missed flags old before ≡ conflict = sym (c.missed-conflict.ensures ∙ (λ i. missed (c.flags-2.ensures.flags i) old (c.as_ref.ensures.value i))) in
     let p = err_from_is_err_and c.from_residual-in_err-judge.result c.from_residual-in_err-judge.ensures.1 in
     λ indirect.
-    let asked : Asked g.row.A.Denot = record { old = old; patch = patched.Delete indirect fields } in
-    rw (p.1, p.2) (judged_err (Unit {0}) Bool c.in_err-judge.field-0.0 (is_made policy number conflict) (change_applied policy number name flags asked state) c.judge.new.self
-    (λ why e. change_refused policy number name flags state h asked before conflict (delete_found policy number name flags state h indirect old fields key key_is before at conflict met) met why e)
+    let requested : Requested g.row.A.Denot = record { old = old; patch = patched.Delete indirect fields } in
+    rw (p.1, p.2) (judged_err (Unit {0}) Bool c.in_err-judge.field-0.0 (is_made policy number conflict) (change_applied policy number name flags requested state) c.judge.new.self
+    (λ why e. change_refused policy number name flags state h requested before conflict (delete_found policy number name flags state h indirect old fields key key_is before at conflict met) met why e)
     c.in_err-judge.ensures.made)
 
 pub returns-then-branch : goal.returns-then-branch
@@ -43,8 +43,8 @@ returns-then-branch g c =
     let state = c.args.self.now in
     let name = c.args.table.now in
     let flags = c.args.columns.now in
-    let policy = c.args.turn.policy in
-    let number = c.args.turn.number in
+    let policy = c.args.decision.policy in
+    let number = c.args.decision.number in
     let old = c.args.old.now in
     let fields = c.args.key.now in
     let h = has_target state.database name flags c.requires.target in
@@ -56,15 +56,15 @@ returns-then-branch g c =
     let met : missed flags old before ≡ conflict = sym (c.missed-conflict.ensures ∙ (λ i. missed (c.flags-2.ensures.flags i) old (c.as_ref.ensures.value i))) in
     λ indirect.
     delete_gone policy number name flags state h indirect old fields key key_is before at conflict met c.take.new.self c.judge.new.self c.in_ok-judge.field-0 c.in_ok-gone.ensures.state
-    c.in_ok-judge.ensures.noted c.in_ok-judge.ensures.made c.tell.new.self c.count.new.self c.if-branch.true c.in_ok-tell.ensures c.in_ok-count.ensures
+    c.in_ok-judge.ensures.noted c.in_ok-judge.ensures.made c.add_change.new.self c.count.new.self c.if-branch.true c.in_ok-add_change.ensures c.in_ok-count.ensures
 
 pub put-requires-clause-there : goal.put-requires-clause-there
 put-requires-clause-there g c =
     let state = c.args.self.now in
     let name = c.args.table.now in
     let flags = c.args.columns.now in
-    let policy = c.args.turn.policy in
-    let number = c.args.turn.number in
+    let policy = c.args.decision.policy in
+    let number = c.args.decision.number in
     let old = c.args.old.now in
     let fields = c.args.key.now in
     let h = has_target state.database name flags c.requires.target in
@@ -84,8 +84,8 @@ put-requires-clause-own g c =
     let state = c.args.self.now in
     let name = c.args.table.now in
     let flags = c.args.columns.now in
-    let policy = c.args.turn.policy in
-    let number = c.args.turn.number in
+    let policy = c.args.decision.policy in
+    let number = c.args.decision.number in
     let old = c.args.old.now in
     let fields = c.args.key.now in
     let h = has_target state.database name flags c.requires.target in
@@ -105,8 +105,8 @@ returns-in_ok-put-in-Some g c =
     let state = c.args.self.now in
     let name = c.args.table.now in
     let flags = c.args.columns.now in
-    let policy = c.args.turn.policy in
-    let number = c.args.turn.number in
+    let policy = c.args.decision.policy in
+    let number = c.args.decision.number in
     let old = c.args.old.now in
     let fields = c.args.key.now in
     let h = has_target state.database name flags c.requires.target in
@@ -126,8 +126,8 @@ returns-in-None g c =
     let state = c.args.self.now in
     let name = c.args.table.now in
     let flags = c.args.columns.now in
-    let policy = c.args.turn.policy in
-    let number = c.args.turn.number in
+    let policy = c.args.decision.policy in
+    let number = c.args.decision.number in
     let old = c.args.old.now in
     let fields = c.args.key.now in
     let h = has_target state.database name flags c.requires.target in

@@ -8,7 +8,7 @@ use Rattle.cap_txn.specs.Read.{row_at}
 use Rattle.cap_txn.specs.Tables.{Tables, table_of}
 use Rattle.cap_changes.specs.declared.patch.Patch.TheVariants as patched
 use Rattle.cap_apply.specs.Apply.{change_applied}
-use Rattle.cap_apply.specs.Asked.{Asked}
+use Rattle.cap_apply.specs.Requested.{Requested}
 use Rattle.cap_apply.specs.Policy.{is_made}
 use Rattle.cap_apply.specs.Row.{key_values, new_row}
 use Rattle.cap_apply.specs.Steps.{placed}
@@ -32,8 +32,8 @@ put-requires-clause-own g c =
     let state = c.args.self.now in
     let name = c.args.table.now in
     let flags = c.args.columns.now in
-    let policy = c.args.turn.policy in
-    let number = c.args.turn.number in
+    let policy = c.args.decision.policy in
+    let number = c.args.decision.number in
     let new = c.args.new.now in
     let h = has_target state.database name flags c.requires.target in
     let there : table_of c.database.result.now name ≡ Some h.table = ap (λ (d : Tables g.row.A.Denot). table_of d name) c.database.ensures ∙ h.there in
@@ -49,8 +49,8 @@ returns-in_default g c =
     let state = c.args.self.now in
     let name = c.args.table.now in
     let flags = c.args.columns.now in
-    let policy = c.args.turn.policy in
-    let number = c.args.turn.number in
+    let policy = c.args.decision.policy in
+    let number = c.args.decision.number in
     let new = c.args.new.now in
     let h = has_target state.database name flags c.requires.target in
     let there : table_of c.database.result.now name ≡ Some h.table = ap (λ (d : Tables g.row.A.Denot). table_of d name) c.database.ensures ∙ h.there in
@@ -63,15 +63,15 @@ returns-in_default g c =
     let put_is = c.in_ok-taken.ensures.state ∙ ap (λ (k : Fields g.row.A.Denot). placed name k (Some row) state) copy_is in
     let none = sym c.in_default.is ∙ c.in_ok-taken.ensures.before ∙ ap (row_at state.database name) copy_is in
     λ indirect.
-    insert_free policy number name flags state h c.requires.keyed indirect new fits key row key_is row_is c.put.new.self c.tell.new.self c.count.new.self none put_is c.in_ok-tell.ensures c.in_ok-count.ensures
+    insert_free policy number name flags state h c.requires.keyed indirect new fits key row key_is row_is c.put.new.self c.add_change.new.self c.count.new.self none put_is c.in_ok-add_change.ensures c.in_ok-count.ensures
 
 pub returns-in_err-judge : goal.returns-in_err-judge
 returns-in_err-judge g c =
     let state = c.args.self.now in
     let name = c.args.table.now in
     let flags = c.args.columns.now in
-    let policy = c.args.turn.policy in
-    let number = c.args.turn.number in
+    let policy = c.args.decision.policy in
+    let number = c.args.decision.number in
     let new = c.args.new.now in
     let h = has_target state.database name flags c.requires.target in
     let there : table_of c.database.result.now name ≡ Some h.table = ap (λ (d : Tables g.row.A.Denot). table_of d name) c.database.ensures ∙ h.there in
@@ -85,10 +85,10 @@ returns-in_err-judge g c =
     let at = sym c.in-Some.is ∙ c.in_ok-taken.ensures.before ∙ ap (row_at state.database name) copy_is in
     let p = err_from_is_err_and c.from_residual-in_err-judge.result c.from_residual-in_err-judge.ensures.1 in
     λ indirect.
-    let asked : Asked g.row.A.Denot = record { old = []; patch = patched.Insert indirect new } in
+    let requested : Requested g.row.A.Denot = record { old = []; patch = patched.Insert indirect new } in
     let found = insert_found policy number name flags state h c.requires.keyed indirect new fits key row key_is row_is (Some c.in-Some.taken) at in
-    rw (p.1, p.2) (judged_err (Unit {0}) Bool c.in_err-judge.field-0.0 (is_made policy number (Some Conflict)) (change_applied policy number name flags asked state) c.judge.new.self
-    (λ why e. change_refused policy number name flags state h asked (Some c.in-Some.taken) (Some Conflict) found refl why e)
+    rw (p.1, p.2) (judged_err (Unit {0}) Bool c.in_err-judge.field-0.0 (is_made policy number (Some Conflict)) (change_applied policy number name flags requested state) c.judge.new.self
+    (λ why e. change_refused policy number name flags state h requested (Some c.in-Some.taken) (Some Conflict) found refl why e)
     c.in_err-judge.ensures.made)
 
 pub returns-then-branch : goal.returns-then-branch
@@ -96,8 +96,8 @@ returns-then-branch g c =
     let state = c.args.self.now in
     let name = c.args.table.now in
     let flags = c.args.columns.now in
-    let policy = c.args.turn.policy in
-    let number = c.args.turn.number in
+    let policy = c.args.decision.policy in
+    let number = c.args.decision.number in
     let new = c.args.new.now in
     let h = has_target state.database name flags c.requires.target in
     let there : table_of c.database.result.now name ≡ Some h.table = ap (λ (d : Tables g.row.A.Denot). table_of d name) c.database.ensures ∙ h.there in
@@ -111,15 +111,15 @@ returns-then-branch g c =
     let at = sym c.in-Some.is ∙ c.in_ok-taken.ensures.before ∙ ap (row_at state.database name) copy_is in
     λ indirect.
     insert_over policy number name flags state h c.requires.keyed indirect new fits key row key_is row_is c.in-Some.taken at c.put.new.self c.judge.new.self c.in_ok-judge.field-0 put_is
-    c.in_ok-judge.ensures.noted c.in_ok-judge.ensures.made c.tell_both.new.self c.count-then-branch.new.self c.if-branch.true c.in_ok-tell_both.ensures c.in_ok-count-2.ensures
+    c.in_ok-judge.ensures.noted c.in_ok-judge.ensures.made c.add_replacement.new.self c.count-then-branch.new.self c.if-branch.true c.in_ok-add_replacement.ensures c.in_ok-count-2.ensures
 
 pub put-requires-2-clause-there : goal.put-requires-2-clause-there
 put-requires-2-clause-there g c =
     let state = c.args.self.now in
     let name = c.args.table.now in
     let flags = c.args.columns.now in
-    let policy = c.args.turn.policy in
-    let number = c.args.turn.number in
+    let policy = c.args.decision.policy in
+    let number = c.args.decision.number in
     let new = c.args.new.now in
     let h = has_target state.database name flags c.requires.target in
     let there : table_of c.database.result.now name ≡ Some h.table = ap (λ (d : Tables g.row.A.Denot). table_of d name) c.database.ensures ∙ h.there in
@@ -138,8 +138,8 @@ put-requires-2-clause-own g c =
     let state = c.args.self.now in
     let name = c.args.table.now in
     let flags = c.args.columns.now in
-    let policy = c.args.turn.policy in
-    let number = c.args.turn.number in
+    let policy = c.args.decision.policy in
+    let number = c.args.decision.number in
     let new = c.args.new.now in
     let h = has_target state.database name flags c.requires.target in
     let there : table_of c.database.result.now name ≡ Some h.table = ap (λ (d : Tables g.row.A.Denot). table_of d name) c.database.ensures ∙ h.there in
@@ -158,8 +158,8 @@ returns g c =
     let state = c.args.self.now in
     let name = c.args.table.now in
     let flags = c.args.columns.now in
-    let policy = c.args.turn.policy in
-    let number = c.args.turn.number in
+    let policy = c.args.decision.policy in
+    let number = c.args.decision.number in
     let new = c.args.new.now in
     let h = has_target state.database name flags c.requires.target in
     let there : table_of c.database.result.now name ≡ Some h.table = ap (λ (d : Tables g.row.A.Denot). table_of d name) c.database.ensures ∙ h.there in

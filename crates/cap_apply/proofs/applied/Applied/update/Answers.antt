@@ -9,7 +9,7 @@ use Rattle.cap_txn.specs.Tables.{Tables, table_of}
 use Rattle.cap_changes.specs.Patch.{update_record}
 use Rattle.cap_changes.specs.declared.patch.Patch.TheVariants as patched
 use Rattle.cap_apply.specs.Apply.{change_applied}
-use Rattle.cap_apply.specs.Asked.{Asked}
+use Rattle.cap_apply.specs.Requested.{Requested}
 use Rattle.cap_apply.specs.Policy.{is_made}
 use Rattle.cap_apply.specs.Row.{key_values, missed, set_fields}
 use Rattle.cap_apply.specs.Steps.{placed}
@@ -29,8 +29,8 @@ returns-in_err-judge g c =
     let state = c.args.self.now in
     let name = c.args.table.now in
     let flags = c.args.columns.now in
-    let policy = c.args.turn.policy in
-    let number = c.args.turn.number in
+    let policy = c.args.decision.policy in
+    let number = c.args.decision.number in
     let old = c.args.old.now in
     let fields = c.args.key.now in
     let new = update_record flags fields c.args.new.now in
@@ -44,9 +44,9 @@ returns-in_err-judge g c =
     let met : missed flags old before ≡ conflict = sym (c.missed-conflict.ensures ∙ ap (λ f. missed f old before) c.flags-2.ensures.flags) in
     let p = err_from_is_err_and c.from_residual-in_err-judge.result c.from_residual-in_err-judge.ensures.1 in
     λ indirect.
-    let asked : Asked g.row.A.Denot = record { old = old; patch = patched.Update indirect new } in
-    rw (p.1, p.2) (judged_err (Unit {0}) Bool c.in_err-judge.field-0.0 (is_made policy number conflict) (change_applied policy number name flags asked state) c.judge.new.self
-    (λ why e. change_refused policy number name flags state h asked before conflict found met why e)
+    let requested : Requested g.row.A.Denot = record { old = old; patch = patched.Update indirect new } in
+    rw (p.1, p.2) (judged_err (Unit {0}) Bool c.in_err-judge.field-0.0 (is_made policy number conflict) (change_applied policy number name flags requested state) c.judge.new.self
+    (λ why e. change_refused policy number name flags state h requested before conflict found met why e)
     c.in_err-judge.ensures.made)
 
 pub returns-then-not-branch : goal.returns-then-not-branch
@@ -54,8 +54,8 @@ returns-then-not-branch g c =
     let state = c.args.self.now in
     let name = c.args.table.now in
     let flags = c.args.columns.now in
-    let policy = c.args.turn.policy in
-    let number = c.args.turn.number in
+    let policy = c.args.decision.policy in
+    let number = c.args.decision.number in
     let old = c.args.old.now in
     let fields = c.args.key.now in
     let new = update_record flags fields c.args.new.now in
@@ -76,8 +76,8 @@ unreachable-requires g c =
     let state = c.args.self.now in
     let name = c.args.table.now in
     let flags = c.args.columns.now in
-    let policy = c.args.turn.policy in
-    let number = c.args.turn.number in
+    let policy = c.args.decision.policy in
+    let number = c.args.decision.number in
     let old = c.args.old.now in
     let fields = c.args.key.now in
     let new = update_record flags fields c.args.new.now in
@@ -99,8 +99,8 @@ put-requires-clause-there g c =
     let state = c.args.self.now in
     let name = c.args.table.now in
     let flags = c.args.columns.now in
-    let policy = c.args.turn.policy in
-    let number = c.args.turn.number in
+    let policy = c.args.decision.policy in
+    let number = c.args.decision.number in
     let old = c.args.old.now in
     let fields = c.args.key.now in
     let new = update_record flags fields c.args.new.now in
@@ -119,8 +119,8 @@ put-requires-clause-own g c =
     let state = c.args.self.now in
     let name = c.args.table.now in
     let flags = c.args.columns.now in
-    let policy = c.args.turn.policy in
-    let number = c.args.turn.number in
+    let policy = c.args.decision.policy in
+    let number = c.args.decision.number in
     let old = c.args.old.now in
     let fields = c.args.key.now in
     let new = update_record flags fields c.args.new.now in
@@ -143,8 +143,8 @@ returns g c =
     let state = c.args.self.now in
     let name = c.args.table.now in
     let flags = c.args.columns.now in
-    let policy = c.args.turn.policy in
-    let number = c.args.turn.number in
+    let policy = c.args.decision.policy in
+    let number = c.args.decision.number in
     let old = c.args.old.now in
     let fields = c.args.key.now in
     let new = update_record flags fields c.args.new.now in
@@ -161,4 +161,4 @@ returns g c =
     let put_is = c.in_ok-put.ensures.state ∙ ap (λ (k : Fields g.row.A.Denot). placed name k (Some c.in-Some.row) c.judge.new.self) c.in_ok-copy.ensures in
     λ indirect.
     update_put policy number name flags state h c.requires.keyed indirect old new c.requires.fits key c.in-Some.row key_is before found conflict met (sym c.in-Some.is ∙ row_is)
-    c.in_ok-judge.field-0 c.in_ok-judge.ensures.made agreed c.judge.new.self c.in_ok-judge.ensures.noted c.put.new.self c.tell_both.new.self c.count.new.self put_is c.in_ok-tell_both.ensures c.in_ok-count.ensures
+    c.in_ok-judge.field-0 c.in_ok-judge.ensures.made agreed c.judge.new.self c.in_ok-judge.ensures.noted c.put.new.self c.add_replacement.new.self c.count.new.self put_is c.in_ok-add_replacement.ensures c.in_ok-count.ensures

@@ -13,7 +13,7 @@ pub returns-in-Update : goal.returns-in-Update
 returns-in-Update g c =
     let fit = rw c.in-Update.is at c.requires.fits in
     let made = c.update.ensures c.in-Update.indirect in
-    rw c.in-Update.is (rw (c.deref.ensures.value, c.new-untold.ensures.items, c.fields-new.ensures, update_same c.args.columns.now c.in-Update.new fit) at made)
+    rw c.in-Update.is (rw (c.deref.ensures.value, c.new-no_old.ensures.items, c.fields-new.ensures, update_same c.args.columns.now c.in-Update.new fit) at made)
 
 pub delete-requires-clause-key : goal.delete-requires-clause-key
 delete-requires-clause-key g c =

@@ -2,10 +2,10 @@ use Rattle.std.proofs.Common.{◌≡◌, length, arith}
 use Rattle.cap_core.proofs.MakeLemmas.{one_item}
 use Rattle.cap_core.proofs.server.Core.commit_now.Goals as goal
 
-pub commit_one-requires-clause-can_confirm : goal.commit_one-requires-clause-can_confirm
-commit_one-requires-clause-can_confirm g c =
+pub commit_one-requires-clause-can_ask : goal.commit_one-requires-clause-can_ask
+commit_one-requires-clause-can_ask g c =
     let few : length c.args.ops.now ≡ 1 = omega (arith, c.in-len1.len_at_least, c.in-len1.len_below) in
-    rw (one_item c.args.ops.now c.op-item.result few c.op-item.is) at c.requires.can_confirm
+    rw (one_item c.args.ops.now c.op-item.result few c.op-item.is) at c.requires.can_ask
 
 pub returns-in-len1 : goal.returns-in-len1
 returns-in-len1 g c =

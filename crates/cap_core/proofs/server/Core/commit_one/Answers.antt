@@ -14,11 +14,11 @@ returns-in-Ok g c =
     let made : step now.main op ≡ Ok after = c.in-Ok.ensures.2.1 in
     let stepped : step inside.main op ≡ Ok after = subst (λ (s : State g.row.A.Denot). step s.main op ≡ Ok after) (sym c.self.view_is) made in
     let told : c.as_slice.result.now ≡ changes now.main op =
-    c.as_slice.ensures.value ∙ c.in_ok-changes.ensures after stepped ∙ ap (λ (s : State g.row.A.Denot). changes s.main op) c.self.view_is in
+    c.as_slice.ensures.value ∙ c.in_ok-changes.ensures.changes after stepped ∙ ap (λ (s : State g.row.A.Denot). changes s.main op) c.self.view_is in
     rw (one_made now.main op after made) (c.in-Ok.ensures.0, c.in-Ok.ensures.2.2 ∙ ap (written now after) told, c.in-Ok.ensures.1)
 
 pub returns : goal.returns
 returns g c =
     let now = c.args.self.now in
-    let told = rw c.in-Err-Disagreed.field-0-is at c.in-Err-Disagreed.ensures in
+    let told = rw c.in-Err-Vetoed.field-0-is at c.in-Err-Vetoed.ensures in
     rw (one_written now.main c.args.op.now now told.1.0) (told.0, told.1.1)

@@ -4,13 +4,13 @@ use Rattle.cap_core.proofs.MakeLemmas.{one_columns}
 use Rattle.cap_core.proofs.SoundLemmas.{note_each-stand}
 use Rattle.cap_core.proofs.server.Core.make.Goals as goal
 
-pub invariant_of-self-in-Ok-step_after : goal.invariant_of-self-in-Ok-step_after
-invariant_of-self-in-Ok-step_after g c =
+pub invariant_of-self-in-Ok-step_with_hook : goal.invariant_of-self-in-Ok-step_with_hook
+invariant_of-self-in-Ok-step_with_hook g c =
     let inside = c.self.inside in
-    let after = c.step_after.new.self in
-    let kept : KeepsColumns inside.main after = one_columns inside.main c.args.op.now c.tables_keep_columns.ensures.run after c.in-Ok-step_after.ensures.tables.0 in
+    let after = c.step_with_hook.new.self in
+    let kept : KeepsColumns inside.main after = one_columns inside.main c.args.op.now c.tables_keep_columns.ensures.run after c.in-Ok-step_with_hook.ensures.tables.0 in
     let all = note_each-stand inside.main after c.rows_stand.ensures kept c.args.changes.now inside.sessions.live c.self.invariant.2 in (
       omega (arith, c.self.invariant.0),
       omega (arith, c.self.invariant.1),
-      ap (sessions_stand after) (c.take_over.ensures ∙ c.in-Ok.ensures.noted) ∙ all,
+      ap (sessions_stand after) (c.publish.ensures ∙ c.in-Ok.ensures.staged) ∙ all,
     )

@@ -1,11 +1,11 @@
 use Rattle.std.proofs.Common.{arith, ap, length}
 use Rattle.cap_session.specs.Note.{note_diff}
 use Rattle.cap_session.specs.Sessions.{SessionsState}
-use Rattle.cap_session.proofs.PlaceLemmas.{changed, noted-back}
+use Rattle.cap_session.proofs.PlaceLemmas.{changed, staged-back}
 use Rattle.cap_session.proofs.sessions.Sessions.note_diff.Goals as goal
 
 pub returns : goal.returns
 returns g c =
-    let back = noted-back c.note_diff.result (changed c.args.number (note_diff c.args.name.now c.args.differences.now)) c.self.inside.sessions.items c.as_mut_slice.result.now c.note_diff.new.sessions c.self.inside.sessions.len c.args.self.now.live
-    (ap (λ (s : SessionsState g.row.A.Denot). s.live) c.self.view_is) c.as_mut_slice.ensures.value (omega (arith, c.as_mut_slice.ensures.len, ap length c.as_mut_slice.ensures.value)) c.note_diff.ensures.kept c.note_diff.ensures.noted in
-    record { kept = back.0; noted = back.1 }
+    let back = staged-back c.note_diff.result (changed c.args.number (note_diff c.args.name.now c.args.differences.now)) c.self.inside.sessions.items c.as_mut_slice.result.now c.note_diff.new.sessions c.self.inside.sessions.len c.args.self.now.live
+    (ap (λ (s : SessionsState g.row.A.Denot). s.live) c.self.view_is) c.as_mut_slice.ensures.value (omega (arith, c.as_mut_slice.ensures.len, ap length c.as_mut_slice.ensures.value)) c.note_diff.ensures.kept c.note_diff.ensures.staged in
+    record { kept = back.0; staged = back.1 }

@@ -13,6 +13,6 @@ pub returns-in-Inner : goal.returns-in-Inner
 returns-in-Inner g c =
     let n = rw c.in-Inner.is at c.self.invariant in
     let view = rw c.in-Inner.is at c.self.view_is in
-    let within : 0 < length c.in-Inner.parts.items = omega (arith, c.in-Inner.parts.ok.0, n.0) in
+    let within : 0 < length c.in-Inner.children.items = omega (arith, c.in-Inner.children.ok.0, n.0) in
     let least = g.met.K.Exact.exact _ _ c.in_ok-least-in-Inner.ensures.cases in
-    rw (← ap (λ n. n.0) view) (inner_above g.K.Ord.cmp g.met.K.Ord.total _ c.in-Inner.parts.items 0 _ _ within c.index-in-Inner.ensures least n.2)
+    rw (← ap (λ n. n.0) view) (inner_above g.K.Ord.cmp g.met.K.Ord.total _ c.in-Inner.children.items 0 _ _ within c.index-in-Inner.ensures least n.2)

@@ -1,0 +1,41 @@
+//! Whether one change is applied.
+ghost use Rattle.std.specs.Prelude.{◌≡◌};
+ghost use Rattle.cap_apply.specs.Policy.{answer_to, is_made};
+
+use crate::{Answer, Conflict, ConflictKind, Policy};
+use cap_value::Refusal;
+
+// A change's number, counted from 0 over the whole blob, and the policy.
+#[derive(Clone, Copy, Drop)]
+pub(crate) struct Decision {
+    pub(crate) number: u64,
+    pub(crate) policy: Policy,
+}
+
+impl Decision {
+    // Whether the change is applied, by its conflict, if any.
+    pub(crate) fn is_made(self, conflict: Option<ConflictKind>) -> Result<bool, Refusal>
+        ensures { result ≡ is_made self.policy self.number conflict }
+    {
+        let Some(kind) = conflict else {
+            return Ok(true);
+        };
+        match (self.policy.answer(kind), kind) {
+            (Answer::Omit, _) => Ok(false),
+            (Answer::Abort, _) => Err(Refusal::Aborted { at: self.number }),
+            (Answer::Replace, ConflictKind::NotFound) => Err(Refusal::Misuse { at: self.number }),
+            (Answer::Replace, _) => Ok(true),
+        }
+    }
+
+    // The conflict of the change, and the answer to it.
+    pub(crate) fn conflict(self, kind: ConflictKind) -> Conflict
+        ensures { result ≡ record { change = self.number; kind = kind; answer = answer_to self.policy kind } }
+    {
+        Conflict {
+            change: self.number,
+            kind,
+            answer: self.policy.answer(kind),
+        }
+    }
+}

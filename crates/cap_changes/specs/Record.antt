@@ -1,7 +1,0 @@
--- The fields of a record.
-use Rattle.std.specs.Prelude.{List, Option}
-use Rattle.cap_value.specs.declared.value.Value.{Value}
-
--- one field a column, undefined where it is None
-abbrev pub RecordFields : Type 0 → Type 0
-RecordFields A = List (Option (Value A))

@@ -1,0 +1,30 @@
+-- The outcomes of the calls of a reader or a writer: a relation of the states before and after one call.
+use Rattle.std.specs.Prelude.{◌≡◌, ℕ, zero, suc, Result, Ok, Err}
+use Rattle.std.specs.IoError.{error_kind}
+use Rattle.std.specs.declared.io.Error.{Error}
+use Rattle.std.specs.declared.io.ErrorKind.TheVariants.{Interrupted}
+
+-- this many calls, each with this outcome
+abbrev pub Calls : {X : Type 0} → (X → X → Type 0) → ℕ → X → X → Type 0
+Calls went zero old new = old ≡ new
+Calls {X} went (suc n) old new = (before : X) × Calls went n old before × went before new
+
+-- any number of calls, each with this outcome
+abbrev pub AllWent : {X : Type 0} → (X → X → Type 0) → X → X → Type 0
+AllWent went old new = (n : ℕ) × Calls went n old new
+
+-- the last of some calls failed, and no other
+abbrev pub LastFailed : {X : Type 0} → (X → X → Type 0) → (X → X → Type 0) → X → X → Type 0
+LastFailed {X} went failed old new = (before : X) × AllWent went old before × failed before new
+
+-- a read fails where it answers an error other than an interruption
+abbrev pub ReportsRead : {X : Type 0} → (X → X → Type 0) → (X → X → Type 0) → Result ℕ Error → X → X → Type 0
+ReportsRead gave failed (Ok count) old new = gave old new
+ReportsRead gave failed (Err error) old new =
+    (error_kind error ≡ Interrupted → gave old new) × ((error_kind error ≡ Interrupted → ⊥) → failed old new)
+
+-- a write of at least one byte fails where it answers an error or takes none
+abbrev pub ReportsWrite : {X E : Type 0} → (X → X → Type 0) → (X → X → Type 0) → Result ℕ E → X → X → Type 0
+ReportsWrite took failed (Ok zero) old new = failed old new
+ReportsWrite took failed (Ok (suc count)) old new = took old new
+ReportsWrite took failed (Err error) old new = failed old new

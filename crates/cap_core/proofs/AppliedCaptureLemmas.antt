@@ -1,0 +1,557 @@
+-- A capture that is applied to a database with the first images gives main's rows.
+use Rattle.std.proofs.Common.{◌≡◌, ℕ, ◌+◌, Bool, true, false, cond, Option, Some, None, List, [], ◌∷◌, map, length, refl, sym, ap, ap₂, subst, ◌∙◌, arith, nat_eq, Less}
+use Rattle.std.specs.Prelude.{filter, not, option_and_then, ◌||◌}
+use Rattle.std.specs.Option.{option_map}
+use Rattle.std.specs.List.{AllByRecursion, cons_option, filter_map}
+use Rattle.std.specs.List.Sorted.{IsStrictlySortedBy}
+use Rattle.std.specs.Map.{keys_of}
+use Rattle.std.specs.Ordering.{eq_by_cmp, is_eq}
+use Rattle.std.specs.Cmp.Lexicographic.{bytes_decides}
+use Rattle.std.proofs.lemmas.Bool.Decides.{nat_tests}
+use Rattle.std.proofs.lemmas.List.{length-map}
+use Rattle.std.proofs.lemmas.List.Sums.{sum_by-cons}
+use Rattle.cap_value.specs.Bytes.{bytes_cmp, bytes_eq}
+use Rattle.cap_row.specs.Fields.{Fields}
+use Rattle.cap_row.specs.Key.{fields_cmp, fields_cmp-Equal, fields_eq}
+use Rattle.cap_changes.specs.Change.{change_of, new_field, old_field}
+use Rattle.cap_changes.specs.Column.{by_column}
+use Rattle.cap_changes.specs.Group.{TableChanges}
+use Rattle.cap_changes.specs.declared.row_change.RowChange.{RowChange}
+use Rattle.cap_changes.specs.declared.row_change.RowChange.TheVariants.{Update}
+use Rattle.cap_tree.specs.Tree.{IsOrdered, get}
+use Rattle.cap_table.specs.Sound.{IsRising, keyed_stands}
+use Rattle.cap_table.specs.Table.{TableState}
+use Rattle.cap_txn.specs.Read.{row_at}
+use Rattle.cap_txn.specs.Tables.{AreRising, Tables, schema_of, table_of}
+use Rattle.cap_changes.specs.Patch.{patch_list_of}
+use Rattle.cap_codec.specs.declared.read.Contents.{Contents}
+use Rattle.cap_codec.specs.declared.read.Contents.TheVariants.{Changes, Patches}
+use Rattle.cap_apply.specs.Captured.{AllAfter, AllBefore, AreOthers, GivesAllRowsNow, TableRows, changes_of as group_of_rows, total}
+use Rattle.cap_apply.specs.declared.policy.Policy.{Policy}
+use Rattle.cap_apply.specs.Difference.{AreApart, Difference, IsUnder, StandAfter, StandBefore}
+use Rattle.cap_session.specs.declared.record.Record.{Record}
+use Rattle.cap_session.specs.Records.{Records}
+use Rattle.cap_session.specs.Sessions.{session_numbered}
+use Rattle.cap_session.specs.Session.{AttachedTables, record_of, records_of as attached_records}
+use Rattle.cap_core.specs.declared.command.Command.TheVariants as command
+use Rattle.cap_core.specs.declared.reply.Reply.TheVariants.{Capture as Captured}
+use Rattle.cap_core.specs.Capture.{change_now, changes_of, group_of, session_changes, table_changes}
+use Rattle.cap_core.specs.Answer.{answer, capture_reply, state_after}
+use Rattle.cap_core.specs.AppliedCapture.{AppliesWhole, GivesRows, HoldsImages, but_keyed, changes_in}
+use Rattle.cap_core.specs.Flags.{is_dropped, sessions_made}
+use Rattle.cap_core.specs.History.{main}
+use Rattle.cap_core.specs.Past.{Past}
+use Rattle.cap_core.specs.Session.{session_of, sessions}
+use Rattle.cap_core.specs.Touch.{attach_list, attachings, first_of_each, touches, touches_of}
+use Rattle.cap_core.proofs.HistoryLemmas.{is_among, same_bytes, table_names}
+use Rattle.cap_core.proofs.KeyedLemmas.{ordered}
+use Rattle.cap_core.proofs.LawLemmas.{no_changes, truth}
+use Rattle.cap_core.proofs.NumberLemmas.{lookup-passing}
+use Rattle.cap_core.proofs.SessionLemmas.{kept}
+use Rattle.cap_core.proofs.SmallLemmas.{either_false, other_false}
+use Rattle.cap_core.proofs.SoundLemmas.{found-passes, stands-key_of, stands-wide}
+use Rattle.cap_core.proofs.TouchedLemmas.{fields_same, is_sorted-records_of, tied}
+
+-- ---- what is found among tables
+
+module _ {A : Type 0} where
+  pub found-rising : (tables : Tables A) (name : List ℕ) (table : TableState A) → AllByRecursion (λ named. IsRising named.1) tables → table_of tables name ≡ Some table → IsRising table
+  found-rising [] name table all found = cc
+  found-rising (named ∷ tables) name table all found =
+      elim (eq_by_cmp bytes_cmp name named.0) as (λ b. cond b (Some named.1) (table_of tables name) ≡ Some table → IsRising table) [
+        | true ↦ λ is. let same : named.1 ≡ table = cc in subst IsRising same all.0
+        | false ↦ λ is. found-rising tables name table all.1 is
+      ] found
+
+  -- a row that is found is a row of its table
+  under : (table : TableState A) → IsRising table → (key : Fields A) (row : Option (Fields A)) → get fields_cmp table.keyed key ≡ row → IsUnder table.schema key row
+  under table rising key None found = tt
+  under table rising key (Some row) found =
+      let stands = found-passes fields_cmp (λ entry. keyed_stands table.schema entry.0 entry.1) fields_same table.keyed key row rising.stand.keyed found in
+      (stands-wide table.schema key row stands, stands-key_of table.schema key row stands)
+
+  under-same : (flags schema : List Bool) (key : Fields A) (row : Option (Fields A)) → flags ≡ schema → IsUnder flags key row → IsUnder schema key row
+  under-same flags schema key row same is = subst (λ s. IsUnder s key row) same is
+
+  -- where there is no change, the row is the image
+  unchanged : (flags : List Bool) (indirect : Bool) (image now : Option (Fields A)) → change_of flags indirect image now ≡ None → image ≡ now
+  unchanged flags indirect None None none = refl
+  unchanged flags indirect None (Some now) none = cc
+  unchanged flags indirect (Some image) None none = cc
+  unchanged flags indirect (Some image) (Some now) none =
+      let changed : Option (RowChange A) = Some (Update indirect (by_column old_field flags image now) (by_column new_field flags image now)) in
+      elim (fields_eq image now) as (λ b. fields_eq image now ≡ b → cond b None changed ≡ None → Some image ≡ Some now) [
+        | true ↦ λ same _. ap Some (tied fields_cmp image now fields_same same)
+        | false ↦ λ _ is. cc
+      ] refl none
+
+-- ---- one table
+
+module _ {A : Type 0} (database now : TableState A) where
+  -- what a touched key shows, where its row differs
+  abbrev pub difference_at : Fields A × Record A → Option (RowChange A) → Option (Difference A)
+  difference_at touched change = option_map (λ c. record { key = touched.0; before = touched.1.image; after = get fields_cmp now.keyed touched.0; change = c }) change
+
+  abbrev pub differences : Records A → List (Difference A)
+  differences records = filter_map (λ touched. difference_at touched (change_now now touched)) records
+
+  changes-one : (touched : Fields A × Record A) (change : Option (RowChange A)) (ds : List (Difference A)) (changes : List (RowChange A)) → map (λ (d : Difference A). d.change) ds ≡ changes
+      → map (λ (d : Difference A). d.change) (cons_option (difference_at touched change) ds) ≡ cons_option change changes
+  changes-one touched None ds changes is = is
+  changes-one touched (Some change) ds changes is = ap (λ cs. change ∷ cs) is
+
+  pub changes-are : (records : Records A) → map (λ (d : Difference A). d.change) (differences records) ≡ filter_map (change_now now) records
+  changes-are [] = refl
+  changes-are (touched ∷ records) = changes-one touched (change_now now touched) (differences records) (filter_map (change_now now) records) (changes-are records)
+
+  -- a key that was not touched is apart from all differences
+  apart-one : (key : Fields A) (touched : Fields A × Record A) (change : Option (RowChange A)) (ds : List (Difference A)) → eq_by_cmp fields_cmp key touched.0 ≡ false → AreApart key ds
+      → AreApart key (cons_option (difference_at touched change) ds)
+  apart-one key touched None ds apart others = others
+  apart-one key touched (Some change) ds apart others =
+      (λ same. let e : true ≡ false = sym (ap is_eq ((fields_cmp-Equal key touched.0).1 same)) ∙ apart in cc, others)
+
+  pub apart-untouched : (records : Records A) (key : Fields A) → get fields_cmp records key ≡ None → AreApart key (differences records)
+  apart-untouched [] key none = tt
+  apart-untouched (touched ∷ records) key none =
+      elim (eq_by_cmp fields_cmp key touched.0) as (λ b. eq_by_cmp fields_cmp key touched.0 ≡ b → cond b (Some touched.1) (get fields_cmp records key) ≡ None → AreApart key (cons_option (difference_at touched (change_now now touched)) (differences records))) [
+        | true ↦ λ _ is. cc
+        | false ↦ λ apart is. apart-one key touched (change_now now touched) (differences records) apart (apart-untouched records key is)
+      ] refl none
+
+  -- ---- where keys rise, and the two tables stand
+
+  module _ (same : database.schema ≡ now.schema) (first : IsRising database) (last : IsRising now) where
+    after-head : (touched : Fields A × Record A) (records : Records A) → IsOrdered fields_cmp (touched ∷ records) → IsOrdered fields_cmp records
+    unfolding IsStrictlySortedBy
+    after-head touched records s = s.1
+
+    above : (x : Fields A) (records : Records A) → AllByRecursion (λ y. fields_cmp x y ≡ Less) (keys_of records) → get fields_cmp records x ≡ None
+    above x [] all = refl
+    above x (touched ∷ records) all = ap (λ r. cond (is_eq r) (Some touched.1) (get fields_cmp records x)) all.0 ∙ above x records all.1
+
+    not-later : (touched : Fields A × Record A) (records : Records A) → IsOrdered fields_cmp (touched ∷ records) → get fields_cmp records touched.0 ≡ None
+    unfolding IsStrictlySortedBy
+    not-later touched records s = above touched.0 records s.0
+
+    -- the first image of each touched key is in the table
+    abbrev Images : Records A → Type 0
+    Images records = (key : Fields A) (kept : Record A) → get fields_cmp records key ≡ Some kept → get fields_cmp database.keyed key ≡ kept.image
+
+    images-later : (touched : Fields A × Record A) (records : Records A) → IsOrdered fields_cmp (touched ∷ records) → Images (touched ∷ records) → Images records
+    images-later touched records s images key kept found =
+        elim (eq_by_cmp fields_cmp key touched.0) as (λ b. eq_by_cmp fields_cmp key touched.0 ≡ b → get fields_cmp database.keyed key ≡ kept.image) [
+          | true ↦ λ is. let e : None ≡ Some kept = sym (not-later touched records s) ∙ ap (get fields_cmp records) (sym (tied fields_cmp key touched.0 fields_same is)) ∙ found in cc
+          | false ↦ λ apart. images key kept (ap (λ b. cond b (Some touched.1) (get fields_cmp records key)) apart ∙ found)
+        ] refl
+
+    image-first : (touched : Fields A × Record A) (records : Records A) → Images (touched ∷ records) → get fields_cmp database.keyed touched.0 ≡ touched.1.image
+    image-first touched records images =
+        images touched.0 touched.1 (ap (λ b. cond b (Some touched.1) (get fields_cmp records touched.0)) (ap is_eq ((fields_cmp-Equal touched.0 touched.0).1 refl)))
+
+    stand-one : (touched : Fields A × Record A) (records : Records A) (change : Option (RowChange A)) → change_now now touched ≡ change → IsOrdered fields_cmp (touched ∷ records) → Images (touched ∷ records)
+        → StandBefore database.schema database (differences records) → StandBefore database.schema database (cons_option (difference_at touched change) (differences records))
+    stand-one touched records None is s images rest = rest
+    stand-one touched records (Some change) is s images rest =
+        let image = image-first touched records images in (
+          record {
+            before = under database first touched.0 touched.1.image image;
+            after = under-same now.schema database.schema touched.0 (get fields_cmp now.keyed touched.0) (sym same) (under now last touched.0 (get fields_cmp now.keyed touched.0) refl);
+            change = (touched.1.indirect, ap (λ schema. change_of schema touched.1.indirect touched.1.image (get fields_cmp now.keyed touched.0)) same ∙ is);
+          },
+          image,
+          apart-untouched records touched.0 (not-later touched records s),
+          rest,
+        )
+
+    pub stand-before : (records : Records A) → IsOrdered fields_cmp records → Images records → StandBefore database.schema database (differences records)
+    stand-before [] s images = tt
+    stand-before (touched ∷ records) s images =
+        stand-one touched records (change_now now touched) refl s images (stand-before records (after-head touched records s) (images-later touched records s images))
+
+    -- ---- what is left, by the differences
+
+    module _ (found : TableState A) where
+      after-one : (touched : Fields A × Record A) (change : Option (RowChange A)) (ds : List (Difference A)) → StandAfter found (cons_option (difference_at touched change) ds) → StandAfter found ds
+      after-one touched None ds after = after
+      after-one touched (Some change) ds after = after.1
+
+      after-here : (touched : Fields A × Record A) (change : RowChange A) (change_is : Option (RowChange A)) → change_is ≡ Some change → (ds : List (Difference A))
+          → StandAfter found (cons_option (difference_at touched change_is) ds) → get fields_cmp found.keyed touched.0 ≡ get fields_cmp now.keyed touched.0
+      after-here touched change None is ds after = cc
+      after-here touched change (Some other) is ds after = after.0
+
+      -- a key whose row differs
+      after-changed : (records : Records A) (key : Fields A) (kept : Record A) (change : RowChange A) → get fields_cmp records key ≡ Some kept → change_now now (key, kept) ≡ Some change
+          → StandAfter found (differences records) → get fields_cmp found.keyed key ≡ get fields_cmp now.keyed key
+      after-changed [] key kept change at is after = cc
+      after-changed (touched ∷ records) key kept change at is after =
+          elim (eq_by_cmp fields_cmp key touched.0) as (λ b. eq_by_cmp fields_cmp key touched.0 ≡ b → cond b (Some touched.1) (get fields_cmp records key) ≡ Some kept → get fields_cmp found.keyed key ≡ get fields_cmp now.keyed key) [
+            | true ↦ λ same_key e.
+                let keys : key ≡ touched.0 = tied fields_cmp key touched.0 fields_same same_key in
+                let values : touched.1 ≡ kept = cc in
+                ap (get fields_cmp found.keyed) keys
+                ∙ after-here touched change (change_now now touched) ((λ i. change_now now (sym keys i, values i)) ∙ is) (differences records) after
+                ∙ ap (get fields_cmp now.keyed) (sym keys)
+            | false ↦ λ _ e. after-changed records key kept change e is (after-one touched (change_now now touched) (differences records) after)
+          ] refl at
+
+      -- a key that was touched, and whose row does not differ
+      apart-unchanged : (records : Records A) (key : Fields A) (kept : Record A) → IsOrdered fields_cmp records → get fields_cmp records key ≡ Some kept → change_now now (key, kept) ≡ None → AreApart key (differences records)
+      apart-unchanged [] key kept s at none = tt
+      apart-unchanged (touched ∷ records) key kept s at none =
+          elim (eq_by_cmp fields_cmp key touched.0) as (λ b. eq_by_cmp fields_cmp key touched.0 ≡ b → cond b (Some touched.1) (get fields_cmp records key) ≡ Some kept
+          → AreApart key (cons_option (difference_at touched (change_now now touched)) (differences records))) [
+            | true ↦ λ same_key e.
+                let keys : key ≡ touched.0 = tied fields_cmp key touched.0 fields_same same_key in
+                let values : touched.1 ≡ kept = cc in
+                let nothing : change_now now touched ≡ None = (λ i. change_now now (sym keys i, values i)) ∙ none in
+                subst (λ c. AreApart key (cons_option (difference_at touched c) (differences records))) (sym nothing)
+                (subst (λ k. AreApart k (differences records)) (sym keys) (apart-untouched records touched.0 (not-later touched records s)))
+            | false ↦ λ apart e. apart-one key touched (change_now now touched) (differences records) apart (apart-unchanged records key kept (after-head touched records s) e none)
+          ] refl at
+
+      pub rows-touched : (records : Records A) → IsOrdered fields_cmp records → Images records → StandAfter found (differences records)
+          → ((key : Fields A) → AreApart key (differences records) → get fields_cmp found.keyed key ≡ get fields_cmp database.keyed key)
+          → (key : Fields A) (kept : Record A) → get fields_cmp records key ≡ Some kept → get fields_cmp found.keyed key ≡ get fields_cmp now.keyed key
+      rows-touched records s images after others key kept at =
+          elim (change_now now (key, kept)) as (λ c. change_now now (key, kept) ≡ c → get fields_cmp found.keyed key ≡ get fields_cmp now.keyed key) [
+            | None ↦ λ none.
+                others key (apart-unchanged records key kept s at none) ∙ images key kept at ∙ unchanged now.schema kept.indirect kept.image (get fields_cmp now.keyed key) none
+            | Some change ↦ λ is. after-changed records key kept change at is after
+          ] refl
+
+-- ---- all tables
+
+-- no name comes twice
+abbrev pub AreDistinct : List (List ℕ) → Type 0
+AreDistinct [] = Unit {0}
+AreDistinct (name ∷ names) = (is_among name names ≡ false) × AreDistinct names
+
+filter-absent : (name : List ℕ) (test : List ℕ → Bool) (names : List (List ℕ)) → is_among name names ≡ false → is_among name (filter test names) ≡ false
+filter-absent name test [] absent = refl
+filter-absent name test (other ∷ names) absent =
+    let rest = filter-absent name test names (other_false (bytes_eq name other) (is_among name names) absent) in
+    elim (test other) as (λ b. is_among name (cond b (other ∷ filter test names) (filter test names)) ≡ false) [
+      | true ↦ ap (λ b. b || is_among name (filter test names)) (either_false (bytes_eq name other) (is_among name names) absent) ∙ rest
+      | false ↦ rest
+    ]
+
+filter-distinct : (test : List ℕ → Bool) (names : List (List ℕ)) → AreDistinct names → AreDistinct (filter test names)
+filter-distinct test [] all = tt
+filter-distinct test (name ∷ names) all =
+    elim (test name) as (λ b. AreDistinct (cond b (name ∷ filter test names) (filter test names))) [
+      | true ↦ (filter-absent name test names all.0, filter-distinct test names all.1)
+      | false ↦ filter-distinct test names all.1
+    ]
+
+left-out : (name : List ℕ) (names : List (List ℕ)) → is_among name (filter (λ other. not (bytes_eq name other)) names) ≡ false
+left-out name [] = refl
+left-out name (other ∷ names) =
+    elim (bytes_eq name other) as (λ b. bytes_eq name other ≡ b → is_among name (cond (not b) (other ∷ filter (λ o. not (bytes_eq name o)) names) (filter (λ o. not (bytes_eq name o)) names)) ≡ false) [
+      | true ↦ λ _. left-out name names
+      | false ↦ λ apart. ap (λ b. b || is_among name (filter (λ o. not (bytes_eq name o)) names)) apart ∙ left-out name names
+    ] refl
+
+pub first_of_each-distinct : (names : List (List ℕ)) → AreDistinct (first_of_each names)
+first_of_each-distinct [] = tt
+first_of_each-distinct (name ∷ names) = (left-out name (first_of_each names), filter-distinct (λ other. not (bytes_eq name other)) (first_of_each names) (first_of_each-distinct names))
+
+module _ {A : Type 0} where
+  with-columns : (columns : List Bool) (found : Option (TableState A)) → option_map (λ table. table.schema) found ≡ Some columns → (table : TableState A) × (found ≡ Some table) × (table.schema ≡ columns)
+  with-columns columns None is = cc
+  with-columns columns (Some table) is = let same : table.schema ≡ columns = cc in (table, refl, same)
+
+  pub same_but_keyed : (found table : TableState A) → found.loose ≡ table.loose → found.schema ≡ table.schema → found.next_id ≡ table.next_id → but_keyed found ≡ but_keyed table
+  same_but_keyed found table loose columns next = λ i. record { schema = columns i; keyed = []; loose = loose i; next_id = next i }
+
+  some-changes : (name : List ℕ) (schema : List Bool) (change : RowChange A) (changes : List (RowChange A)) → group_of name schema (change ∷ changes) ≡ Some (record { table = name; schema = schema; changes = change ∷ changes })
+  some-changes name schema change changes =
+      let some : nat_eq (length (change ∷ changes)) 0 ≡ false = grind (arith, nat_tests) in
+      ap (λ b. cond b None (Some (record { table = name; schema = schema; changes = change ∷ changes }))) some
+
+  -- the names of attached tables
+  abbrev pub names_of : AttachedTables A → List (List ℕ)
+  names_of tables = map (λ attached. attached.0) tables
+
+  pub not-attached : (name : List ℕ) (tables : AttachedTables A) → is_among name (names_of tables) ≡ false → attached_records tables name ≡ None
+  not-attached name [] absent = refl
+  not-attached name (attached ∷ tables) absent =
+      ap (λ b. cond b (Some attached.1) (attached_records tables name)) (either_false (bytes_eq name attached.0) (is_among name (names_of tables)) absent)
+      ∙ not-attached name tables (other_false (bytes_eq name attached.0) (is_among name (names_of tables)) absent)
+
+  no-items : (ds : List (Difference A)) → map (λ (d : Difference A). d.change) ds ≡ [] → ds ≡ []
+  no-items [] none = refl
+  no-items (d ∷ ds) none = cc
+
+  pub total-is : (plan : List (TableRows A)) → total plan ≡ changes_in (map group_of_rows plan)
+  total-is [] = refl
+  total-is (t ∷ plan) = ap₂ (λ a b. a + b) (sym (length-map t.differences (λ (d : Difference A). d.change))) (total-is plan) ∙ sym (sum_by-cons (λ (group : TableChanges A). length group.changes) (group_of_rows t) (map group_of_rows plan))
+
+module _ {A : Type 0} (database main : Tables A) (rise : AreRising database) (main_rise : AreRising main) where
+  -- for each touched key of a table the database has the first image
+  record TableHolds (name : List ℕ) (records : Records A) : Type 0 where
+    sorted : IsOrdered fields_cmp records
+    columns : (key : Fields A) (kept : Record A) → get fields_cmp records key ≡ Some kept → (columns : List Bool) × (schema_of database name ≡ Some columns) × (schema_of main name ≡ Some columns)
+    images : (key : Fields A) (kept : Record A) → get fields_cmp records key ≡ Some kept → row_at database name key ≡ kept.image
+
+  -- what is left of a table
+  record TableGives (name : List ℕ) (records : Records A) (left : Tables A) : Type 0 where
+    rows : (key : Fields A) (kept : Record A) → get fields_cmp records key ≡ Some kept → row_at left name key ≡ row_at main name key
+    rest : (key : Fields A) → get fields_cmp records key ≡ None → row_at left name key ≡ row_at database name key
+    others : option_map but_keyed (table_of left name) ≡ option_map but_keyed (table_of database name)
+
+  -- the capture as differences of tables
+  record Plan (tables : AttachedTables A) : Type 0 where
+    plan : List (TableRows A)
+    is : map group_of_rows plan ≡ changes_of main tables
+    before : AllBefore plan database
+    names : (other : List ℕ) → attached_records tables other ≡ None → AreOthers other plan
+    after : (left : Tables A) → AllAfter plan left
+        → ((other : List ℕ) (records : Records A) → attached_records tables other ≡ Some records → AreOthers other plan → table_of left other ≡ table_of database other)
+        → (name : List ℕ) (records : Records A) → attached_records tables name ≡ Some records → TableGives name records left
+
+  -- a table of which nothing was touched
+  gives-untouched : (name : List ℕ) (left : Tables A) → table_of left name ≡ table_of database name → TableGives name [] left
+  gives-untouched name left same = record {
+    rows = λ key kept at. cc;
+    rest = λ key none. ap (option_and_then (λ t. get fields_cmp t.keyed key)) same;
+    others = ap (option_map but_keyed) same;
+  }
+
+  -- a table that has the rows of main at the keys that differ
+  gives-found : (name : List ℕ) (records : Records A) (first last found : TableState A) (left : Tables A) → TableHolds name records → table_of database name ≡ Some first → table_of main name ≡ Some last
+      → first.schema ≡ last.schema → table_of left name ≡ Some found → StandAfter found (differences first last records)
+      → ((key : Fields A) → AreApart key (differences first last records) → get fields_cmp found.keyed key ≡ get fields_cmp first.keyed key)
+      → but_keyed found ≡ but_keyed first → TableGives name records left
+  gives-found name records first last found left holds there now same at after others bare =
+      let images : (key : Fields A) (kept : Record A) → get fields_cmp records key ≡ Some kept → get fields_cmp first.keyed key ≡ kept.image =
+      λ key kept is. ap (option_and_then (λ t. get fields_cmp t.keyed key)) (sym there) ∙ holds.images key kept is in
+      record {
+        rows = λ key kept is.
+            ap (option_and_then (λ t. get fields_cmp t.keyed key)) at
+            ∙ rows-touched first last same (found-rising database name first rise.each there) (found-rising main name last main_rise.each now) found records holds.sorted images after others key kept is
+            ∙ ap (option_and_then (λ t. get fields_cmp t.keyed key)) (sym now);
+        rest = λ key none.
+            ap (option_and_then (λ t. get fields_cmp t.keyed key)) at
+            ∙ others key (apart-untouched first last records key none)
+            ∙ ap (option_and_then (λ t. get fields_cmp t.keyed key)) (sym there);
+        others = ap (option_map but_keyed) at ∙ ap Some bare ∙ ap (option_map but_keyed) (sym there);
+      }
+
+  -- an entry that is found in the rest is found in all, where no name comes twice
+  found-later : (attached : List ℕ × Records A) (tables : AttachedTables A) (name : List ℕ) (records : Records A) → is_among attached.0 (names_of tables) ≡ false → attached_records tables name ≡ Some records
+      → attached_records (attached ∷ tables) name ≡ Some records
+  found-later attached tables name records apart at =
+      elim (bytes_eq name attached.0) as (λ b. bytes_eq name attached.0 ≡ b → cond b (Some attached.1) (attached_records tables name) ≡ Some records) [
+        | true ↦ λ same. let e : None ≡ Some records = sym (not-attached attached.0 tables apart) ∙ ap (attached_records tables) (sym ((bytes_decides name attached.0).0 same)) ∙ at in cc
+        | false ↦ λ _. at
+      ] refl
+
+  found-here : (attached : List ℕ × Records A) (tables : AttachedTables A) → attached_records (attached ∷ tables) attached.0 ≡ Some attached.1
+  found-here attached tables = ap (λ b. cond b (Some attached.1) (attached_records tables attached.0)) (same_bytes attached.0)
+
+  absent-here : (attached : List ℕ × Records A) (tables : AttachedTables A) (other : List ℕ) → attached_records (attached ∷ tables) other ≡ None → (bytes_eq other attached.0 ≡ false) × (attached_records tables other ≡ None)
+  absent-here attached tables other none =
+      elim (bytes_eq other attached.0) as (λ b. cond b (Some attached.1) (attached_records tables other) ≡ None → (b ≡ false) × (attached_records tables other ≡ None)) [
+        | true ↦ λ is. cc
+        | false ↦ λ is. (refl, is)
+      ] none
+
+  apart_names : (other name : List ℕ) → bytes_eq other name ≡ false → other ≡ name → ⊥
+  apart_names other name apart same = let e : true ≡ false = sym (same_bytes name) ∙ ap (λ n. bytes_eq n name) (sym same) ∙ apart in cc
+
+  -- a table of which nothing differs is not in the plan
+  skipped-plan : (attached : List ℕ × Records A) (tables : AttachedTables A) → is_among attached.0 (names_of tables) ≡ false → table_changes attached (table_of main attached.0) ≡ None
+      → ((left : Tables A) → table_of left attached.0 ≡ table_of database attached.0 → TableGives attached.0 attached.1 left) → Plan tables → Plan (attached ∷ tables)
+  skipped-plan attached tables apart none gives rest = record {
+    plan = rest.plan;
+    is = rest.is ∙ ap (λ group. cons_option group (changes_of main tables)) (sym none);
+    before = rest.before;
+    names = λ other absent. rest.names other (absent-here attached tables other absent).1;
+    after = λ left after others name records at.
+        elim (bytes_eq name attached.0) as (λ b. bytes_eq name attached.0 ≡ b → cond b (Some attached.1) (attached_records tables name) ≡ Some records → TableGives name records left) [
+          | true ↦ λ same e.
+              let names : attached.0 ≡ name = sym ((bytes_decides name attached.0).0 same) in
+              let values : attached.1 ≡ records = cc in
+              subst (λ n. TableGives n records left) names
+              (subst (λ r. TableGives attached.0 r left) values
+              (gives left (others attached.0 attached.1 (found-here attached tables) (rest.names attached.0 (not-attached attached.0 tables apart)))))
+          | false ↦ λ _ e. rest.after left after (λ other found is. others other found (found-later attached tables other found apart is)) name records e
+        ] refl at;
+  }
+
+  -- a table of which a row differs
+  planned : (attached : List ℕ × Records A) (tables : AttachedTables A) → is_among attached.0 (names_of tables) ≡ false → (first last : TableState A) → table_of database attached.0 ≡ Some first
+      → table_of main attached.0 ≡ Some last → first.schema ≡ last.schema → TableHolds attached.0 attached.1
+      → (change : RowChange A) (changes : List (RowChange A)) → filter_map (change_now last) attached.1 ≡ change ∷ changes → Plan tables → Plan (attached ∷ tables)
+  planned attached tables apart first last there now same holds change changes some rest =
+      let ds = differences first last attached.1 in
+      let t : TableRows A = record { name = attached.0; table = first; differences = ds } in
+      let images : (key : Fields A) (kept : Record A) → get fields_cmp attached.1 key ≡ Some kept → get fields_cmp first.keyed key ≡ kept.image =
+      λ key kept is. ap (option_and_then (λ s. get fields_cmp s.keyed key)) (sym there) ∙ holds.images key kept is in
+      let first_rises = found-rising database attached.0 first rise.each there in
+      let here : table_changes attached (table_of main attached.0) ≡ Some (group_of_rows t) =
+      ap (table_changes attached) now
+      ∙ ap (group_of attached.0 last.schema) some
+      ∙ some-changes attached.0 last.schema change changes
+      ∙ (λ i. Some (record { table = attached.0; schema = sym same i; changes = (sym some ∙ sym (changes-are first last attached.1)) i })) in
+      record {
+        plan = t ∷ rest.plan;
+        is = ap (λ groups. group_of_rows t ∷ groups) rest.is ∙ ap (λ group. cons_option group (changes_of main tables)) (sym here);
+        before = (
+          record {
+            there = there;
+            rows = stand-before first last same first_rises (found-rising main attached.0 last main_rise.each now) attached.1 holds.sorted images;
+            ordered = ordered fields_cmp first.keyed first_rises.keys;
+          },
+          rest.names attached.0 (not-attached attached.0 tables apart),
+          rest.before,
+        );
+        names = λ other absent. let parts = absent-here attached tables other absent in (apart_names other attached.0 parts.0, rest.names other parts.1);
+        after = λ left after others name records at.
+            elim (bytes_eq name attached.0) as (λ b. bytes_eq name attached.0 ≡ b → cond b (Some attached.1) (attached_records tables name) ≡ Some records → TableGives name records left) [
+              | true ↦ λ same_name e.
+                  let names : attached.0 ≡ name = sym ((bytes_decides name attached.0).0 same_name) in
+                  let values : attached.1 ≡ records = cc in
+                  let rows = after.0 in
+                  subst (λ n. TableGives n records left) names
+                  (subst (λ r. TableGives attached.0 r left) values
+                  (gives-found attached.0 attached.1 first last rows.found left holds there now same rows.there rows.rows rows.other_rows (same_but_keyed rows.found first rows.loose rows.columns rows.next_id)))
+              | false ↦ λ apart_name e.
+                  rest.after left after.1
+                  (λ other found is away. others other found (found-later attached tables other found apart is) (
+                    λ same_name. let clash : None ≡ Some found = sym (not-attached attached.0 tables apart) ∙ ap (attached_records tables) (sym same_name) ∙ is in cc,
+                    away,
+                  ))
+                  name records e
+            ] refl at;
+      }
+
+  -- one attached table more
+  one-plan : (attached : List ℕ × Records A) (tables : AttachedTables A) → is_among attached.0 (names_of tables) ≡ false → TableHolds attached.0 attached.1 → Plan tables → Plan (attached ∷ tables)
+  one-plan (name, []) tables apart holds rest =
+      skipped-plan (name, []) tables apart (no_changes name (table_of main name)) (λ left same. gives-untouched name left same) rest
+  one-plan (name, touched ∷ records) tables apart holds rest =
+      let all = touched ∷ records in
+      let at : get fields_cmp all touched.0 ≡ Some touched.1 = ap (λ b. cond b (Some touched.1) (get fields_cmp records touched.0)) (ap is_eq ((fields_cmp-Equal touched.0 touched.0).1 refl)) in
+      let columns = holds.columns touched.0 touched.1 at in
+      let first = with-columns columns.0 (table_of database name) columns.1 in
+      let last = with-columns columns.0 (table_of main name) columns.2 in
+      let same : first.0.schema ≡ last.0.schema = first.2 ∙ sym last.2 in
+      elim (filter_map (change_now last.0) all) as (λ cs. filter_map (change_now last.0) all ≡ cs → Plan ((name, all) ∷ tables)) [
+        | [] ↦ λ none.
+            let no_differences : differences first.0 last.0 all ≡ [] = no-items (differences first.0 last.0 all) (changes-are first.0 last.0 all ∙ none) in
+            skipped-plan (name, all) tables apart (ap (table_changes (name, all)) last.1 ∙ ap (group_of name last.0.schema) none)
+            (λ left same_table. gives-found name all first.0 last.0 first.0 left holds first.1 last.1 same (same_table ∙ first.1) (subst (StandAfter first.0) (sym no_differences) tt) (λ key _. refl) refl)
+            rest
+        | change ∷ changes ↦ λ some. planned (name, all) tables apart first.0 last.0 first.1 last.1 same holds change changes some rest
+      ] refl
+
+  plan-of : (tables : AttachedTables A) → AreDistinct (names_of tables) → ((name : List ℕ) (records : Records A) → attached_records tables name ≡ Some records → TableHolds name records) → Plan tables
+  plan-of [] distinct holds = record { plan = []; is = refl; before = tt; names = λ other none. tt; after = λ left after others name records at. cc }
+  plan-of (attached ∷ tables) distinct holds =
+      one-plan attached tables distinct.0 (holds attached.0 attached.1 (found-here attached tables))
+      (plan-of tables distinct.1 (λ name records at. holds name records (found-later attached tables name records distinct.0 at)))
+
+  -- ---- a session's capture
+
+  module _ (tables : AttachedTables A) (distinct : AreDistinct (names_of tables)) (sorted : (name : List ℕ) (records : Records A) → attached_records tables name ≡ Some records → IsOrdered fields_cmp records)
+      (holds : HoldsImages database main tables) where
+    record_at : (name : List ℕ) (records : Records A) → attached_records tables name ≡ Some records → (key : Fields A) → record_of tables name key ≡ get fields_cmp records key
+    record_at name records at key = ap (option_and_then (λ found. get fields_cmp found key)) at
+
+    session-plan : Plan tables
+    session-plan = plan-of tables distinct (λ name records at. record {
+      sorted = sorted name records at;
+      columns = λ key kept is. holds.columns name key kept (record_at name records at key ∙ is);
+      images = λ key kept is. holds.images name key kept (record_at name records at key ∙ is);
+    })
+
+    gives-rows : (left : Tables A) → AllAfter session-plan.plan left → ((other : List ℕ) → AreOthers other session-plan.plan → table_of left other ≡ table_of database other) → GivesRows database main left tables
+    gives-rows left after others =
+        let each = session-plan.after left after (λ other records at apart. others other apart) in
+        record {
+          touched = λ name key kept is. elim (attached_records tables name) as (λ o. attached_records tables name ≡ o → row_at left name key ≡ row_at main name key) [
+            | None ↦ λ none. let clash : None ≡ Some kept = ap (option_and_then (λ found. get fields_cmp found key)) (sym none) ∙ is in cc
+            | Some records ↦ λ at. (each name records at).rows key kept (sym (record_at name records at key) ∙ is)
+          ] refl;
+          untouched = λ name key none. elim (attached_records tables name) as (λ o. attached_records tables name ≡ o → row_at left name key ≡ row_at database name key) [
+            | None ↦ λ absent. ap (option_and_then (λ t. get fields_cmp t.keyed key)) (others name (session-plan.names name absent))
+            | Some records ↦ λ at. (each name records at).rest key (sym (record_at name records at key) ∙ none)
+          ] refl;
+          others = λ name. elim (attached_records tables name) as (λ o. attached_records tables name ≡ o → option_map but_keyed (table_of left name) ≡ option_map but_keyed (table_of database name)) [
+            | None ↦ λ absent. ap (option_map but_keyed) (others name (session-plan.names name absent))
+            | Some records ↦ λ at. (each name records at).others
+          ] refl;
+        }
+
+module _ {A : Type 0} where
+  -- ---- the captures of a history
+
+  names-named : (records : List ℕ → Records A) (names : List (List ℕ)) → names_of (map (λ name. (name, records name)) names) ≡ names
+  names-named records [] = refl
+  names-named records (name ∷ names) = ap (λ ns. name ∷ ns) (names-named records names)
+
+  pub session-distinct : (past : Past A) (number : ℕ) → AreDistinct (names_of (session_of past number).tables)
+  session-distinct past number =
+      subst AreDistinct (sym (names-named (kept past number) (attach_list number past))) (first_of_each-distinct (table_names (attachings number past)))
+
+  pub records-named : (records : List ℕ → Records A) (names : List (List ℕ)) (name : List ℕ) (found : Records A) → attached_records (map (λ n. (n, records n)) names) name ≡ Some found → found ≡ records name
+  records-named records [] name found is = cc
+  records-named records (n ∷ names) name found is =
+      elim (bytes_eq name n) as (λ b. bytes_eq name n ≡ b → cond b (Some (records n)) (attached_records (map (λ k. (k, records k)) names) name) ≡ Some found → found ≡ records name) [
+        | true ↦ λ same e. let here : found ≡ records n = cc in here ∙ ap records (sym ((bytes_decides name n).0 same))
+        | false ↦ λ _ e. records-named records names name found e
+      ] refl is
+
+  pub session-sorted : (past : Past A) (number : ℕ) (name : List ℕ) (records : Records A) → attached_records (session_of past number).tables name ≡ Some records → IsOrdered fields_cmp records
+  session-sorted past number name records at =
+      subst (IsOrdered fields_cmp) (sym (records-named (kept past number) (attach_list number past) name records at))
+      (ordered fields_cmp (kept past number name) (truth _ (is_sorted-records_of (touches_of name (touches number past)))))
+
+  -- a capture has the changes of the session
+  captured : (past : Past A) (number : ℕ) (list : List (TableChanges A)) → answer (state_after past) (command.Capture number) ≡ Captured list → list ≡ session_changes (main past) (session_of past number)
+  captured past number list is =
+      elim (session_numbered (sessions past) number) as (λ o. session_numbered (sessions past) number ≡ o → capture_reply (main past) o ≡ Captured list → list ≡ session_changes (main past) (session_of past number)) [
+        | None ↦ λ _ e. cc
+        | Some session ↦ λ found e.
+            let told : session_changes (main past) session ≡ list = cc in
+            sym told ∙ ap (session_changes (main past)) (lookup-passing (λ k. not (is_dropped past k)) (session_of past) 1 (sessions_made past) number session found).1
+      ] refl is
+
+  -- what is applied as differences of tables
+  abbrev Gives : Policy → List (TableRows A) → Contents A → Tables A → Type 0
+  Gives policy plan blob database = GivesAllRowsNow policy plan blob database
+
+  module _ (past : Past A) (number : ℕ) (database : Tables A) (rise : AreRising database) (main_rise : AreRising (main past)) (holds : HoldsImages database (main past) (session_of past number).tables) where
+    abbrev planned_capture : Plan database (main past) rise main_rise (session_of past number).tables
+    planned_capture = session-plan database (main past) rise main_rise (session_of past number).tables (session-distinct past number) (session-sorted past number) holds
+
+    whole : (policy : Policy) (blob : Contents A) (list : List (TableChanges A)) → list ≡ session_changes (main past) (session_of past number) → Gives policy planned_capture.plan blob database
+        → AppliesWhole policy blob (changes_in list) database (main past) (session_of past number).tables
+    whole policy blob list is gives = (
+      gives.0,
+      gives.1,
+      gives-rows database (main past) rise main_rise (session_of past number).tables (session-distinct past number) (session-sorted past number) holds gives.0.database gives.2 gives.3,
+      gives.4 ∙ ap (λ n. record { applied = n; conflicts = []; omitted = []; skipped = [] }) (total-is planned_capture.plan ∙ ap changes_in (planned_capture.is ∙ sym is)),
+    )
+
+    -- the session's changes, with or without old values, as a changeset or as a patchset
+    pub changes_apply : (blob_of : List (TableChanges A) → Contents A)
+        → ((policy : Policy) (ts : List (TableRows A)) (tables : Tables A) → AllBefore ts tables → GivesAllRowsNow policy ts (blob_of (map group_of_rows ts)) tables)
+        → (policy : Policy) (list : List (TableChanges A)) → list ≡ session_changes (main past) (session_of past number)
+        → AppliesWhole policy (blob_of list) (changes_in list) database (main past) (session_of past number).tables
+    changes_apply blob_of law policy list told =
+        whole policy (blob_of list) list told
+        (subst (λ l. Gives policy planned_capture.plan (blob_of l) database) (planned_capture.is ∙ sym told) (law policy planned_capture.plan database planned_capture.before))
+
+    pub changeset_applies : ((policy : Policy) (ts : List (TableRows A)) (tables : Tables A) → AllBefore ts tables → GivesAllRowsNow policy ts (Changes (map group_of_rows ts)) tables)
+        → (policy : Policy) (list : List (TableChanges A)) → answer (state_after past) (command.Capture number) ≡ Captured list
+        → AppliesWhole policy (Changes list) (changes_in list) database (main past) (session_of past number).tables
+    changeset_applies law policy list is = changes_apply Changes law policy list (captured past number list is)
+
+    pub patchset_applies : ((policy : Policy) (ts : List (TableRows A)) (tables : Tables A) → AllBefore ts tables → GivesAllRowsNow policy ts (Patches (patch_list_of (map group_of_rows ts))) tables)
+        → (policy : Policy) (list : List (TableChanges A)) → answer (state_after past) (command.Capture number) ≡ Captured list
+        → AppliesWhole policy (Patches (patch_list_of list)) (changes_in list) database (main past) (session_of past number).tables
+    patchset_applies law policy list is = changes_apply (λ l. Patches (patch_list_of l)) law policy list (captured past number list is)

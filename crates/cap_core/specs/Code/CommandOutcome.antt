@@ -1,0 +1,34 @@
+-- The outcome of a command that asks a commit hook.
+use Rattle.std.specs.Prelude.{◌≡◌, ◌+◌, Result, Ok, Err, IsOk, List}
+use Rattle.cap_value.specs.Memory.{MatchFault}
+use Rattle.cap_value.specs.declared.memory.Fault.{Fault}
+use Rattle.cap_table.specs.NotMade.{MatchNotMade}
+use Rattle.cap_table.specs.declared.not_made.NotMade.{NotMade}
+use Rattle.cap_txn.specs.Operation.{step}
+use Rattle.cap_txn.specs.Tables.{Tables}
+use Rattle.cap_txn.specs.declared.change.Change.{Change}
+use Rattle.cap_txn.specs.declared.op.Op.{Op}
+use Rattle.cap_core.specs.declared.reply.Reply.{Reply}
+use Rattle.cap_core.specs.declared.reply.Reply.TheVariants.{Written}
+use Rattle.cap_core.specs.Answer.{State}
+use Rattle.cap_core.specs.Transition.{written}
+
+module _ {A S E : Type 0} (gives : S → Reply A → Result Unit E → S → Type 0) where
+  -- The hook allowed this reply, and this is the next state; or the hook refused, or memory ran out, and
+  -- nothing changed.
+  abbrev pub Reports : Reply A → State A → State A → State A → S → S → Result (Reply A) (Fault E) → Type 0
+  Reports reply next old new before after (Ok told) =
+      (told ≡ reply) × (new ≡ next) × gives before reply (Ok tt) after
+  Reports reply next old new before after (Err fault) =
+      (new ≡ old) × MatchFault fault (after ≡ before) (λ why. gives before reply (Err why) after)
+
+  -- The same of one operation in place, with these changes.
+  abbrev pub ReportsStep : Op A → List (Change A) → State A → State A → S → S → Result (Reply A) (NotMade E)
+      → Type 0
+  ReportsStep op changes old new before after (Ok told) =
+      (told ≡ Written (old.version + 1)) × gives before (Written (old.version + 1)) (Ok tt) after
+      × ((left : Tables A) × (step old.main op ≡ Ok left) × (new ≡ written old left changes))
+  ReportsStep op changes old new before after (Err fault) =
+      (new ≡ old) × MatchNotMade fault (λ why. (step old.main op ≡ Err why) × (after ≡ before))
+      (after ≡ before)
+      (λ why. IsOk (step old.main op) × gives before (Written (old.version + 1)) (Err why) after)

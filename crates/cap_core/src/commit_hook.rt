@@ -1,0 +1,85 @@
+//! The commit hook, which may refuse a command before it takes effect.
+ghost use Rattle.std.specs.Prelude.{◌≡◌, Result, Ok, IfErr, OnOk};
+ghost use Rattle.cap_core.specs.declared.reply.Reply.{Reply};
+ghost use Rattle.cap_value.specs.Memory.{MatchFault};
+
+use crate::Reply;
+use cap_value::{AllocHandle, Fault};
+
+/// A commit hook (sqlite3_commit_hook): asked before a command takes effect, when its reply is computed and
+/// all memory is reserved. Where it refuses, nothing changes.
+pub trait CommitHook<A: AllocHandle> {
+    /// Why it refuses.
+    type Refusal: Drop;
+
+    // Whether it may be asked about this reply.
+    ghost can_ask: { Self → Reply A → Type 0 };
+
+    // What it may answer to this reply, and its state after that.
+    ghost gives: { Self → Reply A → Result Unit Self.Refusal → Self → Type 0 };
+
+    /// Allows the command with this reply, or refuses it.
+    fn before_commit(&mut self, reply: &Reply<A>) -> Result<(), Self::Refusal>
+        requires { can_ask self.old reply.now }
+        ensures { gives self.old reply.now result self.new };
+}
+
+/// No refusal.
+#[derive(Drop)]
+pub enum Never {}
+
+/// The hook that allows every command.
+#[derive(Drop)]
+pub struct NoHook;
+
+impl<A: AllocHandle> CommitHook<A> for NoHook {
+    type Refusal = Never;
+
+    ghost use Rattle.std.specs.Prelude.{IsOk};
+
+    ghost can_ask = { λ hook reply. Unit {0} };
+
+    ghost gives = { λ old reply answer new. IsOk answer };
+
+    fn before_commit(&mut self, _reply: &Reply<A>) -> Result<(), Never> {
+        Ok(())
+    }
+}
+
+// Asks the hook about the reply, once.
+pub(crate) fn ask<A: AllocHandle, C: CommitHook<A>>(
+    hook: &mut C,
+    reply: &Reply<A>,
+) -> Result<(), Fault<C::Refusal>>
+    requires { C.can_ask hook.old reply.now }
+    ensures ok { OnOk result (C.gives hook.old reply.now (Ok tt) hook.new) }
+    ensures err { IfErr result (λ fault. MatchFault fault (hook.new ≡ hook.old)
+        (λ why. C.gives hook.old reply.now (Err why) hook.new)) }
+{
+    match hook.before_commit(reply) {
+        Ok(()) => Ok(()),
+        Err(why) => Err(Fault::Refused(why)),
+    }
+}
+
+// The hook as a tree asks it, with the reply to the command.
+#[derive(Drop)]
+pub(crate) struct ReplyHook<'a, 'b, A: AllocHandle, C: CommitHook<A>> {
+    pub(crate) reply: &'a Reply<A>,
+    pub(crate) hook: &'b mut C,
+}
+
+impl<'a, 'b, A: AllocHandle, C: CommitHook<A>> cap_tree::CommitHook for ReplyHook<'a, 'b, A, C> {
+    type Refusal = C::Refusal;
+
+    ghost use Rattle.std.specs.Prelude.{◌≡◌};
+
+    ghost can_ask = { λ own. C.can_ask own.hook.now own.reply.now };
+
+    ghost gives = { λ old answer new. (new.hook.ghost_name ≡ old.hook.ghost_name)
+        × C.gives old.hook.now old.reply.now answer new.hook.now };
+
+    fn before_commit(&mut self) -> Result<(), C::Refusal> {
+        self.hook.before_commit(self.reply)
+    }
+}

@@ -1,0 +1,39 @@
+//! What the command line asks for.
+ghost use Rattle.std.specs.Prelude.{◌≡◌};
+ghost use Rattle.cap_run.specs.Options.{options_status};
+
+/// What the program does.
+#[derive(Clone, Copy, Debug, PartialEq, Eq, Drop)]
+pub enum Options {
+    /// Run the workload on standard input.
+    Run {
+        /// The number of workers for the lines that begin with `@K`: 1 to 63.
+        threads: u64,
+    },
+    /// Show the blob on standard input.
+    Show,
+}
+
+/// Why the program ends without a run.
+#[derive(Debug, Drop)]
+pub enum OptionsFault {
+    /// The words are refused, with this message.
+    Refused(String),
+    /// The words ask for this help or version text.
+    Help(String),
+    /// Out of memory.
+    Memory,
+}
+
+impl OptionsFault {
+    /// The exit status of the program: 2 where the words are refused, 0 for the help, and 3 out of memory.
+    pub fn status(&self) -> u8
+        ensures { result ≡ options_status self.now }
+    {
+        match self {
+            OptionsFault::Refused(_) => 2,
+            OptionsFault::Help(_) => 0,
+            OptionsFault::Memory => 3,
+        }
+    }
+}

@@ -1,5 +1,0 @@
-use Rattle.cap_server_tests.proofs.history.a_seat_behind_the_word_is_overtaken.Given as goal
-
--- the history that was just opened, and two seats
-abbrev pub ghosts-append_twice : goal.ghosts-append_twice
-ghosts-append_twice g a = record { book = a.opened.seen.book; seats = 2 }

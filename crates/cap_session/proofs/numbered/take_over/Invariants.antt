@@ -1,7 +1,0 @@
-use Rattle.std.proofs.Common.{◌≡◌, ◌++◌, take, drop}
-use Rattle.cap_session.specs.Code.Numbered.{live_of, waiting_of}
-use Rattle.cap_session.proofs.numbered.take_over.Given as goal
-
-abbrev pub invariant-loop-session : goal.invariant-loop-session
-invariant-loop-session g l =
-    live_of (take l.session-index l.sessions) ++ waiting_of (drop l.session-index l.sessions) ≡ waiting_of l.initial.sessions

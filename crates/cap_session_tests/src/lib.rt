@@ -1,8 +1,0 @@
-//! Tests of sessions and of the applier through their public calls. They stand in a crate of their own, since a crate's
-//! functions are proved once more with the tests that stand in it.
-#![tactic(auto)]
-
-#[cfg(test)]
-mod apply;
-#[cfg(test)]
-mod session;

@@ -1,0 +1,320 @@
+//! Operations on one table, in place. Each reserves all its memory before it changes anything.
+ghost use Rattle.std.specs.Prelude.{◌≡◌, ◌<◌, ◌^◌, length, IfOk, OnErr, IsTrue, Some, None, is_some};
+ghost use Rattle.std.specs.Ordering.{nat_cmp};
+ghost use Rattle.cap_value.specs.Memory.{AnswersUnlessMemory, LeavesUnlessMemory, RefusesFirst};
+ghost use Rattle.cap_row.specs.Key.{key_of, fields_cmp};
+ghost use Rattle.cap_row.specs.Row.{row_with};
+ghost use Rattle.cap_tree.specs.Tree.{get};
+ghost use Rattle.cap_table.specs.Operation.{insert_row, update_row, delete_row, moved, rekeyed, under_key, under_next_id, with_id, without, row_of, refused_delete, refused_insert, refused_update};
+
+use crate::table::{IDS_END, Table};
+use crate::{Replaced, RowRef};
+use cap_row::{Key, Row, are_columns, key_of};
+use cap_value::{AllocHandle, Fault, OutOfMemory, Refusal, Value};
+
+impl<A: AllocHandle> Table<A> {
+    /// Adds a row, and answers its primary key, or none where it has none and gets the next id.
+    ///
+    /// Refused with `WrongWidth` where the row has another width than the table, `Duplicate` where a row has its key
+    /// already, and `IdsSpent` where it has no key and the last id was given. On an error the table is as before.
+    pub fn insert(&mut self, row: Row<A>) -> Result<Option<Key<A>>, Fault<Refusal>>
+        ensures table { LeavesUnlessMemory result (insert_row self.old row) self.new }
+        ensures kept { OnErr result (self.new ≡ self.old) }
+        ensures key { IfOk result (λ key. key ≡ key_of self.old.schema row) }
+        ensures first { RefusesFirst (refused_insert self.old row) result }
+    {
+        if row.width() != self.schema.width() {
+            return Err(Fault::Refused(Refusal::WrongWidth));
+        }
+        let key = key_of(self.alloc, &self.schema, &row)?;
+        let answer = copy_of(&key)?;
+        match key {
+            Some(key) => self.put_new(key, row)?,
+            None => self.put_next(row)?,
+        }
+        Ok(answer)
+    }
+
+    /// Sets fields of the row of this name, each a column, counted from 0, and its new value. Answers the primary key
+    /// of the new row, or none, and the old row.
+    ///
+    /// Refused with `BadColumn` where a column is outside the table or named twice, `NoRow` where no row has the
+    /// name, `Duplicate` where another row has the new key, and `IdsSpent` where the row loses its key and the last
+    /// id was given. On an error the table is as before.
+    pub fn update(
+        &mut self,
+        name: &RowRef<A>,
+        fields: &[(usize, Value<A>)],
+    ) -> Result<Replaced<A>, Fault<Refusal>>
+        ensures table { LeavesUnlessMemory result (update_row self.old name.now fields.now) self.new }
+        ensures kept { OnErr result (self.new ≡ self.old) }
+        ensures row { IfOk result (λ replaced. row_of self.old name.now ≡ Some replaced.row) }
+        ensures key { IfOk result (λ replaced. replaced.key
+            ≡ key_of self.old.schema (row_with fields.now replaced.row)) }
+        ensures first { RefusesFirst (refused_update self.old name.now fields.now) result }
+    {
+        if !are_columns(self.schema.width(), fields) {
+            return Err(Fault::Refused(Refusal::BadColumn));
+        }
+        let Some(old) = self.get(name) else {
+            return Err(Fault::Refused(Refusal::NoRow));
+        };
+        let old = old.copy()?;
+        let row = old.with_fields(self.alloc, &self.schema, fields)?;
+        let key = key_of(self.alloc, &self.schema, &row)?;
+        let answer = copy_of(&key)?;
+        self.move_row(name, key, row)?;
+        Ok(Replaced {
+            key: answer,
+            row: old,
+        })
+    }
+
+    /// Removes the row of this name, and answers it.
+    ///
+    /// Refused with `NoRow` where no row has the name. On an error the table is as before.
+    pub fn delete(&mut self, name: &RowRef<A>) -> Result<Row<A>, Fault<Refusal>>
+        ensures table { LeavesUnlessMemory result (delete_row self.old name.now) self.new }
+        ensures kept { OnErr result (self.new ≡ self.old) }
+        ensures row { IfOk result (λ row. row_of self.old name.now ≡ Some row) }
+        ensures first { RefusesFirst (refused_delete self.old name.now) result }
+    {
+        let deleted = match name {
+            RowRef::Key(key) => self.delete_keyed(key),
+            RowRef::Loose(id) => self.delete_loose(*id),
+        };
+        match deleted {
+            Ok(row) => Ok(row),
+            Err(Fault::Refused(why)) => Err(Fault::Refused(why)),
+            Err(Fault::OutOfMemory) => match self.refused_delete(name) {
+                Some(why) => Err(Fault::Refused(why)),
+                None => Err(Fault::OutOfMemory),
+            },
+        }
+    }
+
+    fn delete_keyed(&mut self, key: &Key<A>) -> Result<Row<A>, Fault<Refusal>>
+        ensures table { LeavesUnlessMemory result (delete_row self.old (RowRef.Key key.now)) self.new }
+        ensures kept { OnErr result (self.new ≡ self.old) }
+        ensures row { IfOk result (λ row. get fields_cmp self.old.keyed key.now ≡ Some row) }
+    {
+        let Some(row) = self.keyed.remove(key)? else {
+            return Err(Fault::Refused(Refusal::NoRow));
+        };
+        Ok(row)
+    }
+
+    fn delete_loose(&mut self, id: u64) -> Result<Row<A>, Fault<Refusal>>
+        ensures table { LeavesUnlessMemory result (delete_row self.old (RowRef.Loose id)) self.new }
+        ensures kept { OnErr result (self.new ≡ self.old) }
+        ensures row { IfOk result (λ row. get nat_cmp self.old.loose id ≡ Some row) }
+    {
+        let Some(row) = self.loose.remove(&id)? else {
+            return Err(Fault::Refused(Refusal::NoRow));
+        };
+        Ok(row)
+    }
+
+    // The row replaces a row, and has this key or none.
+    fn move_row(
+        &mut self,
+        name: &RowRef<A>,
+        key: Option<Key<A>>,
+        row: Row<A>,
+    ) -> Result<(), Fault<Refusal>>
+        requires width { length row ≡ length self.old.schema }
+        requires key { key ≡ key_of self.old.schema row }
+        requires there { IsTrue (is_some (row_of self.old name.now)) }
+        ensures table { LeavesUnlessMemory result (moved self.old name.now row key) self.new }
+        ensures kept { OnErr result (self.new ≡ self.old) }
+    {
+        match (name, key) {
+            (RowRef::Key(old), Some(new)) => self.rekey(old, new, row),
+            (RowRef::Key(old), None) => self.loosen(old, row),
+            (RowRef::Loose(id), Some(new)) => self.give_up(*id, new, row),
+            (RowRef::Loose(id), None) => self.put_back(*id, row),
+        }
+    }
+
+    // A row under a key that no row has yet.
+    fn put_new(&mut self, key: Key<A>, row: Row<A>) -> Result<(), Fault<Refusal>>
+        requires width { length row ≡ length self.old.schema }
+        requires key { key_of self.old.schema row ≡ Some key }
+        ensures table { LeavesUnlessMemory result
+            (under_key (is_some (get fields_cmp self.old.keyed key)) self.old key row) self.new }
+        ensures kept { OnErr result (self.new ≡ self.old) }
+    {
+        if self.keyed.get(&key).is_some() {
+            return Err(Fault::Refused(Refusal::Duplicate));
+        }
+        self.keyed.insert(key, row)?;
+        Ok(())
+    }
+
+    // A row under the next id.
+    fn put_next(&mut self, row: Row<A>) -> Result<(), Fault<Refusal>>
+        requires width { length row ≡ length self.old.schema }
+        requires key { key_of self.old.schema row ≡ None }
+        ensures table { LeavesUnlessMemory result (under_next_id self.old row) self.new }
+        ensures kept { OnErr result (self.new ≡ self.old) }
+    {
+        if self.next_id >= IDS_END {
+            return Err(Fault::Refused(Refusal::IdsSpent));
+        }
+        self.loose.insert(self.next_id, row)?;
+        self.next_id += 1;
+        Ok(())
+    }
+
+    // A keyed row changes, and its key may.
+    fn rekey(&mut self, old: &Key<A>, new: Key<A>, row: Row<A>) -> Result<(), Fault<Refusal>>
+        requires width { length row ≡ length self.old.schema }
+        requires key { key_of self.old.schema row ≡ Some new }
+        ensures table { LeavesUnlessMemory result (rekeyed self.old old.now row new) self.new }
+        ensures kept { OnErr result (self.new ≡ self.old) }
+    {
+        if *old == new {
+            self.keyed.insert(new, row)?;
+            return Ok(());
+        }
+        if self.keyed.get(&new).is_some() {
+            return Err(Fault::Refused(Refusal::Duplicate));
+        }
+        let mut keyed = self.keyed.snapshot()?;
+        keyed.remove(old)?;
+        keyed.insert(new, row)?;
+        self.keyed = keyed;
+        Ok(())
+    }
+
+    // A keyed row loses its key.
+    fn loosen(&mut self, old: &Key<A>, row: Row<A>) -> Result<(), Fault<Refusal>>
+        requires width { length row ≡ length self.old.schema }
+        requires key { key_of self.old.schema row ≡ None }
+        ensures table { LeavesUnlessMemory result (under_next_id
+            (without self.old (RowRef.Key old.now)) row) self.new }
+        ensures kept { OnErr result (self.new ≡ self.old) }
+    {
+        if self.next_id >= IDS_END {
+            return Err(Fault::Refused(Refusal::IdsSpent));
+        }
+        let mut keyed = self.keyed.snapshot()?;
+        keyed.remove(old)?;
+        self.loose.insert(self.next_id, row)?;
+        self.keyed = keyed;
+        self.next_id += 1;
+        Ok(())
+    }
+
+    // A loose row gets a key, and gives its id up.
+    fn give_up(&mut self, id: u64, new: Key<A>, row: Row<A>) -> Result<(), Fault<Refusal>>
+        requires width { length row ≡ length self.old.schema }
+        requires key { key_of self.old.schema row ≡ Some new }
+        ensures table { LeavesUnlessMemory result (under_key (is_some (get fields_cmp self.old.keyed new))
+            (without self.old (RowRef.Loose id)) new row) self.new }
+        ensures kept { OnErr result (self.new ≡ self.old) }
+    {
+        if self.keyed.get(&new).is_some() {
+            return Err(Fault::Refused(Refusal::Duplicate));
+        }
+        let mut loose = self.loose.snapshot()?;
+        loose.remove(&id)?;
+        self.keyed.insert(new, row)?;
+        self.loose = loose;
+        Ok(())
+    }
+
+    // A loose row that stays loose.
+    fn put_back(&mut self, id: u64, row: Row<A>) -> Result<(), Fault<Refusal>>
+        requires width { length row ≡ length self.old.schema }
+        requires key { key_of self.old.schema row ≡ None }
+        requires there { IsTrue (is_some (get nat_cmp self.old.loose id)) }
+        ensures table { LeavesUnlessMemory result (Ok (with_id self.old id row)) self.new }
+        ensures kept { OnErr result (self.new ≡ self.old) }
+    {
+        self.loose.insert(id, row)?;
+        Ok(())
+    }
+
+    /// What an insert is refused before memory is needed.
+    pub fn refused_insert(&self, row: &Row<A>) -> Option<Refusal>
+        ensures { result ≡ refused_insert self.now row.now }
+    {
+        if row.width() == self.schema.width() {
+            return None;
+        }
+        Some(Refusal::WrongWidth)
+    }
+
+    /// What a delete is refused. It needs no memory.
+    pub fn refused_delete(&self, name: &RowRef<A>) -> Option<Refusal>
+        ensures { result ≡ refused_delete self.now name.now }
+    {
+        match self.get(name) {
+            Some(_) => None,
+            None => Some(Refusal::NoRow),
+        }
+    }
+
+    /// What an update is refused before memory is needed.
+    pub fn refused_update(&self, name: &RowRef<A>, fields: &[(usize, Value<A>)]) -> Option<Refusal>
+        ensures { result ≡ refused_update self.now name.now fields.now }
+    {
+        if !are_columns(self.schema.width(), fields) {
+            return Some(Refusal::BadColumn);
+        }
+        self.refused_delete(name)
+    }
+
+    /// The table after an insert, with `insert`'s refusals. This table stays as it is.
+    pub fn with_insert(&self, row: Row<A>) -> Result<Self, Fault<Refusal>>
+        ensures table { AnswersUnlessMemory result (insert_row self.now row) }
+        ensures first { RefusesFirst (refused_insert self.now row) result }
+    {
+        if let Some(why) = self.refused_insert(&row) {
+            return Err(Fault::Refused(why));
+        }
+        let mut table = self.snapshot()?;
+        table.insert(row)?;
+        Ok(table)
+    }
+
+    /// The table after an update, with `update`'s refusals. This table stays as it is.
+    pub fn with_update(
+        &self,
+        name: &RowRef<A>,
+        fields: &[(usize, Value<A>)],
+    ) -> Result<Self, Fault<Refusal>>
+        ensures table { AnswersUnlessMemory result (update_row self.now name.now fields.now) }
+        ensures first { RefusesFirst (refused_update self.now name.now fields.now) result }
+    {
+        if let Some(why) = self.refused_update(name, fields) {
+            return Err(Fault::Refused(why));
+        }
+        let mut table = self.snapshot()?;
+        table.update(name, fields)?;
+        Ok(table)
+    }
+
+    /// The table after a delete, with `delete`'s refusals. This table stays as it is.
+    pub fn with_delete(&self, name: &RowRef<A>) -> Result<Self, Fault<Refusal>>
+        ensures table { AnswersUnlessMemory result (delete_row self.now name.now) }
+        ensures first { RefusesFirst (refused_delete self.now name.now) result }
+    {
+        if let Some(why) = self.refused_delete(name) {
+            return Err(Fault::Refused(why));
+        }
+        let mut table = self.snapshot()?;
+        table.delete(name)?;
+        Ok(table)
+    }
+}
+
+fn copy_of<A: AllocHandle>(key: &Option<Key<A>>) -> Result<Option<Key<A>>, OutOfMemory>
+    ensures { IfOk result (λ copy. copy ≡ key.now) }
+{
+    match key {
+        None => Ok(None),
+        Some(key) => Ok(Some(key.copy()?)),
+    }
+}

@@ -1,0 +1,5 @@
+//! Tests of the applier through its public calls.
+#![tactic(auto)]
+
+#[cfg(test)]
+mod applier;

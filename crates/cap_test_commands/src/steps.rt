@@ -1,0 +1,161 @@
+//! Steps of the sequential server that are refused, by the commit hook or out of memory.
+use crate::calls::REQUESTS_MAX;
+use cap_core::{CommitHook, Core, NoHook, Reply};
+use cap_script::{Line, ScriptFault, parse, print_reply};
+use cap_test_support::Memory;
+use cap_value::{AllocHandle, Fault};
+use std::test::Fail;
+
+// A commit hook that counts how often it is asked, and allows the commit or refuses it.
+#[derive(Drop)]
+struct Counted {
+    allows: bool,
+    asked: u8,
+}
+
+impl<A: AllocHandle> CommitHook<A> for Counted {
+    type Refusal = ();
+
+    ghost can_ask = { λ hook reply. Unit {0} };
+
+    ghost gives = { λ old reply answer new. Unit {0} };
+
+    fn before_commit(&mut self, _reply: &Reply<A>) -> Result<(), ()> {
+        self.asked = self.asked.saturating_add(1);
+        if self.allows { Ok(()) } else { Err(()) }
+    }
+}
+
+// A table, a saved database, and three sessions, of which the first two attach the table and saw a row.
+const SERVER: &str = "create t kv\n\
+     commit insert t (1,10)\n\
+     save old\n\
+     commit insert t (2,20)\n\
+     session\n\
+     attach 1 t\n\
+     session\n\
+     attach 2 t\n\
+     session\n\
+     commit insert t (5,50)";
+
+// Commands to it, with whether they change anything, and whether they take memory.
+const COMMANDS: [(&str, bool, bool); 19] = [
+    ("commit insert t (3,30)", true, true),
+    ("commit update t key(1) set 1 = 11", true, true),
+    ("commit delete t key(2)", true, true),
+    ("commit insert t (4,40) ; delete t key(2)", true, true),
+    ("create u kv", true, true),
+    (
+        "apply x'54020100740012000100000000000000020301780900010000000000000001030179' \
+         omit replace replace",
+        true,
+        true,
+    ),
+    ("save a", true, true),
+    ("session", true, false),
+    ("drop 1", true, false),
+    ("attach 3 t", true, true),
+    ("attachall 3", true, false),
+    ("filter 3 is t", true, false),
+    ("enable 1 off", true, false),
+    ("indirect 1 on", true, false),
+    ("diff 3 old t", true, true),
+    ("restart 1", true, true),
+    ("changeset 1", false, true),
+    ("isempty 1", false, false),
+    ("scan t", false, true),
+];
+
+// Shows what they may change, on a server beside it.
+const CONTENT: &str = "scan t\n\
+     scan u\n\
+     changeset 1\n\
+     changeset 2\n\
+     changeset 3\n\
+     isempty 4\n\
+     enable 1 ask\n\
+     indirect 1 ask\n\
+     isempty 3\n\
+     commit insert t (9,90)\n\
+     isempty 3\n\
+     diff 2 a t\n\
+     changeset 2";
+
+// What a test's text may meet: out of memory, or a fault of the text.
+type Outcome<T> = Result<T, Fault<ScriptFault>>;
+
+// The texts of the replies to the commands of a workload, which are given to a server one after the other.
+pub(crate) fn give<A: AllocHandle>(alloc: A, core: &mut Core<A>, text: &str) -> Outcome<String<A>> {
+    let mut texts = String::new(alloc);
+    for line in &parse(alloc, text)?.lines {
+        if core.events() >= 1000 {
+            break;
+        }
+        match core.step(&line.command, &mut NoHook) {
+            Ok(reply) => texts.push_str(print_reply(alloc, line, &reply)?.as_str())?,
+            Err(_) => return Err(Fault::OutOfMemory),
+        }
+        texts.push_str("\n")?;
+    }
+    Ok(texts)
+}
+
+// The server as it is, with which it shares all memory.
+fn beside<A: AllocHandle>(alloc: A, core: &Core<A>) -> Outcome<Core<A>> {
+    match parse(alloc, "scan t")?.lines.first() {
+        Some(line) if core.events() < 1000 => {
+            let (beside, _reply) = core.prepare(&line.command)?;
+            Ok(beside)
+        }
+        _ => Err(Fault::OutOfMemory),
+    }
+}
+
+// What a server holds, in words.
+fn content<A: AllocHandle>(alloc: A, core: &Core<A>) -> Outcome<String<A>> {
+    give(alloc, &mut beside(alloc, core)?, CONTENT)
+}
+
+// Makes the step where there was room for it, and answers whether it was made and how often the hook was asked.
+fn step<A: AllocHandle>(core: &mut Core<A>, line: &Line<A>, allows: bool) -> (bool, u8) {
+    let mut hook = Counted { allows, asked: 0 };
+    let made = core.events() < 1000 && core.step(&line.command, &mut hook).is_ok();
+    (made, hook.asked)
+}
+
+// Each request of each command is refused, until the commit hook is asked, which refuses. Then it allows the commit.
+#[test]
+fn a_write_without_memory_or_vetoed_by_the_hook_changes_nothing(
+    rt: HostRuntime,
+) -> Result<(), Fail> {
+    let memory = Memory::new(rt.alloc());
+    for (command, changes, grows) in COMMANDS {
+        let mut core = Core::new(&memory);
+        give(&memory, &mut core, SERVER)?;
+        let before = content(&memory, &core)?;
+        let lines = parse(&memory, command)?.lines;
+        let line = lines.first().ok_or("no command")?;
+        let mut refused = 0;
+        for number in 1..REQUESTS_MAX {
+            // Every node is shared, so that a change needs memory.
+            let shared = beside(&memory, &core)?;
+            memory.refuse(number);
+            let stepped = step(&mut core, line, false);
+            let is_met = memory.has_refused();
+            memory.refuse(0);
+            drop(shared);
+            assert!(rt; core.events() == 10, "{command}");
+            assert!(rt; content(&memory, &core)?.as_str() == before.as_str());
+            assert!(rt; stepped == (false, !is_met as u8), "{command}");
+            if !is_met {
+                break;
+            }
+            refused = number;
+        }
+        assert!(rt; step(&mut core, line, true) == (true, 1), "{command}");
+        assert!(rt; core.events() == 11, "{command}");
+        let is_same = content(&memory, &core)?.as_str() == before.as_str();
+        assert!(rt; (is_same, refused > 0) == (!changes, grows), "{command}");
+    }
+    Ok(())
+}

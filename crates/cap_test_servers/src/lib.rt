@@ -1,0 +1,9 @@
+//! Tests of histories, and of the server over them, with real threads.
+#![tactic(auto)]
+
+#[cfg(test)]
+mod histories;
+#[cfg(test)]
+mod overtaken;
+#[cfg(test)]
+mod servers;

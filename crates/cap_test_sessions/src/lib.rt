@@ -1,0 +1,5 @@
+//! Tests of sessions through their public calls.
+#![tactic(auto)]
+
+#[cfg(test)]
+mod sessions;

@@ -1,0 +1,230 @@
+use cap_row::{Key, Row, Schema};
+use cap_table::{IDS_END, NotMade, RowName, RowRef, Table};
+use cap_tree::CommitHook;
+use cap_value::{AllocHandle, Fault, Refusal, Value};
+use linked_list_allocator::LocalHeap;
+use std::alloc::Global;
+use std::test::Fail;
+
+fn row<A: AllocHandle>(alloc: A, key: Option<i64>, text: &str) -> Result<Row<A>, Fault<Refusal>> {
+    let mut fields = Vec::new(alloc);
+    let key = match key {
+        None => Value::Null,
+        Some(key) => Value::Int(key),
+    };
+    let pushed = fields.push(key).is_ok() && fields.push(Value::text(alloc, text)?).is_ok();
+    if !pushed {
+        return Err(Fault::OutOfMemory);
+    }
+    Ok(Row::new(fields)?)
+}
+
+fn named<A: AllocHandle>(alloc: A, key: i64) -> Result<RowRef<A>, Fault<Refusal>> {
+    let mut fields = Vec::new(alloc);
+    if fields.push(Value::Int(key)).is_err() {
+        return Err(Fault::OutOfMemory);
+    }
+    match Key::new(alloc, fields)? {
+        Some(key) => Ok(RowRef::Key(key)),
+        None => Err(Fault::OutOfMemory),
+    }
+}
+
+fn kv<A: AllocHandle>(alloc: A) -> Result<Table<A>, Fault<Refusal>> {
+    Ok(Table::empty(alloc, Schema::new(alloc, &[true, false])?))
+}
+
+// Whether the row of this name has the text.
+fn has<A: AllocHandle>(table: &Table<A>, name: &RowRef<A>, text: &str) -> bool {
+    match table.get(name) {
+        None => false,
+        Some(row) => match row.get(1) {
+            Some(Value::Text(found)) => found.as_str() == text,
+            _ => false,
+        },
+    }
+}
+
+#[test]
+fn rows_move_between_keys_and_ids(rt: HostRuntime) -> Result<(), Fail> {
+    let alloc = rt.alloc();
+    let mut table = kv(alloc)?;
+    let seven = named(alloc, 7)?;
+    assert!(rt; table.insert(row(alloc, None, "a")?)?.is_none());
+    assert!(rt; has(&table, &RowRef::Loose(1), "a"));
+    assert!(rt; table.insert(row(alloc, None, "b")?)?.is_none());
+    assert!(rt; has(&table, &RowRef::Loose(2), "b"));
+    let to_seven = [(0, Value::Int(7))];
+    let replaced = table.update(&RowRef::Loose(1), &to_seven)?;
+    assert!(rt; replaced.key.is_some() && replaced.row.same(&row(alloc, None, "a")?));
+    assert!(rt; has(&table, &seven, "a") && table.get(&RowRef::Loose(1)).is_none());
+    table.insert(row(alloc, None, "c")?)?;
+    assert!(rt; has(&table, &RowRef::Loose(3), "c"));
+    let before = table.snapshot()?;
+    let replaced = table.update(&seven, &[(0, Value::Null)])?;
+    assert!(rt; replaced.key.is_none());
+    assert!(rt; has(&table, &RowRef::Loose(4), "a") && table.get(&seven).is_none());
+    let mut ids = Vec::new(alloc);
+    for (name, _) in table.scan() {
+        if let RowName::Loose(id) = name {
+            ids.push(id)?;
+        }
+    }
+    assert!(rt; ids.as_slice() == [2, 3, 4].as_slice());
+    assert!(rt; (table.scan().left(), table.next_id()) == (3, 5));
+    assert!(rt; has(&before, &seven, "a"));
+    assert!(rt;
+        has(
+            &before.with_update(&seven, &[(1, Value::text(alloc, "z")?)])?,
+            &seven,
+            "z"
+        )
+    );
+    assert!(rt; before.with_delete(&seven)?.get(&seven).is_none());
+    assert!(rt;
+        has(
+            &before.with_insert(row(alloc, Some(8), "y")?)?,
+            &named(alloc, 8)?,
+            "y"
+        )
+    );
+    assert!(rt;
+        table
+            .delete(&RowRef::Loose(3))?
+            .same(&row(alloc, None, "c")?)
+    );
+    Ok(())
+}
+
+#[test]
+fn keyed_rows_come_first(rt: HostRuntime) -> Result<(), Fail> {
+    let alloc = rt.alloc();
+    let mut table = kv(alloc)?;
+    table.insert(row(alloc, None, "n")?)?;
+    table.insert(row(alloc, Some(9), "x")?)?;
+    table.insert(row(alloc, Some(-9), "y")?)?;
+    let mut scan = table.scan();
+    let first = match scan.next() {
+        Some((RowName::Key(key), _)) => key.get(0) == Some(&Value::Int(-9)),
+        _ => false,
+    };
+    assert!(rt; first);
+    assert!(rt; scan.left() == 2);
+    assert!(rt; (table.keyed().len(), table.loose().len()) == (2, 1));
+    Ok(())
+}
+
+fn refusal<T: Drop>(answer: Result<T, Fault<Refusal>>) -> Option<Refusal> {
+    match answer {
+        Err(Fault::Refused(why)) => Some(why),
+        _ => None,
+    }
+}
+
+#[test]
+fn the_last_id_is_given_once(rt: HostRuntime) -> Result<(), Fail> {
+    let alloc = rt.alloc();
+    let schema = Schema::new(alloc, &[true, false])?;
+    let mut table = Table::with_next_id(alloc, schema, IDS_END - 1);
+    let one = named(alloc, 1)?;
+    table.insert(row(alloc, Some(1), "x")?)?;
+    table.insert(row(alloc, None, "a")?)?;
+    assert!(rt; has(&table, &RowRef::Loose(IDS_END - 1), "a"));
+    assert!(rt; refusal(table.insert(row(alloc, None, "b")?)) == Some(Refusal::IdsSpent));
+    assert!(rt; refusal(table.update(&one, &[(0, Value::Null)])) == Some(Refusal::IdsSpent));
+    table.update(&RowRef::Loose(IDS_END - 1), &[(1, Value::Int(5))])?;
+    assert!(rt; table.next_id() == IDS_END);
+    Ok(())
+}
+
+// A row that is inserted, changed and removed, in as much memory as the heap has.
+fn change(heap: &LocalHeap) -> Result<(), Fault<Refusal>> {
+    let mut table = kv(heap)?;
+    let one = named(heap, 1)?;
+    table.insert(row(heap, Some(1), "a text that is stored")?)?;
+    table.update(&one, &[(0, Value::Null)])?;
+    table.update(&RowRef::Loose(1), &[(0, Value::Int(1))])?;
+    table.delete(&one)?;
+    Ok(())
+}
+
+#[test]
+fn each_allocation_may_be_refused(rt: HostRuntime) -> Result<(), Fail> {
+    let mut enough = 0;
+    for size in 0..400usize {
+        let heap = LocalHeap::new(rt.alloc(), 16 * size)?;
+        match change(&heap) {
+            Ok(()) => {
+                enough = size;
+                break;
+            }
+            Err(fault) => assert!(rt; fault == Fault::OutOfMemory),
+        }
+        assert!(rt; heap.used() == 0);
+    }
+    assert!(rt; enough > 20, "{enough} blocks of 16 bytes were enough");
+    Ok(())
+}
+
+// A commit hook that counts how often it is asked, and allows or refuses.
+#[derive(Drop)]
+struct Counted {
+    allows: bool,
+    asked: u8,
+}
+
+impl CommitHook for Counted {
+    type Refusal = ();
+
+    ghost can_ask = { λ hook. Unit {0} };
+
+    ghost gives = { λ old answer new. Unit {0} };
+
+    fn before_commit(&mut self) -> Result<(), ()> {
+        self.asked = self.asked.saturating_add(1);
+        if self.allows { Ok(()) } else { Err(()) }
+    }
+}
+
+// Each change is tried with a hook that refuses, and then with one that allows it.
+#[test]
+fn changes_wait_for_the_commit_hook(rt: HostRuntime) -> Result<(), Fail> {
+    let alloc = rt.alloc();
+    let mut table = kv(alloc)?;
+    let (one, two) = (named(alloc, 1)?, named(alloc, 2)?);
+    let text = [(1, Value::text(alloc, "b")?)];
+    let key = [(0, Value::Int(2))];
+    let mut no = Counted {
+        allows: false,
+        asked: 0,
+    };
+    let mut yes = Counted {
+        allows: true,
+        asked: 0,
+    };
+    let vetoed = Err(NotMade::Vetoed(()));
+    let duplicate = Err(NotMade::Refused(Refusal::Duplicate));
+    let no_row = Err(NotMade::Refused(Refusal::NoRow));
+    assert!(rt; table.insert_with_hook(row(alloc, Some(1), "a")?, &mut no) == vetoed);
+    assert!(rt; table.get(&one).is_none());
+    assert!(rt; table.insert_with_hook(row(alloc, Some(1), "a")?, &mut yes) == Ok(()));
+    assert!(rt; table.insert_with_hook(row(alloc, Some(1), "c")?, &mut no) == duplicate);
+    assert!(rt; table.insert_with_hook(row(alloc, None, "l")?, &mut no) == vetoed);
+    assert!(rt; table.insert_with_hook(row(alloc, None, "l")?, &mut yes) == Ok(()));
+    assert!(rt; table.update_with_hook(&one, &text, &mut no) == vetoed);
+    assert!(rt; has(&table, &one, "a") && has(&table, &RowRef::Loose(1), "l"));
+    assert!(rt; table.update_with_hook(&one, &text, &mut yes) == Ok(()));
+    assert!(rt; table.update_with_hook(&one, &key, &mut no) == vetoed);
+    assert!(rt; has(&table, &one, "b") && table.get(&two).is_none());
+    assert!(rt; table.update_with_hook(&one, &key, &mut yes) == Ok(()));
+    assert!(rt; has(&table, &two, "b") && table.get(&one).is_none());
+    assert!(rt; table.update_with_hook(&one, &text, &mut no) == no_row);
+    assert!(rt; table.delete_with_hook(&one, &mut no) == no_row);
+    assert!(rt; table.delete_with_hook(&two, &mut no) == vetoed);
+    assert!(rt; has(&table, &two, "b"));
+    assert!(rt; table.delete_with_hook(&two, &mut yes) == Ok(()));
+    assert!(rt; table.delete_with_hook(&RowRef::Loose(1), &mut yes) == Ok(()));
+    assert!(rt; table.scan().left() == 0);
+    assert!(rt; (no.asked, yes.asked) == (5, 6));
+    Ok(())
+}

@@ -1,0 +1,5 @@
+//! Tests of trees through their public calls.
+#![tactic(auto)]
+
+#[cfg(test)]
+mod trees;

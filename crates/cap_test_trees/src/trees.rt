@@ -1,0 +1,293 @@
+use cap_tree::{CommitHook, Tree};
+use cap_value::{AllocHandle, Fault};
+use linked_list_allocator::LocalHeap;
+use std::alloc::{AllocError, Global};
+use std::collections::BTreeMap;
+use std::test::Fail;
+
+type Numbers<A> = Tree<u64, u64, A>;
+
+// The numbers from 1 up to `count`, each with ten times itself.
+fn rising<A: AllocHandle>(alloc: A, count: u64) -> Result<Numbers<A>, AllocError> {
+    let mut tree = Tree::empty(alloc);
+    for n in 1..=count {
+        tree = tree.put(n, n.wrapping_mul(10))?;
+    }
+    Ok(tree)
+}
+
+// Whether the tree has just those numbers.
+fn is_rising<A: AllocHandle>(tree: &Numbers<A>, count: u64) -> bool {
+    tree.len() == count as usize
+        && tree.iter().zip(1..=count).all(|((key, value), n)| *key == n
+            && *value == n.wrapping_mul(10))
+}
+
+#[test]
+fn even_numbers_taken_beside_a_snapshot(rt: HostRuntime) -> Result<(), Fail> {
+    let mut tree = rising(rt.alloc(), 1000)?;
+    let snapshot = tree.snapshot()?;
+    for n in 1..=500u64 {
+        tree = tree.take(&(n * 2))?;
+    }
+    assert_eq!(rt; tree.len(), 500);
+    assert_eq!(rt; tree.seek(&500).next(), Some((&501, &5010)));
+    assert_eq!(rt; tree.seek(&500).len(), 250);
+    assert!(rt; tree.height() <= 4, "height {}", tree.height());
+    assert!(rt; is_rising(&snapshot, 1000));
+    assert!(rt; snapshot.height() <= 3, "height {}", snapshot.height());
+    assert_eq!(rt; tree.first(), Some((&1, &10)));
+    assert_eq!(rt; tree.last(), Some((&999, &9990)));
+    Ok(())
+}
+
+#[test]
+fn each_call_succeeds_with_ample_memory(rt: HostRuntime) -> Result<(), Fail> {
+    let tree: Numbers<Global> = Tree::empty(rt.alloc());
+    assert!(rt; tree.is_empty() && tree.height() == 0);
+    assert_eq!(rt; tree.iter().next(), None);
+    let mut tree = tree.put(7, 70)?;
+    assert_eq!(rt; tree.insert(7, 71)?, Some(70));
+    assert_eq!(rt; tree.insert(8, 80)?, None);
+    assert_eq!(rt; tree.get(&7), Some(&71));
+    assert_eq!(rt; tree.remove(&7)?, Some(71));
+    assert_eq!(rt; tree.remove(&7)?, None);
+    assert_eq!(rt; tree.len(), 1);
+    Ok(())
+}
+
+#[test]
+fn a_tree_of_a_sorted_list(rt: HostRuntime) -> Result<(), Fail> {
+    for count in [0u64, 1, 2, 3, 100, 1000] {
+        let entries: Vec<(u64, u64)> = (1..=count)
+            .map(|n| (n, n.wrapping_mul(10)))
+            .collect(rt.alloc())?;
+        let Some(tree) = Tree::from_sorted(rt.alloc(), entries)? else {
+            return Err(Fail::from("a rising list is refused"));
+        };
+        assert!(rt; is_rising(&tree, count));
+        assert!(rt; tree.height() <= u64::from(u64::BITS - count.leading_zeros()));
+    }
+    let twice = vec![in rt.alloc(); (1, 10), (2, 20), (2, 30)]?;
+    assert!(rt; Tree::from_sorted(rt.alloc(), twice)?.is_none());
+    Ok(())
+}
+
+// A commit hook that allows or refuses, and counts how often it was asked.
+#[derive(Drop)]
+struct Step {
+    allows: bool,
+    asked: u32,
+}
+
+impl CommitHook for Step {
+    ghost use Rattle.std.specs.Prelude.{◌≡◌, MatchResult, true, false};
+
+    type Refusal = ();
+
+    ghost can_ask = { λ _. Unit {0} };
+
+    ghost gives = { λ s r _. MatchResult r (λ _. s.allows ≡ true) (λ _. s.allows ≡ false) };
+
+    fn before_commit(&mut self) -> Result<(), ()> {
+        self.asked = self.asked.wrapping_add(1);
+        if self.allows { Ok(()) } else { Err(()) }
+    }
+}
+
+fn counting_hook(allows: bool) -> Step {
+    Step { allows, asked: 0 }
+}
+
+// The changes that are refused their memory in turn: of a tree of the numbers up to 100.
+#[derive(Clone, Copy)]
+enum Change {
+    Insert,
+    Remove,
+    InsertAfter,
+}
+
+fn make_change<A: AllocHandle>(
+    tree: &mut Numbers<A>,
+    change: Change,
+    step: &mut Step,
+) -> Result<Option<u64>, Fault<()>> {
+    match change {
+        Change::Insert => Ok(tree.insert(101, 1010)?),
+        Change::Remove => Ok(tree.remove(&50)?),
+        Change::InsertAfter => tree.insert_with_hook(101, 1010, step),
+    }
+}
+
+fn undo_change<A: AllocHandle>(tree: &mut Numbers<A>, change: Change) -> Result<(), AllocError> {
+    match change {
+        Change::Insert | Change::InsertAfter => tree.remove(&101)?,
+        Change::Remove => tree.insert(50, 500)?,
+    };
+    Ok(())
+}
+
+type Block<'a> = Box<[u64; 2], &'a LocalHeap>;
+
+// Small blocks that fill the heap, but for as many as are to be free.
+fn blocks_but<'a>(
+    alloc: Global,
+    heap: &'a LocalHeap,
+    free: usize,
+) -> Result<Vec<Block<'a>>, AllocError> {
+    let mut blocks = Vec::new(alloc);
+    for _ in 0..2048 {
+        match Box::new(heap, [0u64; 2]) {
+            Ok(block) => blocks.push(block)?,
+            Err(_) => break,
+        }
+    }
+    blocks.truncate(blocks.len().saturating_sub(free));
+    Ok(blocks)
+}
+
+// Makes the change with so many small blocks of memory. Where it is refused them, the answer is how often the last step
+// was asked.
+fn starve<'a>(
+    alloc: Global,
+    heap: &'a LocalHeap,
+    tree: &mut Numbers<&'a LocalHeap>,
+    change: Change,
+    free: usize,
+) -> Result<Option<u32>, AllocError> {
+    let _blocks = blocks_but(alloc, heap, free)?;
+    let mut step = counting_hook(true);
+    match make_change(tree, change, &mut step) {
+        Ok(_) => Ok(None),
+        Err(_) => Ok(Some(step.asked)),
+    }
+}
+
+#[test]
+fn each_allocation_refused_in_turn(rt: HostRuntime) -> Result<(), Fail> {
+    let heap = LocalHeap::new(rt.alloc(), 16384)?;
+    let mut tree = rising(&heap, 100)?;
+    for change in [Change::Insert, Change::Remove, Change::InsertAfter] {
+        let mut refused = 0u32;
+        for free in 0..96usize {
+            // Every node is shared, so that a change needs memory.
+            let snapshot = tree.snapshot()?;
+            if let Some(asked) = starve(rt.alloc(), &heap, &mut tree, change, free)? {
+                refused = refused.saturating_add(1);
+                assert_eq!(rt; asked, 0);
+                assert!(rt; is_rising(&tree, 100));
+                assert!(rt; make_change(&mut tree, change, &mut counting_hook(true)).is_ok());
+            }
+            assert!(rt; is_rising(&snapshot, 100));
+            drop(snapshot);
+            undo_change(&mut tree, change)?;
+            assert!(rt; is_rising(&tree, 100));
+        }
+        assert!(rt; 4 < refused && refused < 96, "{refused}");
+    }
+    drop(tree);
+    assert_eq!(rt; heap.used(), 0);
+    Ok(())
+}
+
+// The next of a row of numbers that look random.
+fn next_random(seed: u64) -> u64 {
+    let mixed = seed ^ (seed << 13);
+    let mixed = mixed ^ (mixed >> 7);
+    mixed ^ (mixed << 17)
+}
+
+// Whether the tree has just those entries.
+fn has_just(tree: &Numbers<Global>, entries: &[(u64, u64)]) -> bool {
+    tree.len() == entries.len()
+        && tree
+            .iter()
+            .zip(entries.iter())
+            .all(|((key, value), entry)| *entry == (*key, *value))
+}
+
+// Nothing else holds a node that was made a tree's own, so no call wants for memory that is there.
+#[test]
+fn ten_thousand_changes_beside_a_map_and_snapshots(rt: HostRuntime) -> Result<(), Fail> {
+    let mut tree: Numbers<Global> = Tree::empty(rt.alloc());
+    let mut map = BTreeMap::new(rt.alloc());
+    let mut snapshots = Vec::new(rt.alloc());
+    let mut seed = 88_172_645_463_325_252u64;
+    for n in 0..10_000u64 {
+        seed = next_random(seed);
+        let key = seed % 512;
+        if seed % 3 == 0 {
+            assert_eq!(rt; tree.remove(&key)?, map.remove(&key));
+        } else {
+            assert_eq!(rt; tree.insert(key, n)?, map.insert(key, n)?);
+        }
+        if n % 500 == 0 {
+            let entries: Vec<(u64, u64)> = map
+                .iter()
+                .map(|(key, value)| (*key, *value))
+                .collect(rt.alloc())?;
+            snapshots.push((tree.snapshot()?, entries))?;
+        }
+    }
+    for (snapshot, entries) in &snapshots {
+        assert!(rt; has_just(snapshot, entries.as_slice()));
+    }
+    assert_eq!(rt; snapshots.len(), 20);
+    Ok(())
+}
+
+#[test]
+fn a_change_waits_for_one_answer(rt: HostRuntime) -> Result<(), Fail> {
+    let mut tree = rising(rt.alloc(), 100)?;
+    let (mut no, mut yes) = (counting_hook(false), counting_hook(true));
+    assert!(rt;
+        matches!(
+            tree.insert_with_hook(101, 1010, &mut no),
+            Err(Fault::Refused(()))
+        )
+    );
+    assert!(rt; matches!(tree.remove_with_hook(&50, &mut no), Err(Fault::Refused(()))));
+    assert_eq!(rt; no.asked, 2);
+    assert!(rt; is_rising(&tree, 100));
+    assert!(rt; matches!(tree.insert_with_hook(101, 1010, &mut yes), Ok(None)));
+    assert!(rt; is_rising(&tree, 101));
+    assert!(rt; matches!(tree.remove_with_hook(&101, &mut yes), Ok(Some(1010))));
+    assert!(rt; matches!(tree.remove_with_hook(&101, &mut yes), Ok(None)));
+    assert_eq!(rt; yes.asked, 3);
+    assert!(rt; is_rising(&tree, 100));
+    Ok(())
+}
+
+#[test]
+fn put_and_taken_in_each_direction(rt: HostRuntime) -> Result<(), Fail> {
+    let mut tree: Numbers<Global> = Tree::empty(rt.alloc());
+    for n in 0..3000u64 {
+        assert_eq!(rt; tree.insert(3000 - n, n)?, None);
+    }
+    assert!(rt; tree.height() <= 5, "height {}", tree.height());
+    for n in 0..1500u64 {
+        assert_eq!(rt; tree.remove(&(n + 1))?, Some(2999 - n));
+        assert_eq!(rt; tree.remove(&(3000 - n))?, Some(n));
+        assert_eq!(rt; tree.len() as u64, 2998 - 2 * n);
+    }
+    assert!(rt; tree.is_empty());
+    assert_eq!(rt;
+        (tree.height(), tree.first(), tree.iter().len()),
+        (0, None, 0)
+    );
+    Ok(())
+}
+
+// It stands in README.md too.
+#[test]
+fn a_snapshot_keeps_what_it_had(rt: HostRuntime) -> Result<(), Fail> {
+    let mut scores: Tree<u64, u64, Global> = Tree::empty(rt.alloc());
+    scores.insert(7, 70)?;
+    scores.insert(9, 90)?;
+    let before = scores.snapshot()?;
+    scores.insert(7, 71)?;
+    scores.remove(&9)?;
+    assert_eq!(rt; (scores.get(&7), scores.len()), (Some(&71), 1));
+    assert_eq!(rt; before.seek(&8).next(), Some((&9, &90)));
+    Ok(())
+}

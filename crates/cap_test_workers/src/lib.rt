@@ -1,0 +1,11 @@
+//! Tests of workloads on many threads, and of runs that meet refused memory or streams that fail.
+#![tactic(auto)]
+
+#[cfg(test)]
+mod memory;
+#[cfg(test)]
+mod rows;
+#[cfg(test)]
+mod streams;
+#[cfg(test)]
+mod workers;

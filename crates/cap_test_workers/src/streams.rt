@@ -1,0 +1,177 @@
+//! Readers and writers that fail, that are interrupted, and that give or take one byte at a time.
+use crate::rows::{CHANGESET, SHOWN};
+use cap_run::{NoGate, RunFault, run_core, run_workload, show_blob};
+use cap_test_support::{Failure, Sink, Source};
+use std::alloc::{AllocError, Global};
+use std::sync::Wait;
+use std::test::Fail;
+use std::thread::Threads;
+
+const WORKLOAD: &str =
+    "create t kv\ncommit insert t (2,'a')\nsession\nattach 1 t\n@3 commit insert t (1,'x')\ncommit update t key(2) set 1 = x'00ff'\nchangeset 1\nscan t\n";
+
+const REPLIES: &str =
+    "ok version 1\nok version 2\nsession 1\nok\nok version 3\nok version 4\nchangeset 5402010074001200010000000000000001030178170001000000000000000203016100040200ff\nrows 2\n(1,'x')\n(2,x'00ff')\n";
+
+// More calls than any run makes.
+const CALLS_MAX: u64 = 100_000;
+
+#[derive(Clone, Copy, Debug, Drop)]
+enum Program {
+    Core,
+    Workload,
+    Show,
+}
+
+// The programs, each with an input and its output.
+const PROGRAMS: [(Program, &str, &str); 3] = [
+    (Program::Core, WORKLOAD, REPLIES),
+    (Program::Workload, WORKLOAD, REPLIES),
+    (Program::Show, CHANGESET, SHOWN),
+];
+
+// Runs a program on these streams.
+fn run<T: Threads + Wait + Sync>(
+    rt: &T,
+    alloc: Global,
+    program: Program,
+    source: &mut Source<'_>,
+    sink: &mut Sink<Global>,
+) -> Result<(), RunFault> {
+    match program {
+        Program::Core => run_core(alloc, source, sink),
+        Program::Workload => run_workload(rt, alloc, &NoGate, 1, source, sink),
+        Program::Show => show_blob(alloc, source, sink),
+    }
+}
+
+// A reader of the text, of one byte at a time.
+fn source(text: &str, failure: Failure) -> Source<'_> {
+    Source {
+        bytes: text.as_bytes(),
+        most: 1,
+        failure,
+    }
+}
+
+// A writer of one byte at a time.
+fn sink(alloc: Global, failure: Failure) -> Sink<Global> {
+    Sink {
+        taken: Vec::new(alloc),
+        most: 1,
+        failure,
+        flush_fails: false,
+    }
+}
+
+// Nothing is run where a read fails. The reads after it would succeed.
+#[test]
+fn each_read_may_fail(rt: HostRuntime) -> Result<(), Fail> {
+    for (program, text, output) in PROGRAMS {
+        for call in 1..CALLS_MAX {
+            let mut reader = source(text, Failure::at(call));
+            let mut writer = sink(rt.alloc(), Failure::none());
+            let outcome = run(&rt, rt.alloc(), program, &mut reader, &mut writer);
+            if reader.failure.call > 0 {
+                assert_eq!(rt; outcome, Ok(()), "{program:?}");
+                assert_eq!(rt; writer.taken.as_slice(), output.as_bytes(), "{program:?}");
+                assert!(rt; call > 100);
+                break;
+            }
+            assert_eq!(rt; outcome, Err(RunFault::Read), "{program:?} {call}");
+            assert!(rt; writer.taken.is_empty(), "{program:?} {call}");
+        }
+    }
+    assert_eq!(rt; RunFault::Read.status(), 3);
+    Ok(())
+}
+
+// A beginning of the output is written where a write fails. The writes after it would succeed.
+#[test]
+fn each_write_may_fail(rt: HostRuntime) -> Result<(), Fail> {
+    for (program, text, output) in PROGRAMS {
+        for call in 1..CALLS_MAX {
+            let mut reader = source(text, Failure::none());
+            let mut writer = sink(rt.alloc(), Failure::at(call));
+            let outcome = run(&rt, rt.alloc(), program, &mut reader, &mut writer);
+            let taken = writer.taken.as_slice();
+            if writer.failure.call > 0 {
+                assert_eq!(rt; outcome, Ok(()), "{program:?}");
+                assert_eq!(rt; taken, output.as_bytes(), "{program:?}");
+                assert!(rt; call > 100);
+                break;
+            }
+            assert_eq!(rt; outcome, Err(RunFault::Write), "{program:?} {call}");
+            assert!(rt; output.as_bytes().starts_with(taken), "{program:?} {call}");
+        }
+    }
+    assert_eq!(rt; RunFault::Write.status(), 3);
+    Ok(())
+}
+
+// An interrupted read or write is made again.
+#[test]
+fn each_call_may_be_interrupted(rt: HostRuntime) -> Result<(), Fail> {
+    for (program, text, output) in PROGRAMS {
+        for call in 1..=text.len() as u64 {
+            let mut reader = source(text, Failure::interrupted(call));
+            let mut writer = sink(rt.alloc(), Failure::interrupted(call));
+            let outcome = run(&rt, rt.alloc(), program, &mut reader, &mut writer);
+            assert_eq!(rt; outcome, Ok(()), "{program:?} {call}");
+            assert_eq!(rt; writer.taken.as_slice(), output.as_bytes(), "{program:?}");
+        }
+    }
+    Ok(())
+}
+
+#[test]
+fn a_flush_that_fails(rt: HostRuntime) -> Result<(), Fail> {
+    for (program, text, output) in PROGRAMS {
+        let mut reader = source(text, Failure::none());
+        let mut writer = sink(rt.alloc(), Failure::none());
+        writer.flush_fails = true;
+        let outcome = run(&rt, rt.alloc(), program, &mut reader, &mut writer);
+        assert_eq!(rt; outcome, Err(RunFault::Write), "{program:?}");
+        assert_eq!(rt; writer.taken.as_slice(), output.as_bytes(), "{program:?}");
+    }
+    Ok(())
+}
+
+// The text so many times.
+fn repeated(alloc: Global, text: &str, count: usize) -> Result<String, AllocError> {
+    let mut whole = String::new(alloc);
+    for _ in 0..count {
+        whole.push_str(text)?;
+    }
+    Ok(whole)
+}
+
+// A long input and a long output, one byte at a time.
+#[test]
+fn many_replies(rt: HostRuntime) -> Result<(), Fail> {
+    let text = repeated(rt.alloc(), "attach 1 t\n", 1_000)?;
+    let replies = repeated(rt.alloc(), "refused: E18 NoSession\n", 1_000)?;
+    for program in [Program::Core, Program::Workload] {
+        let mut reader = source(text.as_str(), Failure::none());
+        let mut writer = sink(rt.alloc(), Failure::none());
+        let outcome = run(&rt, rt.alloc(), program, &mut reader, &mut writer);
+        assert_eq!(rt; outcome, Ok(()));
+        assert_eq!(rt; str::from_utf8(writer.taken.as_slice())?, replies.as_str());
+    }
+    Ok(())
+}
+
+// The faults of the text before its end are not looked for.
+#[test]
+fn bytes_that_are_no_text(rt: HostRuntime) -> Result<(), Fail> {
+    for program in [Program::Core, Program::Workload] {
+        let mut reader = source("", Failure::none());
+        reader.bytes = b"session\nfrob\n'\xff'";
+        let mut writer = sink(rt.alloc(), Failure::none());
+        let outcome = run(&rt, rt.alloc(), program, &mut reader, &mut writer);
+        assert_eq!(rt; outcome, Err(RunFault::NotUtf8));
+        assert!(rt; writer.taken.is_empty());
+    }
+    assert_eq!(rt; RunFault::NotUtf8.status(), 1);
+    Ok(())
+}

@@ -1,0 +1,17 @@
+use Rattle.std.proofs.Common.{refl}
+use Rattle.cap_tree.proofs.PutLemmas.{either_way}
+use Rattle.cap_tree.proofs.rebalance.merge_pair.Goals as goal
+
+pub returns : goal.returns
+returns g c =
+    let front = either_way c.in_ok-node.ensures.value in
+    let back = either_way c.in_ok-behind.ensures.value in
+    let kept = c.make_mut.follows.holds c.merge.new.front (rw c.in_ok-node.was refl) in
+    record {
+      least = refl;
+      back_least = refl;
+      err = tt;
+      back_err = tt;
+      whole = rw (kept, ← front, ← back) c.in_ok-merge.ensures.whole;
+      filled = rw kept c.len-length.ensures.filled;
+    }

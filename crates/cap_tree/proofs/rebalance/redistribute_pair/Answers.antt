@@ -1,0 +1,37 @@
+use Rattle.std.proofs.Common.{refl}
+use Rattle.cap_tree.proofs.PutLemmas.{either_way}
+use Rattle.cap_tree.proofs.rebalance.redistribute_pair.Goals as goal
+
+pub redistribute-requires : goal.redistribute-requires
+redistribute-requires g c =
+    let front = either_way c.in_ok-node.ensures.value in
+    let back = either_way c.in_ok-behind.ensures.value in
+    let r = c.requires in
+    rw (front, back) (record {
+      level = r.level;
+      some = r.some;
+      most = r.most;
+      back_most = r.back_most;
+      within = r.within;
+      uneven = r.uneven;
+      fits = r.fits;
+      ordered = r.ordered;
+      below = r.below;
+      not_below = r.not_below;
+    })
+
+pub returns : goal.returns
+returns g c =
+    let front = either_way c.in_ok-node.ensures.value in
+    let back = either_way c.in_ok-behind.ensures.value in
+    let kept = c.make_mut.follows.holds c.redistribute.new.front (rw c.in_ok-node.was refl) in
+    let kept_back = c.make_mut-2.follows.holds c.redistribute.new.back (rw c.in_ok-behind.was refl) in
+    record {
+      least = refl;
+      back_least = tt;
+      err = tt;
+      back_err = tt;
+      cut = rw (kept, kept_back, ← front, ← back) c.in_ok-least.ensures.cut;
+      filled = rw kept c.len.ensures.filled;
+      back_filled = rw kept_back c.len-2.ensures.filled;
+    }

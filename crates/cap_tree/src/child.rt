@@ -1,0 +1,110 @@
+//! Children as their node holds them.
+ghost use Rattle.std.specs.Prelude.{◌≡◌, ℕ, ◌+◌, ◌<◌, ◌≤◌, ◌^◌, length, vec_len, IfOk, true};
+ghost use Rattle.std.specs.Arc.{arc_value};
+ghost use Rattle.cap_tree.specs.Shape.{seen, entries_of, place, AreChildren, AreFit};
+
+use crate::node::{Child, MOST};
+use cap_value::{AllocHandle, Exact, OutOfMemory};
+use std::cmp::Ordering;
+use std::sync::Arc;
+
+// The same child once more.
+fn share<K: Ord + Exact + Drop, V: Drop, A: AllocHandle>(
+    child: &Child<K, V, A>,
+) -> Result<Child<K, V, A>, OutOfMemory>
+    ensures least { IfOk result (λ p. p.least ≡ child.now.least) }
+    ensures node { IfOk result (λ p. arc_value p.node ≡ arc_value child.now.node) }
+{
+    Ok(Child {
+        least: child.least.clone()?,
+        node: Arc::try_clone(&child.node)?,
+    })
+}
+
+// The same children, in a vector with room for as many as a node can have.
+pub(crate) fn copy_children<K: Ord + Exact + Drop, V: Drop, A: AllocHandle>(
+    children: &Vec<Child<K, V, A>, A>,
+) -> Result<Vec<Child<K, V, A>, A>, OutOfMemory>
+    requires { vec_len children.now ≤ 16 }
+    ensures items { IfOk result (λ r. seen r.items ≡ seen children.now.items) }
+    ensures len { IfOk result (λ r. vec_len r ≡ vec_len children.now) }
+{
+    let mut copies = Vec::with_capacity(*children.allocator(), MOST)?;
+    for child in children {
+        copies.push(share(child)?)?;
+    }
+    Ok(copies)
+}
+
+// The number of entries of the children.
+pub(crate) fn count_of<K: Ord, V, A: AllocHandle>(children: &[Child<K, V, A>]) -> usize
+    requires fits { length (entries_of (seen children.now)) < 2 ^ 64 }
+    ensures { result ≡ length (entries_of (seen children.now)) }
+{
+    let mut count = 0;
+    for child in children {
+        count += child.node.count();
+    }
+    count
+}
+
+// Whether the last child is not above the key.
+#[inline]
+fn is_up_to_last<K: Ord, V, A: AllocHandle>(children: &[Child<K, V, A>], key: &K) -> bool
+    ensures { (h : ℕ) → AreChildren K.cmp h (seen children.now) → result ≡ true
+        → place K.cmp key.now (seen children.now) ≡ length children.now }
+{
+    let Some(last) = children.last() else {
+        return true;
+    };
+    match key.cmp(&last.least) {
+        Ordering::Less => false,
+        Ordering::Equal | Ordering::Greater => true,
+    }
+}
+
+// How many of the children, from the first on, are not above the key. It looks at the last one first, since rising
+// keys belong there.
+#[inline]
+pub(crate) fn count_up_to<K: Ord, V, A: AllocHandle>(children: &[Child<K, V, A>], key: &K) -> usize
+    ensures within { result ≤ length children.now }
+    ensures place { (h : ℕ) → AreChildren K.cmp h (seen children.now)
+        → result ≡ place K.cmp key.now (seen children.now) }
+{
+    if is_up_to_last(children, key) {
+        return children.len();
+    }
+    let mut at = 0;
+    while at < children.len() {
+        match key.cmp(&children[at].least) {
+            Ordering::Less => return at,
+            Ordering::Equal | Ordering::Greater => at += 1,
+        }
+    }
+    at
+}
+
+// The child into which the key belongs. Where all are above it, the first one's least key becomes this one.
+pub(crate) fn child_index_for<K: Ord + Exact + Drop, V: Drop, A: AllocHandle>(
+    children: &mut Vec<Child<K, V, A>, A>,
+    height: u64,
+    key: &K,
+) -> Result<usize, OutOfMemory>
+    requires some { 0 < vec_len children.old }
+    requires children { AreChildren K.cmp height (seen children.old.items) }
+    ensures len { vec_len children.new ≡ vec_len children.old }
+    ensures entries { entries_of (seen children.new.items) ≡ entries_of (seen children.old.items) }
+    ensures children { AreChildren K.cmp height (seen children.new.items) }
+    ensures fit { AreFit (seen children.old.items) → AreFit (seen children.new.items) }
+    ensures place { IfOk result (λ i. place K.cmp key.now (seen children.new.items) ≡ i + 1) }
+    ensures within { IfOk result (λ i. i < vec_len children.new) }
+{
+    let at = count_up_to(children.as_slice(), key);
+    if at == 0 {
+        let least = key.clone()?;
+        let first = &mut children[0];
+        first.least = least;
+        return Ok(0);
+    }
+    Ok(at - 1)
+}

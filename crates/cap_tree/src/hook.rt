@@ -1,0 +1,113 @@
+//! Hooks that are shown what a change replaces.
+ghost use Rattle.std.specs.Prelude.{Option, Result, ◌≡◌, Some, None, Ok, Err, IfErr, OnOk};
+ghost use Rattle.std.specs.Option.{option_copied};
+ghost use Rattle.cap_value.specs.Memory.{MatchFault};
+
+use crate::commit_hook::CommitHook;
+use cap_value::Fault;
+
+/// A hook that is shown the present value of a key and its next one, and allows the change or refuses it. It may
+/// change itself.
+///
+/// A call that takes one asks it once, after all memory is reserved and before anything changes. Once it allows the
+/// change, the change cannot fail. If it refuses, nothing changes.
+pub trait Hook<V> {
+    /// Why the hook refuses.
+    type Refusal: Drop;
+
+    // When the hook may be asked, by the present value and the next one.
+    ghost can_ask: { Self → Option V → Option V → Type 0 };
+
+    // The hook before the call, the present value, the next one, the answer, and the hook after the call.
+    ghost gives: { Self → Option V → Option V → Result Unit Self.Refusal → Self → Type 0 };
+
+    fn before_change(&mut self, present: Option<&V>, next: Option<&V>) -> Result<(), Self::Refusal>
+        requires { can_ask self.old (option_copied present) (option_copied next) }
+        ensures { gives self.old (option_copied present.entry) (option_copied next.entry) result self.new };
+}
+
+// Asks the hook where a value is replaced by another.
+pub(crate) fn ask_to_replace<V, H: Hook<V>>(
+    hook: &mut H,
+    present: &V,
+    next: &V,
+) -> Result<(), Fault<H::Refusal>>
+    requires { H.can_ask hook.old (Some present.now) (Some next.now) }
+    ensures allowed { OnOk result (H.gives hook.old (Some present.now) (Some next.now) (Ok tt) hook.new) }
+    ensures refused { IfErr result (λ fault. MatchFault fault (hook.new ≡ hook.old)
+        (λ why. H.gives hook.old (Some present.now) (Some next.now) (Err why) hook.new)) }
+{
+    match hook.before_change(Some(present), Some(next)) {
+        Ok(()) => Ok(()),
+        Err(why) => Err(Fault::Refused(why)),
+    }
+}
+
+// Asks the hook where a key gets its first value.
+pub(crate) fn ask_to_put<V: Drop, H: Hook<V>>(
+    hook: &mut H,
+    next: &V,
+) -> Result<(), Fault<H::Refusal>>
+    requires { H.can_ask hook.old None (Some next.now) }
+    ensures allowed { OnOk result (H.gives hook.old None (Some next.now) (Ok tt) hook.new) }
+    ensures refused { IfErr result (λ fault. MatchFault fault (hook.new ≡ hook.old)
+        (λ why. H.gives hook.old None (Some next.now) (Err why) hook.new)) }
+{
+    let nothing: Option<V> = None;
+    match hook.before_change(nothing.as_ref(), Some(next)) {
+        Ok(()) => Ok(()),
+        Err(why) => Err(Fault::Refused(why)),
+    }
+}
+
+// Asks the hook where a value is removed.
+pub(crate) fn ask_to_take<V: Drop, H: Hook<V>>(
+    hook: &mut H,
+    present: &V,
+) -> Result<(), Fault<H::Refusal>>
+    requires { H.can_ask hook.old (Some present.now) None }
+    ensures allowed { OnOk result (H.gives hook.old (Some present.now) None (Ok tt) hook.new) }
+    ensures refused { IfErr result (λ fault. MatchFault fault (hook.new ≡ hook.old)
+        (λ why. H.gives hook.old (Some present.now) None (Err why) hook.new)) }
+{
+    let nothing: Option<V> = None;
+    match hook.before_change(Some(present), nothing.as_ref()) {
+        Ok(()) => Ok(()),
+        Err(why) => Err(Fault::Refused(why)),
+    }
+}
+
+// Asks the hook where there is nothing to remove.
+pub(crate) fn ask_to_keep<V: Drop, H: Hook<V>>(hook: &mut H) -> Result<(), Fault<H::Refusal>>
+    requires { H.can_ask hook.old None None }
+    ensures allowed { OnOk result (H.gives hook.old None None (Ok tt) hook.new) }
+    ensures refused { IfErr result (λ fault. MatchFault fault (hook.new ≡ hook.old)
+        (λ why. H.gives hook.old None None (Err why) hook.new)) }
+{
+    let nothing: Option<V> = None;
+    match hook.before_change(nothing.as_ref(), nothing.as_ref()) {
+        Ok(()) => Ok(()),
+        Err(why) => Err(Fault::Refused(why)),
+    }
+}
+
+// A commit hook as a hook: it is shown nothing.
+#[derive(Drop)]
+pub(crate) struct Unseen<'a, C: CommitHook> {
+    pub(crate) hook: &'a mut C,
+}
+
+impl<'a, V, C: CommitHook> Hook<V> for Unseen<'a, C> {
+    type Refusal = C::Refusal;
+
+    ghost use Rattle.std.specs.Prelude.{◌≡◌};
+
+    ghost can_ask = { λ hook present next. C.can_ask hook.hook.now };
+
+    ghost gives = { λ old present next answer new. (new.hook.ghost_name ≡ old.hook.ghost_name)
+        × C.gives old.hook.now answer new.hook.now };
+
+    fn before_change(&mut self, _present: Option<&V>, _next: Option<&V>) -> Result<(), C::Refusal> {
+        self.hook.before_commit()
+    }
+}
