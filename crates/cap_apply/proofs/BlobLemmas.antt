@@ -2,7 +2,7 @@
 use Rattle.std.proofs.Common.{◌≡◌, ℕ, ◌+◌, Bool, true, cond, Some, None, Ok, List, [], ◌∷◌, length, map, refl, sym, ap, ◌∙◌, arith}
 use Rattle.std.specs.Prelude.{is_some}
 use Rattle.cap_table.specs.Table.{TableState}
-use Rattle.cap_txn.specs.Tables.{Tables, table_of}
+use Rattle.cap_database.specs.Tables.{Tables, table_of}
 use Rattle.cap_changes.specs.Entries.{TableEntries}
 use Rattle.cap_changes.specs.Patch.{patch_list_of, patch_of}
 use Rattle.cap_codec.specs.declared.read.Contents.TheVariants.{Changes, Patches}

@@ -10,7 +10,7 @@ use Rattle.cap_row.specs.Fields.{Fields}
 use Rattle.cap_row.specs.Key.{fields_cmp, fields_eq, fields_eq_decides, is_key, key_fields, key_of}
 use Rattle.cap_tree.specs.Tree.{get}
 use Rattle.cap_table.specs.Table.{TableState}
-use Rattle.cap_txn.specs.Tables.{table_of}
+use Rattle.cap_database.specs.Tables.{table_of}
 use Rattle.cap_changes.specs.Change.{change_of, full_record, new_field, old_field}
 use Rattle.cap_changes.specs.Column.{by_column}
 use Rattle.cap_changes.specs.Invert.{inverse_of}

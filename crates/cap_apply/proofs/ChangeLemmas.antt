@@ -17,11 +17,11 @@ use Rattle.cap_tree.specs.Tree.{get, put_entry}
 use Rattle.cap_table.specs.Table.{TableState}
 use Rattle.cap_table.specs.Operation.{with_key, without}
 use Rattle.cap_table.specs.declared.row_ref.RowRef.TheVariants.{Key}
-use Rattle.cap_txn.specs.Operation.{changes_to}
-use Rattle.cap_txn.specs.Tables.{Tables, table_of}
-use Rattle.cap_txn.specs.declared.cause.Cause.TheVariants.{Direct}
-use Rattle.cap_txn.specs.declared.op.Action.TheVariants.{Insert, Update, Delete}
-use Rattle.cap_txn.specs.declared.op.Op.{Op}
+use Rattle.cap_database.specs.Operation.{changes_to}
+use Rattle.cap_database.specs.Tables.{Tables, table_of}
+use Rattle.cap_database.specs.declared.cause.Cause.TheVariants.{Direct}
+use Rattle.cap_database.specs.declared.op.Action.TheVariants.{Insert, Update, Delete}
+use Rattle.cap_database.specs.declared.op.Op.{Op}
 use Rattle.cap_changes.specs.Requirements.{requirements, satisfy}
 use Rattle.cap_changes.specs.Patch.{key_record}
 use Rattle.cap_changes.specs.FieldRecord.{RecordFields}

@@ -7,8 +7,8 @@ use Rattle.cap_row.specs.Fields.{Fields}
 use Rattle.cap_row.specs.Key.{fields_cmp}
 use Rattle.cap_tree.specs.Tree.{get, put_entry}
 use Rattle.cap_table.specs.Table.{TableState}
-use Rattle.cap_txn.specs.Tables.{Tables, schema_of, table_of}
-use Rattle.cap_txn.proofs.KeptLemmas.{schema_of-put}
+use Rattle.cap_database.specs.Tables.{Tables, schema_of, table_of}
+use Rattle.cap_database.proofs.KeptLemmas.{schema_of-put}
 use Rattle.cap_changes.specs.Entries.{TableEntries}
 use Rattle.cap_codec.specs.declared.read.Contents.{Contents}
 use Rattle.cap_apply.specs.Applied.{AppliedState}

@@ -7,8 +7,8 @@ use Rattle.cap_row.specs.Fields.{Fields}
 use Rattle.cap_row.specs.Key.{fields_cmp, fields_cmp_total, fields_cmp-Equal}
 use Rattle.cap_tree.specs.Tree.{IsOrdered, get, put_entry}
 use Rattle.cap_table.specs.Table.{TableState}
-use Rattle.cap_txn.specs.Tables.{Tables, table_of}
-use Rattle.cap_txn.proofs.PlaceLemmas.{ordered_put}
+use Rattle.cap_database.specs.Tables.{Tables, table_of}
+use Rattle.cap_database.proofs.PlaceLemmas.{ordered_put}
 use Rattle.cap_changes.specs.Patch.{patch_of}
 use Rattle.cap_apply.specs.Applied.{AppliedState}
 use Rattle.cap_apply.specs.Apply.{and_then, changes_applied, counted, with_row, with_row_in}

@@ -13,7 +13,7 @@ use Rattle.cap_row.specs.Key.{fields_cmp}
 use Rattle.cap_tree.specs.Tree.{get, put_entry}
 use Rattle.cap_value.specs.Memory.{LeavesUnlessMemory}
 use Rattle.cap_table.specs.Table.{TableState}
-use Rattle.cap_txn.specs.Tables.{Tables}
+use Rattle.cap_database.specs.Tables.{Tables}
 use Rattle.cap_changes.specs.Entries.{TableEntries}
 use Rattle.cap_apply.specs.Applied.{AppliedState}
 use Rattle.cap_apply.specs.Apply.{and_then, change_applied, change_in, changes_applied, concluded, counted, group_applied, groups_applied, left_out, noted, skipped, skipped_unless, with_row, with_row_in}

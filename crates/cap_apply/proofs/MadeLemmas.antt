@@ -8,12 +8,12 @@ use Rattle.cap_row.specs.Key.{fields_cmp, key_of}
 use Rattle.cap_row.specs.Schema.{has_key}
 use Rattle.cap_tree.specs.Tree.{get, put_entry}
 use Rattle.cap_table.specs.Table.{TableState}
-use Rattle.cap_txn.specs.Keyed.{GoesBack, IsOwnRow, row_set, set_in}
-use Rattle.cap_txn.specs.Keyed as keyed_in
-use Rattle.cap_txn.specs.Operation.{changes_to}
-use Rattle.cap_txn.specs.Read.{row_at}
-use Rattle.cap_txn.specs.Tables.{Tables, table_of}
-use Rattle.cap_txn.specs.declared.cause.Cause.TheVariants.{Direct}
+use Rattle.cap_database.specs.Keyed.{GoesBack, IsOwnRow, row_set, set_in}
+use Rattle.cap_database.specs.Keyed as keyed_in
+use Rattle.cap_database.specs.Operation.{changes_to}
+use Rattle.cap_database.specs.Read.{row_at}
+use Rattle.cap_database.specs.Tables.{Tables, table_of}
+use Rattle.cap_database.specs.declared.cause.Cause.TheVariants.{Direct}
 use Rattle.cap_changes.specs.Requirements.{requirements, satisfy}
 use Rattle.cap_changes.specs.FieldRecord.{RecordFields}
 use Rattle.cap_changes.specs.declared.patch.Patch.TheVariants as patched

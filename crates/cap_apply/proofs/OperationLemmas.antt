@@ -13,13 +13,13 @@ use Rattle.cap_tree.specs.Tree.{get, put_entry}
 use Rattle.cap_table.specs.Table.{TableState}
 use Rattle.cap_table.specs.Operation.{moved, placed, under_key, updated, with_key, without}
 use Rattle.cap_table.specs.declared.row_ref.RowRef.TheVariants.{Key}
-use Rattle.cap_txn.specs.Assigned.{Assigned}
-use Rattle.cap_txn.specs.Operation.{act, changed_keys, changes_in, changes_to, in_place, stepped, updated_keys}
-use Rattle.cap_txn.specs.Tables.{table_of}
-use Rattle.cap_txn.specs.declared.cause.Cause.TheVariants.{Direct}
-use Rattle.cap_txn.specs.declared.op.Action.{Action}
-use Rattle.cap_txn.specs.declared.op.Action.TheVariants.{Insert, Update, Delete}
-use Rattle.cap_txn.specs.declared.op.Op.{Op}
+use Rattle.cap_database.specs.Assigned.{Assigned}
+use Rattle.cap_database.specs.Operation.{act, changed_keys, changes_in, changes_to, in_place, stepped, updated_keys}
+use Rattle.cap_database.specs.Tables.{table_of}
+use Rattle.cap_database.specs.declared.cause.Cause.TheVariants.{Direct}
+use Rattle.cap_database.specs.declared.op.Action.{Action}
+use Rattle.cap_database.specs.declared.op.Action.TheVariants.{Insert, Update, Delete}
+use Rattle.cap_database.specs.declared.op.Op.{Op}
 use Rattle.cap_apply.specs.Applied.{AppliedState}
 use Rattle.cap_apply.specs.Operated.{operated, operated_by}
 

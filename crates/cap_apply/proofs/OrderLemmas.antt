@@ -16,11 +16,11 @@ use Rattle.cap_tree.specs.Tree.{get}
 use Rattle.cap_table.specs.Sound.{IsRising, keyed_stands}
 use Rattle.cap_table.specs.Table.{TableState}
 use Rattle.cap_table.specs.declared.row_ref.RowRef.TheVariants.{Key}
-use Rattle.cap_txn.specs.Operation.{changes, run, step}
-use Rattle.cap_txn.specs.Operation as operation
-use Rattle.cap_txn.specs.Tables.{AreRising, Tables, table_of}
-use Rattle.cap_txn.specs.declared.op.Action.TheVariants.{Delete, Insert, Update}
-use Rattle.cap_txn.specs.declared.op.Op.{Op}
+use Rattle.cap_database.specs.Operation.{changes, run, step}
+use Rattle.cap_database.specs.Operation as operation
+use Rattle.cap_database.specs.Tables.{AreRising, Tables, table_of}
+use Rattle.cap_database.specs.declared.op.Action.TheVariants.{Delete, Insert, Update}
+use Rattle.cap_database.specs.declared.op.Op.{Op}
 use Rattle.cap_changes.specs.Requirements.{requirements, satisfy, new_requirements}
 use Rattle.cap_changes.specs.Entries.{TableEntries}
 use Rattle.cap_changes.specs.Fits.{change_fits, patch_fits}

@@ -1,7 +1,7 @@
 -- The result of applying a blob.
 use Rattle.std.specs.Prelude.{List}
-use Rattle.cap_txn.specs.Tables.{Tables}
-use Rattle.cap_txn.specs.declared.change.Change.{Change}
+use Rattle.cap_database.specs.Tables.{Tables}
+use Rattle.cap_database.specs.declared.change.Change.{Change}
 use Rattle.cap_apply.specs.Report.{ReportState}
 
 -- the database after it, the changes to its rows, in order, and the report

@@ -9,9 +9,9 @@ use Rattle.cap_tree.specs.Tree.{get, put_entry}
 use Rattle.cap_table.specs.Table.{TableState}
 use Rattle.cap_table.specs.Operation.{with_key, without}
 use Rattle.cap_table.specs.declared.row_ref.RowRef.TheVariants.{Key}
-use Rattle.cap_txn.specs.Operation.{changes_to}
-use Rattle.cap_txn.specs.Tables.{Tables}
-use Rattle.cap_txn.specs.declared.cause.Cause.TheVariants.{Direct}
+use Rattle.cap_database.specs.Operation.{changes_to}
+use Rattle.cap_database.specs.Tables.{Tables}
+use Rattle.cap_database.specs.declared.cause.Cause.TheVariants.{Direct}
 use Rattle.cap_changes.specs.Entries.{TableEntries}
 use Rattle.cap_codec.specs.declared.read.Contents.{Contents}
 use Rattle.cap_apply.specs.Applied.{AppliedState}

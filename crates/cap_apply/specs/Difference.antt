@@ -4,7 +4,7 @@ use Rattle.cap_row.specs.Fields.{Fields}
 use Rattle.cap_row.specs.Key.{fields_cmp, key_of}
 use Rattle.cap_tree.specs.Tree.{IsOrdered, get}
 use Rattle.cap_table.specs.Table.{TableState}
-use Rattle.cap_txn.specs.Tables.{Tables, table_of}
+use Rattle.cap_database.specs.Tables.{Tables, table_of}
 use Rattle.cap_changes.specs.Change.{change_of}
 use Rattle.cap_changes.specs.Invert.{inverse_of}
 use Rattle.cap_changes.specs.Patch.{patch_of}

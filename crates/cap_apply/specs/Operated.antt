@@ -1,9 +1,9 @@
 -- One operation after what was applied so far: its changes follow the others.
 use Rattle.std.specs.Prelude.{◌++◌, Result, Ok, Err}
 use Rattle.cap_value.specs.declared.refusal.Refusal.{Refusal}
-use Rattle.cap_txn.specs.Operation.{changes, step}
-use Rattle.cap_txn.specs.Tables.{Tables}
-use Rattle.cap_txn.specs.declared.op.Op.{Op}
+use Rattle.cap_database.specs.Operation.{changes, step}
+use Rattle.cap_database.specs.Tables.{Tables}
+use Rattle.cap_database.specs.declared.op.Op.{Op}
 use Rattle.cap_apply.specs.Applied.{AppliedState}
 
 module _ {A : Type 0} where

@@ -1,9 +1,9 @@
 -- The steps of applying a change: a row is put or taken, and its change is added.
 use Rattle.std.specs.Prelude.{ℕ, ◌++◌, Option, List}
 use Rattle.cap_row.specs.Fields.{Fields}
-use Rattle.cap_txn.specs.Keyed.{row_set}
-use Rattle.cap_txn.specs.Operation.{changes_to}
-use Rattle.cap_txn.specs.declared.cause.Cause.TheVariants.{Direct}
+use Rattle.cap_database.specs.Keyed.{row_set}
+use Rattle.cap_database.specs.Operation.{changes_to}
+use Rattle.cap_database.specs.declared.cause.Cause.TheVariants.{Direct}
 use Rattle.cap_apply.specs.Applied.{AppliedState}
 
 module _ {A : Type 0} where

@@ -2,7 +2,7 @@
 use Rattle.std.specs.Prelude.{ℕ, Bool, Option, Some, None, List, length, take, drop, not, ◌&&◌, if◌then◌else◌}
 use Rattle.cap_row.specs.Schema.{flags_eq, has_key}
 use Rattle.cap_table.specs.Table.{TableState}
-use Rattle.cap_txn.specs.Tables.{Tables, table_of}
+use Rattle.cap_database.specs.Tables.{Tables, table_of}
 
 -- the table's first columns are those of the group, and no further one is in the key
 abbrev pub columns_fit : List Bool → List Bool → Bool

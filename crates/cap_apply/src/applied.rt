@@ -2,9 +2,9 @@
 ghost use Rattle.std.specs.Prelude.{◌≡◌, [], ◌∷◌, Some, None, IfOk, IfSome, IfNone, IsTrue, OnOk, is_some};
 ghost use Rattle.std.specs.Prelude.{if◌then◌else◌};
 ghost use Rattle.cap_value.specs.Memory.{AnswersUnlessMemory};
-ghost use Rattle.cap_txn.specs.Keyed.{GoesBack, IsOwnRow};
-ghost use Rattle.cap_txn.specs.Read.{row_at};
-ghost use Rattle.cap_txn.specs.Tables.{table_of};
+ghost use Rattle.cap_database.specs.Keyed.{GoesBack, IsOwnRow};
+ghost use Rattle.cap_database.specs.Read.{row_at};
+ghost use Rattle.cap_database.specs.Tables.{table_of};
 ghost use Rattle.cap_apply.specs.Apply.{counted, left_out, noted, nothing_applied, skipped};
 ghost use Rattle.cap_apply.specs.Policy.{is_made};
 ghost use Rattle.cap_apply.specs.Steps.{placed, with_changes};
@@ -13,8 +13,8 @@ ghost use Rattle.cap_apply.specs.Target.{target};
 use crate::decision::Decision;
 use crate::target::has_target;
 use crate::{ConflictKind, Report};
+use cap_database::{Cause, Change, Database};
 use cap_row::{Key, Row, Schema};
-use cap_txn::{Cause, Change, Database};
 use cap_value::{AllocHandle, Fault, Name, OutOfMemory, Refusal};
 use std::marker::Model;
 

@@ -11,7 +11,7 @@ use crate::entry::Apply;
 use crate::{Applied, Policy};
 use cap_changes::TableGroup;
 use cap_codec::Contents;
-use cap_txn::Database;
+use cap_database::Database;
 use cap_value::{AllocHandle, Fault, Refusal};
 
 /// Applies a changeset or a patchset under a policy (The Session Extension, "sqlite3changeset_apply").

@@ -1,7 +1,7 @@
 //! Laws of applying captured changes, over the definitions alone. The functions do nothing at run time.
 ghost use Rattle.std.specs.Prelude.{◌≡◌, ℕ, List, Ok, IfOk, map};
 ghost use Rattle.cap_table.specs.Table.{TableState};
-ghost use Rattle.cap_txn.specs.Tables.{AreRising, Tables, schema_of};
+ghost use Rattle.cap_database.specs.Tables.{AreRising, Tables, schema_of};
 ghost use Rattle.cap_changes.specs.Patch.{patch_list_of};
 ghost use Rattle.cap_codec.specs.Writable.{IsWritable};
 ghost use Rattle.cap_codec.specs.declared.read.Contents.{Contents};
@@ -14,7 +14,7 @@ ghost use Rattle.cap_apply.specs.Difference.{RowsBefore, turned};
 ghost use Rattle.cap_apply.specs.Captured.{AllBefore, GivesAllRowsNow, TableRows, changes_of};
 ghost use Rattle.cap_apply.specs.declared.policy.Policy.{Policy};
 
-use cap_txn::tables_keep_order;
+use cap_database::tables_keep_order;
 use cap_value::AllocHandle;
 
 /// A captured changeset, applied where each key has its first image, gives the rows now, under any policy: no

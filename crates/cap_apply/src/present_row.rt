@@ -4,13 +4,13 @@ ghost use Rattle.std.specs.Option.{option_copied};
 ghost use Rattle.cap_row.specs.Key.{fields_cmp};
 ghost use Rattle.cap_tree.specs.Tree.{get};
 ghost use Rattle.cap_table.specs.Table.{TableState};
-ghost use Rattle.cap_txn.specs.Tables.{table_of};
+ghost use Rattle.cap_database.specs.Tables.{table_of};
 ghost use Rattle.cap_apply.specs.Row.{missed};
 
 use crate::ConflictKind;
 use crate::fields::has_old_values;
+use cap_database::Database;
 use cap_row::{Key, Row};
-use cap_txn::Database;
 use cap_value::{AllocHandle, Name, Value};
 
 // How many columns the table has.

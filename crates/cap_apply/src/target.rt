@@ -3,8 +3,8 @@ ghost use Rattle.std.specs.Prelude.{◌≡◌, is_some};
 ghost use Rattle.cap_row.specs.Schema.{has_key};
 ghost use Rattle.cap_apply.specs.Target.{columns_fit, target};
 
+use cap_database::Database;
 use cap_row::Schema;
-use cap_txn::Database;
 use cap_value::{AllocHandle, Name};
 
 // Whether the database has a table for a group with this name and these columns.

@@ -3,9 +3,9 @@ use Rattle.std.specs.Prelude.{ℕ, ℤ, List, [], ◌∷◌}
 use Rattle.std.specs.Int.{w64, cast_signed}
 use Rattle.cap_row.specs.Fields.{Fields}
 use Rattle.cap_table.specs.declared.row_ref.RowRef.TheVariants.{Key}
-use Rattle.cap_txn.specs.declared.cause.Cause.TheVariants.{Direct}
-use Rattle.cap_txn.specs.declared.op.Action.TheVariants.{Insert, Update}
-use Rattle.cap_txn.specs.declared.op.Op.{Op}
+use Rattle.cap_database.specs.declared.cause.Cause.TheVariants.{Direct}
+use Rattle.cap_database.specs.declared.op.Action.TheVariants.{Insert, Update}
+use Rattle.cap_database.specs.declared.op.Op.{Op}
 use Rattle.cap_value.specs.declared.value.Value.TheVariants.{Int, Text}
 
 -- 't'

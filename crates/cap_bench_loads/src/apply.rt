@@ -7,7 +7,7 @@ use anyhow::{Context, Result, bail};
 use cap_apply::{Answer, Policy, apply};
 use cap_changes::{ChangeList, RowChange};
 use cap_codec::Contents;
-use cap_txn::Database;
+use cap_database::Database;
 use cap_value::Value;
 use std::alloc::Global;
 use std::time::CpuClock;

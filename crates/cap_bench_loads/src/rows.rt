@@ -3,9 +3,9 @@
 ghost use Rattle.std.specs.Prelude.{◌≡◌, IfSome};
 ghost use Rattle.cap_bench_loads.specs.Rows.{table_name, key_fields, row_fields, insert_of, update_of};
 
+use cap_database::{Action, Assignments, Cause, Op};
 use cap_row::{Key, Row};
 use cap_table::RowRef;
-use cap_txn::{Action, Assignments, Cause, Op};
 use cap_value::{Name, Value};
 use std::alloc::Global;
 

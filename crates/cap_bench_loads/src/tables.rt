@@ -4,9 +4,10 @@ use crate::clock::Stopwatch;
 use crate::keys::{Order, keys};
 use crate::rows::{COMMITS, insert, key_of, row, table, update};
 use anyhow::{Context, Result, bail};
+use cap_database::{Database, Op, run_ops};
 use cap_row::{Key, Row, Schema};
 use cap_tree::Tree;
-use cap_txn::{Database, OPS_MAX, Op, run_ops};
+use cap_txn::OPS_MAX;
 use std::alloc::Global;
 use std::time::CpuClock;
 

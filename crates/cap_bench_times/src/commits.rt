@@ -5,8 +5,9 @@ use cap_bench_loads::clock::Stopwatch;
 use cap_bench_loads::keys::{Order, keys};
 use cap_bench_loads::rows::{COMMITS, insert, table, update};
 use cap_core::{Command, Core, EVENTS_MAX, NoHook, Reply};
+use cap_database::{Op, Snapshot};
 use cap_row::Schema;
-use cap_txn::{Batch, Op, Snapshot};
+use cap_txn::Batch;
 use std::alloc::Global;
 use std::time::CpuClock;
 

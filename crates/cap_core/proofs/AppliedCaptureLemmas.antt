@@ -21,8 +21,8 @@ use Rattle.cap_changes.specs.declared.row_change.RowChange.TheVariants.{Update}
 use Rattle.cap_tree.specs.Tree.{IsOrdered, get}
 use Rattle.cap_table.specs.Sound.{IsRising, keyed_stands}
 use Rattle.cap_table.specs.Table.{TableState}
-use Rattle.cap_txn.specs.Read.{row_at}
-use Rattle.cap_txn.specs.Tables.{AreRising, Tables, schema_of, table_of}
+use Rattle.cap_database.specs.Read.{row_at}
+use Rattle.cap_database.specs.Tables.{AreRising, Tables, schema_of, table_of}
 use Rattle.cap_changes.specs.Patch.{patch_list_of}
 use Rattle.cap_codec.specs.declared.read.Contents.{Contents}
 use Rattle.cap_codec.specs.declared.read.Contents.TheVariants.{Changes, Patches}

@@ -10,7 +10,7 @@ use Rattle.cap_value.proofs.name.Name.TheSendSync as name
 use Rattle.cap_value.proofs.refusal.Refusal.TheSendSync as refusal
 use Rattle.cap_row.proofs.schema.Schema.TheSendSync as schema
 use Rattle.cap_tree.proofs.Crossing.{tree_send, tree_sync}
-use Rattle.cap_txn.proofs.Crossing.{database_send, database_sync, snapshot_send, snapshot_sync}
+use Rattle.cap_database.proofs.Crossing.{database_send, database_sync, snapshot_send, snapshot_sync}
 use Rattle.cap_txn.proofs.batch.Batch.TheSendSync as batch
 use Rattle.cap_filter.proofs.Crossing.{filter_send, filter_sync}
 use Rattle.cap_session.proofs.Crossing.{sessions_send, sessions_sync}

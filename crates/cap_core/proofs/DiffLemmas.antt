@@ -12,8 +12,8 @@ use Rattle.cap_tree.specs.Tree.{get}
 use Rattle.cap_compare.specs.Beside.{alone, beside, first_of, put_beside}
 use Rattle.cap_table.specs.Sound.{IsRising, keyed_stands}
 use Rattle.cap_table.specs.Table.{TableState}
-use Rattle.cap_txn.specs.Tables.{EachRises, Tables, table_of}
-use Rattle.cap_txn.proofs.KeptLemmas.{each-found}
+use Rattle.cap_database.specs.Tables.{EachRises, Tables, table_of}
+use Rattle.cap_database.proofs.KeptLemmas.{each-found}
 use Rattle.cap_compare.specs.Compare.{compare, difference_at, differences, image_at}
 use Rattle.cap_compare.specs.declared.difference.Difference.{Difference}
 use Rattle.cap_core.specs.Code.Sound.{differences_stand, image_stands}

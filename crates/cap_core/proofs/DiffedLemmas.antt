@@ -14,9 +14,9 @@ use Rattle.cap_row.specs.Key.{fields_cmp, fields_cmp_total, fields_eq}
 use Rattle.cap_row.specs.Schema.{flags_eq, has_key}
 use Rattle.cap_tree.specs.Tree.{IsOrdered, get, put_entry}
 use Rattle.cap_table.specs.Table.{TableState}
-use Rattle.cap_txn.specs.Batch.{SnapshotState}
-use Rattle.cap_txn.specs.Read.{row_at}
-use Rattle.cap_txn.specs.Tables.{AreRising, Tables, schema_of, table_of}
+use Rattle.cap_database.specs.Snapshot.{SnapshotState}
+use Rattle.cap_database.specs.Read.{row_at}
+use Rattle.cap_database.specs.Tables.{AreRising, Tables, schema_of, table_of}
 use Rattle.cap_compare.specs.Compare.{AreDifferences, compare, differences, image_at, image_of}
 use Rattle.cap_compare.specs.declared.difference.Difference.{Difference}
 use Rattle.cap_session.specs.declared.record.Record.{Record}

@@ -5,7 +5,7 @@ use Rattle.std.specs.Prelude.{filter}
 use Rattle.std.specs.Option.{unwrap_or}
 use Rattle.cap_value.specs.Bytes.{bytes_eq}
 use Rattle.cap_value.specs.declared.refusal.Refusal.{Refusal}
-use Rattle.cap_txn.specs.Batch.{SnapshotState}
+use Rattle.cap_database.specs.Snapshot.{SnapshotState}
 use Rattle.cap_filter.specs.Rule.{Rule}
 use Rattle.cap_compare.specs.declared.difference.Difference.{Difference}
 use Rattle.cap_session.specs.Note.{note, note_diff, touch_table, touches_found}

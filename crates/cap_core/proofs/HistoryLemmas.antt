@@ -11,8 +11,8 @@ use Rattle.std.proofs.Math.Bool.{or-true}
 use Rattle.std.specs.Cmp.Lexicographic.{bytes_decides, nat_list_eq_equiv}
 use Rattle.cap_value.specs.Bytes.{bytes_eq}
 use Rattle.cap_row.specs.Fields.{Fields}
-use Rattle.cap_txn.specs.Read.{row_at}
-use Rattle.cap_txn.specs.declared.change.Change.{Change}
+use Rattle.cap_database.specs.Read.{row_at}
+use Rattle.cap_database.specs.declared.change.Change.{Change}
 use Rattle.cap_compare.specs.declared.difference.Difference.{Difference}
 use Rattle.cap_session.specs.declared.rule.AutomaticRule.{AutomaticRule}
 use Rattle.cap_session.specs.Note.{attach_by, is_cascade, touches_of as told_by}

@@ -21,10 +21,10 @@ use Rattle.cap_changes.specs.declared.row_change.RowChange.TheVariants.{Insert a
 use Rattle.cap_tree.specs.Tree.{get, put_entry}
 use Rattle.cap_table.specs.Operation.{placed, under_key, with_key}
 use Rattle.cap_table.specs.Table.{TableState}
-use Rattle.cap_txn.specs.Operation.{and_then, changes_in, changes_to, in_place, run, stepped}
-use Rattle.cap_txn.specs.Read.{row_at}
-use Rattle.cap_txn.specs.Tables.{Tables, table_of}
-use Rattle.cap_txn.specs.declared.cause.Cause.TheVariants.{Direct}
+use Rattle.cap_database.specs.Operation.{and_then, changes_in, changes_to, in_place, run, stepped}
+use Rattle.cap_database.specs.Read.{row_at}
+use Rattle.cap_database.specs.Tables.{Tables, table_of}
+use Rattle.cap_database.specs.declared.cause.Cause.TheVariants.{Direct}
 use Rattle.cap_session.specs.declared.record.Record.{Record}
 use Rattle.cap_session.specs.Note.{touches_of as told_by}
 use Rattle.cap_session.specs.Records.{Records, record_after, touch as with_touch, with_touches}

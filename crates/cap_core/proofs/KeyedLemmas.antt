@@ -14,12 +14,12 @@ use Rattle.cap_row.specs.Key.{fields_cmp, key_of}
 use Rattle.cap_tree.specs.Tree.{IsOrdered}
 use Rattle.cap_table.specs.Sound.{IsRising, keyed_stands, loose_stands}
 use Rattle.cap_table.specs.Table.{TableState}
-use Rattle.cap_txn.specs.Batch.{SnapshotState}
-use Rattle.cap_txn.specs.Operation.{run}
-use Rattle.cap_txn.specs.Outcome.{OutcomeState}
-use Rattle.cap_txn.specs.Tables.{AreRising, Tables, create}
-use Rattle.cap_txn.specs.declared.op.Op.{Op}
-use Rattle.cap_txn.specs.declared.refused_at.RefusedAt.{RefusedAt}
+use Rattle.cap_database.specs.Snapshot.{SnapshotState}
+use Rattle.cap_database.specs.Operation.{run}
+use Rattle.cap_database.specs.Outcome.{OutcomeState}
+use Rattle.cap_database.specs.Tables.{AreRising, Tables, create}
+use Rattle.cap_database.specs.declared.op.Op.{Op}
+use Rattle.cap_database.specs.declared.refused_at.RefusedAt.{RefusedAt}
 use Rattle.cap_apply.specs.Applied.{AppliedState}
 use Rattle.cap_apply.specs.Apply.{apply}
 use Rattle.cap_apply.specs.declared.policy.Policy.{Policy}

@@ -3,12 +3,12 @@ use Rattle.std.proofs.Common.{◌≡◌, ◌+◌, ℕ, None, Result, Ok, Err, If
 use Rattle.std.specs.Prelude.{IsOk}
 use Rattle.std.proofs.lemmas.List.{append-nil}
 use Rattle.cap_value.specs.declared.refusal.Refusal.{Refusal}
-use Rattle.cap_txn.specs.Operation.{and_then, changes, run, step}
-use Rattle.cap_txn.specs.Outcome.{OutcomeState}
-use Rattle.cap_txn.specs.Tables.{Tables, schema_of}
-use Rattle.cap_txn.specs.declared.change.Change.{Change}
-use Rattle.cap_txn.specs.declared.op.Op.{Op}
-use Rattle.cap_txn.specs.declared.refused_at.RefusedAt.{RefusedAt}
+use Rattle.cap_database.specs.Operation.{and_then, changes, run, step}
+use Rattle.cap_database.specs.Outcome.{OutcomeState}
+use Rattle.cap_database.specs.Tables.{Tables, schema_of}
+use Rattle.cap_database.specs.declared.change.Change.{Change}
+use Rattle.cap_database.specs.declared.op.Op.{Op}
+use Rattle.cap_database.specs.declared.refused_at.RefusedAt.{RefusedAt}
 use Rattle.cap_core.specs.declared.reply.Reply.TheVariants.{Written}
 use Rattle.cap_core.specs.Answer.{State, write_reply}
 use Rattle.cap_core.specs.Code.Sound.{KeepsColumns}

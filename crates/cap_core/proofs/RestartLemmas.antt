@@ -12,10 +12,10 @@ use Rattle.cap_row.specs.Key.{fields_cmp, fields_cmp_total, fields_eq}
 use Rattle.std.specs.Cmp.{eq_by_cmp_equiv}
 use Rattle.cap_tree.specs.Tree.{get}
 use Rattle.cap_table.specs.Sound.{is_key_of}
-use Rattle.cap_txn.specs.Read.{row_at}
+use Rattle.cap_database.specs.Read.{row_at}
 use Rattle.cap_table.specs.Table.{TableState}
-use Rattle.cap_txn.specs.Operation.{run}
-use Rattle.cap_txn.specs.declared.op.Op.{Op}
+use Rattle.cap_database.specs.Operation.{run}
+use Rattle.cap_database.specs.declared.op.Op.{Op}
 use Rattle.cap_changes.specs.Group.{TableChanges}
 use Rattle.cap_codec.specs.Writable.{IsWritable}
 use Rattle.cap_codec.specs.declared.read.Contents.{Contents}
@@ -23,8 +23,8 @@ use Rattle.cap_apply.specs.Applied.{AppliedState}
 use Rattle.cap_apply.specs.Apply.{apply}
 use Rattle.cap_apply.specs.Captured.{AllBefore, GivesAllRowsNow, TableRows, changes_of as group_of_rows}
 use Rattle.cap_apply.specs.declared.policy.Policy.{Policy}
-use Rattle.cap_txn.specs.Tables.{AreRising, Tables, create, schema_of, table_of}
-use Rattle.cap_txn.specs.declared.change.Change.{Change}
+use Rattle.cap_database.specs.Tables.{AreRising, Tables, create, schema_of, table_of}
+use Rattle.cap_database.specs.declared.change.Change.{Change}
 use Rattle.cap_session.specs.Note.{is_cascade, touches_of as told_by}
 use Rattle.cap_session.specs.declared.record.Record.{Record}
 use Rattle.cap_session.specs.Records.{Records, Touch as RowTouch}

@@ -6,9 +6,9 @@ use Rattle.std.specs.Prelude.{filter, fold}
 use Rattle.std.specs.List.{enumerate_from, filter_map}
 use Rattle.std.specs.Option.{unwrap_or}
 use Rattle.cap_value.specs.Bytes.{bytes_eq}
-use Rattle.cap_txn.specs.Batch.{SnapshotState}
-use Rattle.cap_txn.specs.Tables.{Tables}
-use Rattle.cap_txn.specs.declared.change.Change.{Change}
+use Rattle.cap_database.specs.Snapshot.{SnapshotState}
+use Rattle.cap_database.specs.Tables.{Tables}
+use Rattle.cap_database.specs.declared.change.Change.{Change}
 use Rattle.cap_session.specs.declared.rule.AutomaticRule.TheVariants.{Nothing}
 use Rattle.cap_session.specs.Note.{attach_by, attach_by_rule, note, touch_tables, touches_of as told_by}
 use Rattle.cap_session.specs.Records.{Records, Touch as RowTouch, with_touches}

@@ -2,7 +2,7 @@
 use Rattle.std.proofs.Common.{◌≡◌, ℕ, true, false, cond, Option, Some, None, [], ◌∷◌, refl, sym, ap, nat_eq}
 use Rattle.std.specs.Prelude.{is_some}
 use Rattle.std.specs.Option.{option_map}
-use Rattle.cap_txn.specs.Tables.{Tables}
+use Rattle.cap_database.specs.Tables.{Tables}
 use Rattle.cap_session.specs.Session.{SessionState}
 use Rattle.cap_session.specs.Sessions.{NumberedSessions, session_numbered, with_session, with_session_if, without_session}
 use Rattle.cap_core.specs.Code.Sound.{session_stands, sessions_stand}

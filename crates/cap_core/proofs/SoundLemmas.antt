@@ -21,13 +21,13 @@ use Rattle.cap_compare.specs.declared.difference.Difference.{Difference}
 use Rattle.cap_table.specs.Sound.{IsRising, IsTable, is_key_of, keyed_stands}
 use Rattle.cap_table.specs.Table.{TableState}
 use Rattle.cap_tree.specs.Tree.{get, put_entry}
-use Rattle.cap_txn.specs.Operation.{run}
-use Rattle.cap_txn.specs.Outcome.{OutcomeState}
-use Rattle.cap_txn.specs.Read.{row_at}
-use Rattle.cap_txn.specs.Tables.{EachRises, Tables, create, schema_of, table_of}
-use Rattle.cap_txn.specs.declared.change.Change.{Change}
-use Rattle.cap_txn.specs.declared.op.Op.{Op}
-use Rattle.cap_txn.proofs.KeptLemmas.{each-found}
+use Rattle.cap_database.specs.Operation.{run}
+use Rattle.cap_database.specs.Outcome.{OutcomeState}
+use Rattle.cap_database.specs.Read.{row_at}
+use Rattle.cap_database.specs.Tables.{EachRises, Tables, create, schema_of, table_of}
+use Rattle.cap_database.specs.declared.change.Change.{Change}
+use Rattle.cap_database.specs.declared.op.Op.{Op}
+use Rattle.cap_database.proofs.KeptLemmas.{each-found}
 use Rattle.cap_session.specs.declared.record.Record.{Record}
 use Rattle.cap_session.specs.declared.rule.AutomaticRule.{AutomaticRule}
 use Rattle.cap_session.specs.Note.{attach_by, attach_by_rule, is_cascade, note, note_diff, touch_of, touch_tables, touches_found, touches_of}

@@ -23,18 +23,18 @@ use Rattle.cap_table.specs.Sound.{is_key_of}
 use Rattle.cap_table.specs.Table.{TableState}
 use Rattle.cap_table.specs.declared.row_ref.RowRef.{RowRef}
 use Rattle.cap_table.specs.declared.row_ref.RowRef.TheVariants.{Key, Loose}
-use Rattle.cap_txn.specs.Operation.{act, and_then, changed_keys, changes, changes_in, changes_to, in_place, run, step, stepped, updated_keys}
-use Rattle.cap_txn.specs.Outcome.{OutcomeState}
-use Rattle.cap_txn.specs.Read.{row_at}
-use Rattle.cap_txn.specs.Batch.{SnapshotState}
-use Rattle.cap_txn.specs.Tables.{Tables, create, created as created_tables, schema_of, table_of}
-use Rattle.cap_txn.specs.declared.cause.Cause.{Cause}
-use Rattle.cap_txn.specs.declared.cause.Cause.TheVariants.{Direct}
-use Rattle.cap_txn.specs.declared.change.Change.{Change}
-use Rattle.cap_txn.specs.declared.op.Action.{Action}
-use Rattle.cap_txn.specs.declared.op.Action.TheVariants.{Delete, Insert, Update}
-use Rattle.cap_txn.specs.declared.op.Op.{Op}
-use Rattle.cap_txn.specs.declared.refused_at.RefusedAt.{RefusedAt}
+use Rattle.cap_database.specs.Operation.{act, and_then, changed_keys, changes, changes_in, changes_to, in_place, run, step, stepped, updated_keys}
+use Rattle.cap_database.specs.Outcome.{OutcomeState}
+use Rattle.cap_database.specs.Read.{row_at}
+use Rattle.cap_database.specs.Snapshot.{SnapshotState}
+use Rattle.cap_database.specs.Tables.{Tables, create, created as created_tables, schema_of, table_of}
+use Rattle.cap_database.specs.declared.cause.Cause.{Cause}
+use Rattle.cap_database.specs.declared.cause.Cause.TheVariants.{Direct}
+use Rattle.cap_database.specs.declared.change.Change.{Change}
+use Rattle.cap_database.specs.declared.op.Action.{Action}
+use Rattle.cap_database.specs.declared.op.Action.TheVariants.{Delete, Insert, Update}
+use Rattle.cap_database.specs.declared.op.Op.{Op}
+use Rattle.cap_database.specs.declared.refused_at.RefusedAt.{RefusedAt}
 use Rattle.cap_apply.specs.Applied.{AppliedState}
 use Rattle.cap_apply.specs.Apply as applied
 use Rattle.cap_apply.specs.Apply.{apply, change_applied, change_in, changes_applied, concluded, counted, group_applied, groups_applied, keys_with, left_out, noted, nothing_applied, skipped_unless, with_row, with_row_in}

@@ -6,8 +6,8 @@ use Rattle.cap_value.specs.Bytes.{bytes_cmp}
 use Rattle.cap_value.specs.declared.refusal.Refusal.{Refusal}
 use Rattle.cap_value.specs.declared.refusal.Refusal.TheVariants.{TooMany, NoSession}
 use Rattle.cap_tree.specs.Tree.{get}
-use Rattle.cap_txn.specs.Batch.{SnapshotState}
-use Rattle.cap_txn.specs.Tables.{Tables}
+use Rattle.cap_database.specs.Snapshot.{SnapshotState}
+use Rattle.cap_database.specs.Tables.{Tables}
 use Rattle.cap_apply.specs.Report.{ReportState}
 use Rattle.cap_compare.specs.declared.difference.Difference.{Difference}
 use Rattle.cap_session.specs.Session.{SessionState, stored}

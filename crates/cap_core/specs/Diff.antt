@@ -6,7 +6,7 @@ use Rattle.cap_value.specs.declared.refusal.Refusal.TheVariants.{NoDatabase}
 use Rattle.cap_row.specs.Schema.{has_key}
 use Rattle.cap_tree.specs.Tree.{get}
 use Rattle.cap_table.specs.Table.{TableState}
-use Rattle.cap_txn.specs.Tables.{Tables, table_of}
+use Rattle.cap_database.specs.Tables.{Tables, table_of}
 use Rattle.cap_compare.specs.Compare.{compare}
 use Rattle.cap_compare.specs.declared.difference.Difference.{Difference}
 use Rattle.cap_core.specs.History.{Databases}

@@ -9,10 +9,10 @@ use Rattle.cap_changes.specs.Group.{TableChanges}
 use Rattle.cap_changes.specs.declared.row_change.RowChange.{RowChange}
 use Rattle.cap_tree.specs.Tree.{get}
 use Rattle.cap_table.specs.Table.{TableState}
-use Rattle.cap_txn.specs.Tables.{table_of}
-use Rattle.cap_txn.specs.declared.cause.Cause.TheVariants.{Direct}
-use Rattle.cap_txn.specs.declared.op.Action.TheVariants.{Insert}
-use Rattle.cap_txn.specs.declared.op.Op.{Op}
+use Rattle.cap_database.specs.Tables.{table_of}
+use Rattle.cap_database.specs.declared.cause.Cause.TheVariants.{Direct}
+use Rattle.cap_database.specs.declared.op.Action.TheVariants.{Insert}
+use Rattle.cap_database.specs.declared.op.Op.{Op}
 use Rattle.cap_session.specs.Records.{Records}
 use Rattle.cap_core.specs.declared.command.Command.TheVariants.{Commit}
 use Rattle.cap_core.specs.declared.event.Event.{Event}

@@ -6,13 +6,13 @@ use Rattle.cap_value.specs.declared.refusal.Refusal.{Refusal}
 use Rattle.cap_value.specs.declared.refusal.Refusal.TheVariants.{Stale, Aborted, Misuse}
 use Rattle.cap_row.specs.Fields.{Fields}
 use Rattle.cap_table.specs.Sound.{is_key_of}
-use Rattle.cap_txn.specs.Batch.{SnapshotState}
-use Rattle.cap_txn.specs.Operation.{run}
-use Rattle.cap_txn.specs.Outcome.{OutcomeState}
-use Rattle.cap_txn.specs.Tables.{Tables, create}
-use Rattle.cap_txn.specs.declared.change.Change.{Change}
-use Rattle.cap_txn.specs.declared.op.Op.{Op}
-use Rattle.cap_txn.specs.declared.refused_at.RefusedAt.{RefusedAt}
+use Rattle.cap_database.specs.Snapshot.{SnapshotState}
+use Rattle.cap_database.specs.Operation.{run}
+use Rattle.cap_database.specs.Outcome.{OutcomeState}
+use Rattle.cap_database.specs.Tables.{Tables, create}
+use Rattle.cap_database.specs.declared.change.Change.{Change}
+use Rattle.cap_database.specs.declared.op.Op.{Op}
+use Rattle.cap_database.specs.declared.refused_at.RefusedAt.{RefusedAt}
 use Rattle.cap_apply.specs.Applied.{AppliedState}
 use Rattle.cap_apply.specs.Apply.{apply}
 use Rattle.cap_apply.specs.Report.{ReportState}

@@ -7,8 +7,8 @@ use Rattle.std.specs.Option.{option_map}
 use Rattle.cap_value.specs.Bytes.{bytes_eq}
 use Rattle.cap_value.specs.declared.refusal.Refusal.{Refusal}
 use Rattle.cap_row.specs.Fields.{Fields}
-use Rattle.cap_txn.specs.Read.{row_at}
-use Rattle.cap_txn.specs.declared.change.Change.{Change}
+use Rattle.cap_database.specs.Read.{row_at}
+use Rattle.cap_database.specs.declared.change.Change.{Change}
 use Rattle.cap_compare.specs.declared.difference.Difference.{Difference}
 use Rattle.cap_session.specs.Note.{is_cascade}
 use Rattle.cap_session.specs.Session.{accepts_by}

@@ -16,10 +16,10 @@ ghost use Rattle.cap_core.specs.Code.Sound.{image_stands, records_stand, tables_
 
 use cap_changes::{ChangeList, Group, RowChange, change_between, to_patches};
 use cap_codec::{KeyFlags, write_changes, write_changes_with, write_patches, write_patches_with};
+use cap_database::Database;
 use cap_row::{Key, Row, Schema};
 use cap_session::{Attached, Record, Records};
 use cap_table::Table;
-use cap_txn::Database;
 use cap_value::{AllocHandle, Name, OutOfMemory};
 use std::marker::Model;
 

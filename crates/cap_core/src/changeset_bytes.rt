@@ -13,10 +13,10 @@ ghost use Rattle.cap_core.specs.Code.ChangesetBytes.{behind, header_unless};
 use crate::Core;
 use crate::capture::row_now;
 use cap_codec::{KeyFlags, is_changed, push_change_between, push_group_header};
+use cap_database::Database;
 use cap_row::{Row, Schema};
 use cap_session::{Attached, Record, Records};
 use cap_table::Table;
-use cap_txn::Database;
 use cap_value::{AllocHandle, Name, OutOfMemory};
 
 impl<A: AllocHandle> Core<A> {

@@ -3,12 +3,12 @@ ghost use Rattle.std.specs.Prelude.{IfOk, IfSome, IsTrue};
 ghost use Rattle.std.specs.Option.{option_map};
 ghost use Rattle.cap_core.specs.Code.Sound.{differences_stand};
 ghost use Rattle.cap_core.specs.Diff.{diff};
-ghost use Rattle.cap_txn.specs.Tables.{schema_of};
+ghost use Rattle.cap_database.specs.Tables.{schema_of};
 ghost use Rattle.cap_value.specs.Memory.{ShowsUnlessMemory};
 
 use cap_compare::{Difference, compare};
+use cap_database::Database;
 use cap_tree::Tree;
-use cap_txn::Database;
 use cap_value::{AllocHandle, Fault, Name, Refusal};
 
 // What a diff finds: the differences, or none where nothing is compared.

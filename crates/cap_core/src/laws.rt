@@ -17,9 +17,9 @@ ghost use Rattle.cap_codec.specs.declared.read.Contents.{Contents};
 ghost use Rattle.cap_session.specs.declared.record.Record.{Record};
 ghost use Rattle.cap_table.specs.Table.{TableState};
 ghost use Rattle.cap_tree.specs.Tree.{IsOrdered, get, put_entry};
-ghost use Rattle.cap_txn.specs.Batch.{SnapshotState};
-ghost use Rattle.cap_txn.specs.Read.{row_at};
-ghost use Rattle.cap_txn.specs.Tables.{AreRising, Tables};
+ghost use Rattle.cap_database.specs.Snapshot.{SnapshotState};
+ghost use Rattle.cap_database.specs.Read.{row_at};
+ghost use Rattle.cap_database.specs.Tables.{AreRising, Tables};
 ghost use Rattle.cap_core.specs.declared.command.Command.{Command};
 ghost use Rattle.cap_core.specs.declared.event.Event.{Event};
 ghost use Rattle.cap_core.specs.declared.reply.Reply.{Reply};
@@ -44,7 +44,7 @@ use cap_apply::{
     a_changeset_gives_the_rows_now, a_patchset_gives_the_rows_now, applied_blobs_keep_order,
 };
 use cap_compare::differences_are_just_those;
-use cap_txn::{tables_keep_columns, tables_keep_order};
+use cap_database::{tables_keep_columns, tables_keep_order};
 use cap_value::AllocHandle;
 
 /// The empty history is legal, and a legal history with one more event is legal where the event has the reply

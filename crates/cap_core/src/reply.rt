@@ -2,7 +2,7 @@
 
 use crate::Capture;
 use cap_apply::Report;
-use cap_txn::Snapshot;
+use cap_database::Snapshot;
 use cap_value::{AllocHandle, Refusal};
 
 /// The reply to a command.

@@ -13,9 +13,9 @@ ghost use Rattle.cap_core.specs.Transition.{next, one_more, after_save};
 
 use crate::commit_hook::{ReplyHook, ask};
 use crate::{Command, CommitHook, NoHook, Reply, SAVED_MAX};
+use cap_database::{Database, Snapshot};
 use cap_session::Sessions;
 use cap_tree::Tree;
-use cap_txn::{Database, Snapshot};
 use cap_value::{AllocHandle, Fault, Name, OutOfMemory, Refusal};
 use std::marker::Model;
 

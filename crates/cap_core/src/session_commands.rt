@@ -14,7 +14,7 @@ ghost use Rattle.cap_session.specs.Note.{note_diff};
 ghost use Rattle.cap_session.specs.Session.{attach_all, attached, enabled_as, indirect_as, new_session};
 ghost use Rattle.cap_session.specs.Session.{restart, set_filter};
 ghost use Rattle.cap_session.specs.Sessions.{session_numbered};
-ghost use Rattle.cap_txn.specs.Tables.{schema_of};
+ghost use Rattle.cap_database.specs.Tables.{schema_of};
 
 use crate::capture::changes_of;
 use crate::commit_hook::{ReplyHook, ask};

@@ -1,7 +1,7 @@
 //! The commands that write: a new table, a transaction, and a blob that is applied.
 ghost use Rattle.std.specs.Prelude.{◌≡◌, ◌+◌, ◌∷◌, [], Ok};
-ghost use Rattle.cap_txn.specs.Operation.{run, step};
-ghost use Rattle.cap_txn.specs.Tables.{Tables, create};
+ghost use Rattle.cap_database.specs.Operation.{run, step};
+ghost use Rattle.cap_database.specs.Tables.{Tables, create};
 ghost use Rattle.cap_apply.specs.Apply.{apply};
 ghost use Rattle.cap_core.specs.Answer.{write_reply};
 ghost use Rattle.cap_core.specs.Code.Sound.{KeepsColumns};
@@ -15,9 +15,10 @@ use crate::commit_hook::{ReplyHook, ask};
 use crate::{CommitHook, Core, Reply};
 use cap_apply::{Applied, Policy, applied_blobs_keep_columns};
 use cap_codec::Contents;
+use cap_database::{Change, Database, Op, Outcome, run_ops, tables_keep_columns};
 use cap_row::Schema;
 use cap_table::NotMade;
-use cap_txn::{Batch, Change, Database, Op, Outcome, run_ops, tables_keep_columns};
+use cap_txn::Batch;
 use cap_value::{AllocHandle, Fault, Name, Refusal};
 
 impl<A: AllocHandle> Core<A> {

@@ -11,7 +11,7 @@ use Rattle.cap_apply.specs.declared.policy.Answer.{Answer}
 use Rattle.cap_apply.specs.declared.policy.Answer.TheVariants.{Omit, Replace, Abort}
 use Rattle.cap_apply.specs.declared.policy.Policy.{Policy}
 use Rattle.cap_table.specs.declared.row_ref.RowRef.{RowRef}
-use Rattle.cap_txn.specs.declared.op.Op.{Op}
+use Rattle.cap_database.specs.declared.op.Op.{Op}
 use Rattle.cap_core.specs.declared.command.Command.{Command}
 use Rattle.cap_core.specs.declared.command.Command.TheVariants as command
 use Rattle.cap_script.specs.Forms.{Form, ◌▸◌, Word, Natural}

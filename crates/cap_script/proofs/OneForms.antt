@@ -6,12 +6,12 @@ use Rattle.cap_row.specs.Fields.{Fields}
 use Rattle.cap_row.specs.Key.{key_from}
 use Rattle.cap_table.specs.declared.row_ref.RowRef.{RowRef}
 use Rattle.cap_table.specs.declared.row_ref.RowRef.TheVariants.{Key, Loose}
-use Rattle.cap_txn.specs.Assigned.{Assigned}
-use Rattle.cap_txn.specs.declared.cause.Cause.{Cause}
-use Rattle.cap_txn.specs.declared.cause.Cause.TheVariants.{Direct, Cascade}
-use Rattle.cap_txn.specs.declared.op.Action.{Action}
-use Rattle.cap_txn.specs.declared.op.Action.TheVariants.{Insert, Update, Delete}
-use Rattle.cap_txn.specs.declared.op.Op.{Op}
+use Rattle.cap_database.specs.Assigned.{Assigned}
+use Rattle.cap_database.specs.declared.cause.Cause.{Cause}
+use Rattle.cap_database.specs.declared.cause.Cause.TheVariants.{Direct, Cascade}
+use Rattle.cap_database.specs.declared.op.Action.{Action}
+use Rattle.cap_database.specs.declared.op.Action.TheVariants.{Insert, Update, Delete}
+use Rattle.cap_database.specs.declared.op.Op.{Op}
 use Rattle.cap_script.specs.Forms.{Form, ◌▸◌, Without, Word, Sign, Natural}
 use Rattle.cap_script.specs.Operations.{SpelledCause, SpelledValue, MoreValues, SpelledValues, SpelledRow, SpelledField, MoreFields, SpelledFields, SpelledAction, SpelledOperation, MoreOperations, SpelledOperations}
 use Rattle.cap_script.specs.Tokens.{begins, behind_blanks, signed}

@@ -6,7 +6,7 @@ use Rattle.cap_value.specs.declared.refusal.Refusal.{Refusal}
 use Rattle.cap_value.specs.declared.value.Value.{Value}
 use Rattle.cap_row.specs.Fields.{Fields}
 use Rattle.cap_table.specs.declared.row_ref.RowRef.{RowRef}
-use Rattle.cap_txn.specs.Read.{Lends}
+use Rattle.cap_database.specs.Read.{Lends}
 use Rattle.cap_script.specs.RowText.{more_values, named_row_text, rows_text, value_text}
 
 -- the item at a place, and what comes after it

@@ -8,8 +8,8 @@ use Rattle.cap_value.specs.Memory.{AnswersUnlessMemory}
 use Rattle.cap_filter.specs.Faults.{IsUnfitAt}
 use Rattle.cap_filter.specs.Rule.{Rule}
 use Rattle.cap_txn.specs.Batch.{BatchState, push, pushed, refused_push}
-use Rattle.cap_txn.specs.declared.cause.Cause.{Cause}
-use Rattle.cap_txn.specs.declared.op.Op.{Op}
+use Rattle.cap_database.specs.declared.cause.Cause.{Cause}
+use Rattle.cap_database.specs.declared.op.Op.{Op}
 use Rattle.cap_script.specs.Operations.{SpelledAction, SpelledCause, SpelledOperation}
 use Rattle.cap_script.specs.Tokens.{Begins, Next, Token, behind_blanks}
 use Rattle.cap_script.proofs.TokenLemmas.{blanks_twice}

@@ -10,8 +10,8 @@ use Rattle.cap_value.specs.declared.value.Value.TheVariants.{Null, Int, Text, Bl
 use Rattle.cap_row.specs.Fields.{Fields}
 use Rattle.cap_table.specs.declared.row_ref.RowRef.{RowRef}
 use Rattle.cap_table.specs.declared.row_ref.RowRef.TheVariants.{Key, Loose}
-use Rattle.cap_txn.specs.Batch.{SnapshotState}
-use Rattle.cap_txn.specs.Read.{read, rows_of}
+use Rattle.cap_database.specs.Snapshot.{SnapshotState}
+use Rattle.cap_database.specs.Read.{read, rows_of}
 use Rattle.cap_script.specs.RefusalText.{refusal_text}
 use Rattle.cap_script.specs.declared.line.Show.{Show}
 use Rattle.cap_script.specs.declared.line.Show.TheVariants.{Get, Scan}

@@ -9,8 +9,9 @@ use crate::cursor::Cursor;
 use crate::fault::LineFault;
 use crate::value::{row_ref, value, values};
 use crate::words::{Verb, verb_of};
+use cap_database::{Action, Assignments, Cause, Op};
 use cap_row::Row;
-use cap_txn::{Action, Assignments, Batch, Cause, OPS_MAX, Op};
+use cap_txn::{Batch, OPS_MAX};
 use cap_value::{AllocHandle, Name, Refusal, Value};
 
 // Reads the name of a table or of a saved database.

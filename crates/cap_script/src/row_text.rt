@@ -5,14 +5,14 @@ ghost use Rattle.std.specs.Result.{result_map_both};
 ghost use Rattle.cap_script.specs.RowText.{blob_text, get_text, more_values, named_row_text, row_text};
 ghost use Rattle.cap_script.specs.RowText.{rows_text, scan_text, snapshot_text, value_text, values_text};
 ghost use Rattle.cap_table.specs.Scan.{row_shown};
-ghost use Rattle.cap_txn.specs.Read.{Lends};
+ghost use Rattle.cap_database.specs.Read.{Lends};
 
 use crate::Show;
 use crate::refusal_text::RefusalText;
+use cap_database::Snapshot;
 use cap_filter::write_quoted;
 use cap_row::Row;
 use cap_table::{RowName, Scan};
-use cap_txn::Snapshot;
 use cap_value::{AllocHandle, Blob, OutOfMemory, Refusal, Value};
 
 // The text of a snapshot.

@@ -5,9 +5,9 @@ use Rattle.std.specs.List.{AllByRecursion, cons_option, list_any}
 use Rattle.std.specs.Option.{option_map}
 use Rattle.std.specs.Cmp.Lexicographic.{bytes_decides}
 use Rattle.cap_value.specs.Bytes.{bytes_eq}
-use Rattle.cap_txn.specs.Read.{row_at}
-use Rattle.cap_txn.specs.Tables.{Tables}
-use Rattle.cap_txn.specs.declared.change.Change.{Change}
+use Rattle.cap_database.specs.Read.{row_at}
+use Rattle.cap_database.specs.Tables.{Tables}
+use Rattle.cap_database.specs.declared.change.Change.{Change}
 use Rattle.cap_session.specs.declared.rule.AutomaticRule.{AutomaticRule}
 use Rattle.cap_session.specs.Note.{attach_by, attach_by_rule, is_cascade, note, touch_tables, touches_of}
 use Rattle.cap_session.specs.Records.{Records, Touch, with_touches}

@@ -1,8 +1,8 @@
 -- Sessions by number.
 use Rattle.std.specs.Prelude.{ℕ, Option, Some, None, List, [], ◌∷◌, map, nat_eq, if◌then◌else◌}
 use Rattle.std.specs.Map.{lookup}
-use Rattle.cap_txn.specs.Tables.{Tables}
-use Rattle.cap_txn.specs.declared.change.Change.{Change}
+use Rattle.cap_database.specs.Tables.{Tables}
+use Rattle.cap_database.specs.declared.change.Change.{Change}
 use Rattle.cap_session.specs.Note.{note}
 use Rattle.cap_session.specs.Session.{SessionState}
 

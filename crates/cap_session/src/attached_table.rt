@@ -11,7 +11,7 @@ ghost use Rattle.cap_value.specs.Bytes.{bytes_eq};
 use crate::touch::{records_after, records_after_diff};
 use crate::{AutomaticRule, Records};
 use cap_compare::Difference;
-use cap_txn::{Change, Database};
+use cap_database::{Change, Database};
 use cap_value::{AllocHandle, Name, OutOfMemory};
 
 // A table that is attached to a session.

@@ -9,7 +9,7 @@ ghost use Rattle.cap_session.specs.Sessions.{note_each, session_numbered, with_s
 
 use crate::parts::Parts;
 use cap_compare::Difference;
-use cap_txn::{Change, Database};
+use cap_database::{Change, Database};
 use cap_value::{AllocHandle, Name, OutOfMemory};
 
 // A session and its number.

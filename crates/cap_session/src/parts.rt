@@ -11,8 +11,8 @@ use crate::attached_table::{
     publish,
 };
 use cap_compare::Difference;
+use cap_database::{Change, Database};
 use cap_filter::TableFilter;
-use cap_txn::{Change, Database};
 use cap_value::{AllocHandle, Name, OutOfMemory};
 
 // The state of a session. A change that takes memory is staged first, and then published, which takes none.

@@ -10,9 +10,9 @@ use crate::attached_table::{is_empty, records_of, stored};
 use crate::parts::Parts;
 use crate::{Record, Records};
 use cap_compare::Difference;
+use cap_database::{Change, Database};
 use cap_filter::TableFilter;
 use cap_row::Key;
-use cap_txn::{Change, Database};
 use cap_value::{AllocHandle, Exact, Name, OutOfMemory};
 use std::marker::Model;
 

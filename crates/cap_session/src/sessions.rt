@@ -11,9 +11,9 @@ use crate::SessionRef;
 use crate::numbered::{Numbered, copies_of, note, note_attached, note_diff, place_of, publish};
 use crate::parts::Parts;
 use cap_compare::Difference;
+use cap_database::{Change, Database};
 use cap_filter::TableFilter;
 use cap_tree::CommitHook;
-use cap_txn::{Change, Database};
 use cap_value::{AllocHandle, Fault, Name, OutOfMemory};
 use std::marker::Model;
 

@@ -3,14 +3,14 @@ ghost use Rattle.std.specs.Prelude.{◌≡◌, IsTrue, IfOk, Some, map};
 ghost use Rattle.std.specs.Option.{option_copied, unwrap_or};
 ghost use Rattle.cap_row.specs.Key.{fields_cmp};
 ghost use Rattle.cap_tree.specs.Tree.{IsOrdered, get};
-ghost use Rattle.cap_txn.specs.Read.{row_at};
+ghost use Rattle.cap_database.specs.Read.{row_at};
 ghost use Rattle.cap_session.specs.Note.{is_cascade, touch_of, touches_of, touches_found};
 ghost use Rattle.cap_session.specs.Records.{Records, Touch, record_after, touch, touch_if, with_touches};
 
 use crate::{Record, Records};
 use cap_compare::Difference;
+use cap_database::{Cause, Change, Database};
 use cap_row::{Key, Row};
-use cap_txn::{Cause, Change, Database};
 use cap_value::{AllocHandle, Name, OutOfMemory};
 
 // The records of the table of this name after changes to rows of any table, `None` where they stay the same.

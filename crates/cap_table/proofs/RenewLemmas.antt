@@ -57,7 +57,7 @@ module _ {A : Type 0} where
           let width : length (row_with changes row) ≡ length row = length-map _ _ ∙ length-enumerate_from 0 row in
           put_keyed t key made h (ap length (made-is made is) ∙ width ∙ stands.0) (ap (λ r. key_of t.schema r) (made-is made is) ∙ same row ∙ stands.1)
 
-      -- what the step outside is asked
+      -- what the commit hook is asked
       pub asked : (P : Option (Fields A) → Option (Fields A) → Type 0) → P (get fields_cmp t.keyed key) (option_map (row_with changes) (get fields_cmp t.keyed key)) → (made : Fields A) → with_fields t.schema row changes ≡ Ok made → P (Some row) (Some made)
       asked P p made is = rw (made-is made is) (subst (λ o. P o (option_map (row_with changes) o)) there p)
 

@@ -1,4 +1,4 @@
--- When a step outside may be asked: what an operation leaves where its key is free, or where the row is there.
+-- When a commit hook may be asked: what an operation leaves where its key is free, or where the row is there.
 use Rattle.std.proofs.Common.{◌≡◌, true, false, cond, Option, Some, None, Ok, Err, sym, ap, Bor}
 use Rattle.std.specs.Prelude.{is_some}
 use Rattle.std.specs.Option.{option_copied}

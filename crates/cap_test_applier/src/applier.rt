@@ -2,8 +2,8 @@
 //! program's examples (examples/apply).
 use cap_apply::{Answer, Applied, Policy, apply};
 use cap_codec::{Contents, read_blob};
+use cap_database::{Action, Cause, Database, Op};
 use cap_row::{Row, Schema};
-use cap_txn::{Action, Cause, Database, Op};
 use cap_value::{AllocHandle, Fault, Name, Refusal, Value};
 use linked_list_allocator::LocalHeap;
 use std::test::Fail;

@@ -3,9 +3,10 @@ use crate::calls::{REPLIES, WORKLOAD};
 use crate::steps::give;
 use cap_codec::KeyFlags;
 use cap_core::{Command, Core, NoHook, Reply};
+use cap_database::{Action, Cause, Op};
 use cap_row::{Row, Schema};
 use cap_script::{parse, print_reply};
-use cap_txn::{Action, Batch, Cause, Op};
+use cap_txn::Batch;
 use cap_value::{Name, Value};
 use std::test::Fail;
 

@@ -1,8 +1,8 @@
 use cap_compare::{Difference, compare};
+use cap_database::{Action, Cause, Database, Op, run_ops};
 use cap_row::{Key, Row, Schema};
 use cap_session::Session;
 use cap_table::RowRef;
-use cap_txn::{Action, Cause, Database, Op, run_ops};
 use cap_value::{AllocHandle, Fault, Name, Refusal, Value};
 use linked_list_allocator::LocalHeap;
 use std::test::Fail;

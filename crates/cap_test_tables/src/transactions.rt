@@ -1,10 +1,10 @@
+use cap_database::{
+    Action, Assignments, Cause, Database, Op, RefusedAt, Snapshot, TABLES_MAX, run_ops,
+};
 use cap_row::{Key, Row, Schema};
 use cap_table::{NotMade, RowRef};
 use cap_tree::CommitHook;
-use cap_txn::{
-    Action, Assignments, Batch, Cause, Database, Mark, OPS_MAX, Op, RefusedAt, SAVEPOINTS_MAX,
-    Snapshot, TABLES_MAX, Txn, run_ops,
-};
+use cap_txn::{Batch, Mark, OPS_MAX, SAVEPOINTS_MAX, Txn};
 use cap_value::{AllocHandle, Fault, Name, Refusal, Value};
 use linked_list_allocator::LocalHeap;
 use std::alloc::Global;

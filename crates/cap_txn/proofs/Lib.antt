@@ -1,16 +1,1 @@
-pub mod Crossing
-pub mod BackLemmas
-pub mod BatchesLemmas
-pub mod CommuteLemmas
-pub mod FrontLemmas
-pub mod IdLemmas
-pub mod KeptLemmas
-pub mod PlaceLemmas
-pub mod PlanLemmas
-pub mod RowsInLemmas
-pub mod RowsLemmas
-pub mod RunLemmas
 pub mod StandingLemmas
-pub mod StepLemmas
-pub mod UndoneLemmas
-pub mod WritesLemmas

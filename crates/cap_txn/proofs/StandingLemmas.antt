@@ -3,14 +3,15 @@ use Rattle.std.proofs.Common.{◌≡◌, ℕ, zero, suc, ◌≤◌, true, false,
 use Rattle.std.specs.Prelude.{IfOk, ◌==◌}
 use Rattle.std.specs.List.{AllByRecursion}
 use Rattle.cap_value.specs.declared.refusal.Refusal.{Refusal}
-use Rattle.cap_txn.specs.Batch.{SnapshotState, refused_push}
-use Rattle.cap_txn.specs.Operation.{changes, step}
+use Rattle.cap_database.specs.Snapshot.{SnapshotState}
+use Rattle.cap_txn.specs.Batch.{refused_push}
+use Rattle.cap_database.specs.Operation.{changes, step}
 use Rattle.cap_txn.specs.Standing.{AreInOrder, IsSavepoint, IsStanding, Leaves}
-use Rattle.cap_txn.specs.Tables.{Tables}
+use Rattle.cap_database.specs.Tables.{Tables}
 use Rattle.cap_txn.specs.Transaction.{TxnState, after_back, after_op, after_savepoint, back_at, begin, numbered, op_made, op_unless, refused_savepoint, savepoint_unless, up_to}
-use Rattle.cap_txn.specs.declared.op.Op.{Op}
+use Rattle.cap_database.specs.declared.op.Op.{Op}
 use Rattle.cap_txn.specs.declared.savepoint.Savepoint.{Savepoint}
-use Rattle.cap_txn.proofs.RunLemmas.{run-push}
+use Rattle.cap_database.proofs.RunLemmas.{run-push}
 
 module _ {X : Type 0} where
   all_weaker : (P Q : X → Type 0) → ((x : X) → P x → Q x) → (xs : List X) → AllByRecursion P xs → AllByRecursion Q xs

@@ -1,19 +1,13 @@
--- A batch: operations, and the version that they were made on, if any. A snapshot: a database and its
--- version.
+-- A batch: operations, and the version that they were made on, if any.
 use Rattle.std.specs.Prelude.{ℕ, Option, Some, None, Result, Ok, Err, List, [], ◌∷◌, ◌++◌, length, nat_lt}
 use Rattle.std.specs.Prelude.{if◌then◌else◌}
 use Rattle.cap_value.specs.declared.refusal.Refusal.{Refusal}
 use Rattle.cap_value.specs.declared.refusal.Refusal.TheVariants.{TooMany}
-use Rattle.cap_txn.specs.Tables.{Tables}
-use Rattle.cap_txn.specs.declared.op.Op.{Op}
+use Rattle.cap_database.specs.declared.op.Op.{Op}
 
 pub record BatchState (A : Type 0) : Type 0 where
   pub base : Option ℕ
   pub ops : List (Op A)
-
-pub record SnapshotState (A : Type 0) : Type 0 where
-  pub version : ℕ
-  pub database : Tables A
 
 module _ {A : Type 0} where
   -- at most 10,000 operations

@@ -1,13 +1,3 @@
-pub mod Apart
-pub mod Assigned
 pub mod Batch
-pub mod Batches
-pub mod Front
-pub mod Ids
-pub mod Keyed
-pub mod Operation
-pub mod Outcome
-pub mod Read
 pub mod Standing
-pub mod Tables
 pub mod Transaction

@@ -2,11 +2,11 @@
 -- snapshot's.
 use Rattle.std.specs.Prelude.{◌≡◌, ◌≤◌, ⊤, Ok, List, [], ◌∷◌, length, take}
 use Rattle.std.specs.List.{AllByRecursion}
-use Rattle.cap_txn.specs.Operation.{run}
-use Rattle.cap_txn.specs.Outcome.{OutcomeState}
-use Rattle.cap_txn.specs.Tables.{Tables}
+use Rattle.cap_database.specs.Operation.{run}
+use Rattle.cap_database.specs.Outcome.{OutcomeState}
+use Rattle.cap_database.specs.Tables.{Tables}
 use Rattle.cap_txn.specs.Transaction.{TxnState}
-use Rattle.cap_txn.specs.declared.op.Op.{Op}
+use Rattle.cap_database.specs.declared.op.Op.{Op}
 use Rattle.cap_txn.specs.declared.savepoint.Savepoint.{Savepoint}
 
 module _ {A : Type 0} where

@@ -4,10 +4,11 @@ use Rattle.std.specs.Prelude.{ℕ, ◌+◌, Option, Some, None, Result, Ok, Err,
 use Rattle.std.specs.Prelude.{nat_lt, ◌==◌, if◌then◌else◌}
 use Rattle.cap_value.specs.declared.refusal.Refusal.{Refusal}
 use Rattle.cap_value.specs.declared.refusal.Refusal.TheVariants.{TooMany, NoMark}
-use Rattle.cap_txn.specs.Batch.{BatchState, SnapshotState, refused_push}
-use Rattle.cap_txn.specs.Operation.{step}
-use Rattle.cap_txn.specs.Tables.{Tables}
-use Rattle.cap_txn.specs.declared.op.Op.{Op}
+use Rattle.cap_database.specs.Operation.{step}
+use Rattle.cap_database.specs.Snapshot.{SnapshotState}
+use Rattle.cap_database.specs.Tables.{Tables}
+use Rattle.cap_database.specs.declared.op.Op.{Op}
+use Rattle.cap_txn.specs.Batch.{BatchState, refused_push}
 use Rattle.cap_txn.specs.declared.savepoint.Savepoint.{Savepoint}
 
 -- savepoints stand the oldest first; so many were made, the undone ones too

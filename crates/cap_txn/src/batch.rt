@@ -3,7 +3,7 @@ ghost use Rattle.std.specs.Prelude.{◌≡◌, ◌≤◌, Some, None, [], length
 ghost use Rattle.cap_value.specs.Memory.{LeavesUnlessMemory, RefusesFirst};
 ghost use Rattle.cap_txn.specs.Batch.{push, refused_push};
 
-use crate::Op;
+use cap_database::Op;
 use cap_value::{AllocHandle, Fault, Refusal};
 use std::marker::Model;
 

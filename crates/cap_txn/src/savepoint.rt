@@ -1,5 +1,5 @@
 //! Savepoints of a transaction, and their marks.
-use crate::Database;
+use cap_database::Database;
 use cap_value::AllocHandle;
 
 /// The number of a savepoint, counted from 0. A transaction never gives one twice.

@@ -3,12 +3,13 @@ ghost use Rattle.std.specs.Prelude.{◌≡◌, ◌<◌, ◌≤◌, ◌+◌, Some
 ghost use Rattle.std.specs.Result.{result_err};
 ghost use Rattle.cap_value.specs.Memory.{LeavesUnlessMemory, RefusesFirst};
 ghost use Rattle.cap_txn.specs.Batch.{refused_push};
-ghost use Rattle.cap_txn.specs.Read.{read, rows_of, Lends};
+ghost use Rattle.cap_database.specs.Read.{read, rows_of, Lends};
 ghost use Rattle.cap_txn.specs.Transaction.{begin, after_op, after_savepoint, refused_savepoint, after_back, numbered, up_to, batch_of};
 ghost use Rattle.cap_txn.specs.declared.savepoint.Savepoint as saved;
 
 use crate::savepoint::Savepoint;
-use crate::{Batch, Database, Mark, OPS_MAX, Op, Snapshot};
+use crate::{Batch, Mark, OPS_MAX};
+use cap_database::{Database, Op, Snapshot};
 use cap_row::Row;
 use cap_table::{RowRef, Scan};
 use cap_value::{AllocHandle, Fault, Name, OutOfMemory, Refusal};

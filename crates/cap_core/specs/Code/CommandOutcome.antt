@@ -4,10 +4,10 @@ use Rattle.cap_value.specs.Memory.{MatchFault}
 use Rattle.cap_value.specs.declared.memory.Fault.{Fault}
 use Rattle.cap_table.specs.NotMade.{MatchNotMade}
 use Rattle.cap_table.specs.declared.not_made.NotMade.{NotMade}
-use Rattle.cap_txn.specs.Operation.{step}
-use Rattle.cap_txn.specs.Tables.{Tables}
-use Rattle.cap_txn.specs.declared.change.Change.{Change}
-use Rattle.cap_txn.specs.declared.op.Op.{Op}
+use Rattle.cap_database.specs.Operation.{step}
+use Rattle.cap_database.specs.Tables.{Tables}
+use Rattle.cap_database.specs.declared.change.Change.{Change}
+use Rattle.cap_database.specs.declared.op.Op.{Op}
 use Rattle.cap_core.specs.declared.reply.Reply.{Reply}
 use Rattle.cap_core.specs.declared.reply.Reply.TheVariants.{Written}
 use Rattle.cap_core.specs.Answer.{State}

@@ -4,7 +4,7 @@ use Rattle.std.specs.List.{list_all}
 use Rattle.cap_row.specs.Fields.{Fields}
 use Rattle.cap_table.specs.Sound.{keyed_stands}
 use Rattle.cap_compare.specs.declared.difference.Difference.{Difference}
-use Rattle.cap_txn.specs.Tables.{Tables, schema_of}
+use Rattle.cap_database.specs.Tables.{Tables, schema_of}
 use Rattle.cap_session.specs.Records.{Records}
 use Rattle.cap_session.specs.Session.{AttachedTables, SessionState}
 use Rattle.cap_session.specs.Sessions.{NumberedSessions}

@@ -1,7 +1,7 @@
 use Rattle.std.proofs.Common.{◌++◌, ℕ, List, sym, ap, ◌∙◌}
 use Rattle.cap_session.specs.Records.{Records}
 use Rattle.cap_session.specs.Session.{AttachedTables}
-use Rattle.cap_txn.specs.Tables.{schema_of, table_of}
+use Rattle.cap_database.specs.Tables.{schema_of, table_of}
 use Rattle.cap_core.specs.Capture.{changes_of, table_changes}
 use Rattle.cap_core.specs.Code.Sound.{records_stand, tables_stand}
 use Rattle.cap_core.proofs.GroupLemmas.{filter_map-more}

@@ -1,5 +1,5 @@
 use Rattle.std.proofs.Common.{◌++◌, ap, sym, ◌∙◌}
-use Rattle.cap_txn.specs.Tables.{table_of}
+use Rattle.cap_database.specs.Tables.{table_of}
 use Rattle.cap_session.specs.Session.{AttachedTables}
 use Rattle.cap_codec.specs.Changeset.{list_bytes_with}
 use Rattle.cap_core.specs.Capture.{changes_of, table_changes}

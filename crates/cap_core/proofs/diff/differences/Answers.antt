@@ -1,7 +1,7 @@
 use Rattle.std.proofs.Common.{◌≡◌, Some, sym, ap, ◌∙◌}
 use Rattle.std.specs.Option.{option_copied, option_map}
 use Rattle.cap_table.specs.Table.{TableState}
-use Rattle.cap_txn.specs.Tables.{schema_of}
+use Rattle.cap_database.specs.Tables.{schema_of}
 use Rattle.cap_core.proofs.DiffLemmas.{compared-stand}
 use Rattle.cap_core.proofs.diff.differences.Goals as goal
 

@@ -1,5 +1,5 @@
 use Rattle.std.proofs.Common.{[], ◌∷◌, codes, rules}
-use Rattle.cap_txn.specs.Assigned.{Assigned}
+use Rattle.cap_database.specs.Assigned.{Assigned}
 use Rattle.cap_script.specs.Forms.{◌▸◌, Word}
 use Rattle.cap_script.specs.Operations.{SpelledFields}
 use Rattle.cap_script.proofs.SpellLemmas.{no_more, one_more}

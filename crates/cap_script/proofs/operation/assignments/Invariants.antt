@@ -1,5 +1,5 @@
 use Rattle.std.proofs.Common.{◌≤◌, ◌++◌, length, List, ℕ, codes}
-use Rattle.cap_txn.specs.Assigned.{Assigned}
+use Rattle.cap_database.specs.Assigned.{Assigned}
 use Rattle.cap_script.specs.Forms.{◌▸◌, Word}
 use Rattle.cap_script.specs.Operations.{MoreFields, SpelledFields}
 use Rattle.cap_script.proofs.operation.assignments.Given as goal

@@ -1,5 +1,5 @@
 use Rattle.std.proofs.Common.{[], ◌∷◌, List, ◌∙◌}
-use Rattle.cap_txn.specs.declared.op.Op.{Op}
+use Rattle.cap_database.specs.declared.op.Op.{Op}
 use Rattle.cap_script.specs.Operations.{SpelledOperations}
 use Rattle.cap_script.proofs.SpellLemmas.{no_more, one_more}
 use Rattle.cap_script.proofs.operation.batch.Goals as goal

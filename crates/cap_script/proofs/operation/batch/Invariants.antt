@@ -1,5 +1,5 @@
 use Rattle.std.proofs.Common.{◌≡◌, ◌++◌, length, List, ℕ}
-use Rattle.cap_txn.specs.declared.op.Op.{Op}
+use Rattle.cap_database.specs.declared.op.Op.{Op}
 use Rattle.cap_script.specs.Operations.{MoreOperations, SpelledOperations}
 use Rattle.cap_script.proofs.operation.batch.Given as goal
 

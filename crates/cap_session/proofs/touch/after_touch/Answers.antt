@@ -1,5 +1,5 @@
 use Rattle.std.proofs.Common.{refl, sym, ap, ◌∙◌}
-use Rattle.cap_txn.specs.Read.{row_at}
+use Rattle.cap_database.specs.Read.{row_at}
 use Rattle.cap_session.specs.Records.{Touch, touch}
 use Rattle.cap_session.proofs.touch.after_touch.Goals as goal
 

@@ -3,9 +3,9 @@ use Rattle.std.proofs.lemmas.Result.{err_from_is_err_and}
 use Rattle.std.specs.Prelude.{is_some}
 use Rattle.cap_row.specs.Fields.{Fields}
 use Rattle.cap_row.specs.Key.{is_key}
-use Rattle.cap_txn.specs.Keyed.{GoesBack, IsOwnRow}
-use Rattle.cap_txn.specs.Read.{row_at}
-use Rattle.cap_txn.specs.Tables.{Tables, table_of}
+use Rattle.cap_database.specs.Keyed.{GoesBack, IsOwnRow}
+use Rattle.cap_database.specs.Read.{row_at}
+use Rattle.cap_database.specs.Tables.{Tables, table_of}
 use Rattle.cap_changes.specs.declared.patch.Patch.TheVariants as patched
 use Rattle.cap_apply.specs.Apply.{change_applied}
 use Rattle.cap_apply.specs.Requested.{Requested}

@@ -5,7 +5,7 @@ use Rattle.std.specs.Option.{option_copied, option_map}
 use Rattle.cap_row.specs.Fields.{Fields}
 use Rattle.cap_row.specs.Key.{fields_cmp, is_key}
 use Rattle.cap_tree.specs.Tree.{get}
-use Rattle.cap_txn.specs.Tables.{Tables, table_of}
+use Rattle.cap_database.specs.Tables.{Tables, table_of}
 use Rattle.cap_changes.specs.Patch.{update_record}
 use Rattle.cap_changes.specs.declared.patch.Patch.TheVariants as patched
 use Rattle.cap_apply.specs.Apply.{change_applied}

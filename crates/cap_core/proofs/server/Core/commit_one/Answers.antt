@@ -1,5 +1,5 @@
 use Rattle.std.proofs.Common.{◌≡◌, ◌∙◌, Ok, sym, ap, subst}
-use Rattle.cap_txn.specs.Operation.{changes, step}
+use Rattle.cap_database.specs.Operation.{changes, step}
 use Rattle.cap_core.specs.Answer.{State}
 use Rattle.cap_core.specs.Transition.{written}
 use Rattle.cap_core.proofs.MakeLemmas.{one_made, one_written}

@@ -5,7 +5,7 @@ use Rattle.cap_core.proofs.SessionStandLemmas.{changed-stands}
 use Rattle.cap_core.proofs.SoundLemmas.{note_diff-stands}
 use Rattle.cap_core.proofs.server.Core.note_found.Goals as goal
 use Rattle.cap_session.specs.Note.{note_diff}
-use Rattle.cap_txn.specs.Tables.{schema_of}
+use Rattle.cap_database.specs.Tables.{schema_of}
 
 pub invariant_of-self-2 : goal.invariant_of-self-2
 invariant_of-self-2 g c =

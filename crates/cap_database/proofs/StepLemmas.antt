@@ -1,0 +1,114 @@
+-- An operation on the table at its place, and what it does to the database.
+use Rattle.std.proofs.Common.{Bool, true, false, cond, ◌==◌, ◌≡◌, ℕ, zero, suc, ◌+◌, ◌<◌, ◌≤◌, Option, Some, None, Result, Ok, Err, List, [], ◌∷◌, ◌++◌, length, take, get_or, set, refl, sym, ap, subst, ◌∙◌, arith}
+use Rattle.std.specs.Prelude.{IfOk, OnErr, is_some, nat_lt}
+use Rattle.std.proofs.lemmas.Bool.Decides.{nat_tests}
+use Rattle.cap_value.specs.declared.refusal.Refusal.TheVariants.{BadColumn, NoRow, TableExists, TooMany, WrongWidth}
+use Rattle.cap_database.specs.Tables.{refused_create}
+use Rattle.std.proofs.lemmas.Cmp.{nat_list_cmp_total}
+use Rattle.cap_value.specs.Bytes.{bytes_cmp}
+use Rattle.cap_value.specs.declared.memory.Fault.{Fault}
+use Rattle.cap_value.specs.declared.memory.Fault.TheVariants.{Refused, OutOfMemory}
+use Rattle.cap_value.specs.declared.refusal.Refusal.{Refusal}
+use Rattle.cap_row.specs.Fields.{Fields}
+use Rattle.cap_tree.specs.Tree.{IsOrdered, put_entry}
+use Rattle.cap_value.specs.Memory.{LeavesUnlessMemory, RefusesFirst}
+use Rattle.cap_row.specs.Key.{key_of}
+use Rattle.cap_row.specs.Row.{are_columns, columns_of}
+use Rattle.cap_table.specs.Operation.{empty_table, placed, row_of, updated, without}
+use Rattle.cap_table.specs.declared.row_ref.RowRef.{RowRef}
+use Rattle.cap_database.specs.Assigned.{Assigned}
+use Rattle.cap_database.specs.declared.op.Action.{Action}
+use Rattle.cap_database.specs.declared.op.Action.TheVariants.{Insert, Update, Delete}
+use Rattle.cap_table.specs.Sound.{IsRising}
+use Rattle.std.proofs.lemmas.List.{take_more}
+use Rattle.cap_database.specs.Tables.{create, created}
+use Rattle.cap_table.specs.Table.{TableState}
+use Rattle.cap_database.specs.declared.change.Change.{Change}
+use Rattle.cap_database.specs.declared.op.Op.{Op}
+use Rattle.cap_database.specs.Operation.{act, changed_keys, changes_in, changes_to, changes, in_place, refused_act, step, stepped}
+use Rattle.cap_database.specs.Tables.{AreTables, EachRises, Tables, table_of}
+use Rattle.cap_database.proofs.KeptLemmas.{each-put}
+use Rattle.cap_database.proofs.PlaceLemmas.{ordered_put, put_entry-longer}
+
+set_same : {X : Type 0} (xs : List X) (i : ℕ) (d : X) → i < length xs → set xs i (get_or xs i d) ≡ xs
+set_same [] i d l = absurd (omega arith)
+set_same (x ∷ xs) zero d l = refl
+set_same (x ∷ xs) (suc i) d l = ap (λ t. x ∷ t) (set_same xs i d (omega arith))
+
+module _ {A : Type 0} (ts : Tables A) (op : Op A) (t : TableState A) (there : table_of ts op.table ≡ Some t) where
+  pub step_leaves : {X : Type 0} (r : Result X (Fault Refusal)) (new : TableState A) → LeavesUnlessMemory r (act t op.action) new → LeavesUnlessMemory r (step ts op) (put_entry bytes_cmp ts op.table new)
+  step_leaves (Ok x) new l = ap (λ found. stepped ts found op) there ∙ ap (in_place ts op.table) l
+  step_leaves (Err (Refused why)) new l = ap (λ found. stepped ts found op) there ∙ ap (in_place ts op.table) l
+  step_leaves (Err OutOfMemory) new l = tt
+
+  pub told : {X : Type 0} (r : Result X (Fault Refusal)) (f : X → List (Change A)) → IfOk r (λ x. f x ≡ changes_to op.table op.cause (changed_keys t op.action)) → IfOk r (λ x. f x ≡ changes ts op)
+  told (Ok x) f l = l ∙ ap (λ found. changes_in found op) (sym there)
+  told (Err e) f l = tt
+
+-- what an operation on its table leaves of the database
+pub act_step : {A : Type 0} (ts : Tables A) (op : Op A) (t after : TableState A) → table_of ts op.table ≡ Some t → act t op.action ≡ Ok after → step ts op ≡ Ok (put_entry bytes_cmp ts op.table after)
+act_step ts op t after there is = ap (λ found. stepped ts found op) there ∙ ap (in_place ts op.table) is
+
+pub kept_all : {X A : Type 0} (r : Result X (Fault Refusal)) (ts : Tables A) (i : ℕ) (d : List ℕ × TableState A) (new : TableState A) → i < length ts → OnErr r (new ≡ (get_or ts i d).1) → OnErr r (set ts i ((get_or ts i d).0, new) ≡ ts)
+kept_all (Ok x) ts i d new l same = tt
+kept_all (Err e) ts i d new l same = ap (λ t. set ts i ((get_or ts i d).0, t)) same ∙ set_same ts i d l
+
+module _ {A : Type 0} where
+  pub after_create : (ts new : Tables A) (name : List ℕ) (t : TableState A) → AreTables ts → IsRising t → new ≡ put_entry bytes_cmp ts name t → length ts < 64 → AreTables new
+  after_create ts new name t h rises is few =
+      rw is (record {
+        ordered = ordered_put bytes_cmp nat_list_cmp_total name t ts h.ordered;
+        few = omega (arith, put_entry-longer bytes_cmp name t ts);
+        each = each-put IsRising ts name t h.each rises;
+      })
+
+  pub after_step : (ts new : Tables A) → AreTables ts → IsOrdered bytes_cmp new → length new ≡ length ts → EachRises new → AreTables new
+  after_step ts new h ordered same each = record { ordered = ordered; few = rw same h.few; each = each }
+
+  pub absent_table : (ts : Tables A) (op : Op A) → table_of ts op.table ≡ None → step ts op ≡ stepped ts None op
+  absent_table ts op none = ap (λ found. stepped ts found op) none
+
+module _ {A : Type 0} (ts : Tables A) (name : List ℕ) where
+  pub exists_already : is_some (table_of ts name) ≡ true → refused_create ts name ≡ Some TableExists
+  exists_already there = rw there
+
+  pub too_many : is_some (table_of ts name) ≡ false → 64 ≤ length ts → refused_create ts name ≡ Some TooMany
+  too_many there many = let below : nat_lt (length ts) 64 ≡ false = grind (arith, nat_tests) in rw (there, below)
+
+  pub is_free : is_some (table_of ts name) ≡ false → length ts < 64 → refused_create ts name ≡ None
+  is_free there few = let below : nat_lt (length ts) 64 ≡ true = grind (arith, nat_tests) in rw (there, below)
+
+  pub created_is : (u new : Tables A) (schema : List Bool) (t : TableState A) → ts ≡ u → is_some (table_of ts name) ≡ false → length ts < 64 → t ≡ empty_table schema → new ≡ put_entry bytes_cmp ts name t → create u name schema ≡ Ok new
+  created_is u new schema t is there few e n =
+      subst (λ (v : Tables A). create v name schema ≡ Ok new) is
+      (ap (λ r. created r ts name schema) (is_free there few) ∙ ap Ok (ap (put_entry bytes_cmp ts name) (sym e) ∙ sym n))
+
+  pub created_first : {X : Type 0} (u : Tables A) (r : Result X (Fault Refusal)) → ts ≡ u → is_some (table_of ts name) ≡ false → length ts < 64 → RefusesFirst (refused_create u name) r
+  created_first u r is there few =
+      subst (λ (v : Tables A). RefusesFirst (refused_create v name) r) is (subst (λ o. RefusesFirst o r) (sym (is_free there few)) tt)
+
+pub take_item : {X : Type 0} (xs : List X) (i : ℕ) (x : X) → i < length xs → x ≡ get_or xs i x → take (i + 1) xs ≡ take i xs ++ x ∷ []
+take_item xs i x within is = take_more xs i x within ∙ ap (λ y. take i xs ++ y ∷ []) (sym is)
+
+-- what is refused before memory is needed is refused
+refused_by : {X : Type 0} (holds : Bool) (inner : Option Refusal) (answer : Result X Refusal) (otherwise why : Refusal) → (inner ≡ Some why → answer ≡ Err why) → cond holds inner (Some otherwise) ≡ Some why → cond holds answer (Err otherwise) ≡ Err why
+refused_by true inner answer otherwise why inside is = inside is
+refused_by false inner answer otherwise why inside is = cc
+
+module _ {A : Type 0} (t : TableState A) where
+  not_there : (name : RowRef A) (fields : Assigned A) (row : Option (Fields A)) (why : Refusal) → cond (is_some row) None (Some NoRow) ≡ Some why → updated t name fields row ≡ Err why
+  not_there name fields None why is = cc
+  not_there name fields (Some row) why is = cc
+
+  pub refused_act_is : (action : Action A) (why : Refusal) → refused_act t action ≡ Some why → act t action ≡ Err why
+  refused_act_is (Insert row) why is = refused_by (length row == length t.schema) None (placed t row (key_of t.schema row)) WrongWidth why (λ none. cc) is
+  refused_act_is (Update name fields) why is =
+      refused_by (are_columns (length t.schema) (columns_of fields)) (cond (is_some (row_of t name)) None (Some NoRow)) (updated t name fields (row_of t name)) BadColumn why (not_there name fields (row_of t name) why) is
+  refused_act_is (Delete name) why is = refused_by (is_some (row_of t name)) None (Ok (without t name)) NoRow why (λ none. cc) is
+
+  pub refused_act_first : (X : Type 0) (action : Action A) (why : Refusal) → act t action ≡ Err why → RefusesFirst {X = X} (refused_act t action) (Err (Refused why))
+  refused_act_first X action why is = first (refused_act t action) (refused_act_is action)
+    where
+      first : (known : Option Refusal) → ((w : Refusal) → known ≡ Some w → act t action ≡ Err w) → RefusesFirst {X = X} known (Err (Refused why))
+      first None refuses = tt
+      first (Some w) refuses = let same = refuses w refl in cc

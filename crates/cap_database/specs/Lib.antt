@@ -1,0 +1,11 @@
+pub mod Apart
+pub mod Assigned
+pub mod Batches
+pub mod Front
+pub mod Ids
+pub mod Keyed
+pub mod Operation
+pub mod Outcome
+pub mod Read
+pub mod Snapshot
+pub mod Tables

@@ -1,0 +1,237 @@
+//! Databases: tables under their names.
+ghost use Rattle.std.specs.Prelude.{◌≡◌, ◌≤◌, [], length, Ok, Err, Some, None, IfOk, IfSome, IfNone, IsTrue, OnOk, OnErr, is_some};
+ghost use Rattle.std.specs.Option.{option_copied};
+ghost use Rattle.cap_value.specs.Bytes.{bytes_cmp};
+ghost use Rattle.cap_value.specs.declared.refusal.Refusal.{Refusal};
+ghost use Rattle.cap_tree.specs.Tree.{IsOrdered};
+ghost use Rattle.cap_table.specs.WithHook.{LeavesOnceAllowed};
+ghost use Rattle.cap_value.specs.Memory.{LeavesUnlessMemory, RefusesFirst};
+ghost use Rattle.cap_database.specs.Tables.{EachRises, Tables, create, refused_create, table_of};
+ghost use Rattle.cap_table.specs.NotMade.{RefusesAtOnce};
+ghost use Rattle.cap_database.specs.Operation.{step, changes_made, changes, refused_step};
+ghost use Rattle.cap_database.specs.Keyed.{GoesBack, IsOwnRow, row_set};
+ghost use Rattle.cap_database.specs.Read.{read, row_at, rows_of, Lends};
+
+use crate::expected_changes::changes_in;
+use crate::keyed::{put_under, take_under};
+use crate::place::{copies, place_of, put_at, step_at, step_at_with_hook};
+use crate::{Change, Effect, Op};
+use cap_row::{Key, Row, Schema};
+use cap_table::{NotMade, RowRef, Scan, Table, operations_keep_tables};
+use cap_tree::CommitHook;
+use cap_value::{AllocHandle, Exact, Fault, Name, OutOfMemory, Refusal};
+use std::marker::Model;
+
+/// The most tables that a database may have.
+pub const TABLES_MAX: usize = 64;
+
+/// Tables by name.
+///
+/// They are in one list, which a snapshot copies: at most 64 reference counts. The rows are shared.
+pub struct Database<A: AllocHandle> {
+    tables: Vec<(Name<A>, Table<A>), A>,
+}
+
+impl<A: AllocHandle> Model for Database<A> {
+    ghost use Rattle.cap_database.specs.Tables.{Tables};
+
+    ghost Value = { Tables A };
+
+    ghost use Rattle.cap_database.specs.Tables.{AreTables};
+
+    ghost view = { λ d. d.tables.items };
+
+    ghost invariant = { λ d. AreTables d.tables.items };
+}
+
+// A derived `Drop` would be opened in each caller's loop.
+impl<A: AllocHandle> Drop for Database<A> {
+    fn drop(self) {
+        let Database { tables: _ } = self;
+    }
+}
+
+impl<A: AllocHandle> Database<A> {
+    /// A database without tables, which takes no memory.
+    pub fn empty(alloc: A) -> Self
+        ensures { result ≡ [] }
+    {
+        Database {
+            tables: Vec::new(alloc),
+        }
+    }
+
+    /// How many tables there are.
+    pub fn len(&self) -> usize
+        ensures tables { result ≡ length self.now }
+        ensures few { result ≤ TABLES_MAX }
+        ensures ordered { IsOrdered bytes_cmp self.now }
+    {
+        self.tables.len()
+    }
+
+    /// A law of every database, for who keeps rows of it: in each table keys and ids rise, each row has the table's
+    /// width, and is stored under its own key, or where it has none under an id that was given. The call does nothing.
+    pub fn rows_stand(&self)
+        ensures { EachRises self.now }
+    {
+        let _tables = &self.tables;
+    }
+
+    /// The table of this name.
+    pub fn table(&self, name: &Name<A>) -> Option<&Table<A>>
+        ensures { option_copied result ≡ table_of self.now name.now }
+    {
+        match place_of(&self.tables, name) {
+            Ok(place) => Some(&self.tables[place].1),
+            Err(_) => None,
+        }
+    }
+
+    /// Adds a table without rows. Refused with `TableExists` where a table has the name already, and then with
+    /// `TooMany` where there are `TABLES_MAX`. On an error the database is as before.
+    pub fn create(&mut self, name: Name<A>, schema: Schema<A>) -> Result<(), Fault<Refusal>>
+        ensures tables { LeavesUnlessMemory result (create self.old name schema) self.new }
+        ensures kept { OnErr result (self.new ≡ self.old) }
+        ensures first { RefusesFirst (refused_create self.old name) result }
+    {
+        operations_keep_tables::<A>();
+        let place = match place_of(&self.tables, &name) {
+            Ok(_) => return Err(Fault::Refused(Refusal::TableExists)),
+            Err(place) => place,
+        };
+        if self.tables.len() >= TABLES_MAX {
+            return Err(Fault::Refused(Refusal::TooMany));
+        }
+        let table = Table::empty(*self.tables.allocator(), schema);
+        put_at(&mut self.tables, place, name, table)?;
+        Ok(())
+    }
+
+    /// Makes one operation, and answers its changes. Refused with `NoTable` where no table has the name, and then as
+    /// the table's call refuses it. On an error the database is as before.
+    pub fn step(&mut self, op: &Op<A>) -> Result<Effect<A>, Fault<Refusal>>
+        ensures tables { LeavesUnlessMemory result (step self.old op.now) self.new }
+        ensures kept { OnErr result (self.new ≡ self.old) }
+        ensures changes { IfOk result (λ step. changes_made step ≡ changes self.old op.now) }
+        ensures first { RefusesFirst (refused_step self.old op.now) result }
+    {
+        operations_keep_tables::<A>();
+        match place_of(&self.tables, &op.table) {
+            Ok(place) => step_at(&mut self.tables, place, op),
+            Err(_) => Err(Fault::Refused(Refusal::NoTable)),
+        }
+    }
+
+    /// Makes one operation if the commit hook allows it, with `step`'s refusals. The hook is asked once, after all
+    /// memory is reserved, and only if the rules accept the operation. On an error the database is as before.
+    pub fn step_with_hook<C: CommitHook>(
+        &mut self,
+        op: &Op<A>,
+        hook: &mut C,
+    ) -> Result<(), NotMade<C::Refusal>>
+        requires { (after : Tables A) → step self.old op.now ≡ Ok after → C.can_ask hook.old }
+        ensures tables { LeavesOnceAllowed result (step self.old op.now) self.new
+            (hook.new ≡ hook.old) (λ answer. C.gives hook.old answer hook.new) }
+        ensures kept { OnErr result (self.new ≡ self.old) }
+        ensures first { RefusesAtOnce (refused_step self.old op.now) result }
+    {
+        operations_keep_tables::<A>();
+        match place_of(&self.tables, &op.table) {
+            Ok(place) => step_at_with_hook(&mut self.tables, place, op, hook),
+            Err(_) => Err(NotMade::Refused(Refusal::NoTable)),
+        }
+    }
+
+    /// Puts a row under its own key in the table of this name, and answers the row that was there, if any, which may go
+    /// back. The table is searched once. On an error the database is as before.
+    pub fn put_row(
+        &mut self,
+        table: &Name<A>,
+        key: Key<A>,
+        row: Row<A>,
+    ) -> Result<Option<Row<A>>, OutOfMemory>
+        requires there { IsTrue (is_some (table_of self.old table.now)) }
+        requires own { IsOwnRow self.old table.now key row }
+        ensures set { OnOk result (self.new ≡ row_set self.old table.now key (Some row)) }
+        ensures kept { OnErr result (self.new ≡ self.old) }
+        ensures before { IfOk result (λ before. before ≡ row_at self.old table.now key) }
+        ensures back { IfOk result (λ before.
+            IfSome before (GoesBack self.old self.new table.now key)) }
+    {
+        put_under(&mut self.tables, table, key, row)
+    }
+
+    /// Takes the row of a key out of the table of this name, and answers it, if any; it may go back. The table is
+    /// searched once. On an error the database is as before.
+    pub fn take_row(&mut self, table: &Name<A>, key: &Key<A>) -> Result<Option<Row<A>>, OutOfMemory>
+        requires there { IsTrue (is_some (table_of self.old table.now)) }
+        ensures set { OnOk result (self.new ≡ row_set self.old table.now key.now None) }
+        ensures kept { OnErr result (self.new ≡ self.old) }
+        ensures before { IfOk result (λ before. before ≡ row_at self.old table.now key.now) }
+        ensures none { IfOk result (λ before. IfNone before (self.new ≡ self.old)) }
+        ensures back { IfOk result (λ before.
+            IfSome before (GoesBack self.old self.new table.now key.now)) }
+    {
+        take_under(&mut self.tables, table, key)
+    }
+
+    /// The changes that an operation makes, in order: none where it is refused.
+    pub fn changes_of(&self, op: &Op<A>) -> Result<Vec<Change<A>, A>, OutOfMemory>
+        ensures changes { (after : Tables A) → step self.now op.now ≡ Ok after →
+            IfOk result (λ all. all.items ≡ changes self.now op.now) }
+        ensures refused { (why : Refusal) → step self.now op.now ≡ Err why →
+            IfOk result (λ all. all.items ≡ []) }
+    {
+        let alloc = *self.tables.allocator();
+        match self.table(&op.table) {
+            Some(table) => changes_in(alloc, table, op),
+            None => Ok(Vec::new(alloc)),
+        }
+    }
+
+    /// The row of this name in a table, or its absence. Refused with `NoTable` where no table has the name.
+    pub fn get(&self, table: &Name<A>, row: &RowRef<A>) -> Result<Option<&Row<A>>, Refusal>
+        ensures { Lends result (read self.now table.now row.now) }
+    {
+        match self.table(table) {
+            Some(table) => Ok(table.get(row)),
+            None => Err(Refusal::NoTable),
+        }
+    }
+
+    /// All rows of a table, each with its name: those with a key in the order of their keys, and then the others by
+    /// their ids. Refused with `NoTable` where no table has the name.
+    pub fn scan(&self, table: &Name<A>) -> Result<Scan<'_, A>, Refusal>
+        ensures { result ≡ rows_of self.now table.now }
+    {
+        match self.table(table) {
+            Some(table) => Ok(table.scan()),
+            None => Err(Refusal::NoTable),
+        }
+    }
+
+    /// The same database, which shares its rows.
+    pub fn snapshot(&self) -> Result<Self, OutOfMemory>
+        ensures { IfOk result (λ database. database ≡ self.now) }
+    {
+        Ok(Database {
+            tables: copies(*self.tables.allocator(), &self.tables)?,
+        })
+    }
+}
+
+/// The same database, which shares its rows.
+impl<A: AllocHandle> Clone for Database<A> {
+    ghost use Rattle.std.specs.Prelude.{◌≡◌};
+
+    ghost is_clone = { λ database clone. clone ≡ database };
+
+    fn clone(&self) -> Result<Self, OutOfMemory> {
+        self.snapshot()
+    }
+}
+
+impl<A: AllocHandle> Exact for Database<A> {
+    ghost exact = { λ database clone same. same };
+}

@@ -1,0 +1,170 @@
+//! The tables of a database, in the order of their names: where a name is, and changes at that index.
+ghost use Rattle.std.specs.Prelude.{◌≡◌, ◌<◌, ◌≤◌, List, ℕ, length, slice_set, slice_index_or, MatchResult, Some, None, Ok, IfOk, OnOk, OnErr, is_some, true, false};
+ghost use Rattle.std.specs.List.{insert};
+ghost use Rattle.cap_value.specs.Bytes.{bytes_cmp};
+ghost use Rattle.cap_tree.specs.Tree.{IsOrdered, get, put_entry};
+ghost use Rattle.cap_table.specs.WithHook.{LeavesOnceAllowed};
+ghost use Rattle.cap_database.specs.Tables.{Tables};
+ghost use Rattle.cap_value.specs.Memory.{LeavesUnlessMemory, RefusesFirst};
+ghost use Rattle.cap_table.specs.NotMade.{RefusesAtOnce};
+ghost use Rattle.cap_table.specs.Operation.{insert_row, refused_insert};
+ghost use Rattle.cap_table.specs.Table.{TableState};
+ghost use Rattle.cap_database.specs.Operation.{act, step, changes_made, changes, refused_act, refused_step};
+
+use crate::{Action, Effect, Op};
+use cap_row::Row;
+use cap_table::{NotMade, Table};
+use cap_tree::CommitHook;
+use cap_value::{AllocHandle, Fault, Name, OutOfMemory, Refusal};
+use std::cmp::Ordering;
+
+// The index of the name, or the index where it belongs.
+pub(crate) fn place_of<A: AllocHandle>(
+    tables: &[(Name<A>, Table<A>)],
+    name: &Name<A>,
+) -> Result<usize, usize>
+    requires { IsOrdered bytes_cmp tables.now }
+    ensures within { MatchResult result (λ i. i < length tables.now) (λ i. i ≤ length tables.now) }
+    ensures put { MatchResult result
+        (λ i. (d : List ℕ × TableState A) (t : TableState A) → put_entry bytes_cmp tables.now name.now t
+        ≡ slice_set tables.now i ((slice_index_or tables.now i d).0, t))
+        (λ i. (t : TableState A) → put_entry bytes_cmp tables.now name.now t
+        ≡ insert tables.now i (name.now, t)) }
+    ensures get { MatchResult result
+        (λ i. (d : List ℕ × TableState A) → get bytes_cmp tables.now name.now ≡ Some
+        (slice_index_or tables.now i d).1)
+        (λ i. get bytes_cmp tables.now name.now ≡ None) }
+    ensures there { MatchResult result
+        (λ i. is_some (get bytes_cmp tables.now name.now) ≡ true)
+        (λ i. is_some (get bytes_cmp tables.now name.now) ≡ false) }
+{
+    let mut at = 0;
+    while at < tables.len() {
+        match name.order(&tables[at].0) {
+            Ordering::Less => return Err(at),
+            Ordering::Equal => return Ok(at),
+            Ordering::Greater => at += 1,
+        }
+    }
+    Err(at)
+}
+
+// Inserts a table at the index.
+pub(crate) fn put_at<A: AllocHandle>(
+    tables: &mut Vec<(Name<A>, Table<A>), A>,
+    place: usize,
+    name: Name<A>,
+    table: Table<A>,
+) -> Result<(), OutOfMemory>
+    requires { place ≤ length tables.old.items }
+    ensures ok { OnOk result (tables.new.items ≡ insert tables.old.items place (name, table)) }
+    ensures err { OnErr result (tables.new.items ≡ tables.old.items) }
+{
+    tables.insert(place, (name, table))?;
+    Ok(())
+}
+
+// Makes an operation on the table at the index of its name.
+pub(crate) fn step_at<A: AllocHandle>(
+    tables: &mut [(Name<A>, Table<A>)],
+    place: usize,
+    op: &Op<A>,
+) -> Result<Effect<A>, Fault<Refusal>>
+    requires within { place < length tables.old }
+    requires get { (d : List ℕ × TableState A) → get bytes_cmp tables.old op.now.table ≡ Some
+        (slice_index_or tables.old place d).1 }
+    requires put { (d : List ℕ × TableState A) (t : TableState A)
+        → put_entry bytes_cmp tables.old op.now.table t
+        ≡ slice_set tables.old place ((slice_index_or tables.old place d).0, t) }
+    ensures tables { LeavesUnlessMemory result (step tables.old op.now) tables.new }
+    ensures kept { OnErr result (tables.new ≡ tables.old) }
+    ensures changes { IfOk result (λ step. changes_made step ≡ changes tables.old op.now) }
+    ensures first { RefusesFirst (refused_step tables.old op.now) result }
+    ensures ordered { IsOrdered bytes_cmp tables.old → IsOrdered bytes_cmp tables.new }
+{
+    let (_, table) = &mut tables[place];
+    Effect::make(table, op)
+}
+
+// Makes an operation on the table at the index of its name, if the commit hook allows it.
+pub(crate) fn step_at_with_hook<A: AllocHandle, C: CommitHook>(
+    tables: &mut [(Name<A>, Table<A>)],
+    place: usize,
+    op: &Op<A>,
+    hook: &mut C,
+) -> Result<(), NotMade<C::Refusal>>
+    requires within { place < length tables.old }
+    requires get { (d : List ℕ × TableState A) → get bytes_cmp tables.old op.now.table ≡ Some
+        (slice_index_or tables.old place d).1 }
+    requires put { (d : List ℕ × TableState A) (t : TableState A)
+        → put_entry bytes_cmp tables.old op.now.table t
+        ≡ slice_set tables.old place ((slice_index_or tables.old place d).0, t) }
+    requires can_ask { (after : Tables A) → step tables.old op.now ≡ Ok after
+        → C.can_ask hook.old }
+    ensures tables { LeavesOnceAllowed result (step tables.old op.now) tables.new
+        (hook.new ≡ hook.old) (λ answer. C.gives hook.old answer hook.new) }
+    ensures kept { OnErr result (tables.new ≡ tables.old) }
+    ensures first { RefusesAtOnce (refused_step tables.old op.now) result }
+    ensures ordered { IsOrdered bytes_cmp tables.old → IsOrdered bytes_cmp tables.new }
+{
+    let (_, table) = &mut tables[place];
+    act_with_hook(table, &op.action, hook)
+}
+
+// Makes what an operation does to its table, if the commit hook allows it.
+fn act_with_hook<A: AllocHandle, C: CommitHook>(
+    table: &mut Table<A>,
+    action: &Action<A>,
+    hook: &mut C,
+) -> Result<(), NotMade<C::Refusal>>
+    requires { (after : TableState A) → act table.old action.now ≡ Ok after → C.can_ask hook.old }
+    ensures table { LeavesOnceAllowed result (act table.old action.now) table.new
+        (hook.new ≡ hook.old) (λ answer. C.gives hook.old answer hook.new) }
+    ensures kept { OnErr result (table.new ≡ table.old) }
+    ensures first { RefusesAtOnce (refused_act table.old action.now) result }
+{
+    match action {
+        Action::Insert(row) => insert_with_hook(table, row, hook),
+        Action::Update(name, fields) => table.update_with_hook(name, fields.fields(), hook),
+        Action::Delete(name) => table.delete_with_hook(name, hook),
+    }
+}
+
+fn insert_with_hook<A: AllocHandle, C: CommitHook>(
+    table: &mut Table<A>,
+    row: &Row<A>,
+    hook: &mut C,
+) -> Result<(), NotMade<C::Refusal>>
+    requires { (after : TableState A) → insert_row table.old row.now ≡ Ok after → C.can_ask hook.old }
+    ensures table { LeavesOnceAllowed result (insert_row table.old row.now) table.new
+        (hook.new ≡ hook.old) (λ answer. C.gives hook.old answer hook.new) }
+    ensures kept { OnErr result (table.new ≡ table.old) }
+    ensures first { RefusesAtOnce (refused_insert table.old row.now) result }
+{
+    match row.copy() {
+        Ok(row) => table.insert_with_hook(row, hook),
+        Err(_) => match table.refused_insert(row) {
+            Some(why) => Err(NotMade::Refused(why)),
+            None => Err(NotMade::OutOfMemory),
+        },
+    }
+}
+
+pub(crate) fn copies<A: AllocHandle>(
+    alloc: A,
+    tables: &[(Name<A>, Table<A>)],
+) -> Result<Vec<(Name<A>, Table<A>), A>, OutOfMemory>
+    ensures { IfOk result (λ copies. copies.items ≡ tables.now) }
+{
+    let mut copies = Vec::with_capacity(alloc, tables.len())?;
+    for entry in tables {
+        copies.push(copy_of(entry)?)?;
+    }
+    Ok(copies)
+}
+
+fn copy_of<A: AllocHandle>(entry: &(Name<A>, Table<A>)) -> Result<(Name<A>, Table<A>), OutOfMemory>
+    ensures { IfOk result (λ copy. copy ≡ entry.now) }
+{
+    Ok((entry.0.copy()?, entry.1.snapshot()?))
+}
