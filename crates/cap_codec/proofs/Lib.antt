@@ -2,6 +2,7 @@ pub mod Binds
 pub mod Loops
 pub mod Left
 pub mod FitLemmas
+pub mod EntryLemmas
 pub mod HeaderLemmas
 pub mod KeyFlagLemmas
 pub mod FieldAgain

@@ -8,6 +8,7 @@ pub mod HeaderReading
 pub mod RecordReading
 pub mod BlobReading
 pub mod Operation
+pub mod EntryReading
 pub mod ChangeLeft
 pub mod Writable
 pub mod Spelling

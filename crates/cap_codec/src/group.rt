@@ -9,7 +9,7 @@ ghost use Rattle.cap_value.specs.Memory.{ShowsUnlessMemory};
 ghost use Rattle.cap_codec.specs.HeaderReading.{is_set};
 ghost use Rattle.cap_codec.specs.BlobReading.{changes_at, entries_at, with_changes};
 
-use crate::change::Decode;
+use crate::change::{Decode, EntryBytes};
 use crate::fault::BlobFault;
 use crate::header::take_header;
 use crate::operation::Operation;
@@ -65,7 +65,13 @@ fn take_changes<'a, C: Decode<A> + Drop, A: AllocHandle>(
         let Some(operation) = Operation::of(*byte) else {
             break;
         };
-        let (change, after) = C::take(alloc, total, group.schema(), operation, behind)?;
+        let entry = EntryBytes {
+            total,
+            flags: group.schema().flags(),
+            operation,
+            bytes: behind,
+        };
+        let (change, after) = C::take(alloc, entry)?;
         group.push(change)?;
         rest = after;
     }

@@ -1,13 +1,22 @@
-use Rattle.cap_changes.specs.Requirements.{requirements}
-use Rattle.cap_changes.specs.declared.record_kind.RecordKind.TheVariants as record_kinds
-use Rattle.cap_codec.proofs.FitLemmas.{record_meets}
+use Rattle.std.proofs.Common.{◌∙◌}
+use Rattle.std.proofs.lemmas.Result.{err_from_is_err_and}
+use Rattle.cap_codec.specs.EntryReading.{patch_kind}
+use Rattle.cap_codec.proofs.EntryLemmas.{patch_read, patch_refused, first_fits, patch_with_fits}
 use Rattle.cap_codec.proofs.change.PatchDecode.take.Goals as goal
 
-pub returns-in_ok-new-in-Insert-clause-fits : goal.returns-in_ok-new-in-Insert-clause-fits
-returns-in_ok-new-in-Insert-clause-fits g c = rw (← c.flags-flags.ensures.flags) (record_meets c.args.total (requirements record_kinds.Full c.flags-flags.result.now) c.in_ok-flag_byte.rest.now (c.in_ok-new-in-Insert.new, c.in_ok-new-in-Insert.rest.now) c.in_ok-new-in-Insert.ensures.gives)
+pub returns-in_err-start-clause-gives : goal.returns-in_err-start-clause-gives
+returns-in_err-start-clause-gives g c =
+    let p = err_from_is_err_and c.from_residual.result c.from_residual.ensures.1 in
+    let given = c.args.given in
+    rw (p.1, p.2) (patch_refused g.row.A.Denot given.total given.flags.now given.operation c.patch_kind.result given.bytes.now c.in_err-start.field-0.0 c.patch_kind.ensures c.in_err-start.ensures.gives)
 
-pub returns-in_ok-new-in-Update-clause-fits : goal.returns-in_ok-new-in-Update-clause-fits
-returns-in_ok-new-in-Update-clause-fits g c = rw (← c.flags-flags.ensures.flags) (record_meets c.args.total (requirements record_kinds.Keyed c.flags-flags.result.now) c.in_ok-flag_byte.rest.now (c.in_ok-new-in-Update.new, c.in_ok-new-in-Update.rest.now) c.in_ok-new-in-Update.ensures.gives)
+pub returns-clause-gives : goal.returns-clause-gives
+returns-clause-gives g c =
+    let given = c.args.given in
+    rw c.patch_with.ensures (patch_read given.total given.flags.now given.operation c.patch_kind.result given.bytes.now c.in_ok-start.start c.in_ok-start.rest.now c.patch_kind.ensures c.in_ok-start.ensures.gives)
 
-pub returns-in_ok-key-in-Delete-clause-fits : goal.returns-in_ok-key-in-Delete-clause-fits
-returns-in_ok-key-in-Delete-clause-fits g c = rw (← c.flags-flags.ensures.flags) (record_meets c.args.total (requirements record_kinds.KeyAlone c.flags-flags.result.now) c.in_ok-flag_byte.rest.now (c.in_ok-key-in-Delete.key, c.in_ok-key-in-Delete.rest.now) c.in_ok-key-in-Delete.ensures.gives)
+pub returns-clause-fits : goal.returns-clause-fits
+returns-clause-fits g c =
+    let given = c.args.given in
+    rw c.patch_with.ensures (patch_with_fits given.flags.now given.operation c.in_ok-start.start
+    (first_fits given.total c.patch_kind.result (patch_kind given.operation) given.flags.now given.bytes.now c.in_ok-start.start c.in_ok-start.rest.now c.patch_kind.ensures c.in_ok-start.ensures.gives))
