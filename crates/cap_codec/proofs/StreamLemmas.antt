@@ -1,5 +1,5 @@
 -- What was read of a reader's bytes, and what was written of a list's.
-use Rattle.std.proofs.Common.{◌≡◌, ℕ, zero, suc, ◌+◌, ◌≤◌, refl, arith, List, [], ◌++◌, take, drop, Option, Some, None, IfSome, Ok, Err, sym, ap, ◌∙◌, append_assoc, append-nil, take-append-drop}
+use Rattle.std.proofs.Common.{◌≡◌, ℕ, zero, suc, ◌+◌, ◌<◌, ◌≤◌, inl, inr, refl, arith, List, [], ◌++◌, length, take, drop, Option, Some, None, IfSome, Ok, Err, sym, ap, subst, ◌∙◌, add-one, append_assoc, append-nil, length-take, take-append-drop}
 use Rattle.std.specs.Io.KnownBytes.{Consumes, Appends, IsAtEnd, Keeps}
 use Rattle.std.proofs.KnownBytes.{Appends-trans}
 use Rattle.cap_value.specs.Memory.{AnswersUnlessMemory}
@@ -9,8 +9,9 @@ use Rattle.cap_codec.specs.declared.fault.BlobFault.{BlobFault}
 use Rattle.cap_codec.specs.declared.read.Contents.{Contents}
 use Rattle.cap_codec.specs.BlobReading.{blob_at}
 use Rattle.cap_codec.specs.Pieces.{lasting}
-use Rattle.cap_codec.specs.StreamCalls.{Calls, AllWent, ReportsWrite}
-use Rattle.cap_codec.specs.Stream.{IsBlobOf, EndsReads, read_fault}
+use Rattle.cap_codec.specs.declared.stream.ReadFault.TheVariants as read
+use Rattle.cap_codec.specs.StreamCalls.{AllWent, ReportsWrite, GaveAtMost}
+use Rattle.cap_codec.specs.Stream.{IsBlobOf, ReadsOn, LastGave, EndsReads, read_fault}
 use Rattle.cap_codec.proofs.Looking.{err_lasts, fault_of_lasting}
 
 -- a write took some more of the bytes
@@ -25,27 +26,18 @@ writes_more a b c bytes rest count (front, parts, before) taken = (
 -- ---- how the calls went
 
 module _ {X : Type 0} (went failed : X → X → Type 0) where
-  -- at least so many calls, each of which went so
-  abbrev Counted : ℕ → X → X → Type 0
-  Counted least old new = (n : ℕ) × (least ≤ n) × Calls went n old new
-
   pub one_more : (old before new : X) → AllWent went old before → went before new → AllWent went old new
   one_more old before new (n, calls) last = (suc n, (before, calls, last))
-
-  pub counted_more : (least : ℕ) (old before new : X) → Counted least old before → went before new → Counted (least + 1) old new
-  counted_more least old before new (n, le, calls) last = (suc n, omega arith, (before, calls, last))
-
-  pub all_went : (least : ℕ) (old before new : X) → Counted least old before → went before new → AllWent went old new
-  all_went least old before new (n, le, calls) last = (suc n, (before, calls, last))
 
   -- a write that took some bytes
   pub write_took : (E : Type 0) (count : ℕ) (old new : X) → (count ≡ 0 → ⊥) → ReportsWrite {E = E} went failed (Ok count) old new → went old new
   write_took E zero old new some reported = absurd (some refl)
   write_took E (suc count) old new some reported = reported
 
-  pub ends_err : (Y : Type 0) (fault : Fault BlobFault) (old new : X) → AllWent went old new → EndsReads {X = Y} went failed (Err (read_fault fault)) old new
-  ends_err Y (Refused fault) old new all = all
-  ends_err Y OutOfMemory old new all = all
+-- before the first read
+pub nothing_fed : (a : Option (List ℕ)) → Consumes a a []
+nothing_fed None = tt
+nothing_fed (Some xs) = refl
 
 -- an interrupted read gave nothing
 pub kept_fed : (a b c : Option (List ℕ)) (fed : List ℕ) → Consumes a b fed → Keeps b c → Consumes a c fed
@@ -82,3 +74,72 @@ module _ (A : Type 0) where
   reads_fault (Some xs) (Some ys) (Some zs) fed piece n (Refused f) p q answers =
       let all : xs ≡ (fed ++ take n piece) ++ zs = p ∙ ap (λ (r : List ℕ). fed ++ r) q ∙ sym (append_assoc fed (take n piece) zs) in
       ap blob_at all ∙ (fault_of_lasting (blob_at {A = A} ((fed ++ take n piece) ++ zs)) f (err_lasts A (fed ++ take n piece) zs f answers)).0
+
+-- ---- what the reads gave
+
+nothing_consumed : (a b : Option (List ℕ)) → Keeps a b → Consumes a b []
+nothing_consumed None b keeps = tt
+nothing_consumed (Some xs) None keeps = absurd keeps
+nothing_consumed (Some xs) (Some ys) keeps = sym keeps
+
+pub within_piece : (count : ℕ) (piece : List ℕ) → length piece ≡ 4096 → length (take count piece) ≤ 4096
+within_piece count piece long = omega (arith, length-take count piece)
+
+module _ (A : Type 0) {R : Type 0} (remaining : R → Option (List ℕ)) (gave failed : R → R → Type 0) where
+  abbrev On : ℕ → R → R → List ℕ → Type 0
+  On n old new bytes = ReadsOn A remaining gave failed n old new bytes
+
+  abbrev Gave : R → R → List ℕ → Type 0
+  Gave old new piece = GaveAtMost remaining gave 4096 old new piece
+
+  pub no_reads : (old : R) → On 0 old old []
+  unfolding blob_at
+  no_reads old = ((refl, refl), refl)
+
+  pub reads_on : (n : ℕ) (old before new : R) (front piece : List ℕ) → On n old before front → Gave before new piece → lasting (blob_at {A = A} (front ++ piece)) ≡ Ok tt
+      → On (n + 1) old new (front ++ piece)
+  reads_on n old before new front piece on last cut = rw add-one ((before, front, piece, refl, on.0, last), cut)
+
+  pub reads_kept : (n : ℕ) (old before new : R) (front : List ℕ) → On n old before front → gave before new → Keeps (remaining before) (remaining new) → On (n + 1) old new front
+  reads_kept n old before new front on went keeps =
+      let same = append-nil front in
+      let cut : lasting (blob_at {A = A} (front ++ [])) ≡ Ok tt = ap (λ (bytes : List ℕ). lasting (blob_at {A = A} bytes)) same ∙ on.1 in
+      subst (λ (bytes : List ℕ). On (n + 1) old new bytes) same
+      (reads_on n old before new front [] on (went, omega arith, nothing_consumed (remaining before) (remaining new) keeps) cut)
+
+  pub ends_ok : (n : ℕ) (old before new : R) (front piece : List ℕ) (count : ℕ) (blob : Contents A) → n < 1099511627776 → On n old before front
+      → gave before new → Consumes (remaining before) (remaining new) (take count piece) → count ≡ 0 → IsAtEnd (remaining new) → blob_at front ≡ Ok blob
+      → EndsReads A remaining gave failed (Ok blob) old new
+  ends_ok n old before new front piece count blob lt on went taken none end read =
+      (n, lt, before, front, [], on, (went, omega arith, subst (λ (k : ℕ). Consumes (remaining before) (remaining new) (take k piece)) none taken), (refl, end, read))
+
+  ends_with : (fault : Fault BlobFault) (n : ℕ) (old before new : R) (front piece : List ℕ) → n < 1099511627776 → On n old before front → Gave before new piece
+      → LastGave A remaining gave failed (Err (read_fault fault)) new front piece → EndsReads A remaining gave failed (Err (read_fault fault)) old new
+  ends_with (Refused f) n old before new front piece lt on last given = (n, lt, before, front, piece, on, last, given)
+  ends_with OutOfMemory n old before new front piece lt on last given = (n, lt, before, front, piece, on, last, given)
+
+  whole_gave : (fault : Fault BlobFault) (new : R) (front : List ℕ) → IsAtEnd (remaining new) → AnswersUnlessMemory {X = Contents A} (Err fault) (blob_at front)
+      → LastGave A remaining gave failed (Err (read_fault fault)) new front []
+  whole_gave (Refused f) new front end read = inr (refl, end, read)
+  whole_gave OutOfMemory new front end read = tt
+
+  -- the whole blob has a fault, or memory is out
+  pub ends_whole : (fault : Fault BlobFault) (n : ℕ) (old before new : R) (front piece : List ℕ) (count : ℕ) → n < 1099511627776 → On n old before front
+      → gave before new → Consumes (remaining before) (remaining new) (take count piece) → count ≡ 0 → IsAtEnd (remaining new) → AnswersUnlessMemory {X = Contents A} (Err fault) (blob_at front)
+      → EndsReads A remaining gave failed (Err (read_fault fault)) old new
+  ends_whole fault n old before new front piece count lt on went taken none end read =
+      ends_with fault n old before new front [] lt on (went, omega arith, subst (λ (k : ℕ). Consumes (remaining before) (remaining new) (take k piece)) none taken) (whole_gave fault new front end read)
+
+  piece_gave : (fault : Fault BlobFault) (new : R) (front piece : List ℕ) → AnswersUnlessMemory {X = Unit {0}} (Err fault) (lasting (blob_at {A = A} (front ++ piece)))
+      → LastGave A remaining gave failed (Err (read_fault fault)) new front piece
+  piece_gave (Refused f) new front piece read = inl read
+  piece_gave OutOfMemory new front piece read = tt
+
+  -- the last piece shows a fault, or memory is out
+  pub ends_fed : (fault : Fault BlobFault) (n : ℕ) (old before new : R) (front piece : List ℕ) → n < 1099511627776 → On n old before front → Gave before new piece
+      → AnswersUnlessMemory {X = Unit {0}} (Err fault) (lasting (blob_at {A = A} (front ++ piece)))
+      → EndsReads A remaining gave failed (Err (read_fault fault)) old new
+  ends_fed fault n old before new front piece lt on last read = ends_with fault n old before new front piece lt on last (piece_gave fault new front piece read)
+
+  pub ends_limit : (n : ℕ) (old new : R) (front : List ℕ) → n ≡ 1099511627776 → On n old new front → EndsReads A remaining gave failed (Err read.Read) old new
+  ends_limit n old new front is on = inr (n, is, front, on)

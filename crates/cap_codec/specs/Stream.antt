@@ -1,10 +1,13 @@
 -- Blobs from readers and to writers.
-use Rattle.std.specs.Prelude.{◌≡◌, ◌⊎◌, ℕ, ◌≤◌, List, ◌++◌, length, Option, Result, Ok, Err}
-use Rattle.std.specs.Io.KnownBytes.{Appends, Keeps}
+use Rattle.std.specs.Prelude.{◌≡◌, ◌⊎◌, ℕ, ◌<◌, ◌≤◌, List, [], ◌++◌, length, Option, Result, Ok, Err}
+use Rattle.std.specs.Io.KnownBytes.{Appends, Keeps, IsAtEnd}
 use Rattle.cap_value.specs.declared.memory.Fault.{Fault}
 use Rattle.cap_value.specs.declared.memory.Fault.TheVariants.{Refused, OutOfMemory}
-use Rattle.cap_codec.specs.StreamCalls.{Calls, AllWent, LastFailed}
+use Rattle.cap_codec.specs.BlobReading.{blob_at}
+use Rattle.cap_codec.specs.Pieces.{lasting}
+use Rattle.cap_codec.specs.StreamCalls.{AllWent, LastFailed, GaveAtMost, ReadsGave}
 use Rattle.cap_codec.specs.declared.fault.BlobFault.{BlobFault}
+use Rattle.cap_codec.specs.declared.read.Contents.{Contents}
 use Rattle.cap_codec.specs.declared.stream.ReadFault.{ReadFault}
 use Rattle.cap_codec.specs.declared.stream.ReadFault.TheVariants as read
 use Rattle.cap_codec.specs.declared.stream.WriteFault.{WriteFault}
@@ -21,15 +24,51 @@ IsBlobOf (Err (read.Blob fault)) reading = reading ≡ Err fault
 IsBlobOf (Err read.Read) reading = Unit {0}
 IsBlobOf (Err read.Memory) reading = Unit {0}
 
--- A failed read is answered where a read failed, or where 2^40 reads did not reach the end; with every other
--- answer no read failed, so none is reported as out of memory or as a fault.
-abbrev pub EndsReads : {X S : Type 0} → (S → S → Type 0) → (S → S → Type 0) → Result X ReadFault → S → S →
-    Type 0
-EndsReads gave failed (Err read.Read) old new =
-    LastFailed gave failed old new ⊎ ((n : ℕ) × (1099511627776 ≤ n) × Calls gave n old new)
-EndsReads gave failed (Err read.Memory) old new = AllWent gave old new
-EndsReads gave failed (Err (read.Blob fault)) old new = AllWent gave old new
-EndsReads gave failed (Ok x) old new = AllWent gave old new
+module _ (A : Type 0) {R : Type 0} (remaining : R → Option (List ℕ)) (gave failed : R → R → Type 0) where
+  -- this many reads of at most 4,096 bytes gave these bytes, which have no fault but that they may be cut
+  abbrev pub ReadsOn : ℕ → R → R → List ℕ → Type 0
+  ReadsOn n old new bytes =
+      ReadsGave remaining gave 4096 n old new bytes × (lasting (blob_at {A = A} bytes) ≡ Ok tt)
+
+  -- The last read gave nothing, and all the bytes were read.
+  abbrev pub IsWhole : R → List ℕ → List ℕ → Result (Contents A) BlobFault → Type 0
+  IsWhole new front piece reading =
+      (piece ≡ []) × IsAtEnd (remaining new) × (blob_at front ≡ reading)
+
+  -- What the last read gave leads to this answer: the whole blob, the fault that its bytes show or that the
+  -- whole blob has, or want of memory.
+  abbrev pub LastGave : Result (Contents A) ReadFault → R → List ℕ → List ℕ → Type 0
+  LastGave (Ok blob) new front piece = IsWhole new front piece (Ok blob)
+  LastGave (Err (read.Blob fault)) new front piece =
+      (lasting (blob_at {A = A} (front ++ piece)) ≡ Err fault) ⊎ IsWhole new front piece (Err fault)
+  LastGave (Err read.Memory) new front piece = Unit {0}
+  LastGave (Err read.Read) new front piece = ⊥
+
+  -- The last of at most 2^40 reads leads to the answer, and none before it: nothing is read behind it.
+  abbrev pub AnswersLastRead : Result (Contents A) ReadFault → R → R → Type 0
+  AnswersLastRead result old new =
+      (n : ℕ) × (n < 1099511627776) × (before : R) × (front : List ℕ) × (piece : List ℕ)
+      × ReadsOn n old before front × GaveAtMost remaining gave 4096 before new piece
+      × LastGave result new front piece
+
+  -- the last of at most 2^40 reads failed, and no other
+  abbrev pub LastReadFailed : R → R → Type 0
+  LastReadFailed old new =
+      (n : ℕ) × (n < 1099511627776) × (before : R) × (front : List ℕ) × ReadsOn n old before front
+      × failed before new
+
+  -- exactly 2^40 reads came neither to the end nor to a fault
+  abbrev pub LimitReached : R → R → Type 0
+  LimitReached old new =
+      (n : ℕ) × (n ≡ 1099511627776) × (front : List ℕ) × ReadsOn n old new front
+
+  -- A failed read is answered where the last read failed, or at the limit of reads; every other answer is that
+  -- of the last read, and no read failed.
+  abbrev pub EndsReads : Result (Contents A) ReadFault → R → R → Type 0
+  EndsReads (Ok blob) old new = AnswersLastRead (Ok blob) old new
+  EndsReads (Err read.Read) old new = LastReadFailed old new ⊎ LimitReached old new
+  EndsReads (Err read.Memory) old new = AnswersLastRead (Err read.Memory) old new
+  EndsReads (Err (read.Blob fault)) old new = AnswersLastRead (Err (read.Blob fault)) old new
 
 -- a failed write is answered where a write failed, and out of memory where none was made
 abbrev pub EndsWrites : {X S : Type 0} → (S → S → Type 0) → (S → S → Type 0) → Result X WriteFault → S → S →

@@ -77,8 +77,8 @@ pub fn read_from<A: AllocHandle, R: Source>(
     reader: &mut R,
 ) -> Result<Contents<A>, ReadFault>
     ensures blob { IfSome (R.remaining reader.old) (λ given. IsBlobOf result (blob_at given)) }
-    // Which answer comes when, as far as the outcomes of the reads are known.
-    ensures reported { EndsReads R.gave R.failed result reader.old reader.new }
+    // Which answer comes when, and what was read until then, as far as the outcomes of the reads are known.
+    ensures reported { EndsReads A R.remaining R.gave R.failed result reader.old reader.new }
 {
     let mut piece = [0u8; PIECE_LEN];
     let mut decoder = Decoder::new(alloc);

@@ -1,8 +1,13 @@
-use Rattle.std.proofs.Common.{rules}
+use Rattle.std.proofs.Common.{rules, arith, take}
 use Rattle.std.proofs.lemmas.Result.{err_from_is_err_and}
-use Rattle.cap_codec.specs.declared.read.Contents.{Contents}
-use Rattle.cap_codec.proofs.StreamLemmas.{reads_whole, reads_fault, kept_fed, more_fed, counted_more, all_went, ends_err}
+use Rattle.cap_codec.proofs.StreamLemmas.{reads_whole, reads_fault, kept_fed, more_fed, nothing_fed, within_piece, no_reads, reads_on, reads_kept, ends_ok, ends_whole, ends_fed, ends_limit}
 use Rattle.cap_codec.proofs.stream.read_from.Goals as goal
+
+pub loop-init : goal.loop-init
+loop-init g c = rw c.new-decoder.ensures (record {
+  fed = nothing_fed (g.R.Source.remaining c.args.reader.now);
+  on = no_reads g.row.A.Denot g.R.Source.remaining g.R.Source.gave g.R.Source.failed c.args.reader.now;
+})
 
 pub returns-then-count-eq0-clause-blob : goal.returns-then-count-eq0-clause-blob
 returns-then-count-eq0-clause-blob g c =
@@ -10,13 +15,14 @@ returns-then-count-eq0-clause-blob g c =
 
 pub returns-then-count-eq0-clause-reported : goal.returns-then-count-eq0-clause-reported
 returns-then-count-eq0-clause-reported g c =
-    all_went g.R.Source.gave g.R.Source.failed c.loop.counter c.args.reader.now c.loop.reader c.read_some.new.self c.loop.invariant.went c.in-Ok.ensures.reported
+    ends_ok g.row.A.Denot g.R.Source.remaining g.R.Source.gave g.R.Source.failed c.loop.counter c.args.reader.now c.loop.reader c.read_some.new.self c.loop.decoder c.read_some.new.piece c.in-Ok.count c.in_ok-finish.field-0
+    c.loop-test.true c.loop.invariant.on c.in-Ok.ensures.reported c.in-Ok.ensures.bytes.0 c.if-count-eq0.true (c.in-Ok.ensures.bytes.1 c.if-count-eq0.true (search rules)) c.in_ok-finish.ensures.answers
 
 pub returns-in_err-finish-clause-reported : goal.returns-in_err-finish-clause-reported
 returns-in_err-finish-clause-reported g c =
     let p = err_from_is_err_and c.from_residual.result c.from_residual.ensures.1 in
-    rw (p.1, p.2) (ends_err g.R.Source.gave g.R.Source.failed (Contents g.row.A.Denot) c.in_err-finish.field-0.0 c.args.reader.now c.read_some.new.self
-    (all_went g.R.Source.gave g.R.Source.failed c.loop.counter c.args.reader.now c.loop.reader c.read_some.new.self c.loop.invariant.went c.in-Ok.ensures.reported))
+    rw (p.1, p.2) (ends_whole g.row.A.Denot g.R.Source.remaining g.R.Source.gave g.R.Source.failed c.in_err-finish.field-0.0 c.loop.counter c.args.reader.now c.loop.reader c.read_some.new.self c.loop.decoder c.read_some.new.piece c.in-Ok.count
+    c.loop-test.true c.loop.invariant.on c.in-Ok.ensures.reported c.in-Ok.ensures.bytes.0 c.if-count-eq0.true (c.in-Ok.ensures.bytes.1 c.if-count-eq0.true (search rules)) c.in_err-finish.ensures.answers)
 
 pub returns-in_err-feed-clause-blob : goal.returns-in_err-feed-clause-blob
 returns-in_err-feed-clause-blob g c =
@@ -26,18 +32,23 @@ returns-in_err-feed-clause-blob g c =
 pub returns-in_err-feed-clause-reported : goal.returns-in_err-feed-clause-reported
 returns-in_err-feed-clause-reported g c =
     let p = err_from_is_err_and c.from_residual-in_err-feed.result c.from_residual-in_err-feed.ensures.1 in
-    rw (p.1, p.2) (ends_err g.R.Source.gave g.R.Source.failed (Contents g.row.A.Denot) c.in_err-feed.field-0.0 c.args.reader.now c.read_some.new.self
-    (all_went g.R.Source.gave g.R.Source.failed c.loop.counter c.args.reader.now c.loop.reader c.read_some.new.self c.loop.invariant.went c.in-Ok.ensures.reported))
+    rw (p.1, p.2) (ends_fed g.row.A.Denot g.R.Source.remaining g.R.Source.gave g.R.Source.failed c.in_err-feed.field-0.0 c.loop.counter c.args.reader.now c.loop.reader c.read_some.new.self c.loop.decoder (take c.in-Ok.count c.read_some.new.piece)
+    c.loop-test.true c.loop.invariant.on (c.in-Ok.ensures.reported, within_piece c.in-Ok.count c.read_some.new.piece (search rules), c.in-Ok.ensures.bytes.0) c.in_err-feed.ensures.answers)
 
 pub loop-preserved : goal.loop-preserved
-loop-preserved g c = record {
-  fed = rw c.in_ok-feed.ensures.ok (more_fed (g.R.Source.remaining c.args.reader.now) (g.R.Source.remaining c.loop.reader) (g.R.Source.remaining c.read_some.new.self) c.loop.decoder _ c.loop.invariant.fed c.in-Ok.ensures.bytes.0);
-  went = counted_more g.R.Source.gave g.R.Source.failed c.loop.counter c.args.reader.now c.loop.reader c.read_some.new.self c.loop.invariant.went c.in-Ok.ensures.reported;
-}
+loop-preserved g c = rw c.in_ok-feed.ensures.ok (record {
+  fed = more_fed (g.R.Source.remaining c.args.reader.now) (g.R.Source.remaining c.loop.reader) (g.R.Source.remaining c.read_some.new.self) c.loop.decoder _ c.loop.invariant.fed c.in-Ok.ensures.bytes.0;
+  on = reads_on g.row.A.Denot g.R.Source.remaining g.R.Source.gave g.R.Source.failed c.loop.counter c.args.reader.now c.loop.reader c.read_some.new.self c.loop.decoder (take c.in-Ok.count c.read_some.new.piece) c.loop.invariant.on
+      (c.in-Ok.ensures.reported, within_piece c.in-Ok.count c.read_some.new.piece (search rules), c.in-Ok.ensures.bytes.0) c.in_ok-feed.ensures.answers;
+})
 
 pub loop-preserved-then-is_interrupted : goal.loop-preserved-then-is_interrupted
 loop-preserved-then-is_interrupted g c = record {
   fed = kept_fed (g.R.Source.remaining c.args.reader.now) (g.R.Source.remaining c.loop.reader) (g.R.Source.remaining c.read_some.new.self) c.loop.decoder c.loop.invariant.fed c.in-Err.ensures.bytes;
-  went = counted_more g.R.Source.gave g.R.Source.failed c.loop.counter c.args.reader.now c.loop.reader c.read_some.new.self c.loop.invariant.went
-      (c.in-Err.ensures.reported.0 (c.is_interrupted.ensures.0 c.if-is_interrupted.true));
+  on = reads_kept g.row.A.Denot g.R.Source.remaining g.R.Source.gave g.R.Source.failed c.loop.counter c.args.reader.now c.loop.reader c.read_some.new.self c.loop.decoder c.loop.invariant.on
+      (c.in-Err.ensures.reported.0 (c.is_interrupted.ensures.0 c.if-is_interrupted.true)) c.in-Err.ensures.bytes;
 }
+
+pub returns-clause-reported : goal.returns-clause-reported
+returns-clause-reported g c =
+    ends_limit g.row.A.Denot g.R.Source.remaining g.R.Source.gave g.R.Source.failed c.loop.counter c.args.reader.now c.loop.reader c.loop.decoder (omega (arith, c.loop-test.false, c.loop.auto.counter-end)) c.loop.invariant.on
