@@ -35,7 +35,7 @@ use Rattle.cap_codec.proofs.ChangeAgain.{NoChange, change_again, patch_again, ea
 -- ---- headers
 
 -- the zero byte behind a name is the first
-first_zero : (most : ℕ) (bytes rest : List ℕ) → length bytes < most → list_any is_zero bytes ≡ false → position_or_len is_zero (take most (bytes ++ 0 ∷ rest)) ≡ length bytes
+pub first_zero : (most : ℕ) (bytes rest : List ℕ) → length bytes < most → list_any is_zero bytes ≡ false → position_or_len is_zero (take most (bytes ++ 0 ∷ rest)) ≡ length bytes
 first_zero zero bytes rest lt none = absurd (omega arith)
 first_zero (suc most) [] rest lt none = refl
 first_zero (suc most) (byte ∷ bytes) rest lt none =
@@ -57,7 +57,7 @@ name_again total table rest named utf8 =
     let behind : drop (length table + 1) (table ++ 0 ∷ rest) ≡ rest = sym (drop-drop 1 (length table) (table ++ 0 ∷ rest)) ∙ ap (drop 1) (drop_at table (0 ∷ rest) (length table) refl) in
     rw (found, front, behind, lt-ltb 0 (length table) some, is_utf8-from_IsUtf8 table utf8) refl
 
-count_again : (total count : ℕ) (rest : List ℕ) → 1 ≤ count → count ≤ 2000 → count_at total (varint_bytes count ++ rest) ≡ Ok (count, rest)
+pub count_again : (total count : ℕ) (rest : List ℕ) → 1 ≤ count → count ≤ 2000 → count_at total (varint_bytes count ++ rest) ≡ Ok (count, rest)
 unfolding count_at
 count_again total count rest some fits = rw (varint_again total count rest (omega arith), ne_eqb count 0 (λ e. omega arith), le-ltb 2000 count fits) refl
 
@@ -69,7 +69,7 @@ flags_again total schema flags rest flagged keyed =
     rw (bytes_again total (length schema) flags rest len, keyed') refl
 
 -- a header behind its kind byte, and more
-header_again : (total : ℕ) (table : List ℕ) (schema : List Bool) (flags rest : List ℕ) → IsTable table schema → map is_set flags ≡ schema
+pub header_again : (total : ℕ) (table : List ℕ) (schema : List Bool) (flags rest : List ℕ) → IsTable table schema → map is_set flags ≡ schema
     → header_at total (varint_bytes (length schema) ++ flags ++ table ++ 0 ∷ rest) ≡ Ok (record { table = table; flags = schema }, rest)
 unfolding header_at
 header_again total table schema flags rest is flagged =
@@ -87,7 +87,7 @@ header_again total table schema flags rest is flagged =
 -- ---- groups
 
 module _ {A : Type 0} where
-  group_again : (total : ℕ) (group : TableChanges A) (front : List ℕ) → SpellsChanges group front
+  pub group_again : (total : ℕ) (group : TableChanges A) (front : List ℕ) → SpellsChanges group front
       → (behind : List ℕ) × (front ≡ 0x54 ∷ behind) × ((rest : List ℕ) → NoChange rest → group_at total (behind ++ rest) ≡ Ok (group, rest))
   unfolding group_at
   group_again total group front is = (
@@ -101,7 +101,7 @@ module _ {A : Type 0} where
         ) refl,
   )
 
-  patch_group_again : (total : ℕ) (group : TablePatches A) (front : List ℕ) → SpellsPatches group front
+  pub patch_group_again : (total : ℕ) (group : TablePatches A) (front : List ℕ) → SpellsPatches group front
       → (behind : List ℕ) × (front ≡ 0x50 ∷ behind) × ((rest : List ℕ) → NoChange rest → patch_group_at total (behind ++ rest) ≡ Ok (group, rest))
   unfolding patch_group_at
   patch_group_again total group front is = (
@@ -119,7 +119,7 @@ module _ {A : Type 0} where
 
 module _ {X : Type 0} (one_at : ℕ → List ℕ → Result (X × List ℕ) BlobFault) (kind : ℕ) (one : X → List ℕ → Type 0) where
   -- what spells one is read as that one, where no change follows
-  abbrev IsRead : Type 0
+  abbrev pub IsRead : Type 0
   IsRead = (total : ℕ) (x : X) (front : List ℕ) → one x front → (behind : List ℕ) × (front ≡ kind ∷ behind) × ((rest : List ℕ) → NoChange rest → one_at total (behind ++ rest) ≡ Ok (x, rest))
 
   -- no bytes, or the kind first

@@ -97,7 +97,7 @@ module _ {A : Type 0} where
       ap (λ (bytes : List ℕ). record_at total (requirements record_kinds.Full flags) (bytes ++ rest)) (sym (all_asked record_kinds.Full of_full flags fields met))
       ∙ fields_again total (requirements record_kinds.Full flags) fields rest met (values_each fields values)
 
-  keyed_again : (total : ℕ) (flags : List Bool) (fields : RecordFields A) (rest : List ℕ) → satisfy (requirements record_kinds.Keyed flags) fields ≡ true → AreValues fields → record_at total (requirements record_kinds.Keyed flags) (record_bytes fields ++ rest) ≡ Ok (fields, rest)
+  pub keyed_again : (total : ℕ) (flags : List Bool) (fields : RecordFields A) (rest : List ℕ) → satisfy (requirements record_kinds.Keyed flags) fields ≡ true → AreValues fields → record_at total (requirements record_kinds.Keyed flags) (record_bytes fields ++ rest) ≡ Ok (fields, rest)
   keyed_again total flags fields rest met values =
       ap (λ (bytes : List ℕ). record_at total (requirements record_kinds.Keyed flags) (bytes ++ rest)) (sym (all_asked record_kinds.Keyed of_keyed flags fields met))
       ∙ fields_again total (requirements record_kinds.Keyed flags) fields rest met (values_each fields values)

@@ -110,7 +110,7 @@ number_again total n rest fits =
 
 -- ---- texts and blobs
 
-sized_again : (total at : ℕ) (bytes rest : List ℕ) → length bytes ≤ 1000000000 → sized_at total at (sized_bytes bytes ++ rest) ≡ Ok (bytes, rest)
+pub sized_again : (total at : ℕ) (bytes rest : List ℕ) → length bytes ≤ 1000000000 → sized_at total at (sized_bytes bytes ++ rest) ≡ Ok (bytes, rest)
 unfolding sized_at
 sized_again total at bytes rest fits =
     let small : nat_lt 1000000000 (length bytes) ≡ false = le-ltb _ _ fits in

@@ -11,6 +11,9 @@ pub mod BlobAgain
 pub mod Spelled
 pub mod SpelledBlob
 pub mod Steady
+pub mod FaultFields
+pub mod FaultHeaders
+pub mod FaultBlobs
 pub mod FieldSteps
 pub mod Looking
 pub mod LookingSteps

@@ -215,7 +215,7 @@ number_spelled total bytes x low e =
 abbrev IsSized : List ℕ → List ℕ × List ℕ → Type 0
 IsSized bytes x = (AreBytes x.0 × (length x.0 ≤ 1000000000)) × (bytes ≡ sized_bytes x.0 ++ x.1)
 
-sized_spelled : (total at : ℕ) (bytes : List ℕ) (x : List ℕ × List ℕ) → AreLow bytes → sized_at total at bytes ≡ Ok x → IsSized bytes x
+pub sized_spelled : (total at : ℕ) (bytes : List ℕ) (x : List ℕ × List ℕ) → AreLow bytes → sized_at total at bytes ≡ Ok x → IsSized bytes x
 unfolding sized_at
 sized_spelled total at bytes x low e =
     let count = bind_ok (varint_at total bytes) _ x e in

@@ -55,7 +55,7 @@ module _ {A : Type 0} where
   full_spelled total flags bytes x low e =
       of_record record_bytes total (requirements record_kinds.Full flags) bytes x low e (all_asked record_kinds.Full of_full flags x.0 (record_meets total (requirements record_kinds.Full flags) bytes x e))
 
-  keyed_spelled : (total : ℕ) (flags : List Bool) (bytes : List ℕ) (x : RecordFields A × List ℕ) → AreLow bytes → record_at total (requirements record_kinds.Keyed flags) bytes ≡ Ok x → IsRecord record_bytes bytes x
+  pub keyed_spelled : (total : ℕ) (flags : List Bool) (bytes : List ℕ) (x : RecordFields A × List ℕ) → AreLow bytes → record_at total (requirements record_kinds.Keyed flags) bytes ≡ Ok x → IsRecord record_bytes bytes x
   keyed_spelled total flags bytes x low e =
       of_record record_bytes total (requirements record_kinds.Keyed flags) bytes x low e (all_asked record_kinds.Keyed of_keyed flags x.0 (record_meets total (requirements record_kinds.Keyed flags) bytes x e))
 
@@ -75,14 +75,14 @@ third false true c e p q = absurd cc
 third false false c e p q = e
 
 -- an operation byte and these bytes begin with one, and with what is left
-abbrev Begins : {X : Type 0} → (X → List ℕ → Type 0) → ℕ → List ℕ → X × List ℕ → Type 0
+abbrev pub Begins : {X : Type 0} → (X → List ℕ → Type 0) → ℕ → List ℕ → X × List ℕ → Type 0
 Begins one op bytes x = (front : List ℕ) × (bytes ≡ front ++ x.1) × one x.0 (op ∷ front)
 
 module _ {A : Type 0} where
   abbrev one_record : (RecordFields A → RowChange A) → RecordFields A × List ℕ → Result (RowChange A × List ℕ) BlobFault
   one_record make x = Ok (make x.0, x.1)
 
-  change_spelled : (total : ℕ) (flags : List Bool) (op : ℕ) (bytes : List ℕ) (x : RowChange A × List ℕ) → AreLow bytes → is_operation op ≡ true → change_at total flags op bytes ≡ Ok x → Begins (SpellsChange flags) op bytes x
+  pub change_spelled : (total : ℕ) (flags : List Bool) (op : ℕ) (bytes : List ℕ) (x : RowChange A × List ℕ) → AreLow bytes → is_operation op ≡ true → change_at total flags op bytes ≡ Ok x → Begins (SpellsChange flags) op bytes x
   unfolding change_at
   change_spelled total flags op [] x low operation e = absurd cc
   change_spelled total flags op (flag_byte ∷ bytes) x low operation e = elim (chosen (op == 0x12) _ _ _ e) [
@@ -117,7 +117,7 @@ module _ {A : Type 0} where
     ]
   ]
 
-  patch_spelled : (total : ℕ) (flags : List Bool) (op : ℕ) (bytes : List ℕ) (x : Patch A × List ℕ) → AreLow bytes → is_operation op ≡ true → patch_at total flags op bytes ≡ Ok x → Begins (SpellsPatch flags) op bytes x
+  pub patch_spelled : (total : ℕ) (flags : List Bool) (op : ℕ) (bytes : List ℕ) (x : Patch A × List ℕ) → AreLow bytes → is_operation op ≡ true → patch_at total flags op bytes ≡ Ok x → Begins (SpellsPatch flags) op bytes x
   unfolding patch_at
   patch_spelled total flags op [] x low operation e = absurd cc
   patch_spelled total flags op (flag_byte ∷ bytes) x low operation e = elim (chosen (op == 0x12) _ _ _ e) [
@@ -179,7 +179,7 @@ module _ {X : Type 0} (one_at : ℕ → List Bool → ℕ → List ℕ → Resul
 
 -- ---- headers
 
-count_spelled : (total : ℕ) (bytes : List ℕ) (x : ℕ × List ℕ) → AreLow bytes → count_at total bytes ≡ Ok x → (1 ≤ x.0) × (x.0 ≤ 2000) × (bytes ≡ varint_bytes x.0 ++ x.1)
+pub count_spelled : (total : ℕ) (bytes : List ℕ) (x : ℕ × List ℕ) → AreLow bytes → count_at total bytes ≡ Ok x → (1 ≤ x.0) × (x.0 ≤ 2000) × (bytes ≡ varint_bytes x.0 ++ x.1)
 unfolding count_at
 count_spelled total bytes x low e =
     let count = bind_ok (varint_at total bytes) _ x e in
@@ -190,7 +190,7 @@ count_spelled total bytes x low e =
     let number = varint_spelled total bytes count.0 low count.1 in
     subst (λ (y : ℕ × List ℕ). (1 ≤ y.0) × (y.0 ≤ 2000) × (bytes ≡ varint_bytes y.0 ++ y.1)) (ok_is count.0 x bad.1) (omega arith, few, number.1)
 
-flags_spelled : (total count : ℕ) (bytes : List ℕ) (x : List ℕ × List ℕ) → flags_at total count bytes ≡ Ok x → (list_any is_set x.0 ≡ true) × (length x.0 ≡ count) × (bytes ≡ x.0 ++ x.1)
+pub flags_spelled : (total count : ℕ) (bytes : List ℕ) (x : List ℕ × List ℕ) → flags_at total count bytes ≡ Ok x → (list_any is_set x.0 ≡ true) × (length x.0 ≡ count) × (bytes ≡ x.0 ++ x.1)
 unfolding flags_at
 flags_spelled total count bytes x e =
     let flags = bind_ok (bytes_at total count bytes) _ x e in
@@ -205,7 +205,7 @@ two_more : (n : ℕ) → 1 + n + 1 ≡ suc (n + 1)
 two_more n = omega arith
 
 -- the first zero byte, with the bytes before and behind it
-zero_at : (most : ℕ) (bytes : List ℕ) → position_or_len is_zero (take most bytes) < length (take most bytes)
+pub zero_at : (most : ℕ) (bytes : List ℕ) → position_or_len is_zero (take most bytes) < length (take most bytes)
     → bytes ≡ take (position_or_len is_zero (take most bytes)) bytes ++ 0 ∷ drop (position_or_len is_zero (take most bytes) + 1) bytes
 zero_at zero bytes lt = absurd (omega arith)
 zero_at (suc most) [] lt = absurd (omega arith)
@@ -247,7 +247,7 @@ name_spelled total bytes x e = elim (cases_lt (position_or_len is_zero (take 256
 abbrev IsHeader : List ℕ → Header × List ℕ → Type 0
 IsHeader bytes x = IsTable x.0.table x.0.flags × ((flags : List ℕ) × (map is_set flags ≡ x.0.flags) × (bytes ≡ varint_bytes (length x.0.flags) ++ flags ++ x.0.table ++ 0 ∷ x.1))
 
-header_spelled : (total : ℕ) (bytes : List ℕ) (x : Header × List ℕ) → AreLow bytes → header_at total bytes ≡ Ok x → IsHeader bytes x
+pub header_spelled : (total : ℕ) (bytes : List ℕ) (x : Header × List ℕ) → AreLow bytes → header_at total bytes ≡ Ok x → IsHeader bytes x
 unfolding header_at
 header_spelled total bytes x low e =
     let count = bind_ok (count_at total bytes) (λ count. flags_at total count.0 count.1 >>= (λ flags. name_at total flags.1 >>= (λ name. Ok (record { table = name.0; flags = map is_set flags.0 }, name.1)))) x e in
@@ -272,7 +272,7 @@ header_spelled total bytes x low e =
 -- ---- groups
 
 -- the kind byte and these bytes begin with a group, and with what is left
-abbrev BeginsGroup : {X : Type 0} → (X → List ℕ → Type 0) → ℕ → List ℕ → X × List ℕ → Type 0
+abbrev pub BeginsGroup : {X : Type 0} → (X → List ℕ → Type 0) → ℕ → List ℕ → X × List ℕ → Type 0
 BeginsGroup one kind bytes x = (front : List ℕ) × (bytes ≡ front ++ x.1) × one x.0 (kind ∷ front)
 
 of_group : {X : Type 0} (kind : ℕ) (one : X → List ℕ → Type 0) (bytes : List ℕ) (header : Header) (behind : List ℕ) (changes : List X) (left : List ℕ) → IsHeader bytes (header, behind)
@@ -286,7 +286,7 @@ of_group kind one bytes header behind changes left (table, (flags, flagged, part
     )
 
 module _ {A : Type 0} where
-  group_spelled : (total : ℕ) (bytes : List ℕ) (x : TableChanges A × List ℕ) → AreLow bytes → group_at total bytes ≡ Ok x → BeginsGroup SpellsChanges 0x54 bytes x
+  pub group_spelled : (total : ℕ) (bytes : List ℕ) (x : TableChanges A × List ℕ) → AreLow bytes → group_at total bytes ≡ Ok x → BeginsGroup SpellsChanges 0x54 bytes x
   unfolding group_at
   group_spelled total bytes x low e =
       let header = bind_ok (header_at total bytes) _ x e in
@@ -297,7 +297,7 @@ module _ {A : Type 0} where
       subst (BeginsGroup SpellsChanges 0x54 bytes) (ok_is (record { table = header.0.0.table; schema = header.0.0.flags; changes = changes.0.0 }, changes.0.1) x changes.2)
       (of_group 0x54 (SpellsChange header.0.0.flags) bytes header.0.0 header.0.1 changes.0.0 changes.0.1 is are.0 are.1 are.2)
 
-  patch_group_spelled : (total : ℕ) (bytes : List ℕ) (x : TablePatches A × List ℕ) → AreLow bytes → patch_group_at total bytes ≡ Ok x → BeginsGroup SpellsPatches 0x50 bytes x
+  pub patch_group_spelled : (total : ℕ) (bytes : List ℕ) (x : TablePatches A × List ℕ) → AreLow bytes → patch_group_at total bytes ≡ Ok x → BeginsGroup SpellsPatches 0x50 bytes x
   unfolding patch_group_at
   patch_group_spelled total bytes x low e =
       let header = bind_ok (header_at total bytes) _ x e in

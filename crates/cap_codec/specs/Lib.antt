@@ -12,6 +12,7 @@ pub mod EntryReading
 pub mod ChangeLeft
 pub mod Writable
 pub mod Spelling
+pub mod FaultPlace
 pub mod Pieces
 pub mod StreamCalls
 pub mod Stream

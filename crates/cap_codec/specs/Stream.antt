@@ -62,8 +62,8 @@ module _ (A : Type 0) {R : Type 0} (remaining : R → Option (List ℕ)) (gave f
   LimitReached old new =
       (n : ℕ) × (n ≡ 1099511627776) × (front : List ℕ) × ReadsOn n old new front
 
-  -- A failed read is answered where the last read failed, or at the limit of reads; every other answer is that
-  -- of the last read, and no read failed.
+  -- A failed read is answered where the last read failed, or at the limit of reads; every other answer is
+  -- that of the last read, and no read failed.
   abbrev pub EndsReads : Result (Contents A) ReadFault → R → R → Type 0
   EndsReads (Ok blob) old new = AnswersLastRead (Ok blob) old new
   EndsReads (Err read.Read) old new = LastReadFailed old new ⊎ LimitReached old new

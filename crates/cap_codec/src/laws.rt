@@ -6,6 +6,7 @@ ghost use Rattle.cap_codec.specs.declared.key_flags.KeyFlags.{KeyFlags};
 ghost use Rattle.cap_codec.specs.declared.read.Contents.{Contents};
 ghost use Rattle.cap_codec.specs.BlobReading.{blob_at};
 ghost use Rattle.cap_codec.specs.declared.fault.BlobFault.{BlobFault};
+ghost use Rattle.cap_codec.specs.FaultPlace.{IsFaultAt};
 ghost use Rattle.cap_codec.specs.Pieces.{lasting};
 ghost use Rattle.cap_codec.specs.Spelling.{Spells};
 ghost use Rattle.cap_codec.specs.Writable.{IsWritable, HasNoEmptyGroup, blob_bytes, blob_bytes_with};
@@ -54,4 +55,11 @@ pub fn no_two_have_the_same_bytes<A: AllocHandle>()
 pub fn a_fault_lasts<A: AllocHandle>()
     ensures { (front more : List ℕ) (fault : BlobFault) → lasting (blob_at {A = A} front) ≡ Err fault →
         lasting (blob_at {A = A} (front ++ more)) ≡ Err fault }
+{}
+
+/// A fault other than `Truncated` is told at the part that has it: some blob begins with the bytes before its
+/// offset, and none with these and that part.
+pub fn fault_place<A: AllocHandle>()
+    ensures { (bytes : List ℕ) (fault : BlobFault) → AreBytes bytes →
+        lasting (blob_at {A = A} bytes) ≡ Err fault → IsFaultAt A bytes fault }
 {}

@@ -27,8 +27,8 @@ pub use decoder::Decoder;
 pub use fault::{BlobFault, FaultKind};
 pub use key_flags::KeyFlags;
 pub use laws::{
-    a_fault_lasts, key_flags_read_alike, no_bytes_spell_two, no_two_have_the_same_bytes,
-    read_is_spelled, written_is_read_again, written_is_spelled,
+    a_fault_lasts, fault_place, key_flags_read_alike, no_bytes_spell_two,
+    no_two_have_the_same_bytes, read_is_spelled, written_is_read_again, written_is_spelled,
 };
 pub use read::{Contents, read_blob};
 pub use source_and_sink::{Sink, Source};
