@@ -7,6 +7,7 @@ pub mod FieldReading
 pub mod HeaderReading
 pub mod RecordReading
 pub mod BlobReading
+pub mod FirstByte
 pub mod Operation
 pub mod EntryReading
 pub mod ChangeLeft

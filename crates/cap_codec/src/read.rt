@@ -1,10 +1,11 @@
 //! Decoding of changesets and patchsets.
 
 ghost use Rattle.std.specs.Prelude.{◌≡◌, length, Ok, IfOk};
-ghost use Rattle.cap_value.specs.Memory.{AnswersUnlessMemory, ShowsUnlessMemory};
+ghost use Rattle.cap_value.specs.Memory.{AnswersUnlessMemory, RefusesFirst, ShowsUnlessMemory};
 ghost use Rattle.cap_codec.specs.declared.read.Contents.{Contents as Spelled};
 ghost use Rattle.cap_codec.specs.BlobReading as blob;
 ghost use Rattle.cap_codec.specs.BlobReading.{entries_at, group_at, patch_group_at, groups_at, blob_at};
+ghost use Rattle.cap_codec.specs.FirstByte.{first_fault};
 ghost use Rattle.cap_codec.specs.Spelling.{Spells};
 
 use crate::change::Decode;
@@ -86,7 +87,8 @@ fn take_patchset<A: AllocHandle>(
 
 #[tactic(auto, unfolding(crate::specs::BlobReading::blob_at))]
 fn take_blob<A: AllocHandle>(alloc: A, bytes: &[u8]) -> Result<Contents<A>, Fault<BlobFault>>
-    ensures { AnswersUnlessMemory result (blob_at bytes.now) }
+    ensures answers { AnswersUnlessMemory result (blob_at bytes.now) }
+    ensures first { RefusesFirst (first_fault bytes.now) result }
 {
     match bytes {
         [] => Ok(Contents::Changes(ChangeList::new(alloc))),
@@ -108,6 +110,8 @@ pub fn read_blob<A: AllocHandle>(alloc: A, bytes: &[u8]) -> Result<Contents<A>, 
     ensures read { (blob : Spelled A) → Spells blob bytes.now → AnswersUnlessMemory result (Ok blob) }
     // Which contents, or which fault.
     ensures answers { AnswersUnlessMemory result (blob_at bytes.now) }
+    // A first byte that begins no group is refused without memory.
+    ensures first { RefusesFirst (first_fault bytes.now) result }
 {
     take_blob(alloc, bytes)
 }

@@ -226,7 +226,7 @@ pub fn write_changes<A: AllocHandle>(
 ) -> Result<Vec<u8, A>, OutOfMemory>
     ensures { IfOk result (λ bytes. bytes.items ≡ list_bytes list.now) }
 {
-    write_groups(alloc, KeyFlags::Ones, list)
+    write_changes_with(alloc, KeyFlags::Ones, list)
 }
 
 /// The bytes of a changeset, with these key flags. SQLite applies a group with a key of several columns only
@@ -238,7 +238,7 @@ pub fn write_changes_with<A: AllocHandle>(
 ) -> Result<Vec<u8, A>, OutOfMemory>
     ensures { IfOk result (λ bytes. bytes.items ≡ list_bytes_with key_flags list.now) }
 {
-    write_groups(alloc, key_flags, list)
+    write_groups::<RowChange<A>, A>(alloc, key_flags, list)
 }
 
 /// The bytes of a patchset: its groups in order (The Session Extension, "Changeset Format"). A group without
@@ -249,7 +249,7 @@ pub fn write_patches<A: AllocHandle>(
 ) -> Result<Vec<u8, A>, OutOfMemory>
     ensures { IfOk result (λ bytes. bytes.items ≡ patch_list_bytes list.now) }
 {
-    write_groups(alloc, KeyFlags::Ones, list)
+    write_patches_with(alloc, KeyFlags::Ones, list)
 }
 
 /// The bytes of a patchset, with these key flags. SQLite applies a group with a key of several columns only
@@ -261,5 +261,5 @@ pub fn write_patches_with<A: AllocHandle>(
 ) -> Result<Vec<u8, A>, OutOfMemory>
     ensures { IfOk result (λ bytes. bytes.items ≡ patch_list_bytes_with key_flags list.now) }
 {
-    write_groups(alloc, key_flags, list)
+    write_groups::<Patch<A>, A>(alloc, key_flags, list)
 }
