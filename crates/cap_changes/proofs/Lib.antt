@@ -1,3 +1,4 @@
+pub mod EachLemmas
 pub mod ChangeLemmas
 pub mod ColumnLemmas
 pub mod InvertLemmas

@@ -1,7 +1,7 @@
 //! Groups: the changes of one table.
 ghost use Rattle.std.specs.Prelude.{◌≡◌, ◌++◌, ◌∷◌, [], IsTrue, OnOk, OnErr};
 ghost use Rattle.cap_row.specs.Schema.{has_key};
-ghost use Rattle.cap_changes.specs.Entries.{AllFit};
+ghost use Rattle.cap_changes.specs.Entries.{AllFit, IsFitting};
 
 use crate::{Entry, Patch, RowChange};
 use cap_row::Schema;
@@ -81,5 +81,12 @@ impl<C: Entry, A: AllocHandle> TableGroup<C, A> {
         ensures fit { AllFit C.fits_in self.now.schema self.now.changes }
     {
         self.changes.as_slice()
+    }
+
+    /// A lemma: the schema has a key column, and each change fits it. Does nothing at run time.
+    pub fn fits(&self)
+        ensures { IsFitting C.fits_in self.now }
+    {
+        let _changes = &self.changes;
     }
 }

@@ -1,5 +1,6 @@
 //! Changesets and patchsets as lists of groups.
 ghost use Rattle.std.specs.Prelude.{◌≡◌, ◌++◌, ◌∷◌, [], OnOk, OnErr};
+ghost use Rattle.cap_changes.specs.Entries.{AreFitting};
 
 use crate::{Entry, Patch, RowChange, TableGroup};
 use cap_value::{AllocHandle, OutOfMemory};
@@ -52,5 +53,15 @@ impl<C: Entry, A: AllocHandle> GroupList<C, A> {
         ensures { result.now ≡ self.now }
     {
         self.groups.as_slice()
+    }
+
+    /// A lemma: the schema of each group has a key column, and its changes fit it. At run time it only visits
+    /// each group.
+    pub fn groups_fit(&self)
+        ensures { AreFitting C.fits_in self.now }
+    {
+        for group in self.groups() {
+            group.fits();
+        }
     }
 }
