@@ -4,6 +4,7 @@ pub mod ChangeLemmas
 pub mod ColumnLemmas
 pub mod DifferenceLemmas
 pub mod EntryLemmas
+pub mod FittingLemmas
 pub mod GroupLemmas
 pub mod MadeLemmas
 pub mod OperationLemmas

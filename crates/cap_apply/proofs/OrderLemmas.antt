@@ -1,4 +1,4 @@
--- Names, keys and ids still rise, and rows are under their own keys, after any blob that can be written is applied.
+-- Names, keys and ids still rise, and rows are under their own keys, after any blob that fits its tables is applied.
 use Rattle.std.proofs.Common.{◌≡◌, ℕ, ◌+◌, ◌≤◌, Bool, true, false, cond, Option, Some, None, Result, Ok, Err, List, [], ◌∷◌, map, length, refl, sym, ap, ◌∙◌, arith, subst, nat_eq}
 use Rattle.std.specs.Prelude.{IfOk, is_some}
 use Rattle.std.specs.List.{AllByRecursion, list_all}
@@ -22,7 +22,7 @@ use Rattle.cap_database.specs.Tables.{AreRising, Tables, table_of}
 use Rattle.cap_database.specs.declared.op.Action.TheVariants.{Delete, Insert, Update}
 use Rattle.cap_database.specs.declared.op.Op.{Op}
 use Rattle.cap_changes.specs.Requirements.{requirements, satisfy, new_requirements}
-use Rattle.cap_changes.specs.Entries.{TableEntries}
+use Rattle.cap_changes.specs.Entries.{IsFitting, TableEntries}
 use Rattle.cap_changes.specs.Fits.{change_fits, patch_fits}
 use Rattle.cap_changes.specs.Group.{TableChanges}
 use Rattle.cap_changes.specs.PatchGroup.{TablePatches}
@@ -33,12 +33,12 @@ use Rattle.cap_changes.specs.declared.patch.Patch.{Patch}
 use Rattle.cap_changes.specs.declared.patch.Patch.TheVariants as patched
 use Rattle.cap_changes.specs.declared.record_kind.RecordKind.TheVariants as record_kinds
 use Rattle.cap_changes.proofs.PatchLemmas.{update_fits}
-use Rattle.cap_codec.specs.Writable.{IsGroup, IsPatchGroup, IsWritable}
 use Rattle.cap_codec.specs.declared.read.Contents.{Contents}
 use Rattle.cap_codec.specs.declared.read.Contents.TheVariants.{Changes, Patches}
 use Rattle.cap_apply.specs.Applied.{AppliedState}
 use Rattle.cap_apply.specs.Apply.{and_then, apply, change_applied, change_in, changes_applied, concluded, counted, group_applied, groups_applied, left_out, noted, nothing_applied, skipped_unless, with_row_in}
 use Rattle.cap_apply.specs.Requested.{Requested, requested_by_change, requested_by_patch, requested_in, requested_of}
+use Rattle.cap_apply.specs.Fitting.{FitsItsTables}
 use Rattle.cap_apply.specs.Operated.{operated, operated_by}
 use Rattle.cap_apply.specs.Policy.{is_made}
 use Rattle.cap_apply.specs.Row.{assigned_from, conflict_of, key_record_of, key_values, new_row, row_after, set_fields}
@@ -124,31 +124,31 @@ module _ {A : Type 0} where
   each-mapped P Q f says [] all = tt
   each-mapped P Q f says (x ∷ xs) all = (says x all.0, each-mapped P Q f says xs all.1)
 
-  change_groups-keyed : (groups : List (TableChanges A)) → AllByRecursion IsGroup groups → AllByRecursion IsKeyedGroup (map (requested_in requested_by_change) groups)
+  change_groups-keyed : (groups : List (TableChanges A)) → AllByRecursion (IsFitting change_fits) groups → AllByRecursion IsKeyedGroup (map (requested_in requested_by_change) groups)
   change_groups-keyed [] all = tt
   change_groups-keyed (group ∷ groups) all = (
     record {
-      keyed = all.0.table.keyed;
+      keyed = all.0.keyed;
       each = each-mapped (λ change. change_fits group.schema change ≡ true) (λ requested. Keyed group.schema requested.patch) (requested_by_change group.schema) (change-keyed group.schema) group.changes
-          (recursion_from_All (λ change. change_fits group.schema change ≡ true) group.changes all.0.fit);
+          (recursion_from_All (λ change. change_fits group.schema change ≡ true) group.changes all.0.each);
     },
     change_groups-keyed groups all.1,
   )
 
-  patch_groups-keyed : (groups : List (TablePatches A)) → AllByRecursion IsPatchGroup groups → AllByRecursion IsKeyedGroup (map (requested_in requested_by_patch) groups)
+  patch_groups-keyed : (groups : List (TablePatches A)) → AllByRecursion (IsFitting patch_fits) groups → AllByRecursion IsKeyedGroup (map (requested_in requested_by_patch) groups)
   patch_groups-keyed [] all = tt
   patch_groups-keyed (group ∷ groups) all = (
     record {
-      keyed = all.0.table.keyed;
+      keyed = all.0.keyed;
       each = each-mapped (λ patch. patch_fits group.schema patch ≡ true) (λ requested. Keyed group.schema requested.patch) (requested_by_patch group.schema) (patch-keyed group.schema) group.changes
-          (recursion_from_All (λ patch. patch_fits group.schema patch ≡ true) group.changes all.0.fit);
+          (recursion_from_All (λ patch. patch_fits group.schema patch ≡ true) group.changes all.0.each);
     },
     patch_groups-keyed groups all.1,
   )
 
-  blob-keyed : (blob : Contents A) → IsWritable blob → AllByRecursion IsKeyedGroup (requested_of blob)
-  blob-keyed (Changes groups) all = change_groups-keyed groups (recursion_from_All IsGroup groups all)
-  blob-keyed (Patches groups) all = patch_groups-keyed groups (recursion_from_All IsPatchGroup groups all)
+  blob-keyed : (blob : Contents A) → FitsItsTables blob → AllByRecursion IsKeyedGroup (requested_of blob)
+  blob-keyed (Changes groups) all = change_groups-keyed groups (recursion_from_All (IsFitting change_fits) groups all)
+  blob-keyed (Patches groups) all = patch_groups-keyed groups (recursion_from_All (IsFitting patch_fits) groups all)
 
   module _ (runs : (tables : Tables A) (ops : List (Op A)) → AreRising tables → IfOk (run tables ops) (λ left. AreRising left.database)) where
     -- ---- one operation
@@ -261,5 +261,5 @@ module _ {A : Type 0} where
         (skipped-rises (is_some (target state.database group.table group.schema)) place state rise))
         (λ next more. groups-rise policy groups (place + 1) (number + length group.changes) next all.1 more)
 
-    pub apply-rises : (tables : Tables A) (blob : Contents A) (policy : Policy) → AreRising tables → IsWritable blob → IfOk (apply tables blob policy) (λ left. AreRising left.database)
-    apply-rises tables blob policy rise writable = groups-rise policy (requested_of blob) 0 0 (nothing_applied tables) (blob-keyed blob writable) rise
+    pub apply-rises : (tables : Tables A) (blob : Contents A) (policy : Policy) → AreRising tables → FitsItsTables blob → IfOk (apply tables blob policy) (λ left. AreRising left.database)
+    apply-rises tables blob policy rise fits = groups-rise policy (requested_of blob) 0 0 (nothing_applied tables) (blob-keyed blob fits) rise

@@ -1,8 +1,9 @@
 -- A capture of several tables, applied as a blob.
-use Rattle.std.specs.Prelude.{◌≡◌, ℕ, ◌+◌, List, [], ◌∷◌, Ok, length, map}
+use Rattle.std.specs.Prelude.{◌≡◌, ℕ, ◌+◌, List, [], ◌∷◌, Ok, IsTrue, length, map}
 use Rattle.cap_table.specs.Table.{TableState}
 use Rattle.cap_database.specs.Tables.{Tables, table_of}
 use Rattle.cap_changes.specs.Group.{TableChanges}
+use Rattle.cap_codec.specs.Writable.{has_some}
 use Rattle.cap_codec.specs.declared.read.Contents.{Contents}
 use Rattle.cap_apply.specs.Applied.{AppliedState}
 use Rattle.cap_apply.specs.Apply.{apply}
@@ -34,6 +35,11 @@ module _ {A : Type 0} where
   AllBefore [] database = Unit {0}
   AllBefore (t ∷ ts) database =
       RowsBefore t.name t.table t.differences database × AreOthers t.name ts × AllBefore ts database
+
+  -- each table has a difference
+  abbrev pub AllDiffer : List (TableRows A) → Type 0
+  AllDiffer [] = Unit {0}
+  AllDiffer (t ∷ ts) = IsTrue (has_some t.differences) × AllDiffer ts
 
   -- a database has each table with the rows now
   abbrev pub AllAfter : List (TableRows A) → Tables A → Type 0

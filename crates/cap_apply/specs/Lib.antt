@@ -3,6 +3,7 @@ pub mod Apply
 pub mod Requested
 pub mod Captured
 pub mod Difference
+pub mod Fitting
 pub mod Operated
 pub mod Policy
 pub mod Report

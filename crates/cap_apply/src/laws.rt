@@ -3,7 +3,7 @@ ghost use Rattle.std.specs.Prelude.{◌≡◌, ℕ, List, Ok, IfOk, map};
 ghost use Rattle.cap_table.specs.Table.{TableState};
 ghost use Rattle.cap_database.specs.Tables.{AreRising, Tables, schema_of};
 ghost use Rattle.cap_changes.specs.Patch.{patch_list_of};
-ghost use Rattle.cap_codec.specs.Writable.{IsWritable};
+ghost use Rattle.cap_codec.specs.Spelling.{Spells};
 ghost use Rattle.cap_codec.specs.declared.read.Contents.{Contents};
 ghost use Rattle.cap_codec.specs.declared.read.Contents.TheVariants.{Changes, Patches};
 ghost use Rattle.cap_apply.specs.Applied.{AppliedState};
@@ -11,7 +11,8 @@ ghost use Rattle.cap_apply.specs.Apply.{apply, changes_applied};
 ghost use Rattle.cap_apply.specs.Difference as rows;
 ghost use Rattle.cap_apply.specs.Difference.{AllApplied, Difference, GivesRowsNow, OtherTables, RowsAfter};
 ghost use Rattle.cap_apply.specs.Difference.{RowsBefore, turned};
-ghost use Rattle.cap_apply.specs.Captured.{AllBefore, GivesAllRowsNow, TableRows, changes_of};
+ghost use Rattle.cap_apply.specs.Fitting.{FitsItsTables};
+ghost use Rattle.cap_apply.specs.Captured.{AllBefore, AllDiffer, GivesAllRowsNow, TableRows, changes_of};
 ghost use Rattle.cap_apply.specs.declared.policy.Policy.{Policy};
 
 use cap_database::tables_keep_order;
@@ -45,6 +46,20 @@ pub fn a_patchset_gives_the_rows_now<A: AllocHandle>()
         GivesAllRowsNow policy ts (Patches (patch_list_of (map changes_of ts))) database }
 {}
 
+/// A captured changeset of several tables that each have a difference fits these tables, and so does its
+/// patchset.
+pub fn captures_fit_their_tables<A: AllocHandle>()
+    ensures changeset { (ts : List (TableRows A)) (database : Tables A) → AllBefore ts database → AllDiffer ts
+        → FitsItsTables (Changes (map changes_of ts)) }
+    ensures patchset { (ts : List (TableRows A)) (database : Tables A) → AllBefore ts database → AllDiffer ts
+        → FitsItsTables (Patches (patch_list_of (map changes_of ts))) }
+{}
+
+/// What bytes spell fits its tables.
+pub fn spelled_blobs_fit_their_tables<A: AllocHandle>()
+    ensures { (blob : Contents A) (bytes : List ℕ) → Spells blob bytes → FitsItsTables blob }
+{}
+
 /// A captured changeset, applied where each key has its first image, and then its inverse give the first rows
 /// again, under any policy.
 pub fn inverse_gives_the_first_rows_again<A: AllocHandle>()
@@ -66,10 +81,10 @@ pub fn applied_blobs_keep_columns<A: AllocHandle>()
 {}
 
 /// In a database whose names, keys and ids rise and whose rows are under their own keys, this still holds
-/// after a blob that can be written is applied.
+/// after a blob that fits its tables is applied.
 pub fn applied_blobs_keep_order<A: AllocHandle>()
-    ensures { (tables : Tables A) (blob : Contents A) (policy : Policy) → AreRising tables → IsWritable blob →
-        IfOk (apply tables blob policy) (λ left. AreRising left.database) }
+    ensures { (tables : Tables A) (blob : Contents A) (policy : Policy) → AreRising tables
+        → FitsItsTables blob → IfOk (apply tables blob policy) (λ left. AreRising left.database) }
 {
     tables_keep_order::<A>();
 }

@@ -1,0 +1,11 @@
+-- The blobs that fit the tables that they are applied to.
+use Rattle.cap_changes.specs.Entries.{AreFitting}
+use Rattle.cap_changes.specs.Fits.{change_fits, patch_fits}
+use Rattle.cap_codec.specs.declared.read.Contents.{Contents}
+use Rattle.cap_codec.specs.declared.read.Contents.TheVariants.{Changes, Patches}
+
+module _ {A : Type 0} where
+  -- each group has a key column, and its changes fit its columns
+  abbrev pub FitsItsTables : Contents A → Type 0
+  FitsItsTables (Changes list) = AreFitting change_fits list
+  FitsItsTables (Patches list) = AreFitting patch_fits list
