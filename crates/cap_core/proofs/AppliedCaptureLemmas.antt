@@ -24,10 +24,12 @@ use Rattle.cap_table.specs.Table.{TableState}
 use Rattle.cap_database.specs.Read.{row_at}
 use Rattle.cap_database.specs.Tables.{AreRising, Tables, schema_of, table_of}
 use Rattle.cap_changes.specs.Patch.{patch_list_of}
+use Rattle.cap_codec.specs.Writable.{has_some}
 use Rattle.cap_codec.specs.declared.read.Contents.{Contents}
 use Rattle.cap_codec.specs.declared.read.Contents.TheVariants.{Changes, Patches}
-use Rattle.cap_apply.specs.Captured.{AllAfter, AllBefore, AreOthers, GivesAllRowsNow, TableRows, changes_of as group_of_rows, total}
+use Rattle.cap_apply.specs.Captured.{AllAfter, AllBefore, AllDiffer, AreOthers, GivesAllRowsNow, TableRows, changes_of as group_of_rows, total}
 use Rattle.cap_apply.specs.declared.policy.Policy.{Policy}
+use Rattle.cap_apply.specs.Fitting.{FitsItsTables}
 use Rattle.cap_apply.specs.Difference.{AreApart, Difference, IsUnder, StandAfter, StandBefore}
 use Rattle.cap_session.specs.declared.record.Record.{Record}
 use Rattle.cap_session.specs.Records.{Records}
@@ -265,7 +267,7 @@ module _ {A : Type 0} where
   pub same_but_keyed : (found table : TableState A) → found.loose ≡ table.loose → found.schema ≡ table.schema → found.next_id ≡ table.next_id → but_keyed found ≡ but_keyed table
   same_but_keyed found table loose columns next = λ i. record { schema = columns i; keyed = []; loose = loose i; next_id = next i }
 
-  some-changes : (name : List ℕ) (schema : List Bool) (change : RowChange A) (changes : List (RowChange A)) → group_of name schema (change ∷ changes) ≡ Some (record { table = name; schema = schema; changes = change ∷ changes })
+  pub some-changes : (name : List ℕ) (schema : List Bool) (change : RowChange A) (changes : List (RowChange A)) → group_of name schema (change ∷ changes) ≡ Some (record { table = name; schema = schema; changes = change ∷ changes })
   some-changes name schema change changes =
       let some : nat_eq (length (change ∷ changes)) 0 ≡ false = grind (arith, nat_tests) in
       ap (λ b. cond b None (Some (record { table = name; schema = schema; changes = change ∷ changes }))) some
@@ -283,6 +285,10 @@ module _ {A : Type 0} where
   no-items : (ds : List (Difference A)) → map (λ (d : Difference A). d.change) ds ≡ [] → ds ≡ []
   no-items [] none = refl
   no-items (d ∷ ds) none = cc
+
+  some-items : (ds : List (Difference A)) (change : RowChange A) (changes : List (RowChange A)) → map (λ (d : Difference A). d.change) ds ≡ change ∷ changes → has_some ds ≡ true
+  some-items [] change changes is = cc
+  some-items (d ∷ ds) change changes is = refl
 
   pub total-is : (plan : List (TableRows A)) → total plan ≡ changes_in (map group_of_rows plan)
   total-is [] = refl
@@ -306,6 +312,7 @@ module _ {A : Type 0} (database main : Tables A) (rise : AreRising database) (ma
     plan : List (TableRows A)
     is : map group_of_rows plan ≡ changes_of main tables
     before : AllBefore plan database
+    differ : AllDiffer plan
     names : (other : List ℕ) → attached_records tables other ≡ None → AreOthers other plan
     after : (left : Tables A) → AllAfter plan left
         → ((other : List ℕ) (records : Records A) → attached_records tables other ≡ Some records → AreOthers other plan → table_of left other ≡ table_of database other)
@@ -368,6 +375,7 @@ module _ {A : Type 0} (database main : Tables A) (rise : AreRising database) (ma
     plan = rest.plan;
     is = rest.is ∙ ap (λ group. cons_option group (changes_of main tables)) (sym none);
     before = rest.before;
+    differ = rest.differ;
     names = λ other absent. rest.names other (absent-here attached tables other absent).1;
     after = λ left after others name records at.
         elim (bytes_eq name attached.0) as (λ b. bytes_eq name attached.0 ≡ b → cond b (Some attached.1) (attached_records tables name) ≡ Some records → TableGives name records left) [
@@ -408,6 +416,7 @@ module _ {A : Type 0} (database main : Tables A) (rise : AreRising database) (ma
           rest.names attached.0 (not-attached attached.0 tables apart),
           rest.before,
         );
+        differ = (some-items ds change changes (changes-are first last attached.1 ∙ some), rest.differ);
         names = λ other absent. let parts = absent-here attached tables other absent in (apart_names other attached.0 parts.0, rest.names other parts.1);
         after = λ left after others name records at.
             elim (bytes_eq name attached.0) as (λ b. bytes_eq name attached.0 ≡ b → cond b (Some attached.1) (attached_records tables name) ≡ Some records → TableGives name records left) [
@@ -449,7 +458,7 @@ module _ {A : Type 0} (database main : Tables A) (rise : AreRising database) (ma
       ] refl
 
   plan-of : (tables : AttachedTables A) → AreDistinct (names_of tables) → ((name : List ℕ) (records : Records A) → attached_records tables name ≡ Some records → TableHolds name records) → Plan tables
-  plan-of [] distinct holds = record { plan = []; is = refl; before = tt; names = λ other none. tt; after = λ left after others name records at. cc }
+  plan-of [] distinct holds = record { plan = []; is = refl; before = tt; differ = tt; names = λ other none. tt; after = λ left after others name records at. cc }
   plan-of (attached ∷ tables) distinct holds =
       one-plan attached tables distinct.0 (holds attached.0 attached.1 (found-here attached tables))
       (plan-of tables distinct.1 (λ name records at. holds name records (found-later attached tables name records distinct.0 at)))
@@ -511,7 +520,7 @@ module _ {A : Type 0} where
       (ordered fields_cmp (kept past number name) (truth _ (is_sorted-records_of (touches_of name (touches number past)))))
 
   -- a capture has the changes of the session
-  captured : (past : Past A) (number : ℕ) (list : List (TableChanges A)) → answer (state_after past) (command.Capture number) ≡ Captured list → list ≡ session_changes (main past) (session_of past number)
+  pub captured : (past : Past A) (number : ℕ) (list : List (TableChanges A)) → answer (state_after past) (command.Capture number) ≡ Captured list → list ≡ session_changes (main past) (session_of past number)
   captured past number list is =
       elim (session_numbered (sessions past) number) as (λ o. session_numbered (sessions past) number ≡ o → capture_reply (main past) o ≡ Captured list → list ≡ session_changes (main past) (session_of past number)) [
         | None ↦ λ _ e. cc
@@ -545,6 +554,13 @@ module _ {A : Type 0} where
     changes_apply blob_of law policy list told =
         whole policy (blob_of list) list told
         (subst (λ l. Gives policy planned_capture.plan (blob_of l) database) (planned_capture.is ∙ sym told) (law policy planned_capture.plan database planned_capture.before))
+
+    -- and they fit the tables
+    pub capture_fits : (blob_of : List (TableChanges A) → Contents A)
+        → ((ts : List (TableRows A)) (tables : Tables A) → AllBefore ts tables → AllDiffer ts → FitsItsTables (blob_of (map group_of_rows ts)))
+        → FitsItsTables (blob_of (session_changes (main past) (session_of past number)))
+    capture_fits blob_of law =
+        subst (λ l. FitsItsTables (blob_of l)) planned_capture.is (law planned_capture.plan database planned_capture.before planned_capture.differ)
 
     pub changeset_applies : ((policy : Policy) (ts : List (TableRows A)) (tables : Tables A) → AllBefore ts tables → GivesAllRowsNow policy ts (Changes (map group_of_rows ts)) tables)
         → (policy : Policy) (list : List (TableChanges A)) → answer (state_after past) (command.Capture number) ≡ Captured list

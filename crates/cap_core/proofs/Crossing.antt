@@ -11,7 +11,7 @@ use Rattle.cap_value.proofs.refusal.Refusal.TheSendSync as refusal
 use Rattle.cap_row.proofs.schema.Schema.TheSendSync as schema
 use Rattle.cap_tree.proofs.Crossing.{tree_send, tree_sync}
 use Rattle.cap_database.proofs.Crossing.{database_send, database_sync, snapshot_send, snapshot_sync}
-use Rattle.cap_txn.proofs.batch.Batch.TheSendSync as batch
+use Rattle.cap_txn.proofs.Crossing.{batch_send, batch_sync}
 use Rattle.cap_filter.proofs.Crossing.{filter_send, filter_sync}
 use Rattle.cap_session.proofs.Crossing.{sessions_send, sessions_sync}
 use Rattle.cap_codec.proofs.read.Contents.TheSendSync as contents
@@ -22,9 +22,9 @@ use Rattle.cap_core.specs.contracts.server.Core as Core
 use Rattle.cap_core.specs.contracts.command.Command as Command
 use Rattle.cap_core.specs.contracts.reply.Reply as Reply
 
-ruleset sends = (name.the_send, schema.the_send, batch.the_send, contents.the_field_send, policy.the_field_send, filter_send, sendable)
+ruleset sends = (name.the_send, schema.the_send, batch_send, contents.the_field_send, policy.the_field_send, filter_send, sendable)
 
-ruleset syncs = (name.the_sync, schema.the_sync, batch.the_sync, contents.the_field_sync, policy.the_field_sync, filter_sync, sendable)
+ruleset syncs = (name.the_sync, schema.the_sync, batch_sync, contents.the_field_sync, policy.the_field_sync, filter_sync, sendable)
 
 module _ (A : RattleType) (h : handle.Ghosts A.Denot) (a : allocator.Ghosts A.Denot) (c : clone.Ghosts A.Denot)
     (al : IsSend A) (ay : IsSync A) (frees : Frees a a.dealloc_token) where

@@ -34,7 +34,8 @@ use Rattle.cap_core.specs.Capture.{change_now, group_of, session_changes, table_
 use Rattle.cap_core.specs.Flags.{is_indirect}
 use Rattle.cap_core.specs.History.{effect_of, event_effect, main, snapshot}
 use Rattle.cap_core.specs.Insert.{HasChange, IsInsertOfAbsent, changes_by_key, insert_of}
-use Rattle.cap_core.specs.Outcome.{Effect, Refused as Why, commit_unless, made, no_effect, outcome, stale}
+use Rattle.cap_core.specs.Outcome.{Effect, Refused as Why, commit_unless, made, no_effect, outcome}
+use Rattle.cap_txn.specs.Stale.{stale}
 use Rattle.cap_core.specs.Past.{Past, is_accepted}
 use Rattle.cap_core.specs.Session.{mark, records_of, session_of}
 use Rattle.cap_core.specs.Touch.{Touch, attach_list, touches, touches_of}
@@ -200,9 +201,9 @@ module _ {A : Type 0} where
   -- ---- the event
 
   module _ (past : Past A) (event : Event A) (session : ℕ) (name : List ℕ) (table : TableState A) (key row : Fields A) (is : IsInsertOfAbsent past event session name table key row) where
-    inserted : WasInserted (main past) name table key row (commit_unless (stale is.base (snapshot past).version) (main past) (insert_of name row ∷ []))
+    inserted : WasInserted (main past) name table key row (commit_unless (stale is.base is.seen (snapshot past)) (main past) (insert_of name row ∷ []))
     inserted =
-        batch_inserted (state_after past) (main past) name table key row (stale is.base (snapshot past).version) is.there is.own
+        batch_inserted (state_after past) (main past) name table key row (stale is.base is.seen (snapshot past)) is.there is.own
         (ap (λ c. is_accepted (answer (state_after past) c)) (sym is.inserts)
         ∙ ap is_accepted (sym is.legal.0)
         ∙ is.accepted)

@@ -1,11 +1,12 @@
 -- After any history the tables' names rise, and in each table keys and ids rise and rows stand where they belong.
-use Rattle.std.proofs.Common.{◌≡◌, ◌<◌, ℕ, Bool, true, false, cond, Option, Some, None, Result, Ok, Err, List, [], ◌∷◌, ◌&&◌, length, refl, arith, not, Ordering, Less, Equal, Greater, nat_eq, nat_lt}
+use Rattle.std.proofs.Common.{◌≡◌, ◌<◌, ℕ, Bool, true, false, cond, Option, Some, None, Result, Ok, Err, List, [], ◌∷◌, ◌&&◌, length, refl, ap, arith, not, Ordering, Less, Equal, Greater, nat_eq, nat_lt}
 use Rattle.std.specs.Prelude.{IfOk, is_some, reverse}
 use Rattle.std.specs.List.{All, AllByRecursion, list_all}
 use Rattle.std.specs.List.Sorted.{IsStrictlySortedBy}
 use Rattle.std.specs.Map.{keys_of}
 use Rattle.std.specs.Ordering.{is_lt, nat_cmp}
 use Rattle.std.specs.FinMap.Entries.{below_all, is_sorted}
+use Rattle.std.proofs.lemmas.Bool.{and_from}
 use Rattle.std.proofs.lemmas.Bool.Decides.{nat_tests}
 use Rattle.std.proofs.lemmas.List.Elements.{All-from_recursion}
 use Rattle.cap_value.specs.Bytes.{bytes_cmp}
@@ -22,17 +23,18 @@ use Rattle.cap_database.specs.declared.op.Op.{Op}
 use Rattle.cap_database.specs.declared.refused_at.RefusedAt.{RefusedAt}
 use Rattle.cap_apply.specs.Applied.{AppliedState}
 use Rattle.cap_apply.specs.Apply.{apply}
+use Rattle.cap_apply.specs.Fitting.{FitsItsTables}
 use Rattle.cap_apply.specs.declared.policy.Policy.{Policy}
-use Rattle.cap_codec.specs.Writable.{IsWritable}
 use Rattle.cap_codec.specs.declared.read.Contents.{Contents}
 use Rattle.cap_core.specs.declared.command.Command.{Command}
 use Rattle.cap_core.specs.declared.command.Command.TheVariants as command
 use Rattle.cap_core.specs.declared.event.Event.{Event}
 use Rattle.cap_core.specs.Answer.{state}
 use Rattle.cap_core.specs.History.{effect_of, main, snapshot}
-use Rattle.cap_core.specs.Outcome.{Effect, Refused as Why, applied, commit_unless, created, made, no_effect, outcome, stale}
+use Rattle.cap_core.specs.Outcome.{Effect, Refused as Why, applied, commit_unless, created, made, no_effect, outcome}
+use Rattle.cap_txn.specs.Stale.{stale}
 use Rattle.cap_core.specs.Past.{Past, is_accepted}
-use Rattle.cap_core.specs.Table.{AppliesWritable, AreWritable, IsKeyed, IsLoose}
+use Rattle.cap_core.specs.Table.{BlobFits, BlobsFit, BlobsFitPast, IsKeyed, IsLoose}
 use Rattle.cap_core.proofs.SmallLemmas.{first, second}
 use Rattle.cap_core.proofs.SoundLemmas.{stands-key_of, stands-wide}
 
@@ -61,6 +63,16 @@ module _ {K X : Type 0} (R : K → K → Ordering) where
   unfolding IsStrictlySortedBy
   ordered [] s = tt
   ordered (e ∷ es) s = (each_above e.0 es (first (below_all R e.0 es) (is_sorted R es) s), ordered es (second (below_all R e.0 es) (is_sorted R es) s))
+
+module _ {K X : Type 0} (R : K → K → Ordering) where
+  below-each : (x : K) (es : List (K × X)) → AllByRecursion (λ y. R x y ≡ Less) (keys_of es) → below_all R x es ≡ true
+  below-each x [] above = refl
+  below-each x (e ∷ es) above = and_from (is_lt (R x e.0)) (below_all R x es) (ap is_lt above.0) (below-each x es above.1)
+
+  pub sorted : (es : List (K × X)) → IsOrdered R es → is_sorted R es ≡ true
+  unfolding IsStrictlySortedBy
+  sorted [] s = refl
+  sorted (e ∷ es) s = and_from (below_all R e.0 es) (is_sorted R es) (below-each e.0 es s.0) (sorted es s.1)
 
 no_key : {X : Type 0} (own : Option X) → not (is_some own) ≡ true → own ≡ None
 no_key None is = refl
@@ -120,38 +132,42 @@ module _ {A : Type 0} where
   module _ (empty : AreRising {A = A} [])
       (runs : (tables : Tables A) (ops : List (Op A)) → AreRising tables → LeavesRising (run tables ops))
       (creates : (tables : Tables A) (name : List ℕ) (schema : List Bool) → AreRising tables → IfOk (create tables name schema) AreRising)
-      (applies : (tables : Tables A) (blob : Contents A) (policy : Policy) → AreRising tables → IsWritable blob → IfOk (apply tables blob policy) (λ left. AreRising left.database)) where
+      (applies : (tables : Tables A) (blob : Contents A) (policy : Policy) → AreRising tables → FitsItsTables blob → IfOk (apply tables blob policy) (λ left. AreRising left.database)) where
     commit-rises : (why : Option Refusal) (tables : Tables A) (ops : List (Op A)) → AreRising tables → HasRising (commit_unless why tables ops)
     commit-rises (Some why) tables ops all = tt
     commit-rises None tables ops all = made-rises (run tables ops) (runs tables ops all)
 
-    outcome-rises : (now : SnapshotState A) (c : Command A) → AppliesWritable c → AreRising now.database → HasRising (outcome now c)
-    outcome-rises now (command.CreateTable name schema) writable all = created-rises (create now.database name schema) (creates now.database name schema all)
-    outcome-rises now (command.Commit batch) writable all = commit-rises (stale batch.base now.version) now.database batch.ops all
-    outcome-rises now (command.Apply blob policy) writable all = applied-rises (apply now.database blob policy) (applies now.database blob policy all writable)
-    outcome-rises now _ writable all = all
+    outcome-rises : (now : SnapshotState A) (c : Command A) → BlobFits c → AreRising now.database → HasRising (outcome now c)
+    outcome-rises now (command.CreateTable name schema) fits all = created-rises (create now.database name schema) (creates now.database name schema all)
+    outcome-rises now (command.Commit batch) fits all = commit-rises (stale batch.base batch.seen now) now.database batch.ops all
+    outcome-rises now (command.Apply blob policy) fits all = applied-rises (apply now.database blob policy) (applies now.database blob policy all fits)
+    outcome-rises now _ fits all = all
 
-    pub main-rises : (past : Past A) → AreWritable past → AreRising (main past)
-    main-rises [] writable = empty
-    main-rises (event ∷ past) writable =
-        let before = main-rises past writable.1 in
+    pub main-rises : (past : Past A) → BlobsFitPast past → AreRising (main past)
+    main-rises [] fits = empty
+    main-rises (event ∷ past) fits =
+        let before = main-rises past fits.1 in
         elim (is_accepted event.reply) as (λ b. AreRising (cond b (effect_of (main past) (outcome (snapshot past) event.command)) (no_effect (main past))).database) [
-          | true ↦ effect_of-rises (main past) (outcome (snapshot past) event.command) before (outcome-rises (snapshot past) event.command writable.0 before)
+          | true ↦ effect_of-rises (main past) (outcome (snapshot past) event.command) before (outcome-rises (snapshot past) event.command fits.0 before)
           | false ↦ before
         ]
 
-    pub tables_rise : (h : List (Event A)) → AreWritable (reverse h) → IsOrdered bytes_cmp (state h).main
-    unfolding state
-    tables_rise h writable = ordered bytes_cmp (main (reverse h)) (main-rises (reverse h) writable).names
+    pub tables_rise : (h : List (Event A)) → BlobsFit h → IsOrdered bytes_cmp (state h).main
+    unfolding state BlobsFit
+    tables_rise h fits = ordered bytes_cmp (main (reverse h)) (main-rises (reverse h) fits).names
 
-    pub tables_keyed : (h : List (Event A)) → AreWritable (reverse h) → All (λ named. IsKeyed named.1) (state h).main
-    unfolding state
-    tables_keyed h writable =
+    pub tables_keyed : (h : List (Event A)) → BlobsFit h → All (λ named. IsKeyed named.1) (state h).main
+    unfolding state BlobsFit
+    tables_keyed h fits =
         All-from_recursion (λ named. IsKeyed named.1) (main (reverse h))
-        (each_says (λ named. IsRising named.1) (λ named. IsKeyed named.1) (λ named rising. keyed_is named.1 rising) (main (reverse h)) (main-rises (reverse h) writable).each)
+        (each_says (λ named. IsRising named.1) (λ named. IsKeyed named.1) (λ named rising. keyed_is named.1 rising) (main (reverse h)) (main-rises (reverse h) fits).each)
 
-    pub tables_loose : (h : List (Event A)) → AreWritable (reverse h) → All (λ named. IsLoose named.1) (state h).main
-    unfolding state
-    tables_loose h writable =
+    pub tables_loose : (h : List (Event A)) → BlobsFit h → All (λ named. IsLoose named.1) (state h).main
+    unfolding state BlobsFit
+    tables_loose h fits =
         All-from_recursion (λ named. IsLoose named.1) (main (reverse h))
-        (each_says (λ named. IsRising named.1) (λ named. IsLoose named.1) (λ named rising. loose_is named.1 rising) (main (reverse h)) (main-rises (reverse h) writable).each)
+        (each_says (λ named. IsRising named.1) (λ named. IsLoose named.1) (λ named rising. loose_is named.1 rising) (main (reverse h)) (main-rises (reverse h) fits).each)
+
+    pub tables_rising : (h : List (Event A)) → BlobsFit h → AreRising (state h).main
+    unfolding state BlobsFit
+    tables_rising h fits = main-rises (reverse h) fits

@@ -358,6 +358,10 @@ module _ {A : Type 0} where
   unfolding state
   events-state history = length-reverse history
 
+pub state-past : {A : Type 0} (h : List (Event A)) → state h ≡ state_after (reverse h)
+unfolding state
+state-past h = refl
+
 pub IsLegal-none : (A : Type 0) → IsLegal {A = A} []
 unfolding IsLegal
 IsLegal-none A = tt

@@ -4,7 +4,7 @@ use Rattle.std.proofs.lemmas.List.Folds.{list_any-append}
 use Rattle.std.proofs.Common.{◌≡◌, ℕ, Bool, true, false, cond, Option, Some, None, Ok, IfOk, List, [], ◌∷◌, ◌++◌, ◌&&◌, ◌||◌, map, refl, sym, ap, subst, ◌∙◌}
 use Rattle.std.specs.Prelude.{filter, is_some, option_and_then}
 use Rattle.std.specs.Option.{option_map}
-use Rattle.std.specs.List.{AllByRecursion, cons_option, enumerate_from, filter_map, list_any}
+use Rattle.std.specs.List.{cons_option, enumerate_from, filter_map, list_any}
 use Rattle.std.specs.Ordering.{eq_by_cmp}
 use Rattle.cap_value.specs.Bytes.{bytes_eq}
 use Rattle.cap_row.specs.Fields.{Fields}
@@ -17,11 +17,11 @@ use Rattle.cap_table.specs.Table.{TableState}
 use Rattle.cap_database.specs.Operation.{run}
 use Rattle.cap_database.specs.declared.op.Op.{Op}
 use Rattle.cap_changes.specs.Group.{TableChanges}
-use Rattle.cap_codec.specs.Writable.{IsWritable}
 use Rattle.cap_codec.specs.declared.read.Contents.{Contents}
 use Rattle.cap_apply.specs.Applied.{AppliedState}
 use Rattle.cap_apply.specs.Apply.{apply}
-use Rattle.cap_apply.specs.Captured.{AllBefore, GivesAllRowsNow, TableRows, changes_of as group_of_rows}
+use Rattle.cap_apply.specs.Fitting.{FitsItsTables}
+use Rattle.cap_apply.specs.Captured.{AllBefore, AllDiffer, GivesAllRowsNow, TableRows, changes_of as group_of_rows}
 use Rattle.cap_apply.specs.declared.policy.Policy.{Policy}
 use Rattle.cap_database.specs.Tables.{AreRising, Tables, create, schema_of, table_of}
 use Rattle.cap_database.specs.declared.change.Change.{Change}
@@ -40,20 +40,16 @@ use Rattle.cap_core.specs.Capture.{session_changes}
 use Rattle.cap_core.specs.AppliedCapture.{AppliesWhole, HoldsImages, but_keyed, changes_in}
 use Rattle.cap_core.specs.Restarts.{AppliesEach, HasRowsNow, HoldsFirst, IsSteady, captures, first_touched, touches_over}
 use Rattle.cap_core.specs.Session.{mark, session_of}
-use Rattle.cap_core.specs.Table.{AreWritable}
+use Rattle.cap_core.specs.Table.{BlobsFitPast}
 use Rattle.cap_core.specs.Touch.{Touch, attach_list, attachings, changes_touch, diff_touches, event_attachings, event_changes, event_diff, event_touches, is_recorded, restarts, touch_of, touches, touches_of}
 use Rattle.cap_core.proofs.DiffedLemmas.{quiet-effect}
-use Rattle.cap_core.proofs.AppliedCaptureLemmas.{changes_apply, records-named}
+use Rattle.cap_core.proofs.AppliedCaptureLemmas.{capture_fits, changes_apply, records-named}
 use Rattle.cap_core.proofs.LawLemmas.{first_image}
 use Rattle.cap_core.proofs.StayLemmas.{event-keeps, row_stays}
 use Rattle.cap_core.proofs.HistoryLemmas.{is_among, is_among-first_of_each, none_of, table_names, table_names-append, touches-none, touches_of-append}
 use Rattle.cap_core.proofs.SessionLemmas.{IsSilent, and_false, kept, silent-elsewhere, speaks_to, told-on}
 use Rattle.cap_core.proofs.SmallLemmas.{second}
 use Rattle.cap_core.proofs.TouchedLemmas.{fields_same, tied, told}
-
-both-parts : {X : Type 0} (P : X → Type 0) (xs ys : List X) → AllByRecursion P (xs ++ ys) → AllByRecursion P xs × AllByRecursion P ys
-both-parts P [] ys all = (tt, all)
-both-parts P (x ∷ xs) ys all = let rest = both-parts P xs ys all.1 in ((all.0, rest.0), rest.1)
 
 with-columns : (found : Option (List Bool)) → is_some found ≡ true → (columns : List Bool) × (found ≡ Some columns)
 with-columns None is = cc
@@ -245,10 +241,11 @@ module _ {A : Type 0} where
 
   module _ (runs_keep : (tables : Tables A) (ops : List (Op A)) → IfOk (run tables ops) (λ left. (other : List ℕ) → schema_of left.database other ≡ schema_of tables other))
       (creates_keep : (tables : Tables A) (other : List ℕ) (schema : List Bool) → IfOk (create tables other schema) (λ after. (table : List ℕ) (columns : List Bool) → schema_of tables table ≡ Some columns → schema_of after table ≡ Some columns))
-      (rises : (past : Past A) → AreWritable past → AreRising (main past))
-      (applies : (tables : Tables A) (blob : Contents A) (policy : Policy) → AreRising tables → IsWritable blob → IfOk (apply tables blob policy) (λ left. AreRising left.database))
+      (rises : (past : Past A) → BlobsFitPast past → AreRising (main past))
+      (applies : (tables : Tables A) (blob : Contents A) (policy : Policy) → AreRising tables → FitsItsTables blob → IfOk (apply tables blob policy) (λ left. AreRising left.database))
       (blob_of : List (TableChanges A) → Contents A)
       (gives : (policy : Policy) (ts : List (TableRows A)) (tables : Tables A) → AllBefore ts tables → GivesAllRowsNow policy ts (blob_of (map group_of_rows ts)) tables)
+      (fit : (ts : List (TableRows A)) (tables : Tables A) → AllBefore ts tables → AllDiffer ts → FitsItsTables (blob_of (map group_of_rows ts)))
       (policy : Policy) (session : ℕ) (start : Past A) (fresh : touches session start ≡ []) (database : Tables A) (rise : AreRising database) where
     abbrev Over : List (Event A) → List ℕ → Fields A → Option (Option (Fields A))
     Over later name key = first_touched (touches_over session later start) name key
@@ -397,8 +394,7 @@ module _ {A : Type 0} where
           told = session_changes (main (later ++ start)) (session_of (later ++ start) session)
 
       -- a restart, whose capture is applied
-      module _ (restarted : (is_accepted event.reply && restarts session event.command) ≡ true) (main_rise : AreRising (main (later ++ start)))
-          (writable : IsWritable (blob_of (session_changes (main (later ++ start)) (session_of (later ++ start) session)))) where
+      module _ (restarted : (is_accepted event.reply && restarts session event.command) ≡ true) (main_rise : AreRising (main (later ++ start))) where
         abbrev list : List (TableChanges A)
         list = session_changes (main (later ++ start)) (session_of (later ++ start) session)
 
@@ -447,12 +443,15 @@ module _ {A : Type 0} where
         whole : AppliesWhole policy (blob_of list) (changes_in list) before.left (main (later ++ start)) tables_now
         whole = changes_apply (later ++ start) session before.left before.rising main_rise images-now blob_of gives policy list refl
 
+        list-fits : FitsItsTables (blob_of list)
+        list-fits = capture_fits (later ++ start) session before.left before.rising main_rise images-now blob_of fit
+
         restart-left : Left (event ∷ later)
         restart-left = record {
           left = whole.0.database;
           applied = subst (λ lists. AppliesEach blob_of policy lists database whole.0.database) (sym (ap (λ b. captures session later start ++ cond b (list ∷ []) []) restarted))
               (applies-append blob_of policy (captures session later start) list database before.left whole.0 before.applied whole.1);
-          rising = subst (λ r. IfOk r (λ next. AreRising next.database)) whole.1 (applies before.left (blob_of list) policy before.rising writable);
+          rising = subst (λ r. IfOk r (λ next. AreRising next.database)) whole.1 (applies before.left (blob_of list) policy before.rising list-fits);
           columns = λ name. sym (same_schema (table_of whole.0.database name)) ∙ ap (option_map (λ t. t.schema)) (whole.2.others name) ∙ same_schema (table_of before.left name) ∙ before.columns name;
           current = λ name key image is. let clash : None ≡ Some image = sym (since-restart event later name key restarted) ∙ is in cc;
           earlier = λ name key image is none.
@@ -474,25 +473,19 @@ module _ {A : Type 0} where
               ] refl;
         }
 
-    left-after : (later : List (Event A)) → IsSteady session later start → HoldsFirst database session later start → AreWritable (later ++ start)
-        → AllByRecursion (λ list. IsWritable (blob_of list)) (captures session later start) → Left later
-    left-after [] steady holds writable told = start-left
-    left-after (event ∷ later) steady holds writable told =
-        let list = session_changes (main (later ++ start)) (session_of (later ++ start) session) in
-        elim (is_accepted event.reply && restarts session event.command) as (λ b. (is_accepted event.reply && restarts session event.command) ≡ b
-        → AllByRecursion (λ l. IsWritable (blob_of l)) (captures session later start ++ cond b (list ∷ []) []) → Left (event ∷ later)) [
-          | true ↦ λ restarted all.
-              let parts = both-parts (λ l. IsWritable (blob_of l)) (captures session later start) (list ∷ []) all in
-              restart-left event later steady holds (left-after later steady.2 (holds-before event later steady holds) writable.1 parts.0) restarted (rises (later ++ start) writable.1) parts.1.0
-          | false ↦ λ kept_on all.
-              let parts = both-parts (λ l. IsWritable (blob_of l)) (captures session later start) [] all in
-              other-left event later steady holds (left-after later steady.2 (holds-before event later steady holds) writable.1 parts.0) kept_on
-        ] refl told
+    left-after : (later : List (Event A)) → IsSteady session later start → HoldsFirst database session later start → BlobsFitPast (later ++ start) → Left later
+    left-after [] steady holds fits = start-left
+    left-after (event ∷ later) steady holds fits =
+        elim (is_accepted event.reply && restarts session event.command) as (λ b. (is_accepted event.reply && restarts session event.command) ≡ b → Left (event ∷ later)) [
+          | true ↦ λ restarted.
+              restart-left event later steady holds (left-after later steady.2 (holds-before event later steady holds) fits.1) restarted (rises (later ++ start) fits.1)
+          | false ↦ λ kept_on. other-left event later steady holds (left-after later steady.2 (holds-before event later steady holds) fits.1) kept_on
+        ] refl
 
     -- where the last of the events is a restart
     pub in_a_row : (event : Event A) (later : List (Event A)) → (is_accepted event.reply && restarts session event.command) ≡ true → IsSteady session (event ∷ later) start
-        → HoldsFirst database session (event ∷ later) start → AreWritable (event ∷ later ++ start) → AllByRecursion (λ list. IsWritable (blob_of list)) (captures session (event ∷ later) start)
+        → HoldsFirst database session (event ∷ later) start → BlobsFitPast (event ∷ later ++ start)
         → (left : Tables A) × AppliesEach blob_of policy (captures session (event ∷ later) start) database left × HasRowsNow left session (event ∷ later) start
-    in_a_row event later restarted steady holds writable told =
-        let found = left-after (event ∷ later) steady holds writable told in
+    in_a_row event later restarted steady holds fits =
+        let found = left-after (event ∷ later) steady holds fits in
         (found.left, found.applied, λ name key image is. found.earlier name key image is (since-restart event later name key restarted))

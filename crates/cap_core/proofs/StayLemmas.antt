@@ -49,7 +49,8 @@ use Rattle.cap_core.specs.declared.command.Command.{Command}
 use Rattle.cap_core.specs.declared.command.Command.TheVariants as command
 use Rattle.cap_core.specs.declared.event.Event.{Event}
 use Rattle.cap_core.specs.History.{effect_of, event_effect}
-use Rattle.cap_core.specs.Outcome.{Effect, Refused as Why, applied as applied_effect, commit_unless, created, is_of_row, made, no_effect, outcome, stale}
+use Rattle.cap_core.specs.Outcome.{Effect, Refused as Why, applied as applied_effect, commit_unless, created, is_of_row, made, no_effect, outcome}
+use Rattle.cap_txn.specs.Stale.{stale}
 use Rattle.cap_core.specs.Past.{is_accepted}
 use Rattle.cap_core.proofs.InsertLemmas.{names_same, table_of-put}
 use Rattle.cap_core.proofs.HistoryLemmas.{same_bytes}
@@ -389,7 +390,7 @@ module _ {A : Type 0} where
 
     outcome-stays : (now : SnapshotState A) (c : Command A) → EffectStays now.database (outcome now c)
     outcome-stays now (command.CreateTable other schema) = create-stays now.database other schema
-    outcome-stays now (command.Commit batch) = commit-stays (stale batch.base now.version) now.database batch.ops
+    outcome-stays now (command.Commit batch) = commit-stays (stale batch.base batch.seen now) now.database batch.ops
     outcome-stays now (command.Apply blob policy) = applied-stays now.database (apply now.database blob policy) (groups-more policy (requested_of blob) 0 0 (nothing_applied now.database))
     outcome-stays now _ = λ _. refl
 
@@ -477,7 +478,7 @@ module _ {A : Type 0} where
 
       outcome-keeps : (now : SnapshotState A) (c : Command A) → EffectKeeps now.database (outcome now c)
       outcome-keeps now (command.CreateTable other schema) = created-keeps now.database (create now.database other schema) (creates now.database other schema)
-      outcome-keeps now (command.Commit batch) = commit-keeps (stale batch.base now.version) now.database batch.ops
+      outcome-keeps now (command.Commit batch) = commit-keeps (stale batch.base batch.seen now) now.database batch.ops
       outcome-keeps now (command.Apply blob policy) = applied-keeps now.database (apply now.database blob policy) (groups-more policy (requested_of blob) 0 0 (nothing_applied now.database))
       outcome-keeps now _ = nothing-keeps now.database
 

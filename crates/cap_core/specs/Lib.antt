@@ -1,8 +1,9 @@
 pub mod Answer
+pub mod AppliedCapture
 pub mod Capture
 pub mod Code
+pub mod Commit
 pub mod Diff
-pub mod AppliedCapture
 pub mod Flags
 pub mod History
 pub mod Insert

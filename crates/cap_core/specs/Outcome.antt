@@ -1,9 +1,8 @@
 -- The effect of a command on the tables, or why it is refused.
-use Rattle.std.specs.Prelude.{ℕ, Bool, ◌&&◌, Option, Some, None, Result, Ok, Err, List, [], nat_eq}
-use Rattle.std.specs.Prelude.{if◌then◌else◌}
+use Rattle.std.specs.Prelude.{ℕ, Bool, ◌&&◌, Option, Some, None, Result, Ok, Err, List, []}
 use Rattle.cap_value.specs.Bytes.{bytes_eq}
 use Rattle.cap_value.specs.declared.refusal.Refusal.{Refusal}
-use Rattle.cap_value.specs.declared.refusal.Refusal.TheVariants.{Stale, Aborted, Misuse}
+use Rattle.cap_value.specs.declared.refusal.Refusal.TheVariants.{Aborted, Misuse}
 use Rattle.cap_row.specs.Fields.{Fields}
 use Rattle.cap_table.specs.Sound.{is_key_of}
 use Rattle.cap_database.specs.Snapshot.{SnapshotState}
@@ -13,6 +12,7 @@ use Rattle.cap_database.specs.Tables.{Tables, create}
 use Rattle.cap_database.specs.declared.change.Change.{Change}
 use Rattle.cap_database.specs.declared.op.Op.{Op}
 use Rattle.cap_database.specs.declared.refused_at.RefusedAt.{RefusedAt}
+use Rattle.cap_txn.specs.Stale.{stale}
 use Rattle.cap_apply.specs.Applied.{AppliedState}
 use Rattle.cap_apply.specs.Apply.{apply}
 use Rattle.cap_apply.specs.Report.{ReportState}
@@ -29,11 +29,6 @@ pub record Effect (A : Type 0) : Type 0 where
   pub database : Tables A
   pub changes : List (Change A)
   pub report : Option ReportState
-
--- a batch that was made for another version is out of date
-abbrev pub stale : Option ℕ → ℕ → Option Refusal
-stale None now = None
-stale (Some base) now = if nat_eq base now then None else Some (Stale base now None)
 
 -- the change of a blob at which its application ended
 abbrev pub change_refused : Refusal → Option ℕ
@@ -66,7 +61,7 @@ module _ {A : Type 0} where
   -- A command that writes nothing leaves the tables as they are.
   abbrev pub outcome : SnapshotState A → Command A → Result (Effect A) Refused
   outcome now (CreateTable name schema) = created (create now.database name schema)
-  outcome now (Commit batch) = commit_unless (stale batch.base now.version) now.database batch.ops
+  outcome now (Commit batch) = commit_unless (stale batch.base batch.seen now) now.database batch.ops
   outcome now (Apply blob policy) = applied (apply now.database blob policy)
   outcome now _ = Ok (no_effect now.database)
 

@@ -1,13 +1,14 @@
--- What holds of every table after any history, whatever blobs that can be written were applied.
-use Rattle.std.specs.Prelude.{◌≡◌, ◌<◌, Some, None, [], ◌∷◌, length}
+-- What holds of every table after any history whose blobs fit their tables.
+use Rattle.std.specs.Prelude.{◌≡◌, ◌<◌, Some, None, List, [], ◌∷◌, length, reverse}
 use Rattle.std.specs.List.{All}
 use Rattle.std.specs.Ordering.{nat_cmp}
 use Rattle.cap_row.specs.Key.{fields_cmp, key_of}
 use Rattle.cap_table.specs.Table.{TableState}
-use Rattle.cap_codec.specs.Writable.{IsWritable}
 use Rattle.cap_tree.specs.Tree.{IsOrdered}
+use Rattle.cap_apply.specs.Fitting.{FitsItsTables}
 use Rattle.cap_core.specs.declared.command.Command.{Command}
 use Rattle.cap_core.specs.declared.command.Command.TheVariants.{Apply}
+use Rattle.cap_core.specs.declared.event.Event.{Event}
 use Rattle.cap_core.specs.Past.{Past}
 
 module _ {A : Type 0} where
@@ -25,12 +26,16 @@ module _ {A : Type 0} where
     pub keyless : All (λ row. key_of table.schema row.1 ≡ None) table.loose
     pub given : All (λ row. row.0 < table.next_id) table.loose
 
-  -- a blob that the command applies can be written
-  abbrev pub AppliesWritable : Command A → Type 0
-  AppliesWritable (Apply blob policy) = IsWritable blob
-  AppliesWritable _ = Unit {0}
+  -- the blob that the command applies, if any, fits its tables, as every blob that a program can make
+  abbrev pub BlobFits : Command A → Type 0
+  BlobFits (Apply blob policy) = FitsItsTables blob
+  BlobFits _ = Unit {0}
 
-  -- each blob that was applied can be written
-  abbrev pub AreWritable : Past A → Type 0
-  AreWritable [] = Unit {0}
-  AreWritable (event ∷ past) = AppliesWritable event.command × AreWritable past
+  -- so does each blob that was applied
+  abbrev pub BlobsFitPast : Past A → Type 0
+  BlobsFitPast [] = Unit {0}
+  BlobsFitPast (event ∷ past) = BlobFits event.command × BlobsFitPast past
+
+  -- the same of a history, the first event first
+  unfoldable pub BlobsFit : List (Event A) → Type 0
+  BlobsFit history = BlobsFitPast (reverse history)

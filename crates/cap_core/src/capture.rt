@@ -10,12 +10,17 @@ ghost use Rattle.cap_changes.specs.Fits.{change_fits};
 ghost use Rattle.cap_changes.specs.Patch.{patch_list_of};
 ghost use Rattle.cap_codec.specs.Changeset.{list_bytes, list_bytes_with};
 ghost use Rattle.cap_codec.specs.Patchset.{patch_list_bytes, patch_list_bytes_with};
+ghost use Rattle.cap_codec.specs.Writable.{IsWritable};
+ghost use Rattle.cap_codec.specs.declared.read.Contents.TheVariants as contents;
 ghost use Rattle.cap_core.specs.Capture.{change_now, changes_of, table_changes};
 ghost use Rattle.cap_core.specs.Code.Grouped.{IsGroupOf, changes_in};
 ghost use Rattle.cap_core.specs.Code.Sound.{image_stands, records_stand, tables_stand};
 
 use cap_changes::{ChangeList, Group, RowChange, change_between, to_patches};
-use cap_codec::{KeyFlags, write_changes, write_changes_with, write_patches, write_patches_with};
+use cap_codec::{
+    KeyFlags, changes_are_writable, write_changes, write_changes_with, write_patches,
+    write_patches_with,
+};
 use cap_database::Database;
 use cap_row::{Key, Row, Schema};
 use cap_session::{Attached, Record, Records};
@@ -75,6 +80,15 @@ impl<A: AllocHandle> Capture<A> {
     {
         let patches = to_patches(alloc, &self.changes)?;
         write_patches_with(alloc, key_flags, &patches)
+    }
+
+    /// A lemma: the changes can be written as a changeset, and their patches as a patchset. At run time it
+    /// only visits each value.
+    pub fn is_writable(&self)
+        ensures changeset { IsWritable (contents.Changes self.now) }
+        ensures patchset { IsWritable (contents.Patches (patch_list_of self.now)) }
+    {
+        changes_are_writable(&self.changes);
     }
 
     /// The changes: tables in the order in which they were attached, and within a table in the order of the

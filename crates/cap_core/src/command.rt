@@ -1,6 +1,6 @@
 //! The commands of the server.
 
-use cap_apply::Policy;
+use cap_apply::{Policy, blob_fits_its_tables};
 use cap_codec::Contents;
 use cap_filter::TableFilter;
 use cap_row::Schema;
@@ -18,8 +18,9 @@ pub enum Command<A: AllocHandle> {
         /// Its columns.
         schema: Schema<A>,
     },
-    /// Commits a transaction: all of its operations, or none. Refused with `Stale` where its base is not the
-    /// present version, and otherwise as its first refused operation.
+    /// Commits a transaction: all of its operations, or none. Refused with `Stale` where something that the
+    /// transaction looked at has changed, or, in a batch whose base is a number alone, where it is not the present
+    /// version; and otherwise as its first refused operation.
     Commit(Batch<A>),
     /// Applies a changeset or patchset (sqlite3changeset_apply). Refused with `Aborted` or `Misuse`.
     Apply {
@@ -106,4 +107,17 @@ pub enum Command<A: AllocHandle> {
         /// The session's number.
         session: u64,
     },
+}
+
+impl<A: AllocHandle> Command<A> {
+    ghost use Rattle.cap_core.specs.Table.{BlobFits};
+
+    /// A lemma: the blob that a command applies fits its tables. At run time it only visits each group.
+    pub fn blob_fits(&self)
+        ensures { BlobFits self.now }
+    {
+        if let Command::Apply { blob, .. } = self {
+            blob_fits_its_tables(blob);
+        }
+    }
 }

@@ -1,9 +1,9 @@
 //! Laws of histories, sessions and captures. The functions do nothing when they run.
-ghost use Rattle.std.specs.Prelude.{◌≡◌, ℕ, ◌+◌, ◌&&◌, true, false, Some, None, [], ◌∷◌, ◌++◌, List, IsTrue};
-ghost use Rattle.std.specs.Prelude.{length, map, reverse};
+ghost use Rattle.std.specs.Prelude.{◌≡◌, ℕ, ◌+◌, ◌&&◌, true, false, Some, None, Ok, [], ◌∷◌, ◌++◌, List};
+ghost use Rattle.std.specs.Prelude.{IsTrue, length, map, reverse};
 ghost use Rattle.std.specs.Option.{option_map};
 ghost use Rattle.std.specs.FinMap.Entries.{is_sorted};
-ghost use Rattle.std.specs.List.{All, AllByRecursion, list_any};
+ghost use Rattle.std.specs.List.{All, list_any};
 ghost use Rattle.cap_value.specs.Bytes.{bytes_cmp};
 ghost use Rattle.cap_row.specs.Fields.{Fields};
 ghost use Rattle.cap_row.specs.Key.{fields_cmp};
@@ -12,19 +12,27 @@ ghost use Rattle.cap_changes.specs.Change.{full_record};
 ghost use Rattle.cap_changes.specs.Group.{TableChanges};
 ghost use Rattle.cap_changes.specs.Patch.{patch_list_of};
 ghost use Rattle.cap_changes.specs.declared.row_change.RowChange.{RowChange};
-ghost use Rattle.cap_codec.specs.Writable.{IsWritable};
+ghost use Rattle.cap_codec.specs.BlobReading.{blob_at};
+ghost use Rattle.cap_codec.specs.Changeset.{list_bytes_with};
+ghost use Rattle.cap_codec.specs.Patchset.{patch_list_bytes_with};
+ghost use Rattle.cap_codec.specs.Writable.{HasNoEmptyGroup, IsWritable, of_patches};
+ghost use Rattle.cap_codec.specs.declared.key_flags.KeyFlags.{KeyFlags};
 ghost use Rattle.cap_codec.specs.declared.read.Contents.{Contents};
 ghost use Rattle.cap_session.specs.declared.record.Record.{Record};
 ghost use Rattle.cap_table.specs.Table.{TableState};
 ghost use Rattle.cap_tree.specs.Tree.{IsOrdered, get, put_entry};
 ghost use Rattle.cap_database.specs.Snapshot.{SnapshotState};
 ghost use Rattle.cap_database.specs.Read.{row_at};
-ghost use Rattle.cap_database.specs.Tables.{AreRising, Tables};
+ghost use Rattle.cap_database.specs.Tables.{AreRising, EachRises, Tables};
+ghost use Rattle.cap_txn.specs.Batch.{BatchState, WhereSeen};
+ghost use Rattle.cap_txn.specs.Stale.{StandsFor};
 ghost use Rattle.cap_core.specs.declared.command.Command.{Command};
 ghost use Rattle.cap_core.specs.declared.event.Event.{Event};
 ghost use Rattle.cap_core.specs.declared.reply.Reply.{Reply};
-ghost use Rattle.cap_core.specs.Answer.{IsLegal, IsLegalPast, answer, event_by, reply_of, state, state_after};
+ghost use Rattle.cap_core.specs.Answer.{IsLegal, IsLegalPast, State, answer, event_by, history_of, reply_of};
+ghost use Rattle.cap_core.specs.Answer.{snapshot_of, state, state_after};
 ghost use Rattle.cap_core.specs.Capture.{change_now, session_changes};
+ghost use Rattle.cap_core.specs.Commit.{CommitsIfUnchanged};
 ghost use Rattle.cap_core.specs.AppliedCapture.{AppliesRows, AppliesWhole, AreQuiet, HoldsImages, IsDiffed};
 ghost use Rattle.cap_core.specs.AppliedCapture.{changes_in};
 ghost use Rattle.cap_core.specs.Flags.{session_named};
@@ -36,20 +44,24 @@ ghost use Rattle.cap_core.specs.Replies.{replies_after};
 ghost use Rattle.cap_core.specs.Restarts.{AppliesAll, AppliesAllPatches, HasRowsNow, HoldsFirst, IsSteady};
 ghost use Rattle.cap_core.specs.Restarts.{captures};
 ghost use Rattle.cap_core.specs.Session.{mark, records_of, session_of};
-ghost use Rattle.cap_core.specs.Table.{AreWritable, IsKeyed, IsLoose};
+ghost use Rattle.cap_core.specs.Table.{BlobFits, BlobsFit, BlobsFitPast, IsKeyed, IsLoose};
 ghost use Rattle.cap_core.specs.Touch.{Touch, restarts, touches, touches_of};
 ghost use Rattle.cap_core.specs.Transition.{next};
 
 use cap_apply::{
     a_changeset_gives_the_rows_now, a_patchset_gives_the_rows_now, applied_blobs_keep_order,
+    captures_fit_their_tables,
 };
+use cap_codec::key_flags_read_alike;
 use cap_compare::differences_are_just_those;
-use cap_database::{tables_keep_columns, tables_keep_order};
+use cap_database::{Database, tables_keep_columns, tables_keep_order};
+use cap_txn::footprints_judge_batches;
 use cap_value::AllocHandle;
 
 /// The empty history is legal, and a legal history with one more event is legal where the event has the reply
 /// to its command. The state after it is then the next state, which counts the events. The reply to a command
-/// after a history is the reply in the state after that history.
+/// after a history is the reply in the state after that history, and that state is the one after its events,
+/// the newest first.
 pub fn legal_histories_grow<A: AllocHandle>()
     ensures none { IsLegal {A = A} [] }
     ensures more { (h : List (Event A)) (by : ℕ) (command : Command A) → IsLegal h
@@ -59,6 +71,20 @@ pub fn legal_histories_grow<A: AllocHandle>()
     ensures count { (h : List (Event A)) → (state h).events ≡ length h }
     ensures reply { (h : List (Event A)) (command : Command A)
         → reply_of h command ≡ answer (state h) command }
+    ensures past { (h : List (Event A)) → state h ≡ state_after (reverse h) }
+{}
+
+/// In the empty history each blob that was applied fits its tables. So it is in a history with one more event
+/// where the blob of its command fits its tables, as that of every command that a program can make does
+/// (`Command::blob_fits`), in each beginning of such a history, and in the history of any such commands.
+pub fn fitting_histories_grow<A: AllocHandle>()
+    ensures none { BlobsFit {A = A} [] }
+    ensures more { (h : List (Event A)) (by : ℕ) (command : Command A) (reply : Reply A) → BlobsFit h
+        → BlobFits command → BlobsFit (h ++ event_by by command reply ∷ []) }
+    ensures begins { (h : List (Event A)) (more : List (Event A)) → BlobsFit (h ++ more) → BlobsFit h }
+    ensures all { (commands : List (Command A)) (replies : List (Reply A)) → All BlobFits commands
+        → BlobsFit (history_of commands replies) }
+    ensures past { (h : List (Event A)) → BlobsFit h → BlobsFitPast (reverse h) }
 {}
 
 /// A session without touches captures nothing.
@@ -104,21 +130,31 @@ pub fn refusal_changes_no_reply<A: AllocHandle>()
         ≡ replies_after past commands }
 {}
 
+/// In every database names, keys and ids rise, ids are at least 1 and at most 2^63, and each row is stored
+/// under its own primary key, or under an id where it has none. The call does nothing.
+pub fn database_rises<A: AllocHandle>(database: &Database<A>)
+    ensures { AreRising database.now }
+{
+    let _tables = database.len();
+    database.rows_stand();
+}
+
 /// A capture, applied to a database that has the tables of its touched rows with the same columns and the
 /// first image at each touched key, gives the present rows at these keys, and changes nothing else. There is
 /// no conflict under any policy. The patchset does the same as the changeset. `Capture` and `Restart` give
-/// the same capture.
+/// the same capture. Every database is rising (`database_rises`), and in every history that a program can
+/// make the blobs fit (`fitting_histories_grow`).
 pub fn a_capture_gives_the_rows_now<A: AllocHandle>()
     ensures changeset { (past : Past A) (session : ℕ) (list : List (TableChanges A)) (database : Tables A)
         (policy : Policy)
         → answer (state_after past) (Command.Capture session) ≡ Reply.Capture list → AreRising database
-        → AreRising (main past) → HoldsImages database (main past) (session_of past session).tables
+        → BlobsFitPast past → HoldsImages database (main past) (session_of past session).tables
         → AppliesWhole policy (Contents.Changes list) (changes_in list) database (main past)
         (session_of past session).tables }
     ensures patchset { (past : Past A) (session : ℕ) (list : List (TableChanges A)) (database : Tables A)
         (policy : Policy)
         → answer (state_after past) (Command.Capture session) ≡ Reply.Capture list → AreRising database
-        → AreRising (main past) → HoldsImages database (main past) (session_of past session).tables
+        → BlobsFitPast past → HoldsImages database (main past) (session_of past session).tables
         → AppliesWhole policy (Contents.Patches (patch_list_of list)) (changes_in list) database
         (main past) (session_of past session).tables }
     ensures restart { (past : Past A) (session : ℕ) → answer (state_after past) (Command.Restart session)
@@ -126,6 +162,8 @@ pub fn a_capture_gives_the_rows_now<A: AllocHandle>()
 {
     a_changeset_gives_the_rows_now::<A>();
     a_patchset_gives_the_rows_now::<A>();
+    applied_blobs_keep_order::<A>();
+    tables_keep_order::<A>();
 }
 
 /// A session without records is diffed; after that nothing is written, and the session is neither diffed nor
@@ -135,47 +173,42 @@ pub fn a_capture_after_a_diff_gives_the_rows_now<A: AllocHandle>()
     ensures changeset { (past : Past A) (event : Event A) (later : List (Event A)) (session : ℕ)
         (name : List ℕ) (database : Tables A) (table : TableState A) (list : List (TableChanges A))
         (policy : Policy)
-        → IsDiffed past event session name database table → AreQuiet session later → AreRising database
-        → AreRising (main past)
+        → IsDiffed past event session name database table → AreQuiet session later → BlobsFitPast past
         → answer (state_after (later ++ event ∷ past)) (Command.Capture session) ≡ Reply.Capture list
         → AppliesRows policy (Contents.Changes list) (changes_in list) database
         (main (later ++ event ∷ past)) name }
     ensures patchset { (past : Past A) (event : Event A) (later : List (Event A)) (session : ℕ)
         (name : List ℕ) (database : Tables A) (table : TableState A) (list : List (TableChanges A))
         (policy : Policy)
-        → IsDiffed past event session name database table → AreQuiet session later → AreRising database
-        → AreRising (main past)
+        → IsDiffed past event session name database table → AreQuiet session later → BlobsFitPast past
         → answer (state_after (later ++ event ∷ past)) (Command.Capture session) ≡ Reply.Capture list
         → AppliesRows policy (Contents.Patches (patch_list_of list)) (changes_in list) database
         (main (later ++ event ∷ past)) name }
 {
     a_changeset_gives_the_rows_now::<A>();
     a_patchset_gives_the_rows_now::<A>();
+    applied_blobs_keep_order::<A>();
     differences_are_just_those::<A>();
+    tables_keep_order::<A>();
 }
 
 /// Captures in a row, each by a restart of the session, are applied in order to a database that has, for each
 /// key touched over all of them, its table with the present columns and the first image. They give at each of
 /// these keys the row at the last restart. At the start the session has no touches; from then on it is
-/// enabled and not diffed. What is applied and captured can be written, as everything that a program can
-/// make. The patchsets do the same.
+/// enabled and not diffed. The patchsets do the same.
 pub fn captures_in_a_row_give_the_rows_now<A: AllocHandle>()
     ensures changesets { (policy : Policy) (session : ℕ) (start : Past A) (later : List (Event A))
         (event : Event A) (database : Tables A)
         → touches session start ≡ [] → (is_accepted event.reply && restarts session event.command) ≡ true
         → IsSteady session (event ∷ later) start → HoldsFirst database session (event ∷ later) start
-        → AreRising database → AreWritable (event ∷ later ++ start)
-        → AllByRecursion (λ list. IsWritable (Contents.Changes list))
-        (captures session (event ∷ later) start)
+        → AreRising database → BlobsFitPast (event ∷ later ++ start)
         → (left : Tables A) × AppliesAll policy (captures session (event ∷ later) start) database left
         × HasRowsNow left session (event ∷ later) start }
     ensures patchsets { (policy : Policy) (session : ℕ) (start : Past A) (later : List (Event A))
         (event : Event A) (database : Tables A)
         → touches session start ≡ [] → (is_accepted event.reply && restarts session event.command) ≡ true
         → IsSteady session (event ∷ later) start → HoldsFirst database session (event ∷ later) start
-        → AreRising database → AreWritable (event ∷ later ++ start)
-        → AllByRecursion (λ list. IsWritable (Contents.Patches (patch_list_of list)))
-        (captures session (event ∷ later) start)
+        → AreRising database → BlobsFitPast (event ∷ later ++ start)
         → (left : Tables A)
         × AppliesAllPatches policy (captures session (event ∷ later) start) database left
         × HasRowsNow left session (event ∷ later) start }
@@ -183,6 +216,7 @@ pub fn captures_in_a_row_give_the_rows_now<A: AllocHandle>()
     a_changeset_gives_the_rows_now::<A>();
     a_patchset_gives_the_rows_now::<A>();
     applied_blobs_keep_order::<A>();
+    captures_fit_their_tables::<A>();
     tables_keep_columns::<A>();
     tables_keep_order::<A>();
 }
@@ -214,16 +248,82 @@ pub fn order_of_two_sessions_does_not_matter<A: AllocHandle>()
         ≡ answer (state_after (later ++ first ∷ second ∷ past)) (Command.Capture session) }
 {}
 
-/// After any history the names of the tables rise. In each table keys and ids rise, each row has as many
-/// fields as the table has columns, and is stored under its own primary key, or under its id where it has
-/// none. The blobs that were applied can be written, as everything that a program can make.
+/// A history whose last event is taken off a legal one is legal, and that event has the reply to its command after
+/// it.
+pub fn legal_histories_were_legal<A: AllocHandle>()
+    ensures legal { (h : List (Event A)) (by : ℕ) (command : Command A) (reply : Reply A)
+        → IsLegal (h ++ event_by by command reply ∷ []) → IsLegal h }
+    ensures reply { (h : List (Event A)) (by : ℕ) (command : Command A) (reply : Reply A)
+        → IsLegal (h ++ event_by by command reply ∷ []) → reply ≡ reply_of h command }
+{}
+
+/// The commit of a transaction's batch is accepted exactly where nothing that the transaction looked at has changed,
+/// and then its calls, made whole at that point, are answered as they were. Else it is refused with the first item
+/// that has changed.
+pub fn transactions_commit_if_unchanged<A: AllocHandle>()
+    ensures { (now : State A) (batch : BatchState A) → EachRises now.main →
+        WhereSeen batch.base batch.seen (StandsFor batch.ops) →
+        WhereSeen batch.base batch.seen
+        (CommitsIfUnchanged (snapshot_of now) (answer now (Command.Commit batch))) }
+{
+    footprints_judge_batches::<A>();
+}
+
+/// After any history whose blobs fit the names of the tables rise. In each table keys and ids rise, each row
+/// has as many fields as the table has columns, and is stored under its own primary key, or under its id where
+/// it has none. The next id is at least 1 and at most 2^63.
 pub fn rows_stand_under_own_keys<A: AllocHandle>()
-    ensures names { (h : List (Event A)) → AreWritable (reverse h) → IsOrdered bytes_cmp (state h).main }
-    ensures keyed { (h : List (Event A)) → AreWritable (reverse h)
-        → All (λ named. IsKeyed named.1) (state h).main }
-    ensures loose { (h : List (Event A)) → AreWritable (reverse h)
-        → All (λ named. IsLoose named.1) (state h).main }
+    ensures names { (h : List (Event A)) → BlobsFit h → IsOrdered bytes_cmp (state h).main }
+    ensures keyed { (h : List (Event A)) → BlobsFit h → All (λ named. IsKeyed named.1) (state h).main }
+    ensures loose { (h : List (Event A)) → BlobsFit h → All (λ named. IsLoose named.1) (state h).main }
+    ensures rising { (h : List (Event A)) → BlobsFit h → AreRising (state h).main }
 {
     tables_keep_order::<A>();
     applied_blobs_keep_order::<A>();
+}
+
+/// A capture has no group without changes.
+pub fn captures_have_no_empty_group<A: AllocHandle>()
+    ensures { (past : Past A) (session : ℕ) (list : List (TableChanges A))
+        → answer (state_after past) (Command.Capture session) ≡ Reply.Capture list
+        → HasNoEmptyGroup (Contents.Changes list) }
+{}
+
+/// The bytes of a capture, with either key flags, are read as just its changes, and those of its patchset as
+/// the patches of these, or as an empty changeset where there is no change. What is read, applied to a
+/// database with the first images, gives the present rows at the touched keys, and changes nothing else. It
+/// counts each change as applied, under any policy, and there is no conflict. The changes of every capture can
+/// be written (`Capture::is_writable`).
+pub fn bytes_of_a_capture_give_the_rows_now<A: AllocHandle>()
+    ensures changeset_read { (past : Past A) (session : ℕ) (list : List (TableChanges A))
+        (key_flags : KeyFlags)
+        → answer (state_after past) (Command.Capture session) ≡ Reply.Capture list
+        → IsWritable (Contents.Changes list)
+        → blob_at (list_bytes_with key_flags list) ≡ Ok (Contents.Changes list) }
+    ensures patchset_read { (past : Past A) (session : ℕ) (list : List (TableChanges A))
+        (key_flags : KeyFlags)
+        → answer (state_after past) (Command.Capture session) ≡ Reply.Capture list
+        → IsWritable (Contents.Changes list)
+        → blob_at (patch_list_bytes_with key_flags (patch_list_of list))
+        ≡ Ok (of_patches (patch_list_of list)) }
+    ensures changeset { (past : Past A) (session : ℕ) (list : List (TableChanges A)) (database : Tables A)
+        (policy : Policy) (key_flags : KeyFlags) (blob : Contents A)
+        → answer (state_after past) (Command.Capture session) ≡ Reply.Capture list
+        → IsWritable (Contents.Changes list) → AreRising database → BlobsFitPast past
+        → HoldsImages database (main past) (session_of past session).tables
+        → blob_at (list_bytes_with key_flags list) ≡ Ok blob
+        → AppliesWhole policy blob (changes_in list) database (main past)
+        (session_of past session).tables }
+    ensures patchset { (past : Past A) (session : ℕ) (list : List (TableChanges A)) (database : Tables A)
+        (policy : Policy) (key_flags : KeyFlags) (blob : Contents A)
+        → answer (state_after past) (Command.Capture session) ≡ Reply.Capture list
+        → IsWritable (Contents.Changes list) → AreRising database → BlobsFitPast past
+        → HoldsImages database (main past) (session_of past session).tables
+        → blob_at (patch_list_bytes_with key_flags (patch_list_of list)) ≡ Ok blob
+        → AppliesWhole policy blob (changes_in list) database (main past)
+        (session_of past session).tables }
+{
+    a_capture_gives_the_rows_now::<A>();
+    captures_have_no_empty_group::<A>();
+    key_flags_read_alike::<A>();
 }

@@ -1,6 +1,6 @@
 //! The sequential server, `Core`. No module may be named `core`.
 ghost use Rattle.std.specs.Prelude.{◌≡◌, ℕ, ◌<◌, ◌^◌, ◌≤◌, [], ◌∷◌, ◌++◌, List, None, Ok, Err, IfOk, IfErr};
-ghost use Rattle.std.specs.Prelude.{OnOk, OnErr, IsTrue, length};
+ghost use Rattle.std.specs.Prelude.{All, OnOk, OnErr, IsTrue, length};
 ghost use Rattle.cap_core.specs.declared.event.Event.{Event};
 ghost use Rattle.cap_core.specs.Answer.{State, state, reply_of, IsLegal, event_by, history_of, answer};
 ghost use Rattle.cap_core.specs.Answer.{has_room_for, save_reply, snapshot_of};
@@ -9,6 +9,7 @@ ghost use Rattle.cap_value.specs.Bytes.{bytes_cmp};
 ghost use Rattle.cap_value.specs.Memory.{MatchFault};
 ghost use Rattle.cap_core.specs.Code.CommandOutcome.{Reports};
 ghost use Rattle.cap_core.specs.Past.{HasRoom};
+ghost use Rattle.cap_core.specs.Table.{BlobFits, BlobsFit};
 ghost use Rattle.cap_core.specs.Transition.{next, one_more, after_save};
 
 use crate::commit_hook::{ReplyHook, ask};
@@ -94,7 +95,10 @@ impl<A: AllocHandle> Core<A> {
         ensures unchanged { OnErr result (self.new ≡ self.old) }
         ensures refused { IfErr result (λ fault. MatchFault fault (hook.new ≡ hook.old)
             (λ why. C.gives hook.old (answer self.old command.now) (Err why) hook.new)) }
+        ensures fits { (h : List (Event A)) (by : ℕ) → BlobsFit h →
+            IfOk result (λ reply. BlobsFit (h ++ event_by by command.now reply ∷ [])) }
     {
+        command.blob_fits();
         self.carry_out(command, hook)
     }
 
@@ -108,7 +112,10 @@ impl<A: AllocHandle> Core<A> {
             IfOk result (λ r. IsLegal (h ++ event_by by command.now r.1 ∷ [])) }
         ensures step { IfOk result (λ r. (r.0 ≡ next self.now command.now)
             × (r.1 ≡ answer self.now command.now)) }
+        ensures fits { (h : List (Event A)) (by : ℕ) → BlobsFit h →
+            IfOk result (λ r. BlobsFit (h ++ event_by by command.now r.1 ∷ [])) }
     {
+        command.blob_fits();
         let mut core = self.copy()?;
         let reply = core.run_command(command)?;
         Ok((core, reply))
@@ -123,7 +130,9 @@ impl<A: AllocHandle> Core<A> {
         ensures whole { IfOk result (λ r. length r.1.items ≡ length commands.now) }
         ensures legal { IfOk result (λ r. IsLegal (history_of commands.now r.1.items)) }
         ensures state { IfOk result (λ r. r.0 ≡ state (history_of commands.now r.1.items)) }
+        ensures fits { IfOk result (λ r. BlobsFit (history_of commands.now r.1.items)) }
     {
+        blobs_fit(commands);
         let mut core = Core::new(alloc);
         let mut replies = Vec::with_capacity(alloc, commands.len())?;
         for command in commands {
@@ -274,4 +283,13 @@ fn has_room_for<A: AllocHandle>(saved: &Tree<Name<A>, Database<A>, A>, name: &Na
     ensures { result ≡ has_room_for saved.now name.now }
 {
     saved.get(name).is_some() || saved.len() < SAVED_MAX
+}
+
+// The blobs of these commands fit their tables.
+fn blobs_fit<A: AllocHandle>(commands: &[Command<A>])
+    ensures { All BlobFits commands.now }
+{
+    for command in commands {
+        command.blob_fits();
+    }
 }

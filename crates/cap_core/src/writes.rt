@@ -3,10 +3,11 @@ ghost use Rattle.std.specs.Prelude.{◌≡◌, ◌+◌, ◌∷◌, [], Ok};
 ghost use Rattle.cap_database.specs.Operation.{run, step};
 ghost use Rattle.cap_database.specs.Tables.{Tables, create};
 ghost use Rattle.cap_apply.specs.Apply.{apply};
-ghost use Rattle.cap_core.specs.Answer.{write_reply};
+ghost use Rattle.cap_core.specs.Answer.{snapshot_of, write_reply};
 ghost use Rattle.cap_core.specs.Code.Sound.{KeepsColumns};
 ghost use Rattle.cap_core.specs.Code.CommandOutcome.{Reports, ReportsStep};
-ghost use Rattle.cap_core.specs.Outcome.{applied, change_refused, commit_unless, created, made, stale};
+ghost use Rattle.cap_core.specs.Outcome.{applied, change_refused, commit_unless, created, made};
+ghost use Rattle.cap_txn.specs.Stale.{stale};
 ghost use Rattle.cap_core.specs.Past.{HasRoom};
 ghost use Rattle.cap_core.specs.Transition.{after_write, written};
 ghost use Rattle.cap_value.specs.Memory.{AnswersUnlessMemory};
@@ -55,14 +56,14 @@ impl<A: AllocHandle> Core<A> {
         hook: &mut C,
     ) -> Result<Reply<A>, Fault<C::Refusal>>
         requires room { HasRoom self.old.events }
-        requires can_ask { C.can_ask hook.old (write_reply self.old
-            (commit_unless (stale batch.now.base self.old.version) self.old.main batch.now.ops)) }
-        ensures { let effect =
-            commit_unless (stale batch.now.base self.old.version) self.old.main batch.now.ops in
+        requires can_ask { C.can_ask hook.old (write_reply self.old (commit_unless
+            (stale batch.now.base batch.now.seen (snapshot_of self.old)) self.old.main batch.now.ops)) }
+        ensures { let effect = commit_unless
+            (stale batch.now.base batch.now.seen (snapshot_of self.old)) self.old.main batch.now.ops in
             Reports C.gives (write_reply self.old effect) (after_write self.old effect)
             self.old self.new hook.old hook.new result }
     {
-        match stale(batch.base(), self.version) {
+        match batch.stale(self.version, &self.main) {
             Some(why) => self.keep(Reply::Refused { at: None, why }, hook),
             None => self.commit_now(batch.ops(), hook),
         }
@@ -279,21 +280,6 @@ fn with_table<A: AllocHandle>(
         Ok(()) => Ok(tables),
         Err(fault) => Err(fault),
     }
-}
-
-// Why a batch on this base version is refused, if it is.
-fn stale(base: Option<u64>, now: u64) -> Option<Refusal>
-    ensures { result ≡ stale base now }
-{
-    let base = base?;
-    if base == now {
-        return None;
-    }
-    Some(Refusal::Stale {
-        base,
-        now,
-        item: None,
-    })
 }
 
 // The change of a blob at which its application ended.

@@ -6,6 +6,7 @@ use Rattle.cap_core.specs.declared.command.Command.{Command}
 use Rattle.cap_core.specs.declared.event.Event.{Event}
 use Rattle.cap_core.specs.declared.reply.Reply.{Reply}
 use Rattle.cap_core.specs.Answer.{IsLegal, event_by}
+use Rattle.cap_core.specs.Table.{BlobsFit}
 use Rattle.cap_history.specs.History.{own}
 
 -- a seat's number, the history that it has seen, and the history that it had seen after its last call
@@ -27,18 +28,20 @@ module _ {A : Type 0} where
   abbrev pub newcomers : ℕ → List (SeatState A)
   newcomers count = map newcomer (range_with_len 0 count)
 
-  -- a seat may have seen more, and has made no call
+  -- a seat may have seen more, and has made no call; what it has seen is legal, and its blobs fit
   pub record SeesMore (old new : SeatState A) : Type 0 where
     pub number : new.number ≡ old.number
     pub answered : new.answered ≡ old.answered
     pub seen : IsPrefix old.seen new.seen
     pub legal : IsLegal new.seen
+    pub blobs : BlobsFit new.seen
 
-  -- A call of the seat has a reply. The history that it then has seen is legal, extends what it had seen, and
-  -- ends with the call. No event between is the seat's, so its calls are the earlier ones and this one.
+  -- A call of the seat has a reply. The history that it then has seen is legal, its blobs fit, it extends what
+  -- the seat had seen, and ends with the call. No event between is the seat's, so its calls are the earlier ones and this one.
   pub record HasCalled (old new : SeatState A) (command : Command A) (reply : Reply A) : Type 0 where
     pub number : new.number ≡ old.number
     pub legal : IsLegal new.seen
+    pub blobs : BlobsFit new.seen
     pub seen : (others : List (Event A))
         × (new.seen ≡ old.seen ++ others ++ event_by old.number command reply ∷ [])
         × (own old.number others ≡ [])

@@ -4,7 +4,7 @@ use cap_value::AllocHandle;
 use logbook::{Gain, Plain, Play, Rule};
 
 /// The rule that every operation on the front word keeps: the word is the number of events of a legal
-/// history.
+/// history, in which each blob that was applied fits its tables.
 pub struct Law;
 
 impl<A: AllocHandle> Rule<Event<A>, u64> for Law {

@@ -7,7 +7,7 @@ ghost use Rattle.cap_history.specs.History.{IsHistory, longer};
 
 use crate::law::{Add, Call, Law, Look, Nothing};
 use crate::{Front, Naming, Overtaken};
-use cap_core::{Command, Event, Reply, legal_histories_grow};
+use cap_core::{Command, Event, Reply, fitting_histories_grow, legal_histories_grow};
 use cap_value::AllocHandle;
 use logbook::{Offer, Seen};
 use std::marker::{Model, PhantomData};
@@ -100,6 +100,8 @@ impl<J: Naming, A: AllocHandle> List<J, A> {
         ensures history { IsHistory self.new }
     {
         legal_histories_grow::<A>();
+        fitting_histories_grow::<A>();
+        command.blob_fits();
         self.seen.learn(&at.seen);
         let call = Call { by, command, reply };
         let mut offer: Offer<Event<A>, u64, Law, Nothing> = self

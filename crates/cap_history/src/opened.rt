@@ -5,7 +5,7 @@ ghost use Rattle.cap_history.specs.Seat.{newcomers};
 
 use crate::law::Law;
 use crate::{Front, List, Naming, Seat};
-use cap_core::{Event, legal_histories_grow};
+use cap_core::{Event, fitting_histories_grow, legal_histories_grow};
 use cap_value::{AllocHandle, OutOfMemory};
 use logbook::{Seen, Start, Word};
 use std::marker::PhantomData;
@@ -23,6 +23,7 @@ pub struct Opened<A: AllocHandle> {
 impl<A: AllocHandle> Opened<A> {
     pub fn new() -> Self {
         legal_histories_grow::<A>();
+        fitting_histories_grow::<A>();
         let (seen, mut first, _second) = Seen::open(Start::alone(), 0, 0);
         Opened {
             word: Word::tracked(0, &mut first),
@@ -42,6 +43,7 @@ impl<A: AllocHandle> Opened<A> {
         ensures seats { IfOk result (λ r. r.2.items ≡ newcomers seats) }
     {
         legal_histories_grow::<A>();
+        fitting_histories_grow::<A>();
         let Opened { word, seen } = self;
         let front = Front {
             word,

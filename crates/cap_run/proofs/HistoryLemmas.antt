@@ -101,12 +101,13 @@ module _ {A : Type 0} where
   pub closed_history : (threads : ℕ) (lines : List (Line A)) (ended : Ended) (text : List ℕ) (seats : List (SeatState A)) (events : ℕ) (core : State A) (so : HaveCalled threads lines ended text (opened threads) seats)
       → 1 ≤ threads → AreSeats threads seats → IsClosed seats events core → AreOfOneHistory (AreCalls ended) threads lines so.replies
   closed_history threads lines ended text seats events core so some numbered closed =
-      record { history = closed.history; legal = closed.legal; calls_are = closed-calls threads lines ended text seats events core so some numbered closed }
+      record { history = closed.history; legal = closed.legal; blobs = closed.blobs; calls_are = closed-calls threads lines ended text seats events core so some numbered closed }
 
   pub begun-history : (threads : ℕ) (lines : List (Line A)) (replies : List (Reply A)) (ended : Ended) → AreOfOneHistory (AreCalls ended) threads lines replies → AreOfOneHistory IsPrefix threads lines replies
   begun-history threads lines replies ended so = record {
     history = so.history;
     legal = so.legal;
+    blobs = so.blobs;
     calls_are = λ number. calls-begin ended (own number (calls_of threads lines replies)) (own number so.history) (so.calls_are number);
   }
 
@@ -118,6 +119,7 @@ module _ {A : Type 0} where
       record {
         history = first.history;
         legal = first.legal;
+        blobs = first.blobs;
         calls_are = λ number.
             elim (cases_lt threads number) [
               | inl beyond ↦
@@ -143,6 +145,7 @@ module _ {A : Type 0} where
   sooner-history threads lines others replies few so = record {
     history = so.history;
     legal = so.legal;
+    blobs = so.blobs;
     calls_are = λ number. subst (λ (l : List (Event A)). IsPrefix (own number l) (own number so.history)) (sym (calls_of-longer threads lines others replies few)) (so.calls_are number);
   }
 

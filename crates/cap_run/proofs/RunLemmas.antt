@@ -9,6 +9,7 @@ use Rattle.cap_server.specs.declared.fault.CallFault.{CallFault}
 use Rattle.cap_server.specs.declared.fault.CallFault.TheVariants as call
 use Rattle.cap_core.specs.declared.reply.Reply.{Reply}
 use Rattle.cap_core.specs.Answer.{State, IsLegal, IsLegalPast, answer, event_by, history_of, reply_of, state}
+use Rattle.cap_core.specs.Table.{BlobFits, BlobsFit, BlobsFitPast}
 use Rattle.cap_core.specs.Transition.{next}
 use Rattle.cap_script.specs.declared.line.Line.{Line}
 use Rattle.cap_script.specs.Script.{SpellsScript, TakesFirst}
@@ -59,6 +60,10 @@ IsLegal-none : (A : Type 0) → IsLegal {A = A} []
 unfolding IsLegal
 IsLegal-none A = tt
 
+fits-none : (A : Type 0) → BlobsFit {A = A} []
+unfolding BlobsFit
+fits-none A = tt
+
 -- nothing, where it did not begin
 pub writes_nothing : (A : Type 0) (input : Option (List ℕ)) (fault : RunFault) (a : Option (List ℕ)) → RunsNothing fault → WritesInput A input (Err fault) a a
 writes_nothing A input (Script fault) a early = Keeps-refl a
@@ -97,6 +102,10 @@ module _ {A : Type 0} where
   unfolding IsLegal reply_of state
   IsLegal-push h c legal = subst IsLegalPast (sym (reverse-append h (event_by 0 c (reply_of h c) ∷ []))) (refl, legal)
 
+  fits-push : (h : List (Event A)) (c : Command A) (reply : Reply A) → BlobsFit h → BlobFits c → BlobsFit (h ++ event_by 0 c reply ∷ [])
+  unfolding BlobsFit
+  fits-push h c reply fits one = subst BlobsFitPast (sym (reverse-append h (event_by 0 c reply ∷ []))) (one, fits)
+
   events-state : (h : List (Event A)) → (state h).events ≡ length h
   unfolding state
   events-state h = length-reverse h
@@ -124,6 +133,7 @@ module _ {A : Type 0} where
     pub replies : List (Reply A)
     pub counted : length replies ≡ count
     pub legal : IsLegal (history_of (commands_of lines) replies)
+    pub blobs : BlobsFit (history_of (commands_of lines) replies)
     pub leaves : state (history_of (commands_of lines) replies) ≡ core
     pub text_is : text ≡ reply_lines lines replies
 
@@ -132,6 +142,7 @@ module _ {A : Type 0} where
     replies = [];
     counted = refl;
     legal = subst IsLegal (sym (history_of-none (commands_of lines))) (IsLegal-none A);
+    blobs = subst BlobsFit (sym (history_of-none (commands_of lines))) (fits-none A);
     leaves = ap state (history_of-none (commands_of lines)) ∙ sym is;
     text_is = none ∙ sym (reply_lines-none lines);
   }
@@ -149,8 +160,8 @@ module _ {A : Type 0} where
       (next ≡ state (h ++ event_by 0 line.command (reply_of h line.command) ∷ [])) × (new ≡ old ++ on_a_line (reply_text line (reply_of h line.command)))
 
   pub reached-push : (lines : List (Line A)) (core next : State A) (count : ℕ) (written old new : List ℕ) (line : Line A) → IsReached lines core count (written ++ old)
-      → count < length lines → line ≡ get_or lines count line → IsStep core line old next new → IsReached lines next (count + 1) (written ++ new)
-  reached-push lines core next count written old new line so less is step =
+      → count < length lines → line ≡ get_or lines count line → IsStep core line old next new → BlobFits line.command → IsReached lines next (count + 1) (written ++ new)
+  reached-push lines core next count written old new line so less is step fits =
       let h = history_of (commands_of lines) so.replies in
       let reply = reply_of h line.command in
       let met = step h so.legal so.leaves in
@@ -161,6 +172,7 @@ module _ {A : Type 0} where
         replies = so.replies ++ reply ∷ [];
         counted = omega (arith, length-append so.replies (reply ∷ []), so.counted);
         legal = subst IsLegal (sym pushed) (IsLegal-push h line.command so.legal);
+        blobs = subst BlobsFit (sym pushed) (fits-push h line.command reply so.blobs fits);
         leaves = ap state pushed ∙ sym met.0;
         text_is = ap (λ (t : List ℕ). written ++ t) met.1 ∙ sym (append_assoc written old (on_a_line (reply_text line reply)))
             ∙ ap (λ (t : List ℕ). t ++ on_a_line (reply_text line reply)) so.text_is
@@ -172,6 +184,7 @@ module _ {A : Type 0} where
     replies = so.replies;
     counted = so.counted;
     legal = so.legal;
+    blobs = so.blobs;
     text_is = so.text_is ∙ sym (append-nil (reply_lines lines so.replies));
   }
 
@@ -181,6 +194,7 @@ module _ {A : Type 0} where
     replies = so.replies;
     counted = so.counted;
     legal = so.legal;
+    blobs = so.blobs;
     text_is = ap (λ (t : List ℕ). t ++ ending ended) (so.text_is ∙ append-nil (reply_lines lines so.replies));
   }
 
@@ -310,8 +324,8 @@ module _ {A : Type 0} where
 
   -- the line has its reply
   pub at_next : (lines : List (Line A)) (rest left : List ℕ) (core next : State A) (pending more : List ℕ) (a b : Option (List ℕ)) (line : Line A) (so : IsAt lines rest core pending a b)
-      → TakesFirst (Some line) so.others left → IsStep core line pending next more → core.events < events_max → IsAt lines left next more a b
-  at_next lines rest left core next pending more a b line so (others, is, spelled) step room =
+      → TakesFirst (Some line) so.others left → IsStep core line pending next more → BlobFits line.command → core.events < events_max → IsAt lines left next more a b
+  at_next lines rest left core next pending more a b line so (others, is, spelled) step fits room =
       let parts : lines ≡ so.done ++ line ∷ others = so.parts ∙ ap (λ (ls : List (Line A)). so.done ++ ls) is in
       let here : line ≡ get_or lines (length so.done) line = get_or-here so.done line others ∙ ap (λ (ls : List (Line A)). get_or ls (length so.done) line) (sym parts) in
       let one : length (so.done ++ line ∷ []) ≡ length so.done + 1 = length-append so.done (line ∷ []) in
@@ -323,7 +337,7 @@ module _ {A : Type 0} where
         parts = parts ∙ sym (append_assoc so.done (line ∷ []) others);
         spelled = spelled;
         written = so.written;
-        reached = subst (λ (n : ℕ). IsReached lines next n (so.written ++ more)) (sym one) (reached-push lines core next (length so.done) so.written pending more line so.reached less here step);
+        reached = subst (λ (n : ℕ). IsReached lines next n (so.written ++ more)) (sym one) (reached-push lines core next (length so.done) so.written pending more line so.reached less here step fits);
         wrote = so.wrote;
         few = omega (arith, one, events, room);
       }

@@ -7,6 +7,7 @@ use Rattle.cap_server.specs.declared.fault.CallFault.{CallFault}
 use Rattle.cap_server.specs.declared.fault.CallFault.TheVariants as call
 use Rattle.cap_core.specs.declared.reply.Reply.{Reply}
 use Rattle.cap_core.specs.Answer.{IsLegal, history_of}
+use Rattle.cap_core.specs.Table.{BlobsFit}
 use Rattle.cap_run.specs.declared.fault.RunFault.{RunFault}
 use Rattle.cap_run.specs.declared.fault.RunFault.TheVariants.{Call, Write}
 use Rattle.cap_script.specs.declared.line.Line.{Line}
@@ -75,11 +76,12 @@ module _ {A : Type 0} where
       on_a_line (reply_text line reply) ++ reply_lines lines replies
 
   -- The text is that of the replies to the first `count` lines and of what ended the run there. The replies
-  -- are those of a legal history of the lines' commands.
+  -- are those of a legal history of the lines' commands, whose blobs fit.
   pub record IsRun (lines : List (Line A)) (count : ℕ) (ended : Ended) (text : List ℕ) : Type 0 where
     pub replies : List (Reply A)
     pub counted : length replies ≡ count
     pub legal : IsLegal (history_of (commands_of lines) replies)
+    pub blobs : BlobsFit (history_of (commands_of lines) replies)
     pub text_is : text ≡ reply_lines lines replies ++ ending ended
 
   -- all of a run's text was written

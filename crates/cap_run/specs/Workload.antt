@@ -4,6 +4,7 @@ use Rattle.std.specs.Prelude.{Err, length}
 use Rattle.std.specs.Io.KnownBytes.{Appends, Keeps}
 use mathlib.Core.List.{IsPrefix}
 use Rattle.cap_core.specs.Answer.{IsLegal, event_by}
+use Rattle.cap_core.specs.Table.{BlobsFit}
 use Rattle.cap_core.specs.declared.event.Event.{Event}
 use Rattle.cap_core.specs.declared.reply.Reply.{Reply}
 use Rattle.cap_history.specs.History.{own}
@@ -35,12 +36,13 @@ module _ {A : Type 0} where
   AreCalls (Ok done) some all = all ≡ some
   AreCalls (Err fault) some all = IsPrefix some all
 
-  -- One legal history has the calls of the lines that have replies, each seat's in the order of its lines:
-  -- its own calls in that history are these, or these are a prefix of them.
+  -- One legal history, whose blobs fit, has the calls of the lines that have replies, each seat's in the order
+  -- of its lines: its own calls in that history are these, or these are a prefix of them.
   pub record AreOfOneHistory (Are : List (Event A) → List (Event A) → Type 0) (threads : ℕ)
       (lines : List (Line A)) (replies : List (Reply A)) : Type 0 where
     pub history : List (Event A)
     pub legal : IsLegal history
+    pub blobs : BlobsFit history
     pub calls_are : (number : ℕ) → Are (own number (calls_of threads lines replies)) (own number history)
 
   -- A run of the lines that ended so has this text: the replies in the order of the lines, up to the first

@@ -140,6 +140,7 @@ fn write_replies<A: AllocHandle, W: Write>(
             Ok(None) => return Ok(Ok(())),
             Err(_) => return Ok(Err(line_fault(&core))),
         };
+        line.command.blob_fits();
         match run_line(alloc, &mut core, &line, pending) {
             Ok(()) => {}
             Err(fault) => return Ok(Err(fault)),

@@ -5,7 +5,8 @@ ghost use Rattle.std.specs.Prelude.{string_bytes, vec_capacity, vec_len};
 ghost use denote.Param.Send.{Frees};
 ghost use Rattle.cap_history.specs.Seat.{SeatState};
 ghost use Rattle.cap_run.specs.Code.Calls.{AreSeats, EndSo, Gathers, HasAnswered, HaveCalled, IsNext};
-ghost use Rattle.cap_run.specs.Code.Calls.{IsWholeBlock, KeepsCalls, RunsLines, unclosed_outcome};
+ghost use Rattle.cap_run.specs.Code.Calls.{IsWholeBlock, KeepsCalls, RunsLines, fault_of};
+ghost use Rattle.cap_run.specs.Code.Calls.{unclosed_outcome};
 ghost use Rattle.cap_run.specs.Options.{IsThreadCount};
 ghost use Rattle.cap_run.specs.Run.{IsSpelled, Known};
 ghost use Rattle.cap_run.specs.RunFault.{IsUnread, exit_status};
@@ -421,8 +422,10 @@ fn gather<J: Naming, A: AllocHandle>(
     Ok(())
 }
 
-// The fault of a worker that has no text for its next line.
-fn fault_of<J: Naming, A: AllocHandle>(worker: &Worker<J, A>) -> CallFault {
+// The fault of a worker that has no text for its next line: the one that ended it.
+fn fault_of<J: Naming, A: AllocHandle>(worker: &Worker<J, A>) -> CallFault
+    ensures { result ≡ fault_of worker.now.ended }
+{
     match worker.ended {
         Ok(()) => CallFault::OutOfMemory,
         Err(fault) => fault,

@@ -1,4 +1,5 @@
 pub mod Crossing
+mod FitLemmas
 mod LineLemmas
 mod OneCommands
 mod OneForms

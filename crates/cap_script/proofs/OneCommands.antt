@@ -11,6 +11,7 @@ use Rattle.cap_apply.specs.declared.policy.Answer.{Answer}
 use Rattle.cap_apply.specs.declared.policy.Answer.TheVariants.{Omit, Replace, Abort}
 use Rattle.cap_apply.specs.declared.policy.Policy.{Policy}
 use Rattle.cap_table.specs.declared.row_ref.RowRef.{RowRef}
+use Rattle.cap_txn.specs.Seen.{SeenState}
 use Rattle.cap_database.specs.declared.op.Op.{Op}
 use Rattle.cap_core.specs.declared.command.Command.{Command}
 use Rattle.cap_core.specs.declared.command.Command.TheVariants as command
@@ -245,8 +246,8 @@ numbered {X} form same m n x y line a b p q =
 module _ {A : Type 0} where
   abbrev pub command_of : (word : Head) → Said A word → Command A
   command_of head.Create x = command.CreateTable x.0 x.1
-  command_of head.Commit x = command.Commit (record { base = None; ops = x })
-  command_of head.CommitAt x = command.Commit (record { base = Some x.0; ops = x.1 })
+  command_of head.Commit x = command.Commit (record { base = None; ops = x; seen = None })
+  command_of head.CommitAt x = command.Commit (record { base = Some x.0; ops = x.1; seen = None })
   command_of head.Apply x = command.Apply x.0 x.1
   command_of head.Get x = command.Read
   command_of head.Scan x = command.Read
@@ -282,13 +283,14 @@ module _ {A : Type 0} where
     pub made_is : made ≡ command_of word said
     pub show_is : show ≡ show_of word said
 
-  batch_by_word : (base : Option ℕ) (ops : List (Op A)) (line rest : List ℕ) → SpelledBatch base ops line rest → ByWord (command.Commit (record { base = base; ops = ops })) Plain line rest
-  batch_by_word None ops line rest p = record { word = head.Commit; said = ops; behind = p.0; first = p.1; others = p.2; made_is = refl; show_is = refl }
-  batch_by_word (Some base) ops line rest p = record { word = head.CommitAt; said = (base, ops); behind = p.0; first = p.1; others = p.2; made_is = refl; show_is = refl }
+  batch_by_word : (seen : Option (SeenState A)) (base : Option ℕ) (ops : List (Op A)) (line rest : List ℕ) → SpelledBatch seen base ops line rest → ByWord (command.Commit (record { base = base; ops = ops; seen = seen })) Plain line rest
+  batch_by_word (Some seen) base ops line rest p = absurd p
+  batch_by_word None None ops line rest p = record { word = head.Commit; said = ops; behind = p.0; first = p.1; others = p.2; made_is = refl; show_is = refl }
+  batch_by_word None (Some base) ops line rest p = record { word = head.CommitAt; said = (base, ops); behind = p.0; first = p.1; others = p.2; made_is = refl; show_is = refl }
 
   pub by_word : (made : Command A) (show : Show A) (line rest : List ℕ) → SpelledCommand made show line rest → ByWord made show line rest
   by_word (command.CreateTable table schema) Plain line rest p = record { word = head.Create; said = (table, schema); behind = p.0; first = p.1; others = p.2; made_is = refl; show_is = refl }
-  by_word (command.Commit batch) Plain line rest p = batch_by_word batch.base batch.ops line rest p
+  by_word (command.Commit batch) Plain line rest p = batch_by_word batch.seen batch.base batch.ops line rest p
   by_word (command.Apply contents policy) Plain line rest p = record { word = head.Apply; said = (contents, policy); behind = p.0; first = p.1; others = p.2; made_is = refl; show_is = refl }
   by_word command.Read (Get table row) line rest p = record { word = head.Get; said = (table, row); behind = p.0; first = p.1; others = p.2; made_is = refl; show_is = refl }
   by_word command.Read (Scan table) line rest p = record { word = head.Scan; said = table; behind = p.0; first = p.1; others = p.2; made_is = refl; show_is = refl }

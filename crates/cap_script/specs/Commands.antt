@@ -1,5 +1,5 @@
 -- How commands are spelled.
-use Rattle.std.specs.Prelude.{◌≡◌, ℕ, List, [], Option, Some, None, codes}
+use Rattle.std.specs.Prelude.{◌≡◌, ◌≤◌, ℕ, List, length, [], Option, Some, None, codes}
 use Rattle.cap_filter.specs.Grammar.{Spells as SpellsFilter}
 use Rattle.cap_filter.specs.Rule.{Rule}
 use Rattle.cap_codec.specs.Spelling.{Spells as SpellsBlob}
@@ -7,6 +7,7 @@ use Rattle.cap_codec.specs.declared.key_flags.KeyFlags.{KeyFlags}
 use Rattle.cap_codec.specs.declared.key_flags.KeyFlags.TheVariants.{Ones, Places}
 use Rattle.cap_codec.specs.declared.read.Contents.{Contents}
 use Rattle.cap_apply.specs.declared.policy.Policy.{Policy}
+use Rattle.cap_txn.specs.Seen.{SeenState}
 use Rattle.cap_database.specs.declared.op.Op.{Op}
 use Rattle.cap_core.specs.declared.command.Command.{Command}
 use Rattle.cap_core.specs.declared.command.Command.TheVariants as command
@@ -33,20 +34,23 @@ abbrev pub SpelledFilter : Rule → Form
 SpelledFilter filter line rest = SpellsFilter line filter × (rest ≡ [])
 
 module _ {A : Type 0} where
-  -- a changeset or a patchset
+  -- a changeset or a patchset of at most 1,000,000,000 bytes
   abbrev pub SpelledBlob : Contents A → Form
-  SpelledBlob contents line rest = (bytes : List ℕ) × Next (blob bytes) line rest × SpellsBlob contents bytes
+  SpelledBlob contents line rest =
+      (bytes : List ℕ) × Next (blob bytes) line rest × SpellsBlob contents bytes
+      × (length bytes ≤ 1000000000)
 
-  -- without or with a base version
-  abbrev pub SpelledBatch : Option ℕ → List (Op A) → Form
-  SpelledBatch None ops = Word (codes "commit") ▸ SpelledOperations ops
-  SpelledBatch (Some base) ops = Word (codes "commitat") ▸ Natural base ▸ SpelledOperations ops
+  -- without or with a base version; a transaction's batch is not spelled
+  abbrev pub SpelledBatch : Option (SeenState A) → Option ℕ → List (Op A) → Form
+  SpelledBatch None None ops = Word (codes "commit") ▸ SpelledOperations ops
+  SpelledBatch None (Some base) ops = Word (codes "commitat") ▸ Natural base ▸ SpelledOperations ops
+  SpelledBatch (Some seen) base ops = λ line rest. ⊥
 
   -- a command, and how its reply is printed
   abbrev pub SpelledCommand : Command A → Show A → Form
   SpelledCommand (command.CreateTable table schema) Plain =
       Word (codes "create") ▸ Word table ▸ Word (letters schema)
-  SpelledCommand (command.Commit batch) Plain = SpelledBatch batch.base batch.ops
+  SpelledCommand (command.Commit batch) Plain = SpelledBatch batch.seen batch.base batch.ops
   SpelledCommand (command.Apply contents policy) Plain =
       Word (codes "apply") ▸ SpelledBlob contents ▸ SpelledPolicy policy
   SpelledCommand command.Read (Get table row) = Word (codes "get") ▸ Word table ▸ SpelledRow row

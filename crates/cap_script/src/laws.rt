@@ -1,8 +1,10 @@
 //! Laws of the texts of workloads.
-ghost use Rattle.std.specs.Prelude.{◌≡◌, ℕ, List};
+ghost use Rattle.std.specs.Prelude.{◌≡◌, ℕ, List, All};
+ghost use Rattle.cap_core.specs.Table.{BlobFits};
 ghost use Rattle.cap_script.specs.Script.{SpellsScript};
 ghost use Rattle.cap_script.specs.declared.line.Line.{Line};
 
+use cap_apply::spelled_blobs_fit_their_tables;
 use cap_codec::no_bytes_spell_two;
 use cap_filter::one_filter;
 use cap_value::AllocHandle;
@@ -13,4 +15,12 @@ pub fn one_workload<A: AllocHandle>()
 {
     one_filter();
     no_bytes_spell_two::<A>();
+}
+
+/// The blobs of the commands that a text spells fit their tables.
+pub fn spelled_commands_fit<A: AllocHandle>()
+    ensures { (text : List ℕ) (lines : List (Line A)) → SpellsScript lines text
+        → All (λ line. BlobFits line.command) lines }
+{
+    spelled_blobs_fit_their_tables::<A>();
 }

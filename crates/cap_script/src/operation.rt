@@ -1,5 +1,5 @@
 //! Reads the operations of a transaction.
-ghost use Rattle.std.specs.Prelude.{◌≡◌, ◌≤◌, ◌++◌, ◌∷◌, [], List, ℕ, length, IfOk, OnOk, codes};
+ghost use Rattle.std.specs.Prelude.{◌≡◌, ◌≤◌, ◌++◌, ◌∷◌, [], None, List, ℕ, length, IfOk, OnOk, codes};
 ghost use Rattle.cap_script.specs.Forms.{◌▸◌, Word};
 ghost use Rattle.cap_script.specs.Operations.{SpelledAction, SpelledField, SpelledFields, SpelledOperation};
 ghost use Rattle.cap_script.specs.Operations.{SpelledOperations};
@@ -31,6 +31,7 @@ pub(crate) fn batch<A: AllocHandle>(
 ) -> Result<Batch<A>, LineFault>
     requires { batch.ops ≡ [] }
     ensures base { IfOk result (λ made. made.base ≡ batch.base) }
+    ensures seen { IfOk result (λ made. made.seen ≡ None) }
     ensures next { IfOk result (λ made.
         SpelledOperations made.ops cursor.old.rest.now cursor.new.rest.now) }
 {
@@ -45,6 +46,7 @@ pub(crate) fn batch<A: AllocHandle>(
 // Appends the operation.
 fn push<A: AllocHandle>(batch: &mut Batch<A>, op: Op<A>) -> Result<(), LineFault>
     ensures base { OnOk result (batch.new.base ≡ batch.old.base) }
+    ensures seen { OnOk result (batch.new.seen ≡ None) }
     ensures ops { OnOk result (batch.new.ops ≡ batch.old.ops ++ op ∷ []) }
 {
     Ok(batch.push(op)?)

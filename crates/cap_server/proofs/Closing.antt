@@ -4,6 +4,7 @@ use Rattle.std.proofs.lemmas.Bool.{cases_lt}
 use mathlib.Core.List.{IsPrefix}
 use Rattle.cap_core.specs.declared.event.Event.{Event}
 use Rattle.cap_core.specs.Answer.{State, IsLegal, state}
+use Rattle.cap_core.specs.Table.{BlobsFit}
 use Rattle.cap_history.specs.Beginnings.{prefix-of-none, prefix-trans, prefix-whole}
 use Rattle.cap_history.specs.History.{own}
 use Rattle.cap_history.specs.Own.{own-same}
@@ -17,14 +18,15 @@ use Rattle.cap_server.specs.declared.fault.CloseFault.TheVariants.{MissingSeat, 
 module _ {A : Type 0} where
   -- the history under the lock is a prefix of the one that was seen last, and is as long
   pub closed : (seats : List (SeatState A)) (count events : ℕ) (counts : List ℕ) (core : State A) (history shown : List (Event A)) → IsCounted count counts history → core ≡ state history
-      → IsLegal history → IsPrefix history shown → length shown ≡ events → events ≤ length history → All (λ seat. IsPrefix seat.seen shown) seats → All (Agrees count counts) seats → HasAll seats count
+      → IsLegal history → BlobsFit history → IsPrefix history shown → length shown ≡ events → events ≤ length history → All (λ seat. IsPrefix seat.seen shown) seats → All (Agrees count counts) seats → HasAll seats count
       → IsClosed seats events core
-  closed seats count events counts core history shown counted left legal begins long few seen agrees all =
+  closed seats count events counts core history shown counted left legal fits begins long few seen agrees all =
       let same : history ≡ shown = prefix-whole history shown begins (omega (arith, long, few)) in
       let seen' = subst (λ (h : List (Event A)). All (λ (seat : SeatState A). IsPrefix seat.seen h) seats) (sym same) seen in
       record {
         history = history;
         legal = legal;
+        blobs = fits;
         events_are = ap length same ∙ long;
         core_is = left;
         seen = seen';
@@ -52,4 +54,4 @@ module _ {A : Type 0} where
       → MatchCloseFault fault missing (λ front. all × FirstHasSeen old new [] front)
   shown_by_any (MissingSeat number) missing all old new least is = is
   shown_by_any (Overtaken front) missing all old new least is =
-      (is.0, record { place = is.1.place; first = is.1.first; history = is.1.history; legal = is.1.legal; front_is = is.1.front_is; seen = is.1.seen; begins = prefix-of-none is.1.history; seats = is.1.seats })
+      (is.0, record { place = is.1.place; first = is.1.first; history = is.1.history; legal = is.1.legal; blobs = is.1.blobs; front_is = is.1.front_is; seen = is.1.seen; begins = prefix-of-none is.1.history; seats = is.1.seats })

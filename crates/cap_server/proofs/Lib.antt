@@ -1,4 +1,5 @@
-pub mod Crossing
 pub mod Closing
+pub mod Committing
 pub mod Counting
+pub mod Crossing
 pub mod Places

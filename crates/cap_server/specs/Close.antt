@@ -3,6 +3,7 @@ use Rattle.std.specs.Prelude.{◌≡◌, ℕ, ◌<◌, Some, List, [], All, leng
 use mathlib.Core.List.{IsPrefix}
 use Rattle.cap_core.specs.declared.event.Event.{Event}
 use Rattle.cap_core.specs.Answer.{State, IsLegal, state}
+use Rattle.cap_core.specs.Table.{BlobsFit}
 use Rattle.cap_history.specs.History.{own}
 use Rattle.cap_history.specs.Seat.{SeatState, calls}
 
@@ -21,11 +22,12 @@ module _ {A : Type 0} where
   abbrev pub HasAll : List (SeatState A) → ℕ → Type 0
   HasAll seats count = (number : ℕ) → number < count → (place : ℕ) × StandsAt seats number place
 
-  -- One legal history has exactly the calls of these seats, each seat's in order, extends what each of them
-  -- had seen, and has the core as its state.
+  -- One legal history, whose blobs fit, has exactly the calls of these seats, each seat's in order, extends
+  -- what each of them had seen, and has the core as its state.
   pub record IsClosed (seats : List (SeatState A)) (events : ℕ) (core : State A) : Type 0 where
     pub history : List (Event A)
     pub legal : IsLegal history
+    pub blobs : BlobsFit history
     pub events_are : length history ≡ events
     pub core_is : core ≡ state history
     pub seen : All (λ seat. IsPrefix seat.seen history) seats
@@ -39,6 +41,7 @@ module _ {A : Type 0} where
     pub first : StandsAt old 0 place
     pub history : List (Event A)
     pub legal : IsLegal history
+    pub blobs : BlobsFit history
     pub front_is : length history ≡ front
     pub seen : All (λ seat. IsPrefix seat.seen history) old
     pub begins : IsPrefix least history

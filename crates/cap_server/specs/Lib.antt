@@ -1,3 +1,4 @@
 pub mod Close
 pub mod Code
+pub mod Commit
 pub mod Fault

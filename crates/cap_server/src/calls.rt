@@ -6,12 +6,16 @@ ghost use Rattle.cap_core.specs.declared.command.Command.TheVariants.{Attach, At
 ghost use Rattle.cap_core.specs.declared.command.Command.TheVariants.{Indirect, IsEmpty, Diff, Capture};
 ghost use Rattle.cap_core.specs.declared.command.Command.TheVariants.{Restart};
 ghost use Rattle.cap_history.specs.Seat.{HasCalled};
+ghost use Rattle.cap_server.specs.Commit.{CommitsAt};
 ghost use Rattle.cap_server.specs.Fault.{LeavesSeat};
 
 use crate::{CallFault, Server};
 use cap_apply::Policy;
 use cap_codec::Contents;
-use cap_core::{Command, Reply};
+use cap_core::{
+    Command, Reply, fitting_histories_grow, legal_histories_grow, legal_histories_were_legal,
+    rows_stand_under_own_keys, transactions_commit_if_unchanged,
+};
 use cap_filter::TableFilter;
 use cap_history::{Naming, Seat};
 use cap_row::Schema;
@@ -34,7 +38,8 @@ impl<J: Naming, A: AllocHandle> Server<J, A> {
         self.call(rt, seat, &Command::CreateTable { table, schema })
     }
 
-    /// Commits a transaction.
+    /// Commits a transaction. Its batch is accepted exactly where nothing that the transaction looked at has changed
+    /// since it began. Then its calls, made whole at their place in the history, are answered as they were.
     pub fn commit<R: Wait>(
         &self,
         rt: &R,
@@ -42,8 +47,15 @@ impl<J: Naming, A: AllocHandle> Server<J, A> {
         batch: Batch<A>,
     ) -> Result<Reply<A>, CallFault>
         ensures called { IfOk result (λ reply. HasCalled seat.old seat.new (Commit batch) reply) }
+        ensures judged { IfOk result (CommitsAt seat.new.seen batch) }
         ensures refused { IfErr result (λ fault. LeavesSeat fault seat.old seat.new) }
     {
+        legal_histories_grow::<A>();
+        legal_histories_were_legal::<A>();
+        fitting_histories_grow::<A>();
+        rows_stand_under_own_keys::<A>();
+        transactions_commit_if_unchanged::<A>();
+        batch.seen_stands();
         self.call(rt, seat, &Command::Commit(batch))
     }
 

@@ -1,1 +1,9 @@
+pub mod AlikeLemmas
+pub mod CallsLemmas
+pub mod ChangedLemmas
+pub mod Crossing
+pub mod ItemLemmas
+pub mod OnceLemmas
+pub mod SamePlanLemmas
 pub mod StandingLemmas
+pub mod TransactionLemmas

@@ -1,14 +1,14 @@
 -- A transaction's database is what its operations leave of the snapshot's.
-use Rattle.std.proofs.Common.{◌≡◌, ℕ, zero, suc, ◌≤◌, true, false, cond, Option, Some, None, Result, Ok, Err, List, [], ◌∷◌, ◌++◌, length, take, refl, sym, ap, subst, ◌∙◌, arith}
+use Rattle.std.proofs.Common.{◌≡◌, ℕ, zero, suc, ◌+◌, ◌<◌, ◌≤◌, true, false, cond, Option, Some, None, Result, Ok, Err, List, [], ◌∷◌, ◌++◌, length, take, refl, sym, ap, subst, ◌∙◌, arith}
 use Rattle.std.specs.Prelude.{IfOk, ◌==◌}
 use Rattle.std.specs.List.{AllByRecursion}
 use Rattle.cap_value.specs.declared.refusal.Refusal.{Refusal}
 use Rattle.cap_database.specs.Snapshot.{SnapshotState}
 use Rattle.cap_txn.specs.Batch.{refused_push}
 use Rattle.cap_database.specs.Operation.{changes, step}
-use Rattle.cap_txn.specs.Standing.{AreInOrder, IsSavepoint, IsStanding, Leaves}
+use Rattle.cap_txn.specs.Standing.{AreInOrder, AreNumbered, IsSavepoint, IsStanding, Leaves}
 use Rattle.cap_database.specs.Tables.{Tables}
-use Rattle.cap_txn.specs.Transaction.{TxnState, after_back, after_op, after_savepoint, back_at, begin, numbered, op_made, op_unless, refused_savepoint, savepoint_unless, up_to}
+use Rattle.cap_txn.specs.Workspace.{WorkspaceState, after_back, after_op, after_savepoint, back_at, begin, numbered, op_made, op_unless, refused_savepoint, savepoint_unless, up_to}
 use Rattle.cap_database.specs.declared.op.Op.{Op}
 use Rattle.cap_txn.specs.declared.savepoint.Savepoint.{Savepoint}
 use Rattle.cap_database.proofs.RunLemmas.{run-push}
@@ -53,6 +53,7 @@ module _ {A : Type 0} where
     left = record { outcome = record { database = snapshot.database; changes = [] }; runs = refl; leaves = refl };
     savepoints = tt;
     rising = tt;
+    numbers = tt;
   }
 
   -- ---- an operation
@@ -70,7 +71,7 @@ module _ {A : Type 0} where
     left = subst (λ (front : List (Op A)). Leaves base front s.database) (sym (take_front s.ops ops more h.stood)) h.left;
   }
 
-  pub op-stands : (txn : TxnState A) (op : Op A) → IsStanding txn → IfOk (after_op txn op) IsStanding
+  pub op-stands : (txn : WorkspaceState A) (op : Op A) → IsStanding txn → IfOk (after_op txn op) IsStanding
   op-stands txn op h = unless (refused_push txn.ops)
     where
       made : (r : Result (Tables A) Refusal) → step txn.database op ≡ r → IfOk (op_made txn op r) IsStanding
@@ -79,6 +80,7 @@ module _ {A : Type 0} where
         left = one_more txn.base.database txn.ops op txn.database next h.left is;
         savepoints = all_weaker (IsSavepoint txn.base.database txn.ops) (IsSavepoint txn.base.database (txn.ops ++ op ∷ [])) (still txn.base.database txn.ops (op ∷ [])) txn.savepoints h.savepoints;
         rising = h.rising;
+        numbers = h.numbers;
       }
 
       unless : (refused : Option Refusal) → IfOk (op_unless refused txn op) IsStanding
@@ -91,7 +93,14 @@ module _ {A : Type 0} where
   rising_last [] last rising few = (tt, tt)
   rising_last (s ∷ ss) last rising few = (all_last (λ later. s.ops ≤ later.ops) ss last rising.0 few.0, rising_last ss last rising.1 few.1)
 
-  pub savepoint-stands : (txn : TxnState A) → IsStanding txn → IfOk (after_savepoint txn) IsStanding
+  numbered_last : (made : ℕ) (ss : List (Savepoint A)) (last : Savepoint A) → AreNumbered made ss → last.number ≡ made → AreNumbered (made + 1) (ss ++ last ∷ [])
+  numbered_last made [] last numbers is = (omega arith, tt, tt)
+  numbered_last made (s ∷ ss) last numbers is =
+      let low : s.number < made = numbers.0 in
+      let below : s.number < last.number = omega (arith, low, is) in
+      (omega (arith, low), all_last (λ later. s.number < later.number) ss last numbers.1 below, numbered_last made ss last numbers.2 is)
+
+  pub savepoint-stands : (txn : WorkspaceState A) → IsStanding txn → IfOk (after_savepoint txn) IsStanding
   savepoint-stands txn h = unless (refused_savepoint txn)
     where
       unless : (refused : Option Refusal) → IfOk (savepoint_unless refused txn) IsStanding
@@ -105,6 +114,7 @@ module _ {A : Type 0} where
               left = subst (λ (front : List (Op A)). Leaves txn.base.database front txn.database) (sym (take_all txn.ops)) h.left;
             });
             rising = rising_last txn.savepoints made h.rising (all_weaker (IsSavepoint txn.base.database txn.ops) (λ s. s.ops ≤ length txn.ops) (λ s stands. stands.stood) txn.savepoints h.savepoints);
+            numbers = numbered_last txn.made txn.savepoints made h.numbers refl;
           }
 
   -- ---- back to a savepoint
@@ -130,6 +140,14 @@ module _ {A : Type 0} where
         | false ↦ (up_to-all (λ later. s.ops ≤ later.ops) number ss rising.0, up_to-rising number ss rising.1)
       ]
 
+  up_to-numbered : (made number : ℕ) (ss : List (Savepoint A)) → AreNumbered made ss → AreNumbered made (up_to number ss)
+  up_to-numbered made number [] numbers = tt
+  up_to-numbered made number (s ∷ ss) numbers =
+      elim (s.number == number) as (λ b. AreNumbered made (cond b (s ∷ []) (s ∷ up_to number ss))) [
+        | true ↦ (numbers.0, tt, tt)
+        | false ↦ (numbers.0, up_to-all (λ later. s.number < later.number) number ss numbers.1, up_to-numbered made number ss numbers.2)
+      ]
+
   -- those up to one had no more operations than it
   up_to-few : (number : ℕ) (ss : List (Savepoint A)) (found : Savepoint A) → AreInOrder ss → numbered number ss ≡ Some found → AllByRecursion (λ s. s.ops ≤ found.ops) (up_to number ss)
   up_to-few number [] found rising is = tt
@@ -149,7 +167,7 @@ module _ {A : Type 0} where
     left = subst (λ (front : List (Op A)). Leaves base front s.database) (sym (take_less s.ops n ops h.1)) h.0.left;
   }
 
-  pub back-stands : (txn : TxnState A) (number : ℕ) → IsStanding txn → IfOk (after_back txn number) IsStanding
+  pub back-stands : (txn : WorkspaceState A) (number : ℕ) → IsStanding txn → IfOk (after_back txn number) IsStanding
   back-stands txn number h = back (numbered number txn.savepoints) refl
     where
       back : (found : Option (Savepoint A)) → numbered number txn.savepoints ≡ found → IfOk (back_at txn number found) IsStanding
@@ -161,4 +179,5 @@ module _ {A : Type 0} where
             savepoints = all_weaker (λ x. IsSavepoint txn.base.database txn.ops x × (x.ops ≤ s.ops)) (IsSavepoint txn.base.database (take s.ops txn.ops)) (λ x. earlier txn.base.database txn.ops s.ops x there.stood) (up_to number txn.savepoints)
                 (both_of (IsSavepoint txn.base.database txn.ops) (λ x. x.ops ≤ s.ops) (up_to number txn.savepoints) (up_to-all (IsSavepoint txn.base.database txn.ops) number txn.savepoints h.savepoints) (up_to-few number txn.savepoints s h.rising is));
             rising = up_to-rising number txn.savepoints h.rising;
+            numbers = up_to-numbered txn.made number txn.savepoints h.numbers;
           }

@@ -1,13 +1,17 @@
--- A batch: operations, and the version that they were made on, if any.
-use Rattle.std.specs.Prelude.{ℕ, Option, Some, None, Result, Ok, Err, List, [], ◌∷◌, ◌++◌, length, nat_lt}
+-- A batch: operations, the version that they were made on, if any, and what their transaction saw, if one made it.
+use Rattle.std.specs.Prelude.{ℕ, ⊤, Option, Some, None, Result, Ok, Err, List, [], ◌∷◌, ◌++◌, length, nat_lt}
 use Rattle.std.specs.Prelude.{if◌then◌else◌}
 use Rattle.cap_value.specs.declared.refusal.Refusal.{Refusal}
 use Rattle.cap_value.specs.declared.refusal.Refusal.TheVariants.{TooMany}
 use Rattle.cap_database.specs.declared.op.Op.{Op}
+use Rattle.cap_txn.specs.Seen.{SeenState}
+use Rattle.cap_txn.specs.declared.item.Item.{Item}
+use Rattle.cap_txn.specs.declared.look.Look.{Look}
 
 pub record BatchState (A : Type 0) : Type 0 where
   pub base : Option ℕ
   pub ops : List (Op A)
+  pub seen : Option (SeenState A)
 
 module _ {A : Type 0} where
   -- at most 10,000 operations
@@ -15,9 +19,25 @@ module _ {A : Type 0} where
   refused_push ops = if nat_lt (length ops) 10000 then None else Some TooMany
 
   abbrev pub pushed : Option Refusal → BatchState A → Op A → Result (BatchState A) Refusal
-  pushed None batch op = Ok (record batch { ops = batch.ops ++ op ∷ [] })
+  pushed None batch op = Ok (record { base = batch.base; ops = batch.ops ++ op ∷ []; seen = None })
   pushed (Some why) batch op = Err why
 
-  -- the operation last
+  -- The operation last. What a transaction saw is dropped: the batch is no longer the transaction's.
   abbrev pub push : BatchState A → Op A → Result (BatchState A) Refusal
   push batch op = pushed (refused_push batch.ops) batch op
+
+  -- what was looked at, and nothing in a batch that no transaction made
+  abbrev pub footprint_of : Option (SeenState A) → List (Item A)
+  footprint_of None = []
+  footprint_of (Some seen) = seen.footprint
+
+  -- the calls with their answers, and none in a batch that no transaction made
+  abbrev pub trace_of : Option (SeenState A) → List (Look A)
+  trace_of None = []
+  trace_of (Some seen) = seen.trace
+
+  -- where a transaction made the batch, this is so of the version that it began with and of what it saw
+  abbrev pub WhereSeen : Option ℕ → Option (SeenState A) → (ℕ → SeenState A → Type 0) → Type 0
+  WhereSeen base None P = ⊤
+  WhereSeen None (Some seen) P = ⊥
+  WhereSeen (Some base) (Some seen) P = P base seen

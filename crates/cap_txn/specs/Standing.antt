@@ -1,11 +1,11 @@
 -- What stands of a transaction, whatever calls were made: its database is what its operations leave of the
--- snapshot's.
-use Rattle.std.specs.Prelude.{◌≡◌, ◌≤◌, ⊤, Ok, List, [], ◌∷◌, length, take}
+-- snapshot's, and its savepoints have numbers that rise.
+use Rattle.std.specs.Prelude.{◌≡◌, ℕ, ◌<◌, ◌≤◌, ⊤, Ok, List, [], ◌∷◌, length, take}
 use Rattle.std.specs.List.{AllByRecursion}
 use Rattle.cap_database.specs.Operation.{run}
 use Rattle.cap_database.specs.Outcome.{OutcomeState}
 use Rattle.cap_database.specs.Tables.{Tables}
-use Rattle.cap_txn.specs.Transaction.{TxnState}
+use Rattle.cap_txn.specs.Workspace.{WorkspaceState}
 use Rattle.cap_database.specs.declared.op.Op.{Op}
 use Rattle.cap_txn.specs.declared.savepoint.Savepoint.{Savepoint}
 
@@ -26,7 +26,15 @@ module _ {A : Type 0} where
   AreInOrder [] = ⊤
   AreInOrder (s ∷ savepoints) = AllByRecursion (λ later. s.ops ≤ later.ops) savepoints × AreInOrder savepoints
 
-  pub record IsStanding (txn : TxnState A) : Type 0 where
+  -- the numbers of savepoints rise, and are below this one
+  abbrev pub AreNumbered : ℕ → List (Savepoint A) → Type 0
+  AreNumbered made [] = ⊤
+  AreNumbered made (s ∷ savepoints) =
+      (s.number < made) × AllByRecursion (λ later. s.number < later.number) savepoints
+      × AreNumbered made savepoints
+
+  pub record IsStanding (txn : WorkspaceState A) : Type 0 where
     pub left : Leaves txn.base.database txn.ops txn.database
     pub savepoints : AllByRecursion (IsSavepoint txn.base.database txn.ops) txn.savepoints
     pub rising : AreInOrder txn.savepoints
+    pub numbers : AreNumbered txn.made txn.savepoints

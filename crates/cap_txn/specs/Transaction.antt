@@ -1,85 +1,91 @@
--- A transaction: the snapshot that it stands on, the operations that stand, and the savepoints that were not
--- undone.
-use Rattle.std.specs.Prelude.{ℕ, ◌+◌, Option, Some, None, Result, Ok, Err, List, [], ◌∷◌, ◌++◌, length, take}
-use Rattle.std.specs.Prelude.{nat_lt, ◌==◌, if◌then◌else◌}
+-- A transaction: what stands of it, what it looked at, and its calls with their answers.
+use Rattle.std.specs.Prelude.{◌≡◌, ℕ, ◌<◌, ⊤, Option, Some, Result, Ok, Err, List, [], ◌∷◌, ◌++◌, map}
+use Rattle.std.specs.List.{AllByRecursion}
+use Rattle.cap_value.specs.Memory.{AnswersUnlessMemory}
+use Rattle.cap_value.specs.declared.memory.Fault.{Fault}
+use Rattle.cap_value.specs.declared.memory.Fault.TheVariants as fault
 use Rattle.cap_value.specs.declared.refusal.Refusal.{Refusal}
-use Rattle.cap_value.specs.declared.refusal.Refusal.TheVariants.{TooMany, NoMark}
-use Rattle.cap_database.specs.Operation.{step}
 use Rattle.cap_database.specs.Snapshot.{SnapshotState}
 use Rattle.cap_database.specs.Tables.{Tables}
-use Rattle.cap_database.specs.declared.op.Op.{Op}
-use Rattle.cap_txn.specs.Batch.{BatchState, refused_push}
-use Rattle.cap_txn.specs.declared.savepoint.Savepoint.{Savepoint}
+use Rattle.cap_txn.specs.Batch.{BatchState}
+use Rattle.cap_txn.specs.Calls.{after_call, answer_to, footprint, items_of, left, whole}
+use Rattle.cap_txn.specs.Footprint.{with_items}
+use Rattle.cap_txn.specs.Seen.{SeenState}
+use Rattle.cap_txn.specs.Standing.{Leaves}
+use Rattle.cap_txn.specs.Workspace.{WorkspaceState, begin}
+use Rattle.cap_txn.specs.declared.item.Item.{Item}
+use Rattle.cap_txn.specs.declared.look.Answer.{Answer}
+use Rattle.cap_txn.specs.declared.look.Answer.TheVariants as answer
+use Rattle.cap_txn.specs.declared.look.Asked.{Asked}
+use Rattle.cap_txn.specs.declared.look.Look.{Look}
+use Rattle.cap_txn.specs.declared.savepoint.Mark.{Mark}
 
--- savepoints stand the oldest first; so many were made, the undone ones too
+-- what stands, what was looked at, each item once, and the calls with their answers
 pub record TxnState (A : Type 0) : Type 0 where
-  pub base : SnapshotState A
-  pub database : Tables A
-  pub ops : List (Op A)
-  pub savepoints : List (Savepoint A)
-  pub made : ℕ
+  pub standing : WorkspaceState A
+  pub footprint : List (Item A)
+  pub trace : List (Look A)
+
+-- an answer, refusals among them, of a call that may run out of memory
+abbrev pub handed_on : {X : Type 0} → Result X Refusal → Result X (Fault Refusal)
+handed_on (Ok x) = Ok x
+handed_on (Err why) = Err (fault.Refused why)
 
 module _ {A : Type 0} where
-  -- nothing was done yet
-  abbrev pub begin : SnapshotState A → TxnState A
-  begin snapshot =
-      record { base = snapshot; database = snapshot.database; ops = []; savepoints = []; made = 0 }
+  -- nothing was called yet
+  abbrev pub begin_traced : SnapshotState A → TxnState A
+  begin_traced snapshot = record { standing = begin snapshot; footprint = []; trace = [] }
 
-  abbrev pub op_made : TxnState A → Op A → Result (Tables A) Refusal → Result (TxnState A) Refusal
-  op_made txn op (Ok next) = Ok (record txn { database = next; ops = txn.ops ++ op ∷ [] })
-  op_made txn op (Err why) = Err why
+  -- after a call that was answered, refused ones among them
+  abbrev pub traced : TxnState A → Asked A → TxnState A
+  traced txn call = record {
+    standing = after_call txn.standing call;
+    footprint = with_items txn.footprint (items_of txn.standing call);
+    trace = txn.trace ++ record { call = call; answer = answer_to txn.standing call } ∷ [];
+  }
 
-  abbrev pub op_unless : Option Refusal → TxnState A → Op A → Result (TxnState A) Refusal
-  op_unless (Some why) txn op = Err why
-  op_unless None txn op = op_made txn op (step txn.database op)
+  -- The call was answered so, also where it is refused, and is the last of the trace. When out of memory, all is
+  -- as before.
+  abbrev pub IsAnswered : {X : Type 0} → (X → Answer A) → Result X (Fault Refusal) → Asked A → TxnState A
+      → TxnState A → Type 0
+  IsAnswered told (Ok x) call old new = (told x ≡ answer_to old.standing call) × (new ≡ traced old call)
+  IsAnswered told (Err (fault.Refused why)) call old new =
+      (answer.Refused why ≡ answer_to old.standing call) × (new ≡ traced old call)
+  IsAnswered told (Err fault.OutOfMemory) call old new = new ≡ old
 
-  -- one operation more, on what stands
-  abbrev pub after_op : TxnState A → Op A → Result (TxnState A) Refusal
-  after_op txn op = op_unless (refused_push txn.ops) txn op
+  abbrev pub calls_of : List (Look A) → List (Asked A)
+  calls_of trace = map (λ look. look.call) trace
 
-  -- at most 10,000 savepoints are made
-  abbrev pub refused_savepoint : TxnState A → Option Refusal
-  refused_savepoint txn = if nat_lt txn.made 10000 then None else Some TooMany
+  abbrev pub answers_of : List (Look A) → List (Answer A)
+  answers_of trace = map (λ look. look.answer) trace
 
-  abbrev pub savepoint_unless : Option Refusal → TxnState A → Result (TxnState A) Refusal
-  savepoint_unless (Some why) txn = Err why
-  savepoint_unless None txn =
-      Ok (record txn {
-        savepoints =
-            txn.savepoints
-            ++ record { number = txn.made; ops = length txn.ops; database = txn.database } ∷ [];
-        made =
-            txn.made + 1;
-      })
+  -- a transaction is what its trace's calls make of its base, and the answers there are theirs
+  pub record IsTraced (txn : TxnState A) : Type 0 where
+    pub stands : txn.standing ≡ left (calls_of txn.trace) txn.standing.base
+    pub answers : answers_of txn.trace ≡ whole (calls_of txn.trace) txn.standing.base
+    pub items : txn.footprint ≡ footprint (calls_of txn.trace) txn.standing.base
 
-  -- one savepoint more, whose number is how many were made before it
-  abbrev pub after_savepoint : TxnState A → Result (TxnState A) Refusal
-  after_savepoint txn = savepoint_unless (refused_savepoint txn) txn
+  -- a read answers from the base followed by the operations that stand
+  abbrev pub ReadsStanding : {X : Type 0} → TxnState A → (Tables A → Result X Refusal)
+      → Result X (Fault Refusal) → Type 0
+  ReadsStanding txn reading result =
+      (tables : Tables A) → Leaves txn.standing.base.database txn.standing.ops tables
+      → AnswersUnlessMemory result (reading tables)
 
-  -- the savepoint of a number
-  abbrev pub numbered : ℕ → List (Savepoint A) → Option (Savepoint A)
-  numbered number [] = None
-  numbered number (s ∷ savepoints) = if s.number == number then Some s else numbered number savepoints
+  -- a mark that was answered has a lower number
+  abbrev pub IsLower : ℕ → Answer A → Type 0
+  IsLower number (answer.Mark mark) = mark.number < number
+  IsLower number _ = ⊤
 
-  -- the savepoints before the one of a number, and it
-  abbrev pub up_to : ℕ → List (Savepoint A) → List (Savepoint A)
-  up_to number [] = []
-  up_to number (s ∷ savepoints) = if s.number == number then s ∷ [] else s ∷ up_to number savepoints
+  -- no call was answered this mark, or a later one, before
+  abbrev pub IsNewMark : TxnState A → Mark → Type 0
+  IsNewMark txn mark = AllByRecursion (λ look. IsLower mark.number look.answer) txn.trace
 
-  abbrev pub back_at : TxnState A → ℕ → Option (Savepoint A) → Result (TxnState A) Refusal
-  back_at txn number None = Err NoMark
-  back_at txn number (Some s) =
-      Ok (record txn {
-        database = s.database;
-        ops = take s.ops txn.ops;
-        savepoints =
-            up_to number txn.savepoints;
-      })
-
-  -- back to a savepoint, which stays; all later ones are undone
-  abbrev pub after_back : TxnState A → ℕ → Result (TxnState A) Refusal
-  after_back txn number = back_at txn number (numbered number txn.savepoints)
+  abbrev pub seen_of : TxnState A → SeenState A
+  seen_of txn =
+      record { database = txn.standing.base.database; footprint = txn.footprint; trace = txn.trace }
 
   -- what a transaction leaves to be committed
   abbrev pub batch_of : TxnState A → BatchState A
-  batch_of txn = record { base = Some txn.base.version; ops = txn.ops }
+  batch_of txn =
+      record { base = Some txn.standing.base.version; ops = txn.standing.ops; seen = Some (seen_of txn) }

@@ -1,66 +1,80 @@
 //! Batches: lists of operations that are committed together.
-ghost use Rattle.std.specs.Prelude.{◌≡◌, ◌≤◌, Some, None, [], length, OnErr};
+ghost use Rattle.std.specs.Prelude.{◌≡◌, ◌≤◌, Some, None, [], length, nat_eq, OnErr, if◌then◌else◌};
+ghost use Rattle.cap_value.specs.declared.refusal.Refusal.TheVariants.{Stale};
 ghost use Rattle.cap_value.specs.Memory.{LeavesUnlessMemory, RefusesFirst};
-ghost use Rattle.cap_txn.specs.Batch.{push, refused_push};
+ghost use Rattle.cap_txn.specs.Batch.{WhereSeen, footprint_of, push, refused_push, trace_of};
+ghost use Rattle.cap_txn.specs.Stale.{IsJudged, StandsFor, stale};
 
-use cap_database::Op;
+use crate::changed::first_changed;
+use crate::seen::Seen;
+use crate::{Item, Look, footprints_judge_batches};
+use cap_database::{Database, Op};
 use cap_value::{AllocHandle, Fault, Refusal};
 use std::marker::Model;
 
 /// The most operations of a batch, and of a transaction those that are not undone.
 pub const OPS_MAX: usize = 10_000;
 
-/// Operations that are made whole or not at all, on any version or on one alone.
+/// Operations that are made whole or not at all: on any version, on one alone, or, where a transaction made them,
+/// where all that it looked at is still as it was.
 #[derive(Drop)]
 pub struct Batch<A: AllocHandle> {
     base: Option<u64>,
     ops: Vec<Op<A>, A>,
+    seen: Option<Seen<A>>,
 }
 
 impl<A: AllocHandle> Model for Batch<A> {
     ghost use Rattle.std.specs.Prelude.{◌≤◌, length};
-    ghost use Rattle.cap_txn.specs.Batch.{BatchState};
+    ghost use Rattle.cap_txn.specs.Batch.{BatchState, WhereSeen};
+    ghost use Rattle.cap_txn.specs.Stale.{StandsFor};
 
     ghost Value = { BatchState A };
 
-    ghost view = { λ b. record { base = b.base; ops = b.ops.items } };
+    ghost view = { λ b. record { base = b.base; ops = b.ops.items; seen = b.seen } };
 
-    ghost invariant = { λ b. length b.ops.items ≤ 10000 };
+    ghost invariant = { λ b. (length b.ops.items ≤ 10000)
+        × WhereSeen b.base b.seen (StandsFor b.ops.items) };
 }
 
 impl<A: AllocHandle> Batch<A> {
     /// A batch without operations that may be made on any version.
     pub fn blind(alloc: A) -> Self
-        ensures { result ≡ record { base = None; ops = [] } }
+        ensures { result ≡ record { base = None; ops = []; seen = None } }
     {
         Batch {
             base: None,
             ops: Vec::new(alloc),
+            seen: None,
         }
     }
 
     /// A batch without operations that may be made on this version alone.
     pub fn based(alloc: A, version: u64) -> Self
-        ensures { result ≡ record { base = Some version; ops = [] } }
+        ensures { result ≡ record { base = Some version; ops = []; seen = None } }
     {
         Batch {
             base: Some(version),
             ops: Vec::new(alloc),
+            seen: None,
         }
     }
 
     // The batch of a transaction.
-    pub(crate) fn of_ops(version: u64, ops: Vec<Op<A>, A>) -> Self
-        requires { length ops.items ≤ OPS_MAX }
-        ensures { result ≡ record { base = Some version; ops = ops.items } }
+    pub(crate) fn of_ops(version: u64, ops: Vec<Op<A>, A>, seen: Seen<A>) -> Self
+        requires few { length ops.items ≤ OPS_MAX }
+        requires stands { StandsFor ops.items version seen }
+        ensures { result ≡ record { base = Some version; ops = ops.items; seen = Some seen } }
     {
         Batch {
             base: Some(version),
             ops,
+            seen: Some(seen),
         }
     }
 
-    /// Puts an operation last. Refused with `TooMany` where there are `OPS_MAX`. On an error the batch is as before.
+    /// Puts an operation last. Refused with `TooMany` where there are `OPS_MAX`. What a transaction saw is dropped:
+    /// the batch keeps its base as a number alone. On an error the batch is as before.
     pub fn push(&mut self, op: Op<A>) -> Result<(), Fault<Refusal>>
         ensures batch { LeavesUnlessMemory result (push self.old op) self.new }
         ensures kept { OnErr result (self.new ≡ self.old) }
@@ -69,10 +83,12 @@ impl<A: AllocHandle> Batch<A> {
         if self.ops.len() >= OPS_MAX {
             return Err(Fault::Refused(Refusal::TooMany));
         }
-        match self.ops.push(op) {
-            Ok(()) => Ok(()),
-            Err(_) => Err(Fault::OutOfMemory),
+        if self.ops.reserve(1).is_err() {
+            return Err(Fault::OutOfMemory);
         }
+        self.seen = None;
+        self.ops.push_reserved(op);
+        Ok(())
     }
 
     /// The operations, in order.
@@ -83,10 +99,89 @@ impl<A: AllocHandle> Batch<A> {
         self.ops.as_slice()
     }
 
-    /// The version that the batch may be made on, or none where it may be on any.
+    /// The version that the batch was made on, or none where it may be made on any.
     pub fn base(&self) -> Option<u64>
         ensures { result ≡ self.now.base }
     {
         self.base
     }
+
+    /// What the transaction looked at, each item once, in order of first look. It is empty where no transaction
+    /// made the batch, or an operation was put last since.
+    pub fn footprint(&self) -> &[Item<A>]
+        ensures { result.now ≡ footprint_of self.now.seen }
+    {
+        match &self.seen {
+            Some(seen) => seen.footprint.as_slice(),
+            None => &[],
+        }
+    }
+
+    /// The calls of the transaction, in order, with their answers. It is empty where `footprint` is.
+    pub fn trace(&self) -> &[Look<A>]
+        ensures { result.now ≡ trace_of self.now.seen }
+    {
+        match &self.seen {
+            Some(seen) => seen.trace.as_slice(),
+            None => &[],
+        }
+    }
+
+    /// A law of every batch that a transaction made, for who commits it: its operations are what stands after the
+    /// calls of its trace on its base, with the answers there. The call does nothing.
+    pub fn seen_stands(&self)
+        ensures { WhereSeen self.now.base self.now.seen (StandsFor self.now.ops) }
+    {
+        let _ops = &self.ops;
+    }
+
+    /// Why the batch is out of date on a database of this version, if it is. The batch of a transaction is where an
+    /// item of its footprint has changed, and the refusal has the number of the first that has. Another with a
+    /// base is where the version is not its base. It takes no memory.
+    pub fn stale(&self, version: u64, database: &Database<A>) -> Option<Refusal>
+        ensures stale { result
+            ≡ stale self.now.base self.now.seen (record { version = version; database = database.now }) }
+        ensures judged { WhereSeen self.now.base self.now.seen
+            (IsJudged self.now.ops (record { version = version; database = database.now })) }
+    {
+        footprints_judge_batches::<A>();
+        self.seen_stands();
+        database.rows_stand();
+        let base = self.base?;
+        match &self.seen {
+            Some(seen) => stale_seen(seen, base, version, database),
+            None => stale_version(base, version),
+        }
+    }
+}
+
+// Why the batch of a transaction is out of date, if it is.
+fn stale_seen<A: AllocHandle>(
+    seen: &Seen<A>,
+    base: u64,
+    now: u64,
+    database: &Database<A>,
+) -> Option<Refusal>
+    ensures { result ≡ stale (Some base) (Some seen.now) (record { version = now; database = database.now }) }
+{
+    let item = first_changed(seen.base.database(), database, seen.footprint.as_slice())?;
+    Some(Refusal::Stale {
+        base,
+        now,
+        item: Some(item as u64),
+    })
+}
+
+// Why a batch that was made on this version is out of date on that one, if it is.
+fn stale_version(base: u64, now: u64) -> Option<Refusal>
+    ensures { result ≡ (if nat_eq base now then None else Some (Stale base now None)) }
+{
+    if base == now {
+        return None;
+    }
+    Some(Refusal::Stale {
+        base,
+        now,
+        item: None,
+    })
 }

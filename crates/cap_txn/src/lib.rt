@@ -2,11 +2,26 @@
 #![tactic(auto)]
 
 mod batch;
+mod changed;
+mod copies;
+mod footprint;
+mod item;
 mod laws;
+mod look;
+mod once;
 mod savepoint;
+mod seen;
 mod txn;
+mod workspace;
 
 pub use batch::{Batch, OPS_MAX};
-pub use laws::transactions_stand;
+pub use copies::copy_of_op;
+pub use item::Item;
+pub use laws::{
+    footprints_judge_batches, transactions_are_traced, transactions_stand,
+    unchanged_footprints_answer_alike,
+};
+pub use look::{Answer, Asked, Look};
 pub use savepoint::Mark;
-pub use txn::{SAVEPOINTS_MAX, Txn};
+pub use txn::Txn;
+pub use workspace::SAVEPOINTS_MAX;

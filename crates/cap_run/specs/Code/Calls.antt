@@ -9,6 +9,8 @@ use Rattle.cap_core.specs.declared.event.Event.{Event}
 use Rattle.cap_core.specs.declared.reply.Reply.{Reply}
 use Rattle.cap_history.specs.History.{own}
 use Rattle.cap_history.specs.Seat.{SeatState, calls}
+use Rattle.cap_server.specs.declared.fault.CallFault.{CallFault}
+use Rattle.cap_server.specs.declared.fault.CallFault.TheVariants as call_fault
 use Rattle.cap_run.specs.Run.{AppendsFront, Ended, Known, ending, on_a_line, reply_lines}
 use Rattle.cap_run.specs.declared.fault.RunFault.{RunFault}
 use Rattle.cap_run.specs.declared.fault.RunFault.TheVariants.{Call, Close, Write}
@@ -23,6 +25,11 @@ pub record Work (A : Type 0) : Type 0 where
   pub seat : SeatState A
   pub texts : List (List ℕ)
   pub ended : Ended
+
+-- the fault at the line after the last that has a reply; a worker that had no thread is told as out of memory
+abbrev pub fault_of : Ended → CallFault
+fault_of (Ok done) = call_fault.OutOfMemory
+fault_of (Err fault) = fault
 
 abbrev pub work : {A : Type 0} → SeatState A → List (List ℕ) → Ended → Work A
 work seat texts ended = record { seat = seat; texts = texts; ended = ended }

@@ -10,9 +10,10 @@ returns g c =
     let applies = c.applied_blobs_keep_order.ensures in
     let rises = main-rises order.empty order.run order.create applies in
     let keep = c.tables_keep_columns.ensures in
+    let fit = c.captures_fit_their_tables.ensures in
     record {
-      changesets = λ policy session start later event database fresh restarted steady holds rise writable told.
-          in_a_row keep.run keep.create rises applies Changes c.a_changeset_gives_the_rows_now.ensures policy session start fresh database rise event later restarted steady holds writable told;
-      patchsets = λ policy session start later event database fresh restarted steady holds rise writable told.
-          in_a_row keep.run keep.create rises applies (λ list. Patches (patch_list_of list)) c.a_patchset_gives_the_rows_now.ensures policy session start fresh database rise event later restarted steady holds writable told;
+      changesets = λ policy session start later event database fresh restarted steady holds rise fits.
+          in_a_row keep.run keep.create rises applies Changes c.a_changeset_gives_the_rows_now.ensures fit.changeset policy session start fresh database rise event later restarted steady holds fits;
+      patchsets = λ policy session start later event database fresh restarted steady holds rise fits.
+          in_a_row keep.run keep.create rises applies (λ list. Patches (patch_list_of list)) c.a_patchset_gives_the_rows_now.ensures fit.patchset policy session start fresh database rise event later restarted steady holds fits;
     }

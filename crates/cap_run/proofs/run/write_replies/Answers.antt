@@ -14,28 +14,28 @@ pub loop-line-preserved : goal.loop-line-preserved
 loop-line-preserved g c = λ spelled is.
     let so = c.loop-line.invariant spelled is in
     let taken = subst (λ (o : Option (Line g.row.A.Denot)). TakesFirst o so.others c.next_line.new.self) c.in-Ok-Some.field-0-is (c.in-Ok-Some.ensures.next so.others so.spelled) in
-    let next = at_next spelled c.loop-line.lines c.next_line.new.self c.loop-line.core c.run_line.new.core (string_bytes c.loop-line.pending) (string_bytes c.run_line.new.pending) _ _ c.in-Ok-Some.line so taken c.in-Ok.ensures.history c.in-Ok.ensures.room in
+    let next = at_next spelled c.loop-line.lines c.next_line.new.self c.loop-line.core c.run_line.new.core (string_bytes c.loop-line.pending) (string_bytes c.run_line.new.pending) _ _ c.in-Ok-Some.line so taken c.in-Ok.ensures.history c.blob_fits.ensures c.in-Ok.ensures.room in
     at_written spelled c.next_line.new.self c.run_line.new.core (string_bytes c.run_line.new.pending) (string_bytes c.write_long.new.pending) _ _ _ next c.in_ok-write_long.ensures.ok
 
 pub loop-line-preserved-in_ok-write_long : goal.loop-line-preserved-in_ok-write_long
 loop-line-preserved-in_ok-write_long g c = λ spelled is.
     let so = c.loop-line.invariant spelled is in
     let taken = subst (λ (o : Option (Line g.row.A.Denot)). TakesFirst o so.others c.next_line.new.self) c.in-Ok-Some.field-0-is (c.in-Ok-Some.ensures.next so.others so.spelled) in
-    let next = at_next spelled c.loop-line.lines c.next_line.new.self c.loop-line.core c.run_line.new.core (string_bytes c.loop-line.pending) (string_bytes c.run_line.new.pending) _ _ c.in-Ok-Some.line so taken c.in-Ok.ensures.history c.in-Ok.ensures.room in
+    let next = at_next spelled c.loop-line.lines c.next_line.new.self c.loop-line.core c.run_line.new.core (string_bytes c.loop-line.pending) (string_bytes c.run_line.new.pending) _ _ c.in-Ok-Some.line so taken c.in-Ok.ensures.history c.blob_fits.ensures c.in-Ok.ensures.room in
     at_written spelled c.next_line.new.self c.run_line.new.core (string_bytes c.run_line.new.pending) (string_bytes c.write_long.new.pending) _ _ _ next c.in_ok-write_long.ensures.ok
 
 pub loop-line-preserved-in_ok-write_long-2 : goal.loop-line-preserved-in_ok-write_long-2
 loop-line-preserved-in_ok-write_long-2 g c = λ spelled is.
     let so = c.loop-line.invariant spelled is in
     let taken = subst (λ (o : Option (Line g.row.A.Denot)). TakesFirst o so.others c.next_line.new.self) c.in-Ok-Some.field-0-is (c.in-Ok-Some.ensures.next so.others so.spelled) in
-    let next = at_next spelled c.loop-line.lines c.next_line.new.self c.loop-line.core c.run_line.new.core (string_bytes c.loop-line.pending) (string_bytes c.run_line.new.pending) _ _ c.in-Ok-Some.line so taken c.in-Ok.ensures.history c.in-Ok.ensures.room in
+    let next = at_next spelled c.loop-line.lines c.next_line.new.self c.loop-line.core c.run_line.new.core (string_bytes c.loop-line.pending) (string_bytes c.run_line.new.pending) _ _ c.in-Ok-Some.line so taken c.in-Ok.ensures.history c.blob_fits.ensures c.in-Ok.ensures.room in
     at_written spelled c.next_line.new.self c.run_line.new.core (string_bytes c.run_line.new.pending) (string_bytes c.write_long.new.pending) _ _ _ next c.in_ok-write_long.ensures.ok
 
 pub loop-line-preserved-in_ok-write_long-3 : goal.loop-line-preserved-in_ok-write_long-3
 loop-line-preserved-in_ok-write_long-3 g c = λ spelled is.
     let so = c.loop-line.invariant spelled is in
     let taken = subst (λ (o : Option (Line g.row.A.Denot)). TakesFirst o so.others c.next_line.new.self) c.in-Ok-Some.field-0-is (c.in-Ok-Some.ensures.next so.others so.spelled) in
-    let next = at_next spelled c.loop-line.lines c.next_line.new.self c.loop-line.core c.run_line.new.core (string_bytes c.loop-line.pending) (string_bytes c.run_line.new.pending) _ _ c.in-Ok-Some.line so taken c.in-Ok.ensures.history c.in-Ok.ensures.room in
+    let next = at_next spelled c.loop-line.lines c.next_line.new.self c.loop-line.core c.run_line.new.core (string_bytes c.loop-line.pending) (string_bytes c.run_line.new.pending) _ _ c.in-Ok-Some.line so taken c.in-Ok.ensures.history c.blob_fits.ensures c.in-Ok.ensures.room in
     at_written spelled c.next_line.new.self c.run_line.new.core (string_bytes c.run_line.new.pending) (string_bytes c.write_long.new.pending) _ _ _ next c.in_ok-write_long.ensures.ok
 
 -- out of memory for the line
@@ -59,6 +59,6 @@ pub returns-in_err-write_long-clause-err : goal.returns-in_err-write_long-clause
 returns-in_err-write_long-clause-err g c = λ spelled is.
     let so = c.loop-line.invariant spelled is in
     let taken = subst (λ (o : Option (Line g.row.A.Denot)). TakesFirst o so.others c.next_line.new.self) c.in-Ok-Some.field-0-is (c.in-Ok-Some.ensures.next so.others so.spelled) in
-    let next = at_next spelled c.loop-line.lines c.next_line.new.self c.loop-line.core c.run_line.new.core (string_bytes c.loop-line.pending) (string_bytes c.run_line.new.pending) _ _ c.in-Ok-Some.line so taken c.in-Ok.ensures.history c.in-Ok.ensures.room in
+    let next = at_next spelled c.loop-line.lines c.next_line.new.self c.loop-line.core c.run_line.new.core (string_bytes c.loop-line.pending) (string_bytes c.run_line.new.pending) _ _ c.in-Ok-Some.line so taken c.in-Ok.ensures.history c.blob_fits.ensures c.in-Ok.ensures.room in
     let p = err_from_is_err_and c.from_residual.result c.from_residual.ensures.1 in
     rw p.1 (at_begun spelled c.next_line.new.self c.run_line.new.core (string_bytes c.run_line.new.pending) _ _ _ next c.in_err-write_long.ensures.err.1)

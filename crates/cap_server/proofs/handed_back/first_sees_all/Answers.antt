@@ -32,6 +32,7 @@ returns g c =
       first = first;
       history = new.seen;
       legal = c.look.ensures.seen.legal;
+      blobs = c.look.ensures.seen.blobs;
       front_is = sym c.look.ensures.front;
       seen = subst (λ (l : List (SeatState g.row.A.Denot)). All (λ s. IsPrefix s.seen new.seen) l) c.as_slice.ensures.value
           (All-weaker (λ (s : SeatState g.row.A.Denot). IsPrefix s.seen all) (λ s. IsPrefix s.seen new.seen) (λ s before. prefix-trans s.seen all new.seen before shown) c.as_slice.result.now c.meet_all.ensures.seats);

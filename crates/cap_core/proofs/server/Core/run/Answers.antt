@@ -2,6 +2,7 @@ use Rattle.std.proofs.Common.{◌≡◌, ◌≤◌, length, take, [], ◌∷◌,
 use Rattle.std.proofs.lemmas.List.{length-take-le, take_all}
 use Rattle.cap_core.specs.Answer.{IsLegal, history_of, state}
 use Rattle.cap_core.specs.Transition.{next}
+use Rattle.cap_core.proofs.FitLemmas.{history-fits}
 use Rattle.cap_core.proofs.NextLemmas.{IsLegal-none, state-push}
 use Rattle.cap_core.proofs.PrepareLemmas.{run-push, events-run}
 use Rattle.cap_core.proofs.SoundLemmas.{take-item}
@@ -36,3 +37,6 @@ pub returns-clause-state : goal.returns-clause-state
 returns-clause-state g c =
     let ended : length c.args.commands.now ≤ c.loop-command.command-index = (let over = c.loop-command-test.false in omega (arith, over)) in
     sym c.loop-command.invariant.2 ∙ ap (λ commands. state (history_of commands c.loop-command.replies.items)) (take_all c.loop-command.command-index c.args.commands.now ended)
+
+pub returns-clause-fits : goal.returns-clause-fits
+returns-clause-fits g c = history-fits c.args.commands.now c.loop-command.replies.items c.blobs_fit.ensures

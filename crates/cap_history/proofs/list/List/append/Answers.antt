@@ -18,5 +18,5 @@ compare_exchange-found-requires g c =
       pen.0 ∙ book,
       offer.0,
       rw (ap (λ w. w.key) word, pen.1, offer.1, offer.3)
-          (adds_moves c.learn.new.self.log at c.args.by c.args.command.now c.args.reply.now c.at.inside.len c.legal_histories_grow.ensures.more (sym c.at.invariant.0) room replied learned.3),
+          (adds_moves c.learn.new.self.log at c.args.by c.args.command.now c.args.reply.now c.at.inside.len c.legal_histories_grow.ensures.more c.fitting_histories_grow.ensures.more c.blob_fits.ensures (sym c.at.invariant.0) room replied learned.3),
     )

@@ -58,6 +58,6 @@ returns-clause-closed g c =
     (subst (λ (l : List ℕ). All (Agrees count l) c.as_slice-2.result.now) c.as_slice-3.ensures.value c.if-not-agree.ensures) in
     let few : c.first_sees_all-events.result ≤ length c.self.inside.list = omega (arith, c.len.ensures.length) in (
       closed seats count c.first_sees_all-events.result counts c.self.inside.core c.self.inside.list shown.history c.self.invariant.1 c.self.invariant.0
-          c.len.ensures.history.legal shown.begins shown.front_is few shown.seen agree known,
+          c.len.ensures.history.legal c.len.ensures.history.blobs shown.begins shown.front_is few shown.seen agree known,
       known,
     )

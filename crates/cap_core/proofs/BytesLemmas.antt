@@ -1,0 +1,161 @@
+-- The bytes of a capture are read as its changes, and what is read is applied as they are.
+use Rattle.std.proofs.Common.{◌≡◌, ℕ, Bool, true, false, cond, Option, Some, None, Result, Ok, Err, List, [], ◌∷◌, map, refl, sym, ap, subst, ◌∙◌}
+use Rattle.std.specs.Prelude.{All, IfSome, filter}
+use Rattle.std.specs.List.{AllByRecursion, cons_option, filter_map, zip}
+use Rattle.std.proofs.lemmas.List.Elements.{All-from_recursion, recursion_from_All}
+use Rattle.cap_value.specs.Value.{IsValue}
+use Rattle.cap_value.specs.declared.refusal.Refusal.{Refusal}
+use Rattle.cap_changes.specs.FieldRecord.{RecordFields}
+use Rattle.cap_changes.specs.Fits.{change_fits, patch_fits}
+use Rattle.cap_changes.specs.Group.{TableChanges}
+use Rattle.cap_changes.specs.PatchGroup.{TablePatches}
+use Rattle.cap_changes.specs.Patch.{key_record, patch_list_of, patch_of, patches_of, update_record}
+use Rattle.cap_changes.specs.declared.row_change.RowChange.{RowChange}
+use Rattle.cap_changes.specs.declared.row_change.RowChange.TheVariants.{Delete, Insert, Update}
+use Rattle.cap_changes.specs.declared.patch.Patch.{Patch}
+use Rattle.cap_changes.proofs.PatchLemmas.{patch_of-fits}
+use Rattle.cap_codec.specs.BlobReading.{blob_at}
+use Rattle.cap_codec.specs.Changeset.{list_bytes_with}
+use Rattle.cap_codec.specs.Patchset.{patch_list_bytes_with}
+use Rattle.cap_codec.specs.declared.fault.BlobFault.{BlobFault}
+use Rattle.cap_codec.specs.declared.key_flags.KeyFlags.{KeyFlags}
+use Rattle.cap_codec.specs.declared.read.Contents.{Contents}
+use Rattle.cap_codec.specs.declared.read.Contents.TheVariants.{Changes, Patches}
+use Rattle.cap_codec.specs.Writable.{AreValues, HasNoEmptyGroup, HasValues, IsGroup, IsPatchGroup, IsWritable, PatchHasValues, blob_bytes_with, has_some, of_patches, with_some}
+use Rattle.cap_session.specs.Records.{Records}
+use Rattle.cap_session.specs.Session.{AttachedTables}
+use Rattle.cap_apply.specs.Applied.{AppliedState}
+use Rattle.cap_apply.specs.Apply.{apply}
+use Rattle.cap_apply.specs.declared.policy.Policy.{Policy}
+use Rattle.cap_table.specs.Table.{TableState}
+use Rattle.cap_database.specs.Tables.{Tables, table_of}
+use Rattle.cap_core.specs.declared.command.Command.TheVariants as command
+use Rattle.cap_core.specs.declared.reply.Reply.TheVariants.{Capture as Captured}
+use Rattle.cap_core.specs.AppliedCapture.{AppliesWhole}
+use Rattle.cap_core.specs.Answer.{answer, state_after}
+use Rattle.cap_core.specs.Capture.{change_now, changes_of, group_of, session_changes, table_changes}
+use Rattle.cap_core.specs.History.{main}
+use Rattle.cap_core.specs.Past.{Past}
+use Rattle.cap_core.specs.Session.{session_of}
+use Rattle.cap_core.proofs.AppliedCaptureLemmas.{captured, some-changes}
+
+filter-all : {X : Type 0} (test : X → Bool) (xs : List X) → AllByRecursion (λ x. test x ≡ true) xs → filter test xs ≡ xs
+filter-all test [] all = refl
+filter-all test (x ∷ xs) all = ap (λ b. cond b (x ∷ filter test xs) (filter test xs)) all.0 ∙ ap (λ l. x ∷ l) (filter-all test xs all.1)
+
+each-mapped : {X Y : Type 0} (P : X → Type 0) (Q : Y → Type 0) (f : X → Y) → ((x : X) → P x → Q (f x)) → (xs : List X) → All P xs → All Q (map f xs)
+each-mapped P Q f says xs all = All-from_recursion Q (map f xs) (inner xs (recursion_from_All P xs all))
+  where
+    inner : (xs : List _) → AllByRecursion P xs → AllByRecursion Q (map f xs)
+    inner [] all = tt
+    inner (x ∷ xs) all = (says x all.0, inner xs all.1)
+
+module _ {A : Type 0} where
+  -- ---- no group without changes
+
+  group-some : (name : List ℕ) (schema : List Bool) (changes : List (RowChange A)) (rest : List (TableChanges A)) → AllByRecursion (λ group. has_some group.changes ≡ true) rest
+      → AllByRecursion (λ group. has_some group.changes ≡ true) (cons_option (group_of name schema changes) rest)
+  group-some name schema [] rest all = all
+  group-some name schema (change ∷ changes) rest all =
+      subst (λ o. AllByRecursion (λ (group : TableChanges A). has_some group.changes ≡ true) (cons_option o rest)) (sym (some-changes name schema change changes)) (refl, all)
+
+  table-some : (attached : List ℕ × Records A) (table : Option (TableState A)) (rest : List (TableChanges A)) → AllByRecursion (λ group. has_some group.changes ≡ true) rest
+      → AllByRecursion (λ group. has_some group.changes ≡ true) (cons_option (table_changes attached table) rest)
+  table-some attached None rest all = all
+  table-some attached (Some table) rest all = group-some attached.0 table.schema (filter_map (change_now table) attached.1) rest all
+
+  each-some : (tables : Tables A) (attached : AttachedTables A) → AllByRecursion (λ group. has_some group.changes ≡ true) (changes_of tables attached)
+  each-some tables [] = tt
+  each-some tables (a ∷ attached) = table-some a (table_of tables a.0) (changes_of tables attached) (each-some tables attached)
+
+  some-captured : (past : Past A) (session : ℕ) (list : List (TableChanges A)) → answer (state_after past) (command.Capture session) ≡ Captured list
+      → AllByRecursion (λ group. has_some group.changes ≡ true) list
+  some-captured past session list is =
+      subst (AllByRecursion (λ (group : TableChanges A). has_some group.changes ≡ true)) (sym (captured past session list is)) (each-some (main past) (session_of past session).tables)
+
+  pub no-empty-group : (past : Past A) (session : ℕ) (list : List (TableChanges A)) → answer (state_after past) (command.Capture session) ≡ Captured list → HasNoEmptyGroup (Changes list)
+  no-empty-group past session list is = All-from_recursion (λ group. has_some group.changes ≡ true) list (some-captured past session list is)
+
+  some-patches : (flags : List Bool) (changes : List (RowChange A)) → has_some changes ≡ true → has_some (map (patch_of flags) changes) ≡ true
+  some-patches flags [] some = some
+  some-patches flags (change ∷ changes) some = refl
+
+  each-some-patches : (list : List (TableChanges A)) → AllByRecursion (λ group. has_some group.changes ≡ true) list → AllByRecursion (λ group. has_some group.changes ≡ true) (patch_list_of list)
+  each-some-patches [] all = tt
+  each-some-patches (group ∷ list) all = (some-patches group.schema group.changes all.0, each-some-patches list all.1)
+
+  pub with-some-changes : (list : List (TableChanges A)) → HasNoEmptyGroup (Changes list) → with_some (Changes list) ≡ Changes list
+  with-some-changes list all = ap Changes (filter-all (λ group. has_some group.changes) list (recursion_from_All (λ group. has_some group.changes ≡ true) list all))
+
+  pub with-some-patches : (list : List (TableChanges A)) → HasNoEmptyGroup (Changes list) → with_some (Patches (patch_list_of list)) ≡ of_patches (patch_list_of list)
+  with-some-patches list all =
+      ap of_patches (filter-all (λ group. has_some group.changes) (patch_list_of list) (each-some-patches list (recursion_from_All (λ group. has_some group.changes ≡ true) list all)))
+
+  -- ---- the patches of changes that can be written
+
+  abbrev Each : RecordFields A → Type 0
+  Each fields = AllByRecursion (λ field. IfSome field IsValue) fields
+
+  each-key : (flags : List Bool) (old : RecordFields A) → Each old → Each (key_record flags old)
+  each-key [] old all = tt
+  each-key (flag ∷ flags) [] all = tt
+  each-key (true ∷ flags) (field ∷ old) all = (all.0, each-key flags old all.1)
+  each-key (false ∷ flags) (field ∷ old) all = (tt, each-key flags old all.1)
+
+  each-update : (flags : List Bool) (old new : RecordFields A) → Each old → Each new → Each (update_record flags old new)
+  each-update [] old new all more = tt
+  each-update (flag ∷ flags) [] new all more = tt
+  each-update (flag ∷ flags) (before ∷ old) [] all more = tt
+  each-update (true ∷ flags) (before ∷ old) (after ∷ new) all more = (all.0, each-update flags old new all.1 more.1)
+  each-update (false ∷ flags) (before ∷ old) (after ∷ new) all more = (more.0, each-update flags old new all.1 more.1)
+
+  abbrev from : (fields : RecordFields A) → AreValues fields → Each fields
+  from fields all = recursion_from_All (λ field. IfSome field IsValue) fields all
+
+  abbrev back : (fields : RecordFields A) → Each fields → AreValues fields
+  back fields all = All-from_recursion (λ field. IfSome field IsValue) fields all
+
+  patch-values : (flags : List Bool) (change : RowChange A) → HasValues change → PatchHasValues (patch_of flags change)
+  patch-values flags (Insert indirect new) has = has
+  patch-values flags (Update indirect old new) has = back (update_record flags old new) (each-update flags old new (from old has.0) (from new has.1))
+  patch-values flags (Delete indirect old) has = back (key_record flags old) (each-key flags old (from old has))
+
+  group-patches : (group : TableChanges A) → IsGroup group → IsPatchGroup (patches_of group)
+  group-patches group is = record {
+    table = is.table;
+    fit = each-mapped (λ change. change_fits group.schema change ≡ true) (λ patch. patch_fits group.schema patch ≡ true) (patch_of group.schema) (patch_of-fits group.schema) group.changes is.fit;
+    values = each-mapped HasValues PatchHasValues (patch_of group.schema) (patch-values group.schema) group.changes is.values;
+  }
+
+  pub patches-writable : (list : List (TableChanges A)) → IsWritable (Changes list) → IsWritable (Patches (patch_list_of list))
+  patches-writable list is = each-mapped IsGroup IsPatchGroup patches_of group-patches list is
+
+  -- ---- what is read
+
+  pub one-blob : (read : Result (Contents A) BlobFault) (told blob : Contents A) → read ≡ Ok told → read ≡ Ok blob → told ≡ blob
+  one-blob read told blob is also = cc
+
+  abbrev read_as : Contents A → Result (Contents A) BlobFault
+  read_as blob = Ok blob
+
+  module _ (alike : (key_flags : KeyFlags) (blob : Contents A) → IsWritable blob → blob_at (blob_bytes_with key_flags blob) ≡ Ok (with_some blob)) where
+    pub changes-read : (key_flags : KeyFlags) (list : List (TableChanges A)) → HasNoEmptyGroup (Changes list) → IsWritable (Changes list) → blob_at (list_bytes_with key_flags list) ≡ Ok (Changes list)
+    changes-read key_flags list some writable = alike key_flags (Changes list) writable ∙ ap read_as (with-some-changes list some)
+
+    pub patches-read : (key_flags : KeyFlags) (list : List (TableChanges A)) → HasNoEmptyGroup (Changes list) → IsWritable (Changes list)
+        → blob_at (patch_list_bytes_with key_flags (patch_list_of list)) ≡ Ok (of_patches (patch_list_of list))
+    patches-read key_flags list some writable = alike key_flags (Patches (patch_list_of list)) (patches-writable list writable) ∙ ap read_as (with-some-patches list some)
+
+  -- an empty patchset is applied as an empty changeset is
+  of_patches-applies : (database : Tables A) (policy : Policy) (patches : List (TablePatches A)) → apply database (of_patches patches) policy ≡ apply database (Patches patches) policy
+  of_patches-applies database policy [] = refl
+  of_patches-applies database policy (group ∷ patches) = refl
+
+  pub read-applies : (policy : Policy) (blob told : Contents A) (count : ℕ) (database main : Tables A) (tables : AttachedTables A) → told ≡ blob
+      → AppliesWhole policy told count database main tables → AppliesWhole policy blob count database main tables
+  read-applies policy blob told count database main tables same whole = subst (λ b. AppliesWhole policy b count database main tables) same whole
+
+  pub read-patches-apply : (policy : Policy) (blob : Contents A) (patches : List (TablePatches A)) (count : ℕ) (database main : Tables A) (tables : AttachedTables A) → of_patches patches ≡ blob
+      → AppliesWhole policy (Patches patches) count database main tables → AppliesWhole policy blob count database main tables
+  read-patches-apply policy blob patches count database main tables same whole =
+      (whole.0, ap (λ b. apply database b policy) (sym same) ∙ of_patches-applies database policy patches ∙ whole.1, whole.2, whole.3)

@@ -1,0 +1,142 @@
+//! Items, each once, in the order in which they came first.
+ghost use Rattle.std.specs.Prelude.{◌≡◌, ◌≤◌, [], IfOk, OnOk, OnErr, length, take};
+ghost use Rattle.std.specs.List.{list_any};
+ghost use Rattle.std.specs.Ordering.{eq_by_cmp};
+ghost use Rattle.cap_txn.specs.Once.{with_once, with_each, AreKnown};
+
+use cap_tree::Tree;
+use cap_value::{AllocHandle, Exact, OutOfMemory};
+use std::marker::Model;
+
+// Items, each once, in the order in which they came first. Whether one is there is found in O(log n).
+pub(crate) struct Once<K: Ord, A: AllocHandle> {
+    items: Vec<K, A>,
+    // Where each item stands. An entry at whose place there is no item, or another, is of no account.
+    places: Tree<K, u64, A>,
+}
+
+impl<K: Ord, A: AllocHandle> Model for Once<K, A> {
+    ghost use Rattle.std.specs.Prelude.{List};
+    ghost use Rattle.cap_txn.specs.Once.{AreKnown};
+
+    ghost Value = { List K };
+
+    ghost view = { λ o. o.items.items };
+
+    ghost invariant = { λ o. AreKnown K.cmp o.places 0 o.items.items };
+}
+
+impl<K: Ord + Drop, A: AllocHandle> Drop for Once<K, A> {
+    fn drop(self) {
+        let Once {
+            items: _,
+            places: _,
+        } = self;
+    }
+}
+
+impl<K: Ord + Exact + Drop, A: AllocHandle> Once<K, A> {
+    // No items, which take no memory.
+    pub(crate) fn new(alloc: A) -> Self
+        ensures { result ≡ [] }
+    {
+        Once {
+            items: Vec::new(alloc),
+            places: Tree::empty(alloc),
+        }
+    }
+
+    // The items.
+    pub(crate) fn items(&self) -> &[K]
+        ensures { result.now ≡ self.now }
+    {
+        self.items.as_slice()
+    }
+
+    // How many there are.
+    pub(crate) fn len(&self) -> usize
+        ensures { result ≡ length self.now }
+    {
+        self.items.len()
+    }
+
+    // The items, and how they are found is let go. It takes no memory.
+    pub(crate) fn into_items(self) -> Vec<K, A>
+        ensures { result.items ≡ self }
+    {
+        let Once { items, places: _ } = self;
+        items
+    }
+
+    // Puts an item last, unless it is there. Without memory everything is as before.
+    pub(crate) fn add(&mut self, item: K) -> Result<(), OutOfMemory>
+        ensures ok { OnOk result (self.new ≡ with_once K.cmp self.old item) }
+        ensures err { OnErr result (self.new ≡ self.old) }
+    {
+        if holds(self.items.as_slice(), &self.places, &item) {
+            return Ok(());
+        }
+        let place = self.items.len() as u64;
+        self.items.reserve(1)?;
+        let copy = exact_copy(&item)?;
+        self.places.insert(copy, place)?;
+        self.items.push_reserved(item);
+        Ok(())
+    }
+
+    // Takes away all but the first items. It takes no memory.
+    pub(crate) fn truncate(&mut self, len: usize)
+        ensures { self.new ≡ take len self.old }
+    {
+        self.items.truncate(len);
+    }
+}
+
+// Whether the item is there.
+fn holds<K: Ord, A: AllocHandle>(items: &[K], places: &Tree<K, u64, A>, item: &K) -> bool
+    requires { AreKnown K.cmp places.now 0 items.now }
+    ensures { result ≡ list_any (eq_by_cmp K.cmp item.now) items.now }
+{
+    let Some(place) = places.get(item) else {
+        return false;
+    };
+    if *place >= items.len() as u64 {
+        return false;
+    }
+    item.cmp(&items[*place as usize]).is_eq()
+}
+
+// Puts items last, one after another, each unless it is there. Without memory everything is as before.
+pub(crate) fn add_each<K: Ord + Exact + Drop, A: AllocHandle>(
+    once: &mut Once<K, A>,
+    items: Vec<K, A>,
+) -> Result<(), OutOfMemory>
+    ensures ok { OnOk result (once.new ≡ with_each K.cmp once.old items.items) }
+    ensures err { OnErr result (once.new ≡ once.old) }
+{
+    let len = once.len();
+    for item in &items {
+        if add_copy(once, item).is_err() {
+            once.truncate(len);
+            return Err(OutOfMemory);
+        }
+    }
+    Ok(())
+}
+
+fn add_copy<K: Ord + Exact + Drop, A: AllocHandle>(
+    once: &mut Once<K, A>,
+    item: &K,
+) -> Result<(), OutOfMemory>
+    ensures ok { OnOk result (once.new ≡ with_once K.cmp once.old item.now) }
+    ensures err { OnErr result (once.new ≡ once.old) }
+{
+    let item = exact_copy(item)?;
+    once.add(item)
+}
+
+fn exact_copy<K: Exact>(item: &K) -> Result<K, OutOfMemory>
+    ensures { IfOk result (λ copy. copy ≡ item.now) }
+{
+    Ok(item.clone()?)
+}
