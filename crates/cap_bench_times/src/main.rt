@@ -5,6 +5,7 @@
 mod commits;
 mod server;
 mod sessions;
+mod transactions;
 
 use anyhow::{Result, bail};
 use cap_bench_loads::{apply, codec, tables, tree};
@@ -14,10 +15,14 @@ use std::sync::Wait;
 use std::thread::Threads;
 use std::time::{Clock, CpuClock};
 
+// The loads.
+const LOADS: &str = "tree [N..], codec, txn, apply, core, sessions, transactions or server";
+
 // Runs the load that the command line names: `tree [N..]` trees of N keys beside std's map, `codec` a
 // changeset, `txn` operations on tables, `apply` applying changesets, `core` commits under a session,
-// `sessions` commits under one and under 64 sessions, captures and a diff, and `server`, by the wall clock,
-// commits from several threads and readers beside a writer.
+// `sessions` commits under one and under 64 sessions, captures and a diff, `transactions` commits of
+// transactions and of batches, and `server`, by the wall clock, commits and transactions from several threads and
+// readers beside a writer.
 fn run<R>(rt: &R) -> Result<()>
 where
     R: Print + Eprint + Env + Clock + CpuClock + Threads + Wait + Sync + AllocGlobal,
@@ -31,12 +36,11 @@ where
             "apply" => apply::report(rt),
             "core" => commits::report(rt),
             "sessions" => sessions::report(rt),
+            "transactions" => transactions::report(rt),
             "server" => server::report(rt),
-            _ => bail!(
-                "{load} is no load: tree [N..], codec, txn, apply, core, sessions or server"
-            ),
+            _ => bail!("{load} is no load: {LOADS}"),
         },
-        _ => bail!("which load: tree [N..], codec, txn, apply, core, sessions or server"),
+        _ => bail!("which load: {LOADS}"),
     }
 }
 

@@ -3,6 +3,7 @@ ghost use Rattle.std.specs.Prelude.{◌≡◌, ◌≤◌, length};
 ghost use Rattle.cap_server.specs.declared.limits.TheConstants.{SEATS_MAX};
 
 use crate::commits::{create_table, inserts_from, updates};
+use crate::transactions::transaction;
 use anyhow::{Context, Result, bail};
 use cap_bench_loads::rows::{COMMITS, table};
 use cap_core::{Command, Reply};
@@ -21,6 +22,11 @@ use std::time::{Clock, Instant};
 // The number of rows that readers scan.
 const ROWS: u32 = 100_000;
 
+// The number of transactions together, and of those after which a seat begins again at its first row.
+const TRANSACTIONS: u64 = 100_000;
+
+const ROWS_A_SEAT: u64 = 2_500;
+
 // How often the writer beside them repeats its commits.
 const ROUNDS: u32 = 4;
 
@@ -31,11 +37,14 @@ enum Role {
     Write(Vec<Command<Global>>, u32),
     // Takes snapshots and scans them, until a writer is done.
     Read,
+    // Commits this many transactions, each of ten rows from this key on, one after the other.
+    Transact(u64, u64),
 }
 
 // What the threads of a load share.
 #[derive(Drop)]
 struct Load {
+    alloc: Global,
     // The role of each seat's thread.
     roles: Vec<Role>,
     table: Name<Global>,
@@ -107,6 +116,31 @@ fn read<J: Naming>(
     true
 }
 
+// Makes transactions on the rows from this key on, and answers whether each was accepted.
+fn transact<J: Naming>(
+    rt: &impl Wait,
+    alloc: Global,
+    server: &Server<J, Global>,
+    seat: &mut Seat<J, Global>,
+    first: u64,
+    count: u64,
+) -> bool {
+    for number in 0..count {
+        let Ok(Reply::Snapshot(base)) = server.read(rt, seat) else {
+            return false;
+        };
+        let key = first.saturating_add(number % ROWS_A_SEAT * 10);
+        let Some(batch) = transaction(alloc, &base, key, number.cast_signed()) else {
+            return false;
+        };
+        match server.commit(rt, seat, batch) {
+            Ok(Reply::Written { .. }) => {}
+            _ => return false,
+        }
+    }
+    true
+}
+
 // Runs the seat's thread.
 fn carry_out<J: Naming, R: Wait>(job: Job<'_, J, R>) -> Option<Seat<J, Global>> {
     let Job {
@@ -117,6 +151,9 @@ fn carry_out<J: Naming, R: Wait>(job: Job<'_, J, R>) -> Option<Seat<J, Global>> 
     } = job;
     let done = match load.roles.get(seat.number() as usize)? {
         Role::Read => read(rt, server, &mut seat, load),
+        Role::Transact(first, count) => {
+            transact(rt, load.alloc, server, &mut seat, *first, *count)
+        }
         Role::Write(commands, rounds) => {
             let done = write(rt, server, &mut seat, commands.as_slice(), *rounds);
             load.is_over.store(true, Ordering::SeqCst);
@@ -177,6 +214,7 @@ fn run_together<J: Naming + Send + Sync, R: Threads + Wait + Clock + Sync>(
     }
     seats.push(last)?;
     let load = Load {
+        alloc,
         roles,
         table: table(alloc).context("no name")?,
         is_over: AtomicBool::new(false),
@@ -259,7 +297,33 @@ fn read_beside<R: Print + Eprint + Threads + Wait + Clock + Sync>(
     Ok(())
 }
 
-// Times commits from 1, 2 and 4 threads, and a writer beside up to 3 readers.
+// Times transactions that read and write ten rows, divided among this many threads, each on rows of its own.
+fn transact_from<R: Print + Eprint + Threads + Wait + Clock + Sync>(
+    rt: &R,
+    alloc: Global,
+    threads: u32,
+) -> Result<()> {
+    let mut first = create_table(alloc).context("no commands")?;
+    for command in inserts_from(alloc, 0, ROWS).context("no commands")? {
+        first.push(command)?;
+    }
+    let each = TRANSACTIONS / u64::from(threads.max(1));
+    let mut roles = Vec::new(alloc);
+    for thread in 0..threads {
+        let from = u64::from(thread).saturating_mul(ROWS_A_SEAT * 10);
+        roles.push(Role::Transact(from, each))?;
+    }
+    let outcome = together(rt, alloc, first.as_slice(), roles)?;
+    let time = outcome.nanos / u128::from(TRANSACTIONS);
+    eprintln!(rt; "transactions from {threads} threads: {time} ns a transaction of 10 rows")?;
+    println!(rt;
+        "{} events of transactions from {threads} threads",
+        outcome.events
+    )?;
+    Ok(())
+}
+
+// Times commits from 1, 2 and 4 threads, transactions from 1 and 4, and a writer beside up to 3 readers.
 pub(crate) fn report<R>(rt: &R) -> Result<()>
 where
     R: Print + Eprint + Threads + Wait + Clock + Sync + AllocGlobal,
@@ -267,6 +331,9 @@ where
     let alloc = rt.alloc();
     for threads in [1, 2, 4] {
         commit_from(rt, alloc, threads)?;
+    }
+    for threads in [1, 4] {
+        transact_from(rt, alloc, threads)?;
     }
     for readers in 0..4 {
         read_beside(rt, alloc, readers)?;

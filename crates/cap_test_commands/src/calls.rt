@@ -3,7 +3,7 @@ ghost use Rattle.std.specs.Prelude.{◌≡◌};
 
 use cap_core::{Command, Reply};
 use cap_history::{Naming, Opened, Seat};
-use cap_script::{Workload, parse, print_reply};
+use cap_script::{Line, Workload, parse, print_reply};
 use cap_server::{CallFault, Server};
 use cap_test_support::Memory;
 use cap_value::OutOfMemory;
@@ -199,9 +199,35 @@ fn is_opened<'a, J: Naming + Send + Sync>(
     }
 }
 
-// Each request of each call is refused, until there is none left. A call that is out of memory is no event, and the same
-// call then has the reply that it would have had.
-fn starved<'a, J: Naming + Send + Sync, R: Wait + Abort>(
+// Makes a call with each request refused in turn, until it meets none, and answers its reply in words. A call
+// that is out of memory is no event: the seat has made as many calls as before, and the server has as many
+// events.
+fn starve<'a, J: Naming>(
+    rt: &impl Wait,
+    server: &Server<J, &'a Memory<Global>>,
+    seat: &mut Seat<J, &'a Memory<Global>>,
+    memory: &'a Memory<Global>,
+    line: &Line<&'a Memory<Global>>,
+) -> Option<String<&'a Memory<Global>>> {
+    let made = seat.calls();
+    for number in 1..REQUESTS_MAX {
+        memory.refuse(number);
+        let answer = server.call(rt, seat, &line.command);
+        memory.refuse(0);
+        if !memory.has_refused() {
+            return print_reply(memory, line, &answer.ok()?).ok();
+        }
+        let is_refused = matches!(answer, Err(CallFault::OutOfMemory));
+        if !is_refused || seat.calls() != made || server.front(seat) != made {
+            return None;
+        }
+    }
+    None
+}
+
+// Each request of each call is refused, until there is none left. The same call then has the reply that it
+// would have had.
+fn starved<'a, J: Naming + Send + Sync, R: Wait>(
     rt: &R,
     opened: Opened<&'a Memory<Global>>,
     memory: &'a Memory<Global>,
@@ -212,22 +238,10 @@ fn starved<'a, J: Naming + Send + Sync, R: Wait + Abort>(
 {
     let (server, mut seats) = Server::<J, &'a Memory<Global>>::open(opened, memory, 1)?;
     let mut seat = seats.pop().ok_or("a seat")?;
-    let mut made = 0u64;
     for line in &parse(memory, WORKLOAD)?.lines {
-        for number in 1..REQUESTS_MAX {
-            memory.refuse(number);
-            let answer = server.call(rt, &mut seat, &line.command);
-            let is_met = memory.has_refused();
-            memory.refuse(0);
-            assert!(rt; matches!(answer, Err(CallFault::OutOfMemory)) == is_met);
-            if let Ok(reply) = answer {
-                texts.push_str(print_reply(memory, line, &reply)?.as_str())?;
-                texts.push_str("\n")?;
-                made = made.saturating_add(1);
-                break;
-            }
-            assert!(rt; (seat.calls(), server.front(&mut seat)) == (made, made));
-        }
+        let text = starve(rt, &server, &mut seat, memory, line).ok_or("a reply")?;
+        texts.push_str(text.as_str())?;
+        texts.push_str("\n")?;
     }
     Ok(())
 }

@@ -2,18 +2,18 @@
 use crate::calls::REQUESTS_MAX;
 use cap_core::{CommitHook, Core, NoHook, Reply};
 use cap_script::{Line, ScriptFault, parse, print_reply};
-use cap_test_support::Memory;
+use cap_test_support::{CountingHook, Memory};
 use cap_value::{AllocHandle, Fault};
+use std::alloc::Global;
 use std::test::Fail;
 
-// A commit hook that counts how often it is asked, and allows the commit or refuses it.
+// A hook on the commits of a server that counts and answers.
 #[derive(Drop)]
-struct Counted {
-    allows: bool,
-    asked: u8,
+struct Hook {
+    counting: CountingHook,
 }
 
-impl<A: AllocHandle> CommitHook<A> for Counted {
+impl<A: AllocHandle> CommitHook<A> for Hook {
     type Refusal = ();
 
     ghost can_ask = { λ hook reply. Unit {0} };
@@ -21,8 +21,7 @@ impl<A: AllocHandle> CommitHook<A> for Counted {
     ghost gives = { λ old reply answer new. Unit {0} };
 
     fn before_commit(&mut self, _reply: &Reply<A>) -> Result<(), ()> {
-        self.asked = self.asked.saturating_add(1);
-        if self.allows { Ok(()) } else { Err(()) }
+        self.counting.ask()
     }
 }
 
@@ -116,14 +115,45 @@ fn content<A: AllocHandle>(alloc: A, core: &Core<A>) -> Outcome<String<A>> {
     give(alloc, &mut beside(alloc, core)?, CONTENT)
 }
 
-// Makes the step where there was room for it, and answers whether it was made and how often the hook was asked.
-fn step<A: AllocHandle>(core: &mut Core<A>, line: &Line<A>, allows: bool) -> (bool, u8) {
-    let mut hook = Counted { allows, asked: 0 };
+// Makes the step where there was room for it, and answers whether it was made and how often the hook was
+// asked.
+fn step<A: AllocHandle>(core: &mut Core<A>, line: &Line<A>, allows: bool) -> (bool, u64) {
+    let mut hook = Hook {
+        counting: CountingHook::new(allows),
+    };
     let made = core.events() < 1000 && core.step(&line.command, &mut hook).is_ok();
-    (made, hook.asked)
+    (made, hook.counting.asked)
 }
 
-// Each request of each command is refused, until the commit hook is asked, which refuses. Then it allows the commit.
+// Makes the step with each request refused in turn, until the commit hook is asked, which refuses. Answers
+// how many requests were refused, or nothing where a refused step changed the server or asked the hook.
+fn refuse_in_turn<'a>(
+    memory: &'a Memory<Global>,
+    core: &mut Core<&'a Memory<Global>>,
+    line: &Line<&'a Memory<Global>>,
+    before: &str,
+) -> Outcome<Option<u64>> {
+    for number in 1..REQUESTS_MAX {
+        // Every node is shared, so that a change needs memory.
+        let shared = beside(memory, core)?;
+        memory.refuse(number);
+        let stepped = step(core, line, false);
+        memory.refuse(0);
+        drop(shared);
+        let is_refused = memory.has_refused();
+        let is_kept = core.events() == 10 && content(memory, core)?.as_str() == before;
+        if !is_kept || stepped != (false, !is_refused as u64) {
+            return Ok(None);
+        }
+        if !is_refused {
+            return Ok(Some(number - 1));
+        }
+    }
+    Ok(None)
+}
+
+// Each request of each command is refused, until the commit hook is asked, which refuses. Then it allows the
+// commit.
 #[test]
 fn a_write_without_memory_or_vetoed_by_the_hook_changes_nothing(
     rt: HostRuntime,
@@ -135,27 +165,14 @@ fn a_write_without_memory_or_vetoed_by_the_hook_changes_nothing(
         let before = content(&memory, &core)?;
         let lines = parse(&memory, command)?.lines;
         let line = lines.first().ok_or("no command")?;
-        let mut refused = 0;
-        for number in 1..REQUESTS_MAX {
-            // Every node is shared, so that a change needs memory.
-            let shared = beside(&memory, &core)?;
-            memory.refuse(number);
-            let stepped = step(&mut core, line, false);
-            let is_met = memory.has_refused();
-            memory.refuse(0);
-            drop(shared);
-            assert!(rt; core.events() == 10, "{command}");
-            assert!(rt; content(&memory, &core)?.as_str() == before.as_str());
-            assert!(rt; stepped == (false, !is_met as u8), "{command}");
-            if !is_met {
-                break;
-            }
-            refused = number;
-        }
+        let refused = refuse_in_turn(&memory, &mut core, line, before.as_str())?;
+        assert!(rt;
+            refused.is_some_and(|count| (count > 0) == grows),
+            "{command}"
+        );
         assert!(rt; step(&mut core, line, true) == (true, 1), "{command}");
-        assert!(rt; core.events() == 11, "{command}");
         let is_same = content(&memory, &core)?.as_str() == before.as_str();
-        assert!(rt; (is_same, refused > 0) == (!changes, grows), "{command}");
+        assert!(rt; (core.events(), is_same) == (11, !changes), "{command}");
     }
     Ok(())
 }

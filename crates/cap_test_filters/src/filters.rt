@@ -1,4 +1,5 @@
 use cap_filter::{Filter, TableFilter, Word};
+use cap_test_support::Memory;
 use cap_value::{AllocHandle, Fault, Name, OutOfMemory, Refusal};
 use linked_list_allocator::LocalHeap;
 use std::alloc::Global;
@@ -248,29 +249,32 @@ fn a_filter_past_a_limit_is_handed_back(rt: HostRuntime) -> Result<(), Fail> {
     Ok(())
 }
 
-// Heaps of every size up to ones that suffice: a growth that needs more than all before it is refused in one of them.
-const SIZES: usize = 160;
+// More requests for memory than any of these calls makes.
+const REQUESTS_MAX: u64 = 1_000;
 
-fn read_in_little_memory(rt: &impl Abort, alloc: Global, text: &str) -> Result<(), Fail> {
+// Each request is refused in turn. A text is read then when it is read again.
+fn refuse_reading(rt: &impl Abort, alloc: Global, text: &str) -> Result<(), Fail> {
     let expected = answer(alloc, text)?;
-    let (mut wanted, mut answered) = (false, false);
-    for size in 0..SIZES {
-        let heap = LocalHeap::new(alloc, 16 * size)?;
-        match answer(&heap, text) {
-            Err(_) => wanted = true,
-            Ok(found) => {
-                assert!(rt; found == expected, "{text}");
-                answered = true;
-            }
+    let heap = LocalHeap::new(alloc, 8192)?;
+    let memory = Memory::new(&heap);
+    for number in 1..REQUESTS_MAX {
+        memory.refuse(number);
+        let found = answer(&memory, text).ok();
+        let is_refused = memory.has_refused();
+        memory.refuse(0);
+        assert!(rt; heap.used() == 0, "{text} {number}");
+        if !is_refused {
+            assert!(rt; found == Some(expected) && number > 1, "{text}");
+            return Ok(());
         }
-        assert!(rt; heap.used() == 0);
+        assert!(rt; found.is_none(), "{text} {number}");
+        assert!(rt; answer(&memory, text)? == expected, "{text} {number}");
     }
-    assert!(rt; wanted && answered, "{text}");
-    Ok(())
+    Err("each reading met a refusal".into())
 }
 
 #[test]
-fn texts_read_in_little_memory(rt: HostRuntime) -> Result<(), Fail> {
+fn each_request_of_a_reading_is_refused_in_turn(rt: HostRuntime) -> Result<(), Fail> {
     let alloc = rt.alloc();
     for text in [
         "is a",
@@ -280,63 +284,81 @@ fn texts_read_in_little_memory(rt: HostRuntime) -> Result<(), Fail> {
         "and(starts 'a''b',not or(is 'c',ends 'd'),all)",
         "and(starts 'a''b',not or(is 'c',ends 'd'),all",
     ] {
-        read_in_little_memory(&rt, alloc, text)?;
+        refuse_reading(&rt, alloc, text)?;
     }
     Ok(())
 }
 
 #[test]
-fn a_filter_printed_in_little_memory(rt: HostRuntime) -> Result<(), Fail> {
-    let alloc = rt.alloc();
+fn each_request_of_printing_is_refused_in_turn(rt: HostRuntime) -> Result<(), Fail> {
     let text = "and(starts 'a''b',not or(is 'c',ends 'd'),all)";
-    let (mut wanted, mut answered) = (false, false);
-    for size in 0..SIZES {
-        let ample = LocalHeap::new(alloc, 4096)?;
-        let little = LocalHeap::new(alloc, 16 * size)?;
-        let filter = TableFilter::parse(&ample, text)?;
-        match filter.print(&little) {
-            Err(_) => wanted = true,
-            Ok(printed) => {
-                assert!(rt; printed.as_str() == text);
-                answered = true;
-            }
+    let heap = LocalHeap::new(rt.alloc(), 8192)?;
+    let memory = Memory::new(&heap);
+    let filter = TableFilter::parse(&memory, text)?;
+    let used = heap.used();
+    for number in 1..REQUESTS_MAX {
+        memory.refuse(number);
+        let printed = filter.print(&memory).ok();
+        let is_refused = memory.has_refused();
+        memory.refuse(0);
+        assert!(rt; printed.is_none() == is_refused, "{number}");
+        drop(printed);
+        assert!(rt; heap.used() == used, "{number}");
+        assert!(rt; filter.print(&memory)?.as_str() == text, "{number}");
+        if !is_refused {
+            assert!(rt; number > 1);
+            return Ok(());
         }
-        assert!(rt; little.used() == 0);
     }
-    assert!(rt; wanted && answered);
-    Ok(())
+    Err("each printing met a refusal".into())
 }
 
-/// A filter with a box, a list and a word, in as much memory as the heap has.
-fn not_one_of_one(heap: &LocalHeap) -> Result<Filter<&LocalHeap>, OutOfMemory> {
-    let mut members = Vec::with_capacity(heap, 1)?;
-    members.push(Filter::Is(Word::new(heap, "t")?))?;
-    Ok(Filter::Not(Box::new(heap, Filter::Or(members))?))
+// A filter with a box, a list and a word.
+fn not_one_of_one<A: AllocHandle>(alloc: A) -> Result<Filter<A>, OutOfMemory> {
+    let mut members = Vec::with_capacity(alloc, 1)?;
+    members.push(Filter::Is(Word::new(alloc, "t")?))?;
+    Ok(Filter::Not(Box::new(alloc, Filter::Or(members))?))
 }
 
 #[test]
-fn a_filter_made_and_copied_in_little_memory(rt: HostRuntime) -> Result<(), Fail> {
-    let alloc = rt.alloc();
-    let (mut unmade, mut uncopied, mut copied) = (false, false, false);
-    for size in 0..SIZES {
-        let ample = LocalHeap::new(alloc, 4096)?;
-        let heap = LocalHeap::new(alloc, 16 * size)?;
-        let Ok(filter) = not_one_of_one(&heap) else {
-            unmade = true;
-            continue;
-        };
-        let Ok(filter) = TableFilter::new(filter) else {
-            return Err("a filter within the limits was refused".into());
-        };
-        match filter.copy() {
-            Err(_) => uncopied = true,
-            Ok(copy) => {
-                assert!(rt; copy.print(&ample)?.as_str() == "not or(is 't')");
-                copied = true;
-            }
+fn each_request_of_making_is_refused_in_turn(rt: HostRuntime) -> Result<(), Fail> {
+    let heap = LocalHeap::new(rt.alloc(), 8192)?;
+    let memory = Memory::new(&heap);
+    for number in 1..REQUESTS_MAX {
+        memory.refuse(number);
+        let is_made = not_one_of_one(&memory).is_ok();
+        assert!(rt; heap.used() == 0, "{number}");
+        assert!(rt; is_made != memory.has_refused(), "{number}");
+        if is_made {
+            assert!(rt; number > 3);
+            return Ok(());
         }
-        assert!(rt; filter.print(&ample)?.as_str() == "not or(is 't')");
     }
-    assert!(rt; unmade && uncopied && copied);
-    Ok(())
+    Err("each met a refusal".into())
+}
+
+#[test]
+fn each_request_of_a_copy_is_refused_in_turn(rt: HostRuntime) -> Result<(), Fail> {
+    let heap = LocalHeap::new(rt.alloc(), 8192)?;
+    let memory = Memory::new(&heap);
+    let Ok(filter) = TableFilter::new(not_one_of_one(&memory)?) else {
+        return Err("a filter within the limits was refused".into());
+    };
+    let used = heap.used();
+    for number in 1..REQUESTS_MAX {
+        memory.refuse(number);
+        let copy = filter.copy().ok();
+        let is_refused = memory.has_refused();
+        memory.refuse(0);
+        assert!(rt; copy.is_none() == is_refused, "{number}");
+        drop(copy);
+        assert!(rt; heap.used() == used, "{number}");
+        assert!(rt; filter.print(&memory)?.as_str() == "not or(is 't')");
+        assert!(rt; filter.copy()?.print(&memory)?.as_str() == "not or(is 't')");
+        if !is_refused {
+            assert!(rt; number > 1);
+            return Ok(());
+        }
+    }
+    Err("each copy met a refusal".into())
 }

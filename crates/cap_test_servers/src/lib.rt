@@ -6,4 +6,6 @@ mod histories;
 #[cfg(test)]
 mod overtaken;
 #[cfg(test)]
+mod row_level;
+#[cfg(test)]
 mod servers;

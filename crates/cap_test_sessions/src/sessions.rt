@@ -1,9 +1,10 @@
 use cap_compare::{Difference, compare};
-use cap_database::{Action, Cause, Database, Op, run_ops};
+use cap_database::{Action, Assignments, Cause, Database, Op, Outcome, run_ops};
 use cap_row::{Key, Row, Schema};
 use cap_session::Session;
 use cap_table::RowRef;
-use cap_value::{AllocHandle, Fault, Name, Refusal, Value};
+use cap_test_support::Memory;
+use cap_value::{AllocHandle, Fault, Name, OutOfMemory, Refusal, Value};
 use linked_list_allocator::LocalHeap;
 use std::test::Fail;
 
@@ -84,7 +85,8 @@ fn attached<A: AllocHandle>(alloc: A, table: &str) -> Result<Session<A>, Fault<R
     Ok(session)
 }
 
-// The mark of a key of t, and whether its image is this row, or no row where none is given. Nothing without a record.
+// The mark of a key of t, and whether its image is this row, or no row where none is given. Nothing without a
+// record.
 fn recorded<A: AllocHandle>(
     alloc: A,
     session: &Session<A>,
@@ -115,7 +117,8 @@ fn differences<A: AllocHandle>(
     }
 }
 
-// A diff attaches its table, also where the session is not enabled, and leaves the image of a key that has a record.
+// A diff attaches its table, also where the session is not enabled, and leaves the image of a key that has a
+// record.
 #[test]
 fn diff_is_noted(rt: HostRuntime) -> Result<(), Fail> {
     let alloc = rt.alloc();
@@ -140,48 +143,178 @@ fn diff_is_noted(rt: HostRuntime) -> Result<(), Fail> {
     Ok(())
 }
 
-// Heaps of every size up to one that suffices: out of memory, and never another answer, and a session that finds none
-// is as before.
-#[test]
-fn each_growth_refused(rt: HostRuntime) -> Result<(), Fail> {
-    let alloc = rt.alloc();
-    let mut enough = false;
-    for size in (256..16384usize).step_by(64) {
-        let heap = LocalHeap::new(alloc, size)?;
-        match noted(&heap) {
-            Ok(stored) => {
-                assert!(rt; stored == (0, 3));
-                enough = true;
-            }
-            Err(Fault::OutOfMemory) => {}
-            Err(Fault::Refused(_)) => assert!(rt; false),
-        }
-    }
-    assert!(rt; enough);
-    Ok(())
+// The calls of a session that take memory.
+#[derive(Clone, Copy, Debug, Drop)]
+enum Call {
+    Attach,
+    Note,
+    NoteDiff,
+    Copy,
 }
 
-// How many records there are before and after a commit that touches t and u. Refused where a commit that found no memory
-// left something behind.
-fn noted<A: AllocHandle>(alloc: A) -> Result<(u128, u128), Fault<Refusal>> {
-    let mut database = with_tables(alloc, &["t", "u"])?;
-    let mut session = attached(alloc, "t")?;
-    session.attach_all();
-    let first = session.stored();
+// Each with the number of tables that are attached afterwards, and of images that are held. Before it one
+// table is attached and one image held.
+const CALLS: [(Call, usize, u128); 4] = [
+    (Call::Attach, 2, 1),
+    (Call::Note, 2, 4),
+    (Call::NoteDiff, 2, 3),
+    (Call::Copy, 1, 1),
+];
+
+// What they are made with: a table, a database, and what a commit made of it that changes one row of t and
+// two of u.
+#[derive(Drop)]
+struct Arguments<A: AllocHandle> {
+    name: Name<A>,
+    before: Database<A>,
+    outcome: Outcome<A>,
+    differences: Vec<Difference<A>, A>,
+}
+
+fn made_call<A: AllocHandle>(
+    session: &mut Session<A>,
+    call: Call,
+    given: &Arguments<A>,
+) -> Result<(), OutOfMemory> {
+    match call {
+        Call::Attach => session.attach(&given.name),
+        Call::Note => session.note(&given.before, given.outcome.changes()),
+        Call::NoteDiff => session.note_diff(&given.name, given.differences.as_slice()),
+        Call::Copy => {
+            *session = session.copy()?;
+            Ok(())
+        }
+    }
+}
+
+// What a commit of three inserts makes of the database.
+fn outcome<A: AllocHandle>(alloc: A, before: &Database<A>) -> Result<Outcome<A>, Fault<Refusal>> {
     let mut ops = Vec::new(alloc);
-    if ops.push(insert(alloc, "t", 1, "x")?).is_err()
+    if ops.push(insert(alloc, "t", 2, "x")?).is_err()
         || ops.push(insert(alloc, "u", 1, "x")?).is_err()
         || ops.push(insert(alloc, "u", 2, "y")?).is_err()
     {
         return Err(Fault::OutOfMemory);
     }
-    let done = commit(alloc, &mut database, &mut session, &ops);
-    if done.is_err()
-        && (!session.is_empty() || session.records(&Name::new(alloc, "u")?).is_some())
-    {
-        return Err(Fault::Refused(Refusal::TooMany));
+    match run_ops(alloc, before, &ops) {
+        Ok(outcome) => Ok(outcome),
+        Err(Fault::Refused(refused)) => Err(Fault::Refused(refused.why)),
+        Err(Fault::OutOfMemory) => Err(Fault::OutOfMemory),
     }
-    done?;
-    let copy = session.copy()?;
-    Ok((first, copy.stored()))
+}
+
+fn given<A: AllocHandle>(alloc: A, before: Database<A>) -> Result<Arguments<A>, Fault<Refusal>> {
+    let outcome = outcome(alloc, &before)?;
+    let name = Name::new(alloc, "u")?;
+    let differences = differences(alloc, &before, outcome.database(), &name)?;
+    Ok(Arguments {
+        name,
+        before,
+        outcome,
+        differences,
+    })
+}
+
+// A database with tables t and u, and a session that attaches t and has one image of it.
+fn noted<A: AllocHandle>(alloc: A) -> Result<(Database<A>, Session<A>), Fault<Refusal>> {
+    let mut database = with_tables(alloc, &["t", "u"])?;
+    let mut session = attached(alloc, "t")?;
+    session.attach_all();
+    let mut ops = Vec::new(alloc);
+    if ops.push(insert(alloc, "t", 1, "x")?).is_err() {
+        return Err(Fault::OutOfMemory);
+    }
+    commit(alloc, &mut database, &mut session, &ops)?;
+    Ok((database, session))
+}
+
+fn held<A: AllocHandle>(session: &Session<A>) -> (usize, u128) {
+    (session.attached().count(), session.stored())
+}
+
+// Makes a call on a copy of the session, with this request for memory refused: whether it is made. Where it is not, the
+// copy is as before, and the same call is made on it again. None where anything else comes of it.
+fn with_a_request_refused<A: AllocHandle>(
+    memory: &Memory<&LocalHeap>,
+    session: &Session<A>,
+    (call, tables, images): (Call, usize, u128),
+    given: &Arguments<A>,
+    number: u64,
+) -> Option<bool> {
+    let mut copy = session.copy().ok()?;
+    memory.refuse(number);
+    let is_made = made_call(&mut copy, call, given).is_ok();
+    memory.refuse(0);
+    if is_made == memory.has_refused() {
+        return None;
+    }
+    if !is_made {
+        if held(&copy) != (1, 1) {
+            return None;
+        }
+        made_call(&mut copy, call, given).ok()?;
+    }
+    (held(&copy) == (tables, images)).then_some(is_made)
+}
+
+// The number of the first request that is refused without a fault, since the call makes fewer.
+fn first_unused_request<A: AllocHandle>(
+    memory: &Memory<&LocalHeap>,
+    session: &Session<A>,
+    call: (Call, usize, u128),
+    given: &Arguments<A>,
+) -> Option<u64> {
+    for number in 1..1_000u64 {
+        if with_a_request_refused(memory, session, call, given, number)? {
+            return Some(number);
+        }
+    }
+    None
+}
+
+// Whether each call, with each of its requests refused in turn, leaves the session as it was, and is answered when it
+// is made again.
+fn each_call_may_be_refused<A: AllocHandle>(
+    alloc: A,
+    memory: &Memory<&LocalHeap>,
+) -> Result<bool, Fault<Refusal>> {
+    let (database, session) = noted(alloc)?;
+    let given = given(alloc, database)?;
+    for call in CALLS {
+        if first_unused_request(memory, &session, call, &given).unwrap_or(0) <= 1 {
+            return Ok(false);
+        }
+    }
+    Ok(true)
+}
+
+// Each request of each call is refused in turn. The session is as before, and the same call made again is
+// answered.
+#[test]
+fn each_request_of_a_call_is_refused_in_turn(rt: HostRuntime) -> Result<(), Fail> {
+    let heap = LocalHeap::new(rt.alloc(), 32768)?;
+    let memory = Memory::new(&heap);
+    assert!(rt; each_call_may_be_refused(&memory, &memory) == Ok(true));
+    assert!(rt; heap.used() == 0);
+    Ok(())
+}
+
+// Ten thousand updates of one row are one record, with the image before the first of them.
+#[test]
+fn updates_of_one_row_are_one_record(rt: HostRuntime) -> Result<(), Fail> {
+    let alloc = rt.alloc();
+    let mut database = with_tables(alloc, &["t"])?;
+    let ops = [insert(alloc, "t", 1, "x")?];
+    commit(alloc, &mut database, &mut Session::new(alloc), &ops)?;
+    let mut session = attached(alloc, "t")?;
+    for number in 0..10_000i64 {
+        let fields = vec![in alloc; (1, Value::Int(number))]?;
+        let action = Action::Update(RowRef::Key(key(alloc, 1)?), Assignments::new(fields));
+        let ops = [op(alloc, "t", action)?];
+        commit(alloc, &mut database, &mut session, &ops)?;
+    }
+    assert!(rt; session.stored() == 1);
+    let x = row(alloc, 1, "x")?;
+    assert!(rt; recorded(alloc, &session, 1, Some(&x))? == Some((false, true)));
+    Ok(())
 }

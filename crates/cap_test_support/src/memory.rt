@@ -6,7 +6,6 @@ use std::sync::atomic::{AtomicBool, AtomicU64, Ordering};
 struct Requests {
     made: AtomicU64,
     refused: AtomicU64,
-    last: AtomicU64,
     met: AtomicBool,
 }
 
@@ -25,7 +24,6 @@ impl<B: Allocator> Memory<B> {
             requests: Requests {
                 made: AtomicU64::new(0),
                 refused: AtomicU64::new(0),
-                last: AtomicU64::new(0),
                 met: AtomicBool::new(false),
             },
         }
@@ -45,12 +43,6 @@ impl<B: Allocator> Memory<B> {
     pub fn has_refused(&self) -> bool {
         self.requests.met.load(Ordering::SeqCst)
     }
-
-    /// The number of the request to refuse next: 1, then 2, and so on, and nothing once the one named last
-    /// was not made.
-    pub fn next_refusal(&self) -> Option<u64> {
-        self.requests.next()
-    }
 }
 
 impl Requests {
@@ -58,18 +50,8 @@ impl Requests {
         self.made.store(0, Ordering::SeqCst);
         self.refused.store(number, Ordering::SeqCst);
         if number > 0 {
-            self.last.store(number, Ordering::SeqCst);
             self.met.store(false, Ordering::SeqCst);
         }
-    }
-
-    fn next(&self) -> Option<u64> {
-        let last = self.last.load(Ordering::SeqCst);
-        if last == 0 || self.met.load(Ordering::SeqCst) {
-            return Some(last.wrapping_add(1));
-        }
-        self.last.store(0, Ordering::SeqCst);
-        None
     }
 }
 

@@ -1,3 +1,9 @@
+ghost use Rattle.std.specs.Prelude.{◌≡◌, ◌≢◌, ◌↔◌, ◌-◌, min, max, length, IsTrue, IsErr, IfOk, IfErr, OnOk, Some, true};
+ghost use Rattle.std.specs.Io.{ReadsAtMost, WritesAtMost};
+ghost use Rattle.std.specs.Io.KnownBytes.{Keeps, ReadConsumes, WriteAppends};
+ghost use Rattle.std.specs.IoError.{error_kind};
+ghost use Rattle.cap_test_support.specs.Streams.{after_call, error_of_call, FailsInTurn};
+
 use std::alloc::Allocator;
 use std::io;
 use std::io::{ErrorKind, Read, Write};
@@ -13,7 +19,9 @@ pub struct Failure {
 
 impl Failure {
     /// No call fails.
-    pub fn none() -> Failure {
+    pub fn none() -> Failure
+        ensures { result.call ≡ 0 }
+    {
         Failure {
             call: 0,
             kind: ErrorKind::Other,
@@ -21,7 +29,10 @@ impl Failure {
     }
 
     /// The call fails for good: a broken pipe.
-    pub fn at(call: u64) -> Failure {
+    pub fn at(call: u64) -> Failure
+        ensures number { result.call ≡ call }
+        ensures error { result.kind ≡ ErrorKind.BrokenPipe }
+    {
         Failure {
             call,
             kind: ErrorKind::BrokenPipe,
@@ -29,23 +40,24 @@ impl Failure {
     }
 
     /// The call is interrupted, and is to be made again.
-    pub fn interrupted(call: u64) -> Failure {
+    pub fn interrupted(call: u64) -> Failure
+        ensures number { result.call ≡ call }
+        ensures error { result.kind ≡ ErrorKind.Interrupted }
+    {
         Failure {
             call,
             kind: ErrorKind::Interrupted,
         }
     }
 
-    // Counts a call, and gives its error where it fails.
-    fn count(&mut self) -> io::Result<()> {
-        if self.call == 0 {
-            return Ok(());
-        }
-        self.call -= 1;
-        if self.call == 0 {
-            return Err(io::Error::from(self.kind));
-        }
-        Ok(())
+    // Counts a call, and answers whether it is the one that fails.
+    fn count(&mut self) -> bool
+        ensures fails { IsTrue result ↔ (self.old.call ≡ 1) }
+        ensures counted { self.new ≡ after_call self.old }
+    {
+        let fails = self.call == 1;
+        self.call = self.call.saturating_sub(1);
+        fails
     }
 }
 
@@ -54,16 +66,29 @@ impl Failure {
 pub struct Source<'a> {
     /// The bytes that are still to be given.
     pub bytes: &'a [u8],
-    /// The most bytes that a call gives.
+    /// The most bytes that a call gives; 0 is as 1.
     pub most: usize,
     /// The read that fails.
     pub failure: Failure,
 }
 
 impl<'a> Read for Source<'a> {
-    fn read(&mut self, buf: &mut [u8]) -> io::Result<usize> {
-        self.failure.count()?;
-        let count = self.bytes.len().min(buf.len()).min(self.most);
+    ghost remaining = { λ source. Some source.bytes.now };
+
+    fn read(&mut self, buf: &mut [u8]) -> io::Result<usize>
+        ensures bound { ReadsAtMost result buf.new }
+        ensures bytes { ReadConsumes (Some self.old.bytes.now) (Some self.new.bytes.now) result buf.new }
+        ensures count { IfOk result (λ count.
+            count ≡ min (min (length self.old.bytes.now) (length buf.old)) (max self.old.most 1)) }
+        ensures fails { FailsInTurn self.old.failure result }
+        ensures next { self.new.failure ≡ after_call self.old.failure }
+        ensures most { self.new.most ≡ self.old.most }
+    {
+        if self.failure.count() {
+            return Err(io::Error::from(self.failure.kind));
+        }
+        let most = self.most.max(1);
+        let count = self.bytes.len().min(buf.len()).min(most);
         let (front, rest) = self.bytes.split_at(count);
         buf[..count].copy_from_slice(front);
         self.bytes = rest;
@@ -85,14 +110,31 @@ pub struct Sink<A: Allocator> {
 }
 
 impl<A: Allocator> Write for Sink<A> {
-    fn write(&mut self, buf: &[u8]) -> io::Result<usize> {
-        self.failure.count()?;
+    ghost contents = { λ sink. Some sink.taken.items };
+
+    fn write(&mut self, buf: &[u8]) -> io::Result<usize>
+        ensures bound { WritesAtMost result buf.now }
+        ensures bytes { WriteAppends (Some self.old.taken.items) (Some self.new.taken.items) result buf.now }
+        ensures count { IfOk result (λ count. count ≡ min (length buf.now) self.old.most) }
+        ensures fails { OnOk result (self.old.failure.call ≢ 1) }
+        ensures error { IfErr result (λ error. error_kind error ≡ error_of_call self.old.failure) }
+        ensures next { self.new.failure ≡ after_call self.old.failure }
+        ensures most { self.new.most ≡ self.old.most }
+        ensures flushes { self.new.flush_fails ≡ self.old.flush_fails }
+    {
+        if self.failure.count() {
+            return Err(io::Error::from(self.failure.kind));
+        }
         let count = buf.len().min(self.most);
         self.taken.extend_from_slice(&buf[..count])?;
         Ok(count)
     }
 
-    fn flush(&mut self) -> io::Result<()> {
+    fn flush(&mut self) -> io::Result<()>
+        ensures bytes { Keeps (Some self.old.taken.items) (Some self.new.taken.items) }
+        ensures fails { IsErr result ↔ (self.old.flush_fails ≡ true) }
+        ensures error { IfErr result (λ error. error_kind error ≡ ErrorKind.BrokenPipe) }
+    {
         if self.flush_fails {
             return Err(io::Error::from(ErrorKind::BrokenPipe));
         }

@@ -3,11 +3,9 @@ use cap_database::{
 };
 use cap_row::{Key, Row, Schema};
 use cap_table::{NotMade, RowRef};
-use cap_tree::CommitHook;
+use cap_test_support::CountingHook;
 use cap_txn::{Batch, Mark, OPS_MAX, SAVEPOINTS_MAX, Txn};
 use cap_value::{AllocHandle, Fault, Name, Refusal, Value};
-use linked_list_allocator::LocalHeap;
-use std::alloc::Global;
 use std::test::Fail;
 
 fn row<A: AllocHandle>(alloc: A, key: i64, text: &str) -> Result<Row<A>, Fault<Refusal>> {
@@ -73,7 +71,7 @@ fn refusal<T: Drop>(answer: Result<T, Fault<Refusal>>) -> Option<Refusal> {
 
 // Whether the row of this key is this one, or none is there where none is given.
 fn is_row<A: AllocHandle>(
-    txn: &Txn<A>,
+    txn: &mut Txn<A>,
     name: &Name<A>,
     key: &RowRef<A>,
     row: Option<&Row<A>>,
@@ -99,15 +97,15 @@ fn going_back_keeps_the_mark(rt: HostRuntime) -> Result<(), Fail> {
     let second = txn.savepoint()?;
     assert!(rt; (first.number, second.number) == (0, 1));
     txn.op(delete(alloc, 1)?)?;
-    assert!(rt; is_row(&txn, &name, &one, None));
+    assert!(rt; is_row(&mut txn, &name, &one, None));
     txn.back_to(second)?;
-    assert!(rt; is_row(&txn, &name, &one, Some(&y)));
+    assert!(rt; is_row(&mut txn, &name, &one, Some(&y)));
     txn.back_to(first)?;
-    assert!(rt; is_row(&txn, &name, &one, Some(&x)));
+    assert!(rt; is_row(&mut txn, &name, &one, Some(&x)));
     assert!(rt; refusal(txn.back_to(second)) == Some(Refusal::NoMark));
     txn.back_to(first)?;
     assert!(rt; txn.savepoint()? == Mark { number: 2 });
-    assert!(rt; txn.scan(&name)?.left() == 1);
+    assert!(rt; txn.scan(&name)?.scan().left() == 1);
     let batch = txn.into_batch();
     assert!(rt; (batch.ops().len(), batch.base()) == (0, Some(2)));
     assert!(rt; snapshot.get(&name, &one)?.is_some() && snapshot.scan(&name)?.left() == 1);
@@ -201,74 +199,12 @@ fn up_to_64_tables(rt: HostRuntime) -> Result<(), Fail> {
     Ok(())
 }
 
-// A transaction and its batch, in as much memory as the heap has.
-fn transact(heap: &LocalHeap) -> Result<(), Fault<Refusal>> {
-    let database = with_table(heap)?;
-    let snapshot = Snapshot::new(1, database);
-    let mut txn = Txn::begin(heap, &snapshot)?;
-    txn.op(insert(heap, 1, "a text that is stored")?)?;
-    let mark = txn.savepoint()?;
-    txn.op(set_text(heap, 1, "y")?)?;
-    txn.back_to(mark)?;
-    let batch = txn.into_batch();
-    match run_ops(heap, snapshot.database(), batch.ops()) {
-        Ok(_) => Ok(()),
-        Err(Fault::Refused(refused)) => Err(Fault::Refused(refused.why)),
-        Err(Fault::OutOfMemory) => Err(Fault::OutOfMemory),
-    }
-}
-
-#[test]
-fn each_allocation_may_be_refused(rt: HostRuntime) -> Result<(), Fail> {
-    let mut enough = 0;
-    for size in 0..900usize {
-        let heap = LocalHeap::new(rt.alloc(), 16 * size)?;
-        match transact(&heap) {
-            Ok(()) => {
-                enough = size;
-                break;
-            }
-            Err(fault) => assert!(rt; fault == Fault::OutOfMemory),
-        }
-        assert!(rt; heap.used() == 0);
-    }
-    assert!(rt; enough > 20, "{enough} blocks of 16 bytes were enough");
-    Ok(())
-}
-
-// A commit hook that counts how often it is asked, and allows or refuses.
-#[derive(Drop)]
-struct Counted {
-    allows: bool,
-    asked: u8,
-}
-
-impl CommitHook for Counted {
-    type Refusal = ();
-
-    ghost can_ask = { λ hook. Unit {0} };
-
-    ghost gives = { λ old answer new. Unit {0} };
-
-    fn before_commit(&mut self) -> Result<(), ()> {
-        self.asked = self.asked.saturating_add(1);
-        if self.allows { Ok(()) } else { Err(()) }
-    }
-}
-
 // Each operation is tried with a hook that refuses, and then with one that allows it.
 #[test]
 fn operations_wait_for_the_commit_hook(rt: HostRuntime) -> Result<(), Fail> {
     let alloc = rt.alloc();
     let mut database = with_table(alloc)?;
-    let mut no = Counted {
-        allows: false,
-        asked: 0,
-    };
-    let mut yes = Counted {
-        allows: true,
-        asked: 0,
-    };
+    let (mut no, mut yes) = (CountingHook::new(false), CountingHook::new(true));
     let ops = [
         (insert(alloc, 1, "a")?, 1usize),
         (set_text(alloc, 1, "b")?, 2),

@@ -1,7 +1,8 @@
-use cap_tree::{CommitHook, Tree};
+use cap_test_support::{CountingHook, Memory};
+use cap_tree::Tree;
 use cap_value::{AllocHandle, Fault};
 use linked_list_allocator::LocalHeap;
-use std::alloc::{AllocError, Global};
+use std::alloc::{AllocError, Allocator, Global};
 use std::collections::BTreeMap;
 use std::test::Fail;
 
@@ -73,120 +74,141 @@ fn a_tree_of_a_sorted_list(rt: HostRuntime) -> Result<(), Fail> {
     Ok(())
 }
 
-// A commit hook that allows or refuses, and counts how often it was asked.
-#[derive(Drop)]
-struct Step {
-    allows: bool,
-    asked: u32,
-}
-
-impl CommitHook for Step {
-    ghost use Rattle.std.specs.Prelude.{◌≡◌, MatchResult, true, false};
-
-    type Refusal = ();
-
-    ghost can_ask = { λ _. Unit {0} };
-
-    ghost gives = { λ s r _. MatchResult r (λ _. s.allows ≡ true) (λ _. s.allows ≡ false) };
-
-    fn before_commit(&mut self) -> Result<(), ()> {
-        self.asked = self.asked.wrapping_add(1);
-        if self.allows { Ok(()) } else { Err(()) }
-    }
-}
-
-fn counting_hook(allows: bool) -> Step {
-    Step { allows, asked: 0 }
-}
-
-// The changes that are refused their memory in turn: of a tree of the numbers up to 100.
-#[derive(Clone, Copy)]
+// The changes that are refused their memory in turn: each of the tree of the numbers up to 100.
+#[derive(Clone, Copy, Debug, Drop)]
 enum Change {
     Insert,
+    InsertWithHook,
+    Put,
     Remove,
-    InsertAfter,
+    RemoveWithHook,
+    Take,
 }
 
+const CHANGES: [Change; 6] = [
+    Change::Insert,
+    Change::InsertWithHook,
+    Change::Put,
+    Change::Remove,
+    Change::RemoveWithHook,
+    Change::Take,
+];
+
+// Puts 101 or takes 50, and answers the value that was there before a change in place.
 fn make_change<A: AllocHandle>(
     tree: &mut Numbers<A>,
     change: Change,
-    step: &mut Step,
+    hook: &mut CountingHook,
 ) -> Result<Option<u64>, Fault<()>> {
     match change {
         Change::Insert => Ok(tree.insert(101, 1010)?),
+        Change::InsertWithHook => tree.insert_with_hook(101, 1010, hook),
+        Change::Put => {
+            *tree = tree.put(101, 1010)?;
+            Ok(None)
+        }
         Change::Remove => Ok(tree.remove(&50)?),
-        Change::InsertAfter => tree.insert_with_hook(101, 1010, step),
+        Change::RemoveWithHook => tree.remove_with_hook(&50, hook),
+        Change::Take => {
+            *tree = tree.take(&50)?;
+            Ok(None)
+        }
     }
 }
 
+// Whether the change was made, with this answer, and nothing else.
+fn is_made<A: AllocHandle>(
+    tree: &Numbers<A>,
+    change: Change,
+    answer: Result<Option<u64>, Fault<()>>,
+) -> bool {
+    match change {
+        Change::Insert | Change::InsertWithHook | Change::Put => {
+            answer == Ok(None) && is_rising(tree, 101)
+        }
+        Change::Remove | Change::RemoveWithHook => answer == Ok(Some(500)) && lacks_50(tree),
+        Change::Take => answer == Ok(None) && lacks_50(tree),
+    }
+}
+
+// Whether the tree has the numbers up to 100 but for 50.
+fn lacks_50<A: AllocHandle>(tree: &Numbers<A>) -> bool {
+    tree.len() == 99
+        && tree.iter().zip((1..=100).filter(|n| *n != 50)).all(|((key, value), n)| *key == n
+            && *value == n.wrapping_mul(10))
+}
+
+// Takes the change back.
 fn undo_change<A: AllocHandle>(tree: &mut Numbers<A>, change: Change) -> Result<(), AllocError> {
     match change {
-        Change::Insert | Change::InsertAfter => tree.remove(&101)?,
-        Change::Remove => tree.insert(50, 500)?,
+        Change::Insert | Change::InsertWithHook | Change::Put => tree.remove(&101)?,
+        Change::Remove | Change::RemoveWithHook | Change::Take => tree.insert(50, 500)?,
     };
     Ok(())
 }
 
-type Block<'a> = Box<[u64; 2], &'a LocalHeap>;
-
-// Small blocks that fill the heap, but for as many as are to be free.
-fn blocks_but<'a>(
-    alloc: Global,
-    heap: &'a LocalHeap,
-    free: usize,
-) -> Result<Vec<Block<'a>>, AllocError> {
-    let mut blocks = Vec::new(alloc);
-    for _ in 0..2048 {
-        match Box::new(heap, [0u64; 2]) {
-            Ok(block) => blocks.push(block)?,
-            Err(_) => break,
-        }
-    }
-    blocks.truncate(blocks.len().saturating_sub(free));
-    Ok(blocks)
-}
-
-// Makes the change with so many small blocks of memory. Where it is refused them, the answer is how often the last step
-// was asked.
-fn starve<'a>(
-    alloc: Global,
-    heap: &'a LocalHeap,
-    tree: &mut Numbers<&'a LocalHeap>,
+// Makes the change with the request of this number refused. Where it is refused it leaves the tree as it was,
+// and is made again on the same tree. Answers whether it was refused, or nothing where something else
+// happened.
+fn refuse_in_turn<'a, B: Allocator>(
+    memory: &'a Memory<B>,
+    tree: &mut Numbers<&'a Memory<B>>,
     change: Change,
-    free: usize,
-) -> Result<Option<u32>, AllocError> {
-    let _blocks = blocks_but(alloc, heap, free)?;
-    let mut step = counting_hook(true);
-    match make_change(tree, change, &mut step) {
-        Ok(_) => Ok(None),
-        Err(_) => Ok(Some(step.asked)),
+    number: u64,
+) -> Option<bool> {
+    let mut hook = CountingHook::new(true);
+    memory.refuse(number);
+    let answer = make_change(tree, change, &mut hook);
+    memory.refuse(0);
+    if !memory.has_refused() {
+        return is_made(tree, change, answer).then_some(false);
     }
+    if answer.is_ok() || hook.asked != 0 || !is_rising(tree, 100) {
+        return None;
+    }
+    let answer = make_change(tree, change, &mut hook);
+    is_made(tree, change, answer).then_some(true)
 }
 
+// Every node is shared, so that each change needs memory.
 #[test]
-fn each_allocation_refused_in_turn(rt: HostRuntime) -> Result<(), Fail> {
-    let heap = LocalHeap::new(rt.alloc(), 16384)?;
-    let mut tree = rising(&heap, 100)?;
-    for change in [Change::Insert, Change::Remove, Change::InsertAfter] {
-        let mut refused = 0u32;
-        for free in 0..96usize {
-            // Every node is shared, so that a change needs memory.
+fn each_request_of_a_change_is_refused_in_turn(rt: HostRuntime) -> Result<(), Fail> {
+    let heap = LocalHeap::new(rt.alloc(), 32768)?;
+    let memory = Memory::new(&heap);
+    let mut tree = rising(&memory, 100)?;
+    for change in CHANGES {
+        let mut refused = 0u64;
+        for number in 1..100 {
             let snapshot = tree.snapshot()?;
-            if let Some(asked) = starve(rt.alloc(), &heap, &mut tree, change, free)? {
-                refused = refused.saturating_add(1);
-                assert_eq!(rt; asked, 0);
-                assert!(rt; is_rising(&tree, 100));
-                assert!(rt; make_change(&mut tree, change, &mut counting_hook(true)).is_ok());
-            }
-            assert!(rt; is_rising(&snapshot, 100));
+            let is_refused = refuse_in_turn(&memory, &mut tree, change, number);
+            assert!(rt; is_refused.is_some(), "{change:?} {number}");
+            assert!(rt; is_rising(&snapshot, 100), "{change:?} {number}");
             drop(snapshot);
             undo_change(&mut tree, change)?;
-            assert!(rt; is_rising(&tree, 100));
+            if is_refused == Some(false) {
+                break;
+            }
+            refused = number;
         }
-        assert!(rt; 4 < refused && refused < 96, "{refused}");
+        assert!(rt; 2 < refused && refused < 99, "{change:?} {refused}");
     }
     drop(tree);
     assert_eq!(rt; heap.used(), 0);
+    Ok(())
+}
+
+// A change beside a snapshot asks for memory for the nodes of one way down alone.
+#[test]
+fn a_snapshot_makes_no_request(rt: HostRuntime) -> Result<(), Fail> {
+    let memory = Memory::new(rt.alloc());
+    let mut tree = rising(&memory, 1000)?;
+    memory.refuse(0);
+    let snapshot = tree.snapshot()?;
+    assert_eq!(rt; memory.requests(), 0);
+    tree.insert(1001, 10010)?;
+    let requests = memory.requests();
+    assert!(rt; 0 < requests && requests < 20, "{requests}");
+    assert!(rt; is_rising(&tree, 1001) && is_rising(&snapshot, 1000));
     Ok(())
 }
 
@@ -239,7 +261,7 @@ fn ten_thousand_changes_beside_a_map_and_snapshots(rt: HostRuntime) -> Result<()
 #[test]
 fn a_change_waits_for_one_answer(rt: HostRuntime) -> Result<(), Fail> {
     let mut tree = rising(rt.alloc(), 100)?;
-    let (mut no, mut yes) = (counting_hook(false), counting_hook(true));
+    let (mut no, mut yes) = (CountingHook::new(false), CountingHook::new(true));
     assert!(rt;
         matches!(
             tree.insert_with_hook(101, 1010, &mut no),
