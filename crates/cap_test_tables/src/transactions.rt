@@ -3,9 +3,10 @@ use cap_database::{
 };
 use cap_row::{Key, Row, Schema};
 use cap_table::{NotMade, RowRef};
-use cap_test_support::CountingHook;
+use cap_test_support::{CountingHook, Memory};
 use cap_txn::{Batch, Mark, OPS_MAX, SAVEPOINTS_MAX, Txn};
 use cap_value::{AllocHandle, Fault, Name, Refusal, Value};
+use linked_list_allocator::LocalHeap;
 use std::test::Fail;
 
 fn row<A: AllocHandle>(alloc: A, key: i64, text: &str) -> Result<Row<A>, Fault<Refusal>> {
@@ -196,6 +197,103 @@ fn up_to_64_tables(rt: HostRuntime) -> Result<(), Fail> {
         action: Action::Delete(RowRef::Loose(1)),
     };
     assert!(rt; refusal(database.step(&nowhere)) == Some(Refusal::NoTable));
+    Ok(())
+}
+
+// Makes an operation with this request for memory refused: whether it is made. Where it is not, the transaction is as
+// before. None where anything else comes of it.
+fn op_with_a_request_refused<A: AllocHandle>(
+    memory: &Memory<&LocalHeap>,
+    txn: &mut Txn<A>,
+    op: Op<A>,
+    number: u64,
+) -> Option<bool> {
+    let before = (txn.trace().len(), txn.footprint().len());
+    memory.refuse(number);
+    let answer = txn.op(op);
+    memory.refuse(0);
+    let is_refused = memory.has_refused();
+    if is_refused != (answer == Err(Fault::OutOfMemory)) {
+        return None;
+    }
+    if is_refused && (txn.trace().len(), txn.footprint().len()) != before {
+        return None;
+    }
+    Some(!is_refused)
+}
+
+// The same of going back to a savepoint.
+fn back_with_a_request_refused<A: AllocHandle>(
+    memory: &Memory<&LocalHeap>,
+    txn: &mut Txn<A>,
+    mark: Mark,
+    number: u64,
+) -> Option<bool> {
+    let before = txn.trace().len();
+    memory.refuse(number);
+    let answer = txn.back_to(mark);
+    memory.refuse(0);
+    let is_refused = memory.has_refused();
+    if is_refused != (answer == Err(Fault::OutOfMemory)) {
+        return None;
+    }
+    if is_refused && txn.trace().len() != before {
+        return None;
+    }
+    Some(!is_refused)
+}
+
+// Makes an operation with each of its requests refused in turn, on one transaction, until it is made: whether there
+// were such requests.
+fn op_in_refused_memory<A: AllocHandle>(
+    alloc: A,
+    memory: &Memory<&LocalHeap>,
+    txn: &mut Txn<A>,
+) -> Result<bool, Fault<Refusal>> {
+    for number in 1..1_000u64 {
+        let op = insert(alloc, 1, "a text that is stored")?;
+        match op_with_a_request_refused(memory, txn, op, number) {
+            Some(true) => return Ok(number > 1),
+            Some(false) => {}
+            None => return Ok(false),
+        }
+    }
+    Ok(false)
+}
+
+// The same of going back to a savepoint.
+fn back_in_refused_memory<A: AllocHandle>(
+    memory: &Memory<&LocalHeap>,
+    txn: &mut Txn<A>,
+    mark: Mark,
+) -> bool {
+    for number in 1..1_000u64 {
+        match back_with_a_request_refused(memory, txn, mark, number) {
+            Some(true) => return number > 1,
+            Some(false) => {}
+            None => return false,
+        }
+    }
+    false
+}
+
+fn transact<A: AllocHandle>(alloc: A, memory: &Memory<&LocalHeap>) -> Result<bool, Fault<Refusal>> {
+    let snapshot = Snapshot::new(1, with_table(alloc)?);
+    let mut txn = Txn::begin(alloc, &snapshot)?;
+    let mark = txn.savepoint()?;
+    let is_made = op_in_refused_memory(alloc, memory, &mut txn)?;
+    let is_undone = back_in_refused_memory(memory, &mut txn, mark);
+    Ok(is_made && is_undone && txn.into_batch().ops().is_empty())
+}
+
+// Each request for memory of an operation and of going back is refused in turn. The transaction is as before, and the
+// same call made again on it is answered.
+#[test]
+fn each_allocation_may_be_refused(rt: HostRuntime) -> Result<(), Fail> {
+    let heap = LocalHeap::new(rt.alloc(), 32768)?;
+    let memory = Memory::new(&heap);
+    assert!(rt; transact(&memory, &memory) == Ok(true));
+    assert!(rt; heap.used() == 0);
     Ok(())
 }
 
