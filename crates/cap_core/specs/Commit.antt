@@ -10,8 +10,8 @@ use Rattle.cap_core.specs.declared.reply.Reply.{Reply}
 use Rattle.cap_core.specs.declared.reply.Reply.TheVariants.{Refused, Written}
 
 module _ {A : Type 0} where
-  -- Nothing that the transaction looked at has changed. The batch is accepted, and the transaction's calls, made
-  -- whole now, are answered as they were.
+  -- Nothing that the transaction looked at has changed. The batch is accepted, and the transaction's calls,
+  -- made whole now, are answered as they were.
   pub record IsCommitted (now : SnapshotState A) (seen : SeenState A) (reply : Reply A) : Type 0 where
     pub same : Unchanged seen.database now.database seen.footprint
     pub answers : answers_of seen.trace ≡ whole (calls_of seen.trace) now

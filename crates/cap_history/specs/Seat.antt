@@ -36,8 +36,9 @@ module _ {A : Type 0} where
     pub legal : IsLegal new.seen
     pub blobs : BlobsFit new.seen
 
-  -- A call of the seat has a reply. The history that it then has seen is legal, its blobs fit, it extends what
-  -- the seat had seen, and ends with the call. No event between is the seat's, so its calls are the earlier ones and this one.
+  -- A call of the seat has a reply. The history that it then has seen is legal, its blobs fit, it extends
+  -- what the seat had seen, and ends with the call. No event between is the seat's, so its calls are the
+  -- earlier ones and this one.
   pub record HasCalled (old new : SeatState A) (command : Command A) (reply : Reply A) : Type 0 where
     pub number : new.number ≡ old.number
     pub legal : IsLegal new.seen

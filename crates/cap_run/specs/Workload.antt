@@ -36,8 +36,8 @@ module _ {A : Type 0} where
   AreCalls (Ok done) some all = all ≡ some
   AreCalls (Err fault) some all = IsPrefix some all
 
-  -- One legal history, whose blobs fit, has the calls of the lines that have replies, each seat's in the order
-  -- of its lines: its own calls in that history are these, or these are a prefix of them.
+  -- One legal history, whose blobs fit, has the calls of the lines that have replies, each seat's in the
+  -- order of its lines: its own calls in that history are these, or these are a prefix of them.
   pub record AreOfOneHistory (Are : List (Event A) → List (Event A) → Type 0) (threads : ℕ)
       (lines : List (Line A)) (replies : List (Reply A)) : Type 0 where
     pub history : List (Event A)

@@ -8,8 +8,8 @@ use Rattle.cap_core.specs.Answer.{event_by, snapshot_of, state}
 use Rattle.cap_core.specs.Commit.{CommitsIfUnchanged}
 
 module _ {A : Type 0} where
-  -- The history ends with this commit, which was accepted exactly where nothing that the transaction looked at had
-  -- changed in the tables that the history before it left.
+  -- The history ends with this commit, which was accepted exactly where nothing that the transaction looked
+  -- at had changed in the tables that the history before it left.
   abbrev pub CommitsAt : List (Event A) → BatchState A → Reply A → Type 0
   CommitsAt history batch reply =
       (before : List (Event A)) (by : ℕ) → history ≡ before ++ event_by by (Commit batch) reply ∷ []

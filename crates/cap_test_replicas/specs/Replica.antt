@@ -47,9 +47,9 @@ module _ {A : Type 0} where
   HoldsFirst session history replica =
       HoldsImages replica (tables_after history) (records_after session history)
 
-  -- The seat's capture is the sequential server's at one point of one growing history, which begins with all that
-  -- the seat had seen. Where the replica held the first images, it now has at each touched key the row at that point,
-  -- or none, and all else as before. All changes are applied, without a conflict.
+  -- The seat's capture is the sequential server's at one point of one growing history, which begins with all
+  -- that the seat had seen. Where the replica held the first images, it now has at each touched key the row
+  -- at that point, or none, and all else as before. All changes are applied, without a conflict.
   pub record IsReplicated (old new : SeatState A) (session : ℕ) (replica : Tables A) (left : AppliedState A)
       : Type 0 where
     pub changes : List (TableChanges A)
@@ -60,8 +60,8 @@ module _ {A : Type 0} where
         → GivesRows replica (tables_after before) left.database (records_after session before)
         × (left.report ≡ record { applied = changes_in changes; conflicts = []; omitted = []; skipped = [] })
 
-  -- Why there is no replica: the server's call failed, no live session has the number, or the replica did not hold
-  -- the first images.
+  -- Why there is no replica: the server's call failed, no live session has the number, or the replica did not
+  -- hold the first images.
   abbrev pub Explains : NotReplicated → SeatState A → SeatState A → ℕ → Tables A → Type 0
   Explains (Call fault) old new session replica = LeavesSeat fault old new
   Explains NoCapture old new session replica = HasCalled old new (Capture session) (refusal NoSession)

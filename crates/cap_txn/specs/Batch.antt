@@ -1,4 +1,5 @@
--- A batch: operations, the version that they were made on, if any, and what their transaction saw, if one made it.
+-- A batch: operations, the version that they were made on, if any, and what their transaction saw, if one
+-- made it.
 use Rattle.std.specs.Prelude.{ℕ, ⊤, Option, Some, None, Result, Ok, Err, List, [], ◌∷◌, ◌++◌, length, nat_lt}
 use Rattle.std.specs.Prelude.{if◌then◌else◌}
 use Rattle.cap_value.specs.declared.refusal.Refusal.{Refusal}

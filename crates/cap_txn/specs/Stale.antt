@@ -13,8 +13,8 @@ use Rattle.cap_txn.specs.Standing.{Leaves}
 use Rattle.cap_txn.specs.Transaction.{answers_of, calls_of}
 
 module _ {A : Type 0} where
-  -- Why a batch is refused on a snapshot, if it is: an item of its footprint has changed, or where its base is a
-  -- number alone, the version.
+  -- Why a batch is refused on a snapshot, if it is: an item of its footprint has changed, or where its base
+  -- is a number alone, the version.
   abbrev pub stale : Option ℕ → Option (SeenState A) → SnapshotState A → Option Refusal
   stale None seen now = None
   stale (Some base) None now =
@@ -27,17 +27,17 @@ module _ {A : Type 0} where
   abbrev pub base_of : ℕ → SeenState A → SnapshotState A
   base_of version seen = record { version = version; database = seen.database }
 
-  -- A batch of these operations is a transaction's: they are what stands after its calls on its base, with their
-  -- answers and footprint.
+  -- A batch of these operations is a transaction's: they are what stands after its calls on its base, with
+  -- their answers and footprint.
   pub record StandsFor (made : List (Op A)) (base : ℕ) (seen : SeenState A) : Type 0 where
     pub rises : EachRises seen.database
     pub ops : made ≡ (left (calls_of seen.trace) (base_of base seen)).ops
     pub answers : answers_of seen.trace ≡ whole (calls_of seen.trace) (base_of base seen)
     pub items : seen.footprint ≡ footprint (calls_of seen.trace) (base_of base seen)
 
-  -- What becomes of a transaction's batch on a snapshot. Where its footprint has not changed, it is not out of
-  -- date, its operations are accepted, and its calls are answered there as they were. Else the refusal names the
-  -- first item that has changed.
+  -- What becomes of a transaction's batch on a snapshot. Where its footprint has not changed, it is not out
+  -- of date, its operations are accepted, and its calls are answered there as they were. Else the refusal
+  -- names the first item that has changed.
   pub record IsJudged (made : List (Op A)) (now : SnapshotState A) (base : ℕ) (seen : SeenState A)
       : Type 0 where
     pub fresh : Unchanged seen.database now.database seen.footprint

@@ -44,8 +44,8 @@ module _ {A : Type 0} where
     trace = txn.trace ++ record { call = call; answer = answer_to txn.standing call } ∷ [];
   }
 
-  -- The call was answered so, also where it is refused, and is the last of the trace. When out of memory, all is
-  -- as before.
+  -- The call was answered so, also where it is refused, and is the last of the trace. When out of memory, all
+  -- is as before.
   abbrev pub IsAnswered : {X : Type 0} → (X → Answer A) → Result X (Fault Refusal) → Asked A → TxnState A
       → TxnState A → Type 0
   IsAnswered told (Ok x) call old new = (told x ≡ answer_to old.standing call) × (new ≡ traced old call)

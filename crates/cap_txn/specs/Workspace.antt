@@ -1,5 +1,5 @@
--- What stands of a transaction: the snapshot that it began with, the database, the operations that were not undone,
--- and so with the savepoints.
+-- What stands of a transaction: the snapshot that it began with, the database, the operations that were not
+-- undone, and so with the savepoints.
 use Rattle.std.specs.Prelude.{ℕ, ◌+◌, Option, Some, None, Result, Ok, Err, List, [], ◌∷◌, ◌++◌, length, take}
 use Rattle.std.specs.Prelude.{nat_lt, ◌==◌, if◌then◌else◌}
 use Rattle.cap_value.specs.declared.refusal.Refusal.{Refusal}
