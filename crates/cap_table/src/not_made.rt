@@ -1,5 +1,8 @@
 //! Why a change with a commit hook was not made.
 use cap_value::Refusal;
+use std::error::Error;
+use std::fmt;
+use std::fmt::{Debug, Display};
 
 /// Why a change with a commit hook was not made.
 #[derive(Clone, Copy, Debug, PartialEq, Eq, Drop)]
@@ -11,3 +14,15 @@ pub enum NotMade<E> {
     /// The hook refused it.
     Vetoed(E),
 }
+
+impl<E: Display> Display for NotMade<E> {
+    fn fmt<W: fmt::Write>(&self, f: &mut fmt::Formatter<W>) -> fmt::Result {
+        match self {
+            NotMade::Refused(why) => write!(f, "{why}"),
+            NotMade::OutOfMemory => f.write_str("out of memory"),
+            NotMade::Vetoed(why) => write!(f, "the commit hook refused it: {why}"),
+        }
+    }
+}
+
+impl<E: Debug + Display + Drop> Error for NotMade<E> {}

@@ -3,6 +3,9 @@ ghost use Rattle.std.specs.Prelude.{◌≡◌};
 ghost use Rattle.cap_value.specs.Handle.{IsHandle};
 
 use std::alloc::{Allocator, Global};
+use std::error::Error;
+use std::fmt;
+use std::fmt::{Debug, Display};
 
 /// Out of memory. Every call that allocates may answer it, and then it has changed nothing.
 pub use std::alloc::AllocError as OutOfMemory;
@@ -35,6 +38,17 @@ pub enum Fault<E> {
     /// Out of memory, whatever the rules say. Nothing has changed, and the call may be made again.
     OutOfMemory,
 }
+
+impl<E: Display> Display for Fault<E> {
+    fn fmt<W: fmt::Write>(&self, f: &mut fmt::Formatter<W>) -> fmt::Result {
+        match self {
+            Fault::Refused(why) => why.fmt(f),
+            Fault::OutOfMemory => f.write_str("out of memory"),
+        }
+    }
+}
+
+impl<E: Debug + Display + Drop> Error for Fault<E> {}
 
 impl<E> From<OutOfMemory> for Fault<E> {
     ghost use Rattle.cap_value.specs.declared.memory.Fault.TheVariants.{OutOfMemory};
