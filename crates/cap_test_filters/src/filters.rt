@@ -1,3 +1,4 @@
+//! Table filters and their text, against their definitions, and in memory of which each request is refused.
 use cap_filter::{Filter, TableFilter, Word};
 use cap_test_support::Memory;
 use cap_value::{AllocHandle, Fault, Name, OutOfMemory, Refusal};

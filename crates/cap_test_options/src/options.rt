@@ -1,3 +1,4 @@
+//! The words of a command line: what they ask for, and those that are refused.
 use cap_run::{Options, OptionsFault, options};
 use std::alloc::{AllocError, Global};
 use std::test::Fail;

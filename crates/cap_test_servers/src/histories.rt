@@ -1,3 +1,5 @@
+//! Seats of one front word: what each has seen, and who appends.
+
 ghost use Rattle.std.specs.Prelude.{◌≡◌, [], IfSome};
 ghost use Rattle.cap_core.specs.Answer.{reply_of};
 ghost use Rattle.cap_core.specs.declared.command.Command.TheVariants.{Read};

@@ -1,3 +1,4 @@
+//! Sessions that note commits and diffs, and in memory of which each request is refused.
 use cap_compare::{Difference, compare};
 use cap_database::{Action, Assignments, Cause, Database, Op, Outcome, run_ops};
 use cap_row::{Key, Row, Schema};

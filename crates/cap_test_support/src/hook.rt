@@ -1,3 +1,5 @@
+//! A commit hook that counts how often it is asked.
+
 ghost use Rattle.std.specs.Prelude.{◌≡◌, ◌↔◌, ◌+◌, ◌-◌, ◌^◌, min, IsOk, true};
 
 use cap_tree::CommitHook;

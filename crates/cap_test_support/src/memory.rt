@@ -1,3 +1,4 @@
+//! Memory of which one request is refused.
 use std::alloc::{AllocError, Allocator};
 use std::sync::atomic::{AtomicBool, AtomicU64, Ordering};
 

@@ -1,3 +1,5 @@
+//! Readers and writers of which one call fails.
+
 ghost use Rattle.std.specs.Prelude.{◌≡◌, ◌≢◌, ◌↔◌, ◌-◌, min, max, length, IsTrue, IsErr, IfOk, IfErr, OnOk, Some, true};
 ghost use Rattle.std.specs.Io.{ReadsAtMost, WritesAtMost};
 ghost use Rattle.std.specs.Io.KnownBytes.{Keeps, ReadConsumes, WriteAppends};

@@ -1,3 +1,4 @@
+//! Transactions, batches, lists of operations and commit hooks of databases.
 use cap_database::{
     Action, Assignments, Cause, Database, Op, RefusedAt, Snapshot, TABLES_MAX, run_ops,
 };

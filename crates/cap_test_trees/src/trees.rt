@@ -1,3 +1,4 @@
+//! Trees against an ordered map, beside snapshots, and in memory of which each request is refused.
 use cap_test_support::{CountingHook, Memory};
 use cap_tree::Tree;
 use cap_value::{AllocHandle, Fault};

@@ -1,3 +1,4 @@
+//! Schemas, rows and keys at their limits, and in their order.
 use cap_row::{COLUMNS_MAX, Key, Row, Schema, key_of};
 use cap_test_support::Memory;
 use cap_value::{AllocHandle, Fault, OutOfMemory, Refusal, Value};

@@ -1,3 +1,4 @@
+//! Values, names and refusals: limits, order, texts and copies.
 use cap_test_support::Memory;
 use cap_value::{AllocHandle, Blob, Fault, NAME_MAX, Name, Refusal, Text, Value};
 use linked_list_allocator::LocalHeap;

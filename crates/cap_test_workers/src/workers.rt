@@ -1,3 +1,5 @@
+//! Workloads on threads: what they print, and in which order.
+
 ghost use Rattle.std.specs.Prelude.{◌≤◌};
 
 use cap_run::{Gate, NoGate, RunFault, run_workload};
