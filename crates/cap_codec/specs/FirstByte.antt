@@ -4,7 +4,7 @@ use Rattle.cap_codec.specs.declared.fault.BlobFault.{BlobFault}
 use Rattle.cap_codec.specs.declared.fault.FaultKind.TheVariants.{BadHeader}
 use Rattle.cap_codec.specs.BlobReading.{is_kind}
 
--- the fault of a first byte that begins no group, which is told before memory is asked for
+-- the fault of a first byte that begins no group, which is reported before memory is asked for
 abbrev pub first_fault : List ℕ → Option BlobFault
 first_fault [] = None
 first_fault (kind ∷ bytes) = if is_kind kind then None else Some (record { at = 0; kind = BadHeader })

@@ -36,7 +36,7 @@ module _ (A : Type 0) {R : Type 0} (remaining : R → Option (List ℕ)) (gave f
       (piece ≡ []) × IsAtEnd (remaining new) × (blob_at front ≡ reading)
 
   -- What the last read gave leads to this answer: the whole blob, the fault that its bytes show or that the
-  -- whole blob has, or want of memory.
+  -- whole blob has, or out of memory.
   abbrev pub LastGave : Result (Contents A) ReadFault → R → List ℕ → List ℕ → Type 0
   LastGave (Ok blob) new front piece = IsWhole new front piece (Ok blob)
   LastGave (Err (read.Blob fault)) new front piece =

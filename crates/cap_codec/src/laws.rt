@@ -57,7 +57,7 @@ pub fn a_fault_lasts<A: AllocHandle>()
         lasting (blob_at {A = A} (front ++ more)) ≡ Err fault }
 {}
 
-/// A fault other than `Truncated` is told at the part that has it: some blob begins with the bytes before its
+/// A fault other than `Truncated` is reported at the part that has it: some blob begins with the bytes before its
 /// offset, and none with these and that part.
 pub fn fault_place<A: AllocHandle>()
     ensures { (bytes : List ℕ) (fault : BlobFault) → AreBytes bytes →

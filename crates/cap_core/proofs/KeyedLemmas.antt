@@ -1,5 +1,5 @@
 -- After any history the tables' names rise, and in each table keys and ids rise and rows stand where they belong.
-use Rattle.std.proofs.Common.{◌≡◌, ◌<◌, ℕ, Bool, true, false, cond, Option, Some, None, Result, Ok, Err, List, [], ◌∷◌, ◌&&◌, length, refl, ap, arith, not, Ordering, Less, Equal, Greater, nat_eq, nat_lt}
+use Rattle.std.proofs.Common.{◌≡◌, ◌<◌, ◌≤◌, ℕ, Bool, true, false, cond, Option, Some, None, Result, Ok, Err, List, [], ◌∷◌, ◌&&◌, length, refl, ap, arith, not, Ordering, Less, Equal, Greater, nat_eq, nat_lt}
 use Rattle.std.specs.Prelude.{IfOk, is_some, reverse}
 use Rattle.std.specs.List.{All, AllByRecursion, list_all}
 use Rattle.std.specs.List.Sorted.{IsStrictlySortedBy}
@@ -11,9 +11,10 @@ use Rattle.std.proofs.lemmas.Bool.Decides.{nat_tests}
 use Rattle.std.proofs.lemmas.List.Elements.{All-from_recursion}
 use Rattle.cap_value.specs.Bytes.{bytes_cmp}
 use Rattle.cap_value.specs.declared.refusal.Refusal.{Refusal}
+use Rattle.cap_row.specs.Fields.{Fields}
 use Rattle.cap_row.specs.Key.{fields_cmp, key_of}
 use Rattle.cap_tree.specs.Tree.{IsOrdered}
-use Rattle.cap_table.specs.Sound.{IsRising, keyed_stands, loose_stands}
+use Rattle.cap_table.specs.Sound.{IsRising, is_given, keyed_stands, loose_stands}
 use Rattle.cap_table.specs.Table.{TableState}
 use Rattle.cap_database.specs.Snapshot.{SnapshotState}
 use Rattle.cap_database.specs.Operation.{run}
@@ -84,6 +85,9 @@ same_length m n e = grind (arith, nat_tests)
 is_below : (m n : ℕ) → nat_lt m n ≡ true → m < n
 is_below m n e = grind (arith, nat_tests)
 
+is_positive : (n : ℕ) → nat_lt 0 n ≡ true → 1 ≤ n
+is_positive n e = let l = is_below 0 n e in omega (arith, l)
+
 module _ {A : Type 0} where
   -- ---- a table
 
@@ -94,15 +98,20 @@ module _ {A : Type 0} where
     own = each_passes (λ row. keyed_stands table.schema row.0 row.1) (λ row. key_of table.schema row.1 ≡ Some row.0) (λ row is. stands-key_of table.schema row.0 row.1 is) table.keyed rising.stand.keyed;
   }
 
+  id_is_given : (table : TableState A) (row : ℕ × Fields A) → loose_stands table.schema table.next_id row.0 row.1 ≡ true → is_given table.next_id row.0 ≡ true
+  id_is_given table row is = second (nat_eq (length row.1) (length table.schema) && not (is_some (key_of table.schema row.1))) (is_given table.next_id row.0) is
+
   loose_is : (table : TableState A) → IsRising table → IsLoose table
   loose_is table rising = record {
     rise = ordered nat_cmp table.loose rising.ids;
     wide = each_passes (λ row. loose_stands table.schema table.next_id row.0 row.1) (λ row. length row.1 ≡ length table.schema)
-        (λ row is. same_length (length row.1) (length table.schema) (first (nat_eq (length row.1) (length table.schema)) _ (first _ (nat_lt row.0 table.next_id) is))) table.loose rising.stand.loose;
+        (λ row is. same_length (length row.1) (length table.schema) (first (nat_eq (length row.1) (length table.schema)) _ (first _ (is_given table.next_id row.0) is))) table.loose rising.stand.loose;
     keyless = each_passes (λ row. loose_stands table.schema table.next_id row.0 row.1) (λ row. key_of table.schema row.1 ≡ None)
-        (λ row is. no_key (key_of table.schema row.1) (second (nat_eq (length row.1) (length table.schema)) (not (is_some (key_of table.schema row.1))) (first _ (nat_lt row.0 table.next_id) is))) table.loose rising.stand.loose;
+        (λ row is. no_key (key_of table.schema row.1) (second (nat_eq (length row.1) (length table.schema)) (not (is_some (key_of table.schema row.1))) (first _ (is_given table.next_id row.0) is))) table.loose rising.stand.loose;
+    first = each_passes (λ row. loose_stands table.schema table.next_id row.0 row.1) (λ row. 1 ≤ row.0)
+        (λ row is. is_positive row.0 (first (nat_lt 0 row.0) (nat_lt row.0 table.next_id) (id_is_given table row is))) table.loose rising.stand.loose;
     given = each_passes (λ row. loose_stands table.schema table.next_id row.0 row.1) (λ row. row.0 < table.next_id)
-        (λ row is. is_below row.0 table.next_id (second (nat_eq (length row.1) (length table.schema) && not (is_some (key_of table.schema row.1))) (nat_lt row.0 table.next_id) is)) table.loose rising.stand.loose;
+        (λ row is. is_below row.0 table.next_id (second (nat_lt 0 row.0) (nat_lt row.0 table.next_id) (id_is_given table row is))) table.loose rising.stand.loose;
   }
 
   -- ---- what a command and a history leave, by what operations and new tables do

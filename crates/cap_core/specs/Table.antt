@@ -1,5 +1,5 @@
 -- What holds of every table after any history whose blobs fit their tables.
-use Rattle.std.specs.Prelude.{◌≡◌, ◌<◌, Some, None, List, [], ◌∷◌, length, reverse}
+use Rattle.std.specs.Prelude.{◌≡◌, ◌<◌, ◌≤◌, Some, None, List, [], ◌∷◌, length, reverse}
 use Rattle.std.specs.List.{All}
 use Rattle.std.specs.Ordering.{nat_cmp}
 use Rattle.cap_row.specs.Key.{fields_cmp, key_of}
@@ -24,6 +24,7 @@ module _ {A : Type 0} where
     pub rise : IsOrdered nat_cmp table.loose
     pub wide : All (λ row. length row.1 ≡ length table.schema) table.loose
     pub keyless : All (λ row. key_of table.schema row.1 ≡ None) table.loose
+    pub first : All (λ row. 1 ≤ row.0) table.loose
     pub given : All (λ row. row.0 < table.next_id) table.loose
 
   -- the blob that the command applies, if any, fits its tables, as every blob that a program can make

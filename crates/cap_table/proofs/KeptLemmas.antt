@@ -1,5 +1,5 @@
 -- What an operation keeps of a table: its columns, the order of keys and ids, and that rows stand where they belong.
-use Rattle.std.proofs.Common.{◌≡◌, ℕ, ◌+◌, ◌^◌, ◌<◌, Bool, true, false, cond, Option, Some, None, Result, Ok, Err, List, [], ◌∷◌, length, refl, sym, ap, subst, ◌∙◌, arith, Ordering, Less, Equal, Greater, T}
+use Rattle.std.proofs.Common.{◌≡◌, ℕ, ◌+◌, ◌^◌, ◌<◌, ◌≤◌, Bool, true, false, cond, Option, Some, None, Result, Ok, Err, List, [], ◌∷◌, length, refl, sym, ap, subst, ◌∙◌, arith, Ordering, Less, Equal, Greater, T}
 use Rattle.std.specs.Prelude.{IfOk, is_some, ◌==◌, nat_lt}
 use Rattle.std.specs.List.{enumerate_from}
 use Rattle.std.specs.Map.{remove_entry}
@@ -22,9 +22,9 @@ use Rattle.cap_tree.specs.Tree.{get, put_entry}
 use Rattle.cap_table.specs.declared.row_ref.RowRef.{RowRef}
 use Rattle.cap_table.specs.declared.row_ref.RowRef.TheVariants.{Key, Loose}
 use Rattle.cap_table.specs.Operation.{delete_row, empty_table, insert_row, moved, placed, rekeyed, row_of, under_key, under_next_id, updated, update_row, with_id, with_key, without}
-use Rattle.cap_table.specs.Sound.{IsRising, IsTable, is_key_of, keyed_stands, loose_stands}
+use Rattle.cap_table.specs.Sound.{IsRising, IsTable, is_given, is_key_of, keyed_stands, loose_stands}
 use Rattle.cap_table.specs.Table.{TableState}
-use Rattle.cap_table.proofs.TableLemmas.{both, fields_same, first, found-passes, put_keyed, put_loose, put_next, second, take_keyed, take_loose, was_given}
+use Rattle.cap_table.proofs.TableLemmas.{both, fields_same, first, found-passes, given_from_1, put_keyed, put_loose, put_next, second, take_keyed, take_loose, was_given}
 
 truth : (b : Bool) → T b → b ≡ true
 truth true t = refl
@@ -79,9 +79,9 @@ module _ {A : Type 0} where
     ids = h.ids;
   }
 
-  with_id-rises : (t : TableState A) (id : ℕ) (row : Fields A) → IsRising t → id < t.next_id → length row ≡ length t.schema → key_of t.schema row ≡ None → IsRising (with_id t id row)
-  with_id-rises t id row h given wide none = record {
-    stand = put_loose t id row h.stand given wide none;
+  with_id-rises : (t : TableState A) (id : ℕ) (row : Fields A) → IsRising t → 1 ≤ id → id < t.next_id → length row ≡ length t.schema → key_of t.schema row ≡ None → IsRising (with_id t id row)
+  with_id-rises t id row h from_1 given wide none = record {
+    stand = put_loose t id row h.stand from_1 given wide none;
     keys = h.keys;
     ids = sorted-put nat_cmp nat_cmp_total nat_cmp-IsAntisymmetric t.loose id row h.ids;
   }
@@ -135,7 +135,7 @@ module _ {A : Type 0} where
       (first (length row == length t.schema) (is_key_of (key_of t.schema row) key) (found-passes fields_cmp (λ row. keyed_stands t.schema row.0 row.1) fields_same t.keyed key row h.keyed is))
   found-wide t (Loose id) row h is =
       let stands = found-passes nat_cmp (λ row. loose_stands t.schema t.next_id row.0 row.1) nat_cmp-IsAntisymmetric t.loose id row h.loose is in
-      same_length (length row) (length t.schema) (first (length row == length t.schema) _ (first _ (nat_lt id t.next_id) stands))
+      same_length (length row) (length t.schema) (first (length row == length t.schema) _ (first _ (is_given t.next_id id) stands))
 
   row_with-wide : (changes : List (ℕ × Value A)) (row : Fields A) → length (row_with changes row) ≡ length row
   row_with-wide changes row = length-map (enumerate_from 0 row) (λ field. new_value changes field.0 field.1) ∙ length-enumerate_from 0 row
@@ -151,7 +151,7 @@ module _ {A : Type 0} where
   moved-rises t (Key old) row (Some new) h there wide own = rekeyed-rises t old row new h wide own
   moved-rises t (Key old) row None h there wide none = under_next_id-rises (without t (Key old)) row (without-rises t (Key old) h) wide none
   moved-rises t (Loose id) row (Some new) h there wide own = under_key-rises (is_some (get fields_cmp t.keyed new)) (without t (Loose id)) new row (without-rises t (Loose id) h) wide own
-  moved-rises t (Loose id) row None h there wide none = with_id-rises t id row h (was_given t id h.stand there) wide none
+  moved-rises t (Loose id) row None h there wide none = with_id-rises t id row h (given_from_1 t id h.stand there) (was_given t id h.stand there) wide none
 
   updated-rises : (t : TableState A) (name : RowRef A) (changes : List (ℕ × Value A)) (found : Option (Fields A)) → IsRising t → row_of t name ≡ found → IfOk (updated t name changes found) IsRising
   updated-rises t name changes None h is = tt

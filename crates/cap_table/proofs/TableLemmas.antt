@@ -1,5 +1,5 @@
 -- Rows that stand where they belong, after a row is put and after one is taken.
-use Rattle.std.proofs.Common.{◌≡◌, ℕ, ◌+◌, ◌^◌, ◌<◌, Bool, true, false, cond, Option, Some, None, List, [], ◌∷◌, ◌&&◌, length, refl, sym, ap, subst, ◌∙◌, arith, Ordering, Less, Equal, Greater, Bor}
+use Rattle.std.proofs.Common.{◌≡◌, ℕ, ◌+◌, ◌^◌, ◌<◌, ◌≤◌, Bool, true, false, cond, Option, Some, None, List, [], ◌∷◌, ◌&&◌, length, refl, sym, ap, subst, ◌∙◌, arith, Ordering, Less, Equal, Greater, Bor}
 use Rattle.std.specs.Prelude.{is_some, ◌==◌, not, nat_lt, IfSome}
 use Rattle.std.specs.Option.{option_copied}
 use Rattle.std.specs.List.{list_all}
@@ -12,7 +12,7 @@ use Rattle.std.proofs.lemmas.Bool.Decides.{nat_tests}
 use Rattle.cap_row.specs.Fields.{Fields}
 use Rattle.cap_row.specs.Key.{fields_cmp, fields_cmp_total, fields_cmp-Equal, key_of}
 use Rattle.cap_tree.specs.Tree.{get, put_entry, take_entry}
-use Rattle.cap_table.specs.Sound.{is_key_of, keyed_stands, loose_stands, IsTable}
+use Rattle.cap_table.specs.Sound.{is_given, is_key_of, keyed_stands, loose_stands, IsTable}
 use Rattle.cap_table.specs.Table.{TableState}
 
 pub both : (a b : Bool) → a ≡ true → b ≡ true → (a && b) ≡ true
@@ -84,8 +84,20 @@ below m n h = grind (arith, nat_tests)
 is_below : (m n : ℕ) → nat_lt m n ≡ true → m < n
 is_below m n h = grind (arith, nat_tests)
 
-below_more : (m n : ℕ) → nat_lt m n ≡ true → nat_lt m (n + 1) ≡ true
-below_more m n h = let l = is_below m n h in below m (n + 1) (omega arith)
+-- an id that is given: it is at least 1, and below the next one
+given_of : (next id : ℕ) → 1 ≤ id → id < next → is_given next id ≡ true
+given_of next id p l = both (nat_lt 0 id) (nat_lt id next) (below 0 id (omega (arith, p))) (below id next l)
+
+is_below-given : (next id : ℕ) → is_given next id ≡ true → id < next
+is_below-given next id h = is_below id next (second (nat_lt 0 id) (nat_lt id next) h)
+
+is_first-given : (next id : ℕ) → is_given next id ≡ true → 1 ≤ id
+is_first-given next id h = let l = is_below 0 id (first (nat_lt 0 id) (nat_lt id next) h) in omega (arith, l)
+
+given_more : (next id : ℕ) → is_given next id ≡ true → is_given (next + 1) id ≡ true
+given_more next id h =
+    let l = is_below-given next id h in
+    given_of (next + 1) id (is_first-given next id h) (omega (arith, l))
 
 module _ {A : Type 0} where
   pub fields_same : IsAntisymmetric (fields_cmp {A = A})
@@ -97,9 +109,9 @@ module _ {A : Type 0} where
   pub stands-own : (schema : List Bool) (key row : Fields A) → length row ≡ length schema → key_of schema row ≡ Some key → keyed_stands schema key row ≡ true
   stands-own schema key row width is = both _ _ (same_length (length row) (length schema) width) (own_key (key_of schema row) key is)
 
-  pub stands-loose : (schema : List Bool) (next id : ℕ) (row : Fields A) → length row ≡ length schema → key_of schema row ≡ None → id < next → loose_stands schema next id row ≡ true
-  stands-loose schema next id row width none l =
-      both _ _ (both _ _ (same_length (length row) (length schema) width) (ap (λ k. not (is_some k)) none)) (below id next l)
+  pub stands-loose : (schema : List Bool) (next id : ℕ) (row : Fields A) → length row ≡ length schema → key_of schema row ≡ None → 1 ≤ id → id < next → loose_stands schema next id row ≡ true
+  stands-loose schema next id row width none p l =
+      both _ _ (both _ _ (same_length (length row) (length schema) width) (ap (λ k. not (is_some k)) none)) (given_of next id p l)
 
   pub put_keyed : (t : TableState A) (key row : Fields A) → IsTable t → length row ≡ length t.schema → key_of t.schema row ≡ Some key → IsTable (record t { keyed = put_entry fields_cmp t.keyed key row })
   put_keyed t key row h width is = record {
@@ -117,10 +129,10 @@ module _ {A : Type 0} where
     last = h.last;
   }
 
-  pub put_loose : (t : TableState A) (id : ℕ) (row : Fields A) → IsTable t → id < t.next_id → length row ≡ length t.schema → key_of t.schema row ≡ None → IsTable (record t { loose = put_entry nat_cmp t.loose id row })
-  put_loose t id row h l width none = record {
+  pub put_loose : (t : TableState A) (id : ℕ) (row : Fields A) → IsTable t → 1 ≤ id → id < t.next_id → length row ≡ length t.schema → key_of t.schema row ≡ None → IsTable (record t { loose = put_entry nat_cmp t.loose id row })
+  put_loose t id row h p l width none = record {
     keyed = h.keyed;
-    loose = list_all-put_entry nat_cmp (λ row. loose_stands t.schema t.next_id row.0 row.1) t.loose id row h.loose (stands-loose t.schema t.next_id id row width none l);
+    loose = list_all-put_entry nat_cmp (λ row. loose_stands t.schema t.next_id row.0 row.1) t.loose id row h.loose (stands-loose t.schema t.next_id id row width none p l);
     first = h.first;
     last = h.last;
   }
@@ -136,7 +148,7 @@ module _ {A : Type 0} where
   loose_more : (schema : List Bool) (next id : ℕ) (row : Fields A) → loose_stands schema next id row ≡ true → loose_stands schema (next + 1) id row ≡ true
   loose_more schema next id row h =
       let front = (length row == length schema) && not (is_some (key_of schema row)) in
-      both front _ (first front (nat_lt id next) h) (below_more id next (second front (nat_lt id next) h))
+      both front _ (first front (is_given next id) h) (given_more next id (second front (is_given next id) h))
 
   -- one id more is given
   one_id_more : (t : TableState A) → IsTable t → t.next_id < 2 ^ 63 → IsTable (record t { next_id = t.next_id + 1 })
@@ -148,17 +160,23 @@ module _ {A : Type 0} where
   }
 
   pub put_next : (t : TableState A) (row : Fields A) → IsTable t → t.next_id < 2 ^ 63 → length row ≡ length t.schema → key_of t.schema row ≡ None → IsTable (record t { loose = put_entry nat_cmp t.loose t.next_id row; next_id = t.next_id + 1 })
-  put_next t row h l width none = put_loose (record t { next_id = t.next_id + 1 }) t.next_id row (one_id_more t h l) (omega arith) width none
+  put_next t row h l width none = put_loose (record t { next_id = t.next_id + 1 }) t.next_id row (one_id_more t h l) h.first (omega arith) width none
 
   -- the id of a loose row was given
-  pub was_given : (t : TableState A) (id : ℕ) → IsTable t → is_some (get nat_cmp t.loose id) ≡ true → id < t.next_id
-  was_given t id h there = given (get nat_cmp t.loose id) refl there
+  id_is_given : (t : TableState A) (id : ℕ) → IsTable t → is_some (get nat_cmp t.loose id) ≡ true → is_given t.next_id id ≡ true
+  id_is_given t id h there = given (get nat_cmp t.loose id) refl there
     where
-      given : (found : Option (Fields A)) → get nat_cmp t.loose id ≡ found → is_some found ≡ true → id < t.next_id
+      given : (found : Option (Fields A)) → get nat_cmp t.loose id ≡ found → is_some found ≡ true → is_given t.next_id id ≡ true
       given None is there = cc
       given (Some row) is there =
           let stands = found-passes nat_cmp (λ row. loose_stands t.schema t.next_id row.0 row.1) nat_cmp-IsAntisymmetric t.loose id row h.loose is in
-          is_below id t.next_id (second ((length row == length t.schema) && not (is_some (key_of t.schema row))) (nat_lt id t.next_id) stands)
+          second ((length row == length t.schema) && not (is_some (key_of t.schema row))) (is_given t.next_id id) stands
+
+  pub was_given : (t : TableState A) (id : ℕ) → IsTable t → is_some (get nat_cmp t.loose id) ≡ true → id < t.next_id
+  was_given t id h there = is_below-given t.next_id id (id_is_given t id h there)
+
+  pub given_from_1 : (t : TableState A) (id : ℕ) → IsTable t → is_some (get nat_cmp t.loose id) ≡ true → 1 ≤ id
+  given_from_1 t id h there = is_first-given t.next_id id (id_is_given t id h there)
 
   -- each row has the table's width
   pub width-keyed : (t : TableState A) (key : Fields A) (found : Option (Bor (Fields A))) → IsTable t → option_copied found ≡ get fields_cmp t.keyed key → IfSome found (λ row. length row.now ≡ length t.schema)
@@ -170,7 +188,7 @@ module _ {A : Type 0} where
   width-loose t id None h is = tt
   width-loose t id (Some row) h is =
       let front = (length row.now == length t.schema) && not (is_some (key_of t.schema row.now)) in
-      is_same_length _ _ (first (length row.now == length t.schema) _ (first front (nat_lt id t.next_id) (found-passes nat_cmp (λ row. loose_stands t.schema t.next_id row.0 row.1) nat_cmp-IsAntisymmetric t.loose id row.now h.loose (sym is))))
+      is_same_length _ _ (first (length row.now == length t.schema) _ (first front (is_given t.next_id id) (found-passes nat_cmp (λ row. loose_stands t.schema t.next_id row.0 row.1) nat_cmp-IsAntisymmetric t.loose id row.now h.loose (sym is))))
 
   -- ---- a table as its fields, and as it is seen: the same
 
@@ -188,7 +206,9 @@ module _ {A : Type 0} where
     after_next row l width k = put_next t row h l (width_of row width) (key_is row None k)
 
     pub after_put_back : (id : ℕ) (row : Fields A) → is_some (get nat_cmp u.loose id) ≡ true → length row ≡ length u.schema → key_of u.schema row ≡ None → IsTable (record t { loose = put_entry nat_cmp t.loose id row })
-    after_put_back id row there width k = put_loose t id row h (was_given t id h (subst (λ (v : TableState A). is_some (get nat_cmp v.loose id) ≡ true) (sym is) there)) (width_of row width) (key_is row None k)
+    after_put_back id row there width k =
+        let here = subst (λ (v : TableState A). is_some (get nat_cmp v.loose id) ≡ true) (sym is) there in
+        put_loose t id row h (given_from_1 t id h here) (was_given t id h here) (width_of row width) (key_is row None k)
 
     pub after_rekey : (old key row : Fields A) → length row ≡ length u.schema → key_of u.schema row ≡ Some key → IsTable (record t { keyed = put_entry fields_cmp (take_entry fields_cmp t.keyed old) key row })
     after_rekey old key row width k = put_keyed (record t { keyed = take_entry fields_cmp t.keyed old }) key row (take_keyed t old h) (width_of row width) (key_is row (Some key) k)

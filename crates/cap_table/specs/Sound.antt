@@ -8,6 +8,10 @@ use Rattle.cap_row.specs.Fields.{Fields}
 use Rattle.cap_row.specs.Key.{key_of, fields_cmp, fields_eq}
 use Rattle.cap_table.specs.Table.{TableState}
 
+-- an id from 1 on, below the next one
+abbrev pub is_given : ℕ → ℕ → Bool
+is_given next id = nat_lt 0 id && nat_lt id next
+
 module _ {A : Type 0} where
   abbrev pub is_key_of : Option (Fields A) → Fields A → Bool
   is_key_of None key = false
@@ -17,10 +21,10 @@ module _ {A : Type 0} where
   abbrev pub keyed_stands : List Bool → Fields A → Fields A → Bool
   keyed_stands schema key row = (length row == length schema) && is_key_of (key_of schema row) key
 
-  -- a row of a table with these columns that has no key, under an id below the next one
+  -- a row of a table with these columns that has no key, under an id that was given
   abbrev pub loose_stands : List Bool → ℕ → ℕ → Fields A → Bool
   loose_stands schema next id row =
-      (length row == length schema) && not (is_some (key_of schema row)) && nat_lt id next
+      (length row == length schema) && not (is_some (key_of schema row)) && is_given next id
 
   -- ids start at 1, and the last one that is given is 2 ^ 63 - 1
   pub record IsTable (table : TableState A) : Type 0 where

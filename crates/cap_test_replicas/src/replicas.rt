@@ -67,7 +67,7 @@ fn is_same_row(
 }
 
 // A replica is taken before rows change, and holds the first images. In either form it then has the rows of the
-// server; another that lacks a row is told of a conflict.
+// server; another that lacks a row meets a conflict.
 fn replicated<J: Naming + Send + Sync, R: Wait + Abort>(
     rt: &R,
     opened: Opened<Global>,

@@ -17,16 +17,16 @@ module _ {A S E : Type 0} (gives : S → Reply A → Result Unit E → S → Typ
   -- The hook allowed this reply, and this is the next state; or the hook refused, or memory ran out, and
   -- nothing changed.
   abbrev pub Reports : Reply A → State A → State A → State A → S → S → Result (Reply A) (Fault E) → Type 0
-  Reports reply next old new before after (Ok told) =
-      (told ≡ reply) × (new ≡ next) × gives before reply (Ok tt) after
+  Reports reply next old new before after (Ok answered) =
+      (answered ≡ reply) × (new ≡ next) × gives before reply (Ok tt) after
   Reports reply next old new before after (Err fault) =
       (new ≡ old) × MatchFault fault (after ≡ before) (λ why. gives before reply (Err why) after)
 
   -- The same of one operation in place, with these changes.
   abbrev pub ReportsStep : Op A → List (Change A) → State A → State A → S → S → Result (Reply A) (NotMade E)
       → Type 0
-  ReportsStep op changes old new before after (Ok told) =
-      (told ≡ Written (old.version + 1)) × gives before (Written (old.version + 1)) (Ok tt) after
+  ReportsStep op changes old new before after (Ok answered) =
+      (answered ≡ Written (old.version + 1)) × gives before (Written (old.version + 1)) (Ok tt) after
       × ((left : Tables A) × (step old.main op ≡ Ok left) × (new ≡ written old left changes))
   ReportsStep op changes old new before after (Err fault) =
       (new ≡ old) × MatchNotMade fault (λ why. (step old.main op ≡ Err why) × (after ≡ before))
