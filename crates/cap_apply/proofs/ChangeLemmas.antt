@@ -31,6 +31,7 @@ use Rattle.cap_apply.specs.Applied.{AppliedState}
 use Rattle.cap_apply.specs.Apply.{change_applied, change_at, change_in, change_under, concluded, counted, left_out, noted, with_row_in}
 use Rattle.cap_apply.specs.Requested.{Requested}
 use Rattle.cap_apply.specs.Operated.{operated}
+use Rattle.cap_apply.specs.Operations.{directly}
 use Rattle.cap_apply.specs.Policy.{is_made, made_anyway}
 use Rattle.cap_apply.specs.Row.{assigned_from, conflict_of, key_record_of, key_values, missed, new_row, row_after, set_fields}
 use Rattle.cap_apply.specs.Target.{columns_fit, fitting, target}
@@ -39,7 +40,7 @@ use Rattle.cap_apply.specs.declared.conflict.ConflictKind.TheVariants.{NotFound,
 use Rattle.cap_apply.specs.declared.policy.Answer.{Answer}
 use Rattle.cap_apply.specs.declared.policy.Answer.TheVariants.{Omit, Replace, Abort}
 use Rattle.cap_apply.specs.declared.policy.Policy.{Policy}
-use Rattle.cap_apply.proofs.OperationLemmas.{directly, operated_ok, operated_err, act_insert_new, act_insert_taken, act_update, keys_update, act_delete}
+use Rattle.cap_apply.proofs.OperationLemmas.{operated_ok, operated_err, act_insert_new, act_insert_taken, act_update, keys_update, act_delete}
 use Rattle.cap_apply.proofs.RowLemmas.{row_with-assigned, are_columns-assigned, few_fields, key_of-set_fields, key_of-new_row, length-new_row, record_key, set_all}
 
 module _ {A : Type 0} where

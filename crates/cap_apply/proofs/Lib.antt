@@ -2,11 +2,15 @@ pub mod BlobLemmas
 pub mod CaptureLemmas
 pub mod ChangeLemmas
 pub mod ColumnLemmas
+pub mod CountLemmas
 pub mod DifferenceLemmas
 pub mod EntryLemmas
 pub mod FittingLemmas
 pub mod GroupLemmas
 pub mod MadeLemmas
+pub mod OnceLemmas
 pub mod OperationLemmas
 pub mod OrderLemmas
 pub mod RowLemmas
+pub mod RunLemmas
+pub mod TransactionLemmas

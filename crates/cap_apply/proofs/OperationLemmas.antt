@@ -19,18 +19,14 @@ use Rattle.cap_database.specs.Tables.{table_of}
 use Rattle.cap_database.specs.declared.cause.Cause.TheVariants.{Direct}
 use Rattle.cap_database.specs.declared.op.Action.{Action}
 use Rattle.cap_database.specs.declared.op.Action.TheVariants.{Insert, Update, Delete}
-use Rattle.cap_database.specs.declared.op.Op.{Op}
 use Rattle.cap_apply.specs.Applied.{AppliedState}
 use Rattle.cap_apply.specs.Operated.{operated, operated_by}
+use Rattle.cap_apply.specs.Operations.{directly}
 
 same_width : (m n : ℕ) → m ≡ n → (m == n) ≡ true
 same_width m n e = grind (arith, nat_tests)
 
 module _ {A : Type 0} where
-  -- an operation of an applied change
-  abbrev pub directly : List ℕ → Action A → Op A
-  directly name action = record { table = name; cause = Direct; action = action }
-
   module _ (state : AppliedState A) (name : List ℕ) (table : TableState A) (there : table_of state.database name ≡ Some table) where
     pub operated_ok : (action : Action A) (next : TableState A) → act table action ≡ Ok next → operated state (directly name action)
         ≡ Ok (record state {

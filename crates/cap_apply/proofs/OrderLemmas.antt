@@ -40,13 +40,13 @@ use Rattle.cap_apply.specs.Apply.{and_then, apply, change_applied, change_in, ch
 use Rattle.cap_apply.specs.Requested.{Requested, requested_by_change, requested_by_patch, requested_in, requested_of}
 use Rattle.cap_apply.specs.Fitting.{FitsItsTables}
 use Rattle.cap_apply.specs.Operated.{operated, operated_by}
+use Rattle.cap_apply.specs.Operations.{directly}
 use Rattle.cap_apply.specs.Policy.{is_made}
 use Rattle.cap_apply.specs.Row.{assigned_from, conflict_of, key_record_of, key_values, new_row, row_after, set_fields}
 use Rattle.cap_apply.specs.Target.{target}
 use Rattle.cap_apply.specs.declared.conflict.ConflictKind.{ConflictKind}
 use Rattle.cap_apply.specs.declared.policy.Policy.{Policy}
 use Rattle.cap_apply.proofs.ChangeLemmas.{HasTarget, applied_at, delete_is, has_target, insert_is, missed_made, noted_there, update_is}
-use Rattle.cap_apply.proofs.OperationLemmas.{directly}
 use Rattle.cap_apply.proofs.RowLemmas.{few_fields, full_keyed, key_of-new_row, key_of-set_fields, length-new_row, set_all}
 
 same_length : (m n : ℕ) → nat_eq m n ≡ true → m ≡ n
@@ -67,7 +67,7 @@ module _ {A : Type 0} where
         | false ↦ λ is. found-wide schema es key row parts.1 is
       ] found
 
-  found-rises : (tables : Tables A) (name : List ℕ) (table : TableState A) → AllByRecursion (λ named. IsRising named.1) tables → table_of tables name ≡ Some table → IsRising table
+  pub found-rises : (tables : Tables A) (name : List ℕ) (table : TableState A) → AllByRecursion (λ named. IsRising named.1) tables → table_of tables name ≡ Some table → IsRising table
   found-rises [] name table all found = cc
   found-rises (named ∷ tables) name table all found =
       elim (eq_by_cmp bytes_cmp name named.0) as (λ b. cond b (Some named.1) (table_of tables name) ≡ Some table → IsRising table) [
@@ -104,13 +104,13 @@ module _ {A : Type 0} where
   Keyed flags (patched.Update indirect new) = satisfy (requirements record_kinds.Keyed flags) new ≡ true
   Keyed flags (patched.Delete indirect key) = Unit {0}
 
-  change-keyed : (flags : List Bool) (change : RowChange A) → change_fits flags change ≡ true → Keyed flags (requested_by_change flags change).patch
+  pub change-keyed : (flags : List Bool) (change : RowChange A) → change_fits flags change ≡ true → Keyed flags (requested_by_change flags change).patch
   change-keyed flags (changed.Insert indirect new) fits = full_keyed flags new fits
   change-keyed flags (changed.Update indirect old new) fits =
       let parts = and_parts (satisfy (requirements record_kinds.Keyed flags) old) (satisfy (new_requirements flags old) new) fits in update_fits flags old new parts.0 parts.1
   change-keyed flags (changed.Delete indirect old) fits = tt
 
-  patch-keyed : (flags : List Bool) (patch : Patch A) → patch_fits flags patch ≡ true → Keyed flags patch
+  pub patch-keyed : (flags : List Bool) (patch : Patch A) → patch_fits flags patch ≡ true → Keyed flags patch
   patch-keyed flags (patched.Insert indirect new) fits = full_keyed flags new fits
   patch-keyed flags (patched.Update indirect new) fits = fits
   patch-keyed flags (patched.Delete indirect key) fits = tt
@@ -146,7 +146,7 @@ module _ {A : Type 0} where
     patch_groups-keyed groups all.1,
   )
 
-  blob-keyed : (blob : Contents A) → FitsItsTables blob → AllByRecursion IsKeyedGroup (requested_of blob)
+  pub blob-keyed : (blob : Contents A) → FitsItsTables blob → AllByRecursion IsKeyedGroup (requested_of blob)
   blob-keyed (Changes groups) all = change_groups-keyed groups (recursion_from_All (IsFitting change_fits) groups all)
   blob-keyed (Patches groups) all = patch_groups-keyed groups (recursion_from_All (IsFitting patch_fits) groups all)
 

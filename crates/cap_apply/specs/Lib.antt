@@ -2,9 +2,11 @@ pub mod Applied
 pub mod Apply
 pub mod Requested
 pub mod Captured
+pub mod Counted
 pub mod Difference
 pub mod Fitting
 pub mod Operated
+pub mod Operations
 pub mod Policy
 pub mod Report
 pub mod Row

@@ -48,10 +48,10 @@ module _ {A : Type 0} where
   -- is as before.
   abbrev pub IsAnswered : {X : Type 0} → (X → Answer A) → Result X (Fault Refusal) → Asked A → TxnState A
       → TxnState A → Type 0
-  IsAnswered as_answer (Ok x) call old new = (as_answer x ≡ answer_to old.standing call) × (new ≡ traced old call)
-  IsAnswered as_answer (Err (fault.Refused why)) call old new =
+  IsAnswered form (Ok x) call old new = (form x ≡ answer_to old.standing call) × (new ≡ traced old call)
+  IsAnswered form (Err (fault.Refused why)) call old new =
       (answer.Refused why ≡ answer_to old.standing call) × (new ≡ traced old call)
-  IsAnswered as_answer (Err fault.OutOfMemory) call old new = new ≡ old
+  IsAnswered form (Err fault.OutOfMemory) call old new = new ≡ old
 
   abbrev pub calls_of : List (Look A) → List (Asked A)
   calls_of trace = map (λ look. look.call) trace

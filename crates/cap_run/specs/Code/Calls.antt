@@ -26,7 +26,7 @@ pub record Work (A : Type 0) : Type 0 where
   pub texts : List (List ℕ)
   pub ended : Ended
 
--- the fault at the line after the last that has a reply; a worker that had no thread is reported as out of memory
+-- the fault at the line after the last that has a reply; for a worker without a thread, out of memory
 abbrev pub fault_of : Ended → CallFault
 fault_of (Ok done) = call_fault.OutOfMemory
 fault_of (Err fault) = fault
