@@ -1,6 +1,8 @@
+//! Comparisons of tables, also in memory of which each request is refused.
 use cap_compare::{Difference, compare};
 use cap_row::{Row, Schema};
 use cap_table::Table;
+use cap_test_support::Memory;
 use cap_value::{AllocHandle, Fault, OutOfMemory, Refusal, Value};
 use linked_list_allocator::LocalHeap;
 use std::test::Fail;
@@ -83,36 +85,55 @@ fn other_columns_and_no_table_are_refused(rt: HostRuntime) -> Result<(), Fail> {
     Ok(())
 }
 
-// Heaps of every size up to one that suffices: out of memory, and never another answer.
-#[test]
-fn each_growth_refused(rt: HostRuntime) -> Result<(), Fail> {
-    let alloc = rt.alloc();
-    let from = [(Some(1), 10), (Some(2), 20)];
-    let to = [(Some(2), 21), (Some(3), 30)];
-    let mut enough = false;
-    for size in (256..4096usize).step_by(64) {
-        let heap = LocalHeap::new(alloc, size)?;
-        let found = made(&heap, &from, &to);
-        match found {
-            Ok(count) => {
-                assert!(rt; count == 3);
-                enough = true;
-            }
-            Err(Fault::OutOfMemory) => {}
-            Err(Fault::Refused(_)) => assert!(rt; false),
-        }
-    }
-    assert!(rt; enough);
-    Ok(())
+// Two tables with three differences.
+fn two_tables<A: AllocHandle>(alloc: A) -> Result<(Table<A>, Table<A>), Fault<Refusal>> {
+    let from = table(alloc, &[(Some(1), 10), (Some(2), 20)])?;
+    let to = table(alloc, &[(Some(2), 21), (Some(3), 30)])?;
+    Ok((from, to))
 }
 
-fn made<A: AllocHandle>(
+// Compares with this request for memory refused: whether there is an answer, which is the three differences.
+// None where anything else comes of it.
+fn with_a_request_refused<A: AllocHandle>(
     alloc: A,
-    from: &[(Option<i64>, i64)],
-    to: &[(Option<i64>, i64)],
-) -> Result<usize, Fault<Refusal>> {
-    let from = table(alloc, from)?;
-    let to = table(alloc, to)?;
-    let found = compare(alloc, Some(&from), &to)?;
-    Ok(found.len())
+    memory: &Memory<&LocalHeap>,
+    from: &Table<A>,
+    to: &Table<A>,
+    number: u64,
+) -> Option<bool> {
+    memory.refuse(number);
+    let answer = compare(alloc, Some(from), to);
+    memory.refuse(0);
+    match (answer, memory.has_refused()) {
+        (Ok(found), false) => (found.len() == 3).then_some(true),
+        (Err(Fault::OutOfMemory), true) => Some(false),
+        _ => None,
+    }
+}
+
+// Compares with each request refused in turn, until none is: whether there were such requests.
+fn compared_in_refused_memory<A: AllocHandle>(
+    alloc: A,
+    memory: &Memory<&LocalHeap>,
+) -> Result<bool, Fault<Refusal>> {
+    let (from, to) = two_tables(alloc)?;
+    for number in 1..1_000u64 {
+        match with_a_request_refused(alloc, memory, &from, &to, number) {
+            Some(true) => return Ok(number > 1),
+            Some(false) => {}
+            None => return Ok(false),
+        }
+    }
+    Ok(false)
+}
+
+// Each request for memory is refused in turn: out of memory, and never another answer. In the end the three
+// differences are found.
+#[test]
+fn each_growth_refused(rt: HostRuntime) -> Result<(), Fail> {
+    let heap = LocalHeap::new(rt.alloc(), 32768)?;
+    let memory = Memory::new(&heap);
+    assert!(rt; compared_in_refused_memory(&memory, &memory) == Ok(true));
+    assert!(rt; heap.used() == 0);
+    Ok(())
 }

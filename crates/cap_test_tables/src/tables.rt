@@ -1,9 +1,10 @@
+//! Tables: rows that change, ids, commit hooks, and memory of which each request is refused.
 use cap_row::{Key, Row, Schema};
 use cap_table::{IDS_END, NotMade, RowName, RowRef, Table};
+use cap_test_support::Memory;
 use cap_tree::CommitHook;
 use cap_value::{AllocHandle, Fault, Refusal, Value};
 use linked_list_allocator::LocalHeap;
-use std::alloc::Global;
 use std::test::Fail;
 
 fn row<A: AllocHandle>(alloc: A, key: Option<i64>, text: &str) -> Result<Row<A>, Fault<Refusal>> {
@@ -137,32 +138,150 @@ fn the_last_id_is_given_once(rt: HostRuntime) -> Result<(), Fail> {
     Ok(())
 }
 
-// A row that is inserted, changed and removed, in as much memory as the heap has.
-fn change(heap: &LocalHeap) -> Result<(), Fault<Refusal>> {
-    let mut table = kv(heap)?;
-    let one = named(heap, 1)?;
-    table.insert(row(heap, Some(1), "a text that is stored")?)?;
-    table.update(&one, &[(0, Value::Null)])?;
-    table.update(&RowRef::Loose(1), &[(0, Value::Int(1))])?;
-    table.delete(&one)?;
+// The text of the row that the calls change.
+const TEXT: &str = "a text that is stored";
+
+// The calls that change a table of one row.
+#[derive(Clone, Copy, Debug, Drop)]
+enum Call {
+    Insert,
+    LoseKey,
+    GainKey,
+    Delete,
+}
+
+// Whether the row is under its key, and under its id; the number of rows; and the next id.
+type Content = (bool, bool, u128, u64);
+
+// The calls in turn, each with the content of the table after it.
+const CALLS: [(Call, Content); 4] = [
+    (Call::Insert, (true, false, 1, 1)),
+    (Call::LoseKey, (false, true, 1, 2)),
+    (Call::GainKey, (true, false, 1, 2)),
+    (Call::Delete, (false, false, 0, 2)),
+];
+
+// What they are made with: the row, its name by its key, and what takes its key away and gives it back.
+#[derive(Drop)]
+struct Arguments<A: AllocHandle> {
+    row: Row<A>,
+    name: RowRef<A>,
+    without_key: Vec<(usize, Value<A>), A>,
+    with_key: Vec<(usize, Value<A>), A>,
+}
+
+fn set_key<A: AllocHandle>(
+    alloc: A,
+    key: Value<A>,
+) -> Result<Vec<(usize, Value<A>), A>, Fault<Refusal>> {
+    let mut fields = Vec::new(alloc);
+    if fields.push((0, key)).is_err() {
+        return Err(Fault::OutOfMemory);
+    }
+    Ok(fields)
+}
+
+fn given<A: AllocHandle>(alloc: A) -> Result<Arguments<A>, Fault<Refusal>> {
+    Ok(Arguments {
+        row: row(alloc, Some(1), TEXT)?,
+        name: named(alloc, 1)?,
+        without_key: set_key(alloc, Value::Null)?,
+        with_key: set_key(alloc, Value::Int(1))?,
+    })
+}
+
+fn made_call<A: AllocHandle>(
+    table: &mut Table<A>,
+    call: Call,
+    given: &Arguments<A>,
+) -> Result<(), Fault<Refusal>> {
+    match call {
+        Call::Insert => {
+            table.insert(given.row.copy()?)?;
+        }
+        Call::LoseKey => {
+            table.update(&given.name, &given.without_key)?;
+        }
+        Call::GainKey => {
+            table.update(&RowRef::Loose(1), &given.with_key)?;
+        }
+        Call::Delete => {
+            table.delete(&given.name)?;
+        }
+    }
     Ok(())
 }
 
+fn content<A: AllocHandle>(table: &Table<A>, name: &RowRef<A>) -> Content {
+    (
+        has(table, name, TEXT),
+        has(table, &RowRef::Loose(1), TEXT),
+        table.scan().left(),
+        table.next_id(),
+    )
+}
+
+// Makes a call with this request for memory refused: whether it is made. Where it is not, the table is as
+// before. None where anything else comes of it. A snapshot shares every node, so that each call needs memory.
+fn with_a_request_refused<A: AllocHandle>(
+    memory: &Memory<&LocalHeap>,
+    table: &mut Table<A>,
+    (call, after): (Call, Content),
+    given: &Arguments<A>,
+    number: u64,
+) -> Option<bool> {
+    let before = table.snapshot().ok()?;
+    memory.refuse(number);
+    let answer = made_call(table, call, given);
+    memory.refuse(0);
+    let now = content(table, &given.name);
+    match (answer, memory.has_refused()) {
+        (Ok(()), false) => (now == after).then_some(true),
+        (Err(Fault::OutOfMemory), true) => (now == content(&before, &given.name)).then_some(false),
+        _ => None,
+    }
+}
+
+// Makes a call with each of its requests refused in turn, on one table, until it is made: the number of the
+// first request that it does not make.
+fn first_unused_request<A: AllocHandle>(
+    memory: &Memory<&LocalHeap>,
+    table: &mut Table<A>,
+    call: (Call, Content),
+    given: &Arguments<A>,
+) -> Option<u64> {
+    for number in 1..1_000u64 {
+        if with_a_request_refused(memory, table, call, given, number)? {
+            return Some(number);
+        }
+    }
+    None
+}
+
+// Whether each call, with each of its requests refused in turn, leaves the table as it was, and is answered
+// in the end.
+fn each_call_may_be_refused<A: AllocHandle>(
+    alloc: A,
+    memory: &Memory<&LocalHeap>,
+) -> Result<bool, Fault<Refusal>> {
+    let mut table = kv(alloc)?;
+    let given = given(alloc)?;
+    for call in CALLS {
+        if first_unused_request(memory, &mut table, call, &given).unwrap_or(0) <= 1 {
+            return Ok(false);
+        }
+    }
+    Ok(true)
+}
+
+// Each request for memory of each call is refused in turn. The table is as before, and the same call made
+// again on it is answered.
 #[test]
 fn each_allocation_may_be_refused(rt: HostRuntime) -> Result<(), Fail> {
-    let mut enough = 0;
-    for size in 0..400usize {
-        let heap = LocalHeap::new(rt.alloc(), 16 * size)?;
-        match change(&heap) {
-            Ok(()) => {
-                enough = size;
-                break;
-            }
-            Err(fault) => assert!(rt; fault == Fault::OutOfMemory),
-        }
-        assert!(rt; heap.used() == 0);
-    }
-    assert!(rt; enough > 20, "{enough} blocks of 16 bytes were enough");
+    let heap = LocalHeap::new(rt.alloc(), 32768)?;
+    let memory = Memory::new(&heap);
+    assert!(rt; each_call_may_be_refused(&memory, &memory) == Ok(true));
+    assert!(rt; heap.used() == 0);
     Ok(())
 }
 
