@@ -37,5 +37,5 @@ module _ {A : Type 0} where
   pub record AreReportedOnce (blob : Contents A) (report : ReportState) : Type 0 where
     pub omitted : RiseWithin 0 (change_count blob) report.omitted
     pub skipped : RiseWithin 0 (length (group_sizes blob)) report.skipped
-    pub apart : AllByRecursion (λ place. AllByRecursion (λ number. IsOutside blob place number) report.omitted)
-        report.skipped
+    pub apart : AllByRecursion
+        (λ place. AllByRecursion (λ number. IsOutside blob place number) report.omitted) report.skipped

@@ -16,7 +16,8 @@ use Rattle.cap_database.specs.Tables.{EachRises, Tables, table_of}
 use Rattle.cap_database.proofs.KeptLemmas.{each-found}
 use Rattle.cap_compare.specs.Compare.{compare, difference_at, differences, image_at}
 use Rattle.cap_compare.specs.declared.difference.Difference.{Difference}
-use Rattle.cap_core.specs.Code.Sound.{differences_stand, image_stands}
+use Rattle.cap_core.specs.CanCapture.{image_stands}
+use Rattle.cap_core.specs.Code.Sound.{differences_stand}
 use Rattle.cap_core.proofs.SmallLemmas.{both, first, second}
 use Rattle.cap_core.proofs.SoundLemmas.{fields_same, found-passes, list_all-map, list_all-put_entry}
 

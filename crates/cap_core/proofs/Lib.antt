@@ -1,11 +1,13 @@
 pub mod AgreeLemmas
 pub mod AppliedCaptureLemmas
 pub mod BytesLemmas
+pub mod CanCaptureLemmas
 pub mod ChangesetBytesLemmas
 pub mod CommitLemmas
 pub mod Crossing
 pub mod DiffLemmas
 pub mod DiffedLemmas
+pub mod EmptyLemmas
 pub mod FitLemmas
 pub mod FlagLemmas
 pub mod GroupLemmas

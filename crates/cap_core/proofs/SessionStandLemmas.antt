@@ -5,7 +5,8 @@ use Rattle.std.specs.Option.{option_map}
 use Rattle.cap_database.specs.Tables.{Tables}
 use Rattle.cap_session.specs.Session.{SessionState}
 use Rattle.cap_session.specs.Sessions.{NumberedSessions, session_numbered, with_session, with_session_if, without_session}
-use Rattle.cap_core.specs.Code.Sound.{session_stands, sessions_stand}
+use Rattle.cap_core.specs.CanCapture.{session_stands}
+use Rattle.cap_core.specs.Code.Sound.{sessions_stand}
 use Rattle.cap_core.proofs.SoundLemmas.{numbered-stands, with_session-stands}
 
 pub some_found : {X : Type 0} (found : Option X) → is_some found ≡ true → (x : X) × (found ≡ Some x)

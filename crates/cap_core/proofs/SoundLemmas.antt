@@ -34,7 +34,8 @@ use Rattle.cap_session.specs.Note.{attach_by, attach_by_rule, is_cascade, note, 
 use Rattle.cap_session.specs.Records.{Records, Touch, record_after, touch, with_touches}
 use Rattle.cap_session.specs.Session.{AttachedTables, SessionState, accepts_by, attach, forget, is_listed, new_session}
 use Rattle.cap_session.specs.Sessions.{NumberedSessions, note_each, session_numbered, with_session, without_session}
-use Rattle.cap_core.specs.Code.Sound.{KeepsColumns, differences_stand, image_stands, records_stand, session_stands, sessions_stand, tables_stand}
+use Rattle.cap_core.specs.CanCapture.{image_stands, records_stand, session_stands, tables_stand}
+use Rattle.cap_core.specs.Code.Sound.{KeepsColumns, differences_stand, sessions_stand}
 use Rattle.cap_core.proofs.SmallLemmas.{both, first, second}
 
 tied : {K : Type 0} (R : K → K → Ordering) (x y : K) → IsAntisymmetric R → eq_by_cmp R x y ≡ true → x ≡ y

@@ -1,5 +1,6 @@
 pub mod Answer
 pub mod AppliedCapture
+pub mod CanCapture
 pub mod Capture
 pub mod Code
 pub mod Commit

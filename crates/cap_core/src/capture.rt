@@ -14,7 +14,7 @@ ghost use Rattle.cap_codec.specs.Writable.{IsWritable};
 ghost use Rattle.cap_codec.specs.declared.read.Contents.TheVariants as contents;
 ghost use Rattle.cap_core.specs.Capture.{change_now, changes_of, table_changes};
 ghost use Rattle.cap_core.specs.Code.Grouped.{IsGroupOf, changes_in};
-ghost use Rattle.cap_core.specs.Code.Sound.{image_stands, records_stand, tables_stand};
+ghost use Rattle.cap_core.specs.CanCapture.{image_stands, records_stand, tables_stand};
 
 use cap_changes::{ChangeList, Group, RowChange, change_between, to_patches};
 use cap_codec::{

@@ -1,10 +1,11 @@
 //! Laws of histories, sessions and captures. The functions do nothing when they run.
 ghost use Rattle.std.specs.Prelude.{◌≡◌, ℕ, ◌+◌, ◌&&◌, true, false, Some, None, Ok, [], ◌∷◌, ◌++◌, List};
-ghost use Rattle.std.specs.Prelude.{IsTrue, length, map, reverse};
+ghost use Rattle.std.specs.Prelude.{◌==◌, IsTrue, length, map, nat_eq, reverse};
 ghost use Rattle.std.specs.Option.{option_map};
 ghost use Rattle.std.specs.FinMap.Entries.{is_sorted};
 ghost use Rattle.std.specs.List.{All, list_any};
 ghost use Rattle.cap_value.specs.Bytes.{bytes_cmp};
+ghost use Rattle.cap_value.specs.declared.refusal.Refusal.{Refusal};
 ghost use Rattle.cap_row.specs.Fields.{Fields};
 ghost use Rattle.cap_row.specs.Key.{fields_cmp};
 ghost use Rattle.cap_apply.specs.declared.policy.Policy.{Policy};
@@ -30,12 +31,12 @@ ghost use Rattle.cap_core.specs.declared.command.Command.{Command};
 ghost use Rattle.cap_core.specs.declared.event.Event.{Event};
 ghost use Rattle.cap_core.specs.declared.reply.Reply.{Reply};
 ghost use Rattle.cap_core.specs.Answer.{IsLegal, IsLegalPast, State, answer, event_by, history_of, reply_of};
-ghost use Rattle.cap_core.specs.Answer.{snapshot_of, state, state_after};
+ghost use Rattle.cap_core.specs.Answer.{refusal, snapshot_of, state, state_after};
 ghost use Rattle.cap_core.specs.Capture.{change_now, session_changes};
 ghost use Rattle.cap_core.specs.Commit.{CommitsIfUnchanged};
 ghost use Rattle.cap_core.specs.AppliedCapture.{AppliesRows, AppliesWhole, AreQuiet, HoldsImages, IsDiffed};
 ghost use Rattle.cap_core.specs.AppliedCapture.{changes_in};
-ghost use Rattle.cap_core.specs.Flags.{session_named};
+ghost use Rattle.cap_core.specs.Flags.{live_sessions, session_named};
 ghost use Rattle.cap_core.specs.History.{event_effect, main};
 ghost use Rattle.cap_core.specs.Insert.{HasChange, IsInsertOfAbsent, changes_by_key};
 ghost use Rattle.cap_core.specs.Outcome.{is_of_row};
@@ -91,6 +92,16 @@ pub fn fitting_histories_grow<A: AllocHandle>()
 pub fn untouched_captures_nothing<A: AllocHandle>()
     ensures { (past : Past A) (session : ℕ) → touches session past ≡ []
         → session_changes (main past) (session_of past session) ≡ [] }
+{}
+
+/// `IsEmpty` answers of a live session whether nothing touched it since it was last restarted, and else that
+/// there is no such session.
+pub fn empty_without_touches<A: AllocHandle>()
+    ensures live { (past : Past A) (session : ℕ) → list_any (nat_eq session) (live_sessions past) ≡ true
+        → answer (state_after past) (Command.IsEmpty session)
+        ≡ Reply.Flag (length (touches session past) == 0) }
+    ensures none { (past : Past A) (session : ℕ) → list_any (nat_eq session) (live_sessions past) ≡ false
+        → answer (state_after past) (Command.IsEmpty session) ≡ refusal Refusal.NoSession }
 {}
 
 /// After an accepted insert into a table that an enabled session has attached, or attaches by its rule, of a

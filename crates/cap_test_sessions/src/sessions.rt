@@ -18,7 +18,7 @@ fn row<A: AllocHandle>(alloc: A, key: i64, text: &str) -> Result<Row<A>, Fault<R
     Ok(Row::new(fields)?)
 }
 
-fn key<A: AllocHandle>(alloc: A, number: i64) -> Result<Key<A>, Fault<Refusal>> {
+pub(crate) fn key<A: AllocHandle>(alloc: A, number: i64) -> Result<Key<A>, Fault<Refusal>> {
     let mut fields = Vec::new(alloc);
     if fields.push(Value::Int(number)).is_err() {
         return Err(Fault::OutOfMemory);
@@ -29,7 +29,11 @@ fn key<A: AllocHandle>(alloc: A, number: i64) -> Result<Key<A>, Fault<Refusal>> 
     }
 }
 
-fn op<A: AllocHandle>(alloc: A, table: &str, action: Action<A>) -> Result<Op<A>, Fault<Refusal>> {
+pub(crate) fn op<A: AllocHandle>(
+    alloc: A,
+    table: &str,
+    action: Action<A>,
+) -> Result<Op<A>, Fault<Refusal>> {
     Ok(Op {
         table: Name::new(alloc, table)?,
         cause: Cause::Direct,
@@ -37,7 +41,7 @@ fn op<A: AllocHandle>(alloc: A, table: &str, action: Action<A>) -> Result<Op<A>,
     })
 }
 
-fn insert<A: AllocHandle>(
+pub(crate) fn insert<A: AllocHandle>(
     alloc: A,
     table: &str,
     key: i64,
@@ -46,13 +50,16 @@ fn insert<A: AllocHandle>(
     op(alloc, table, Action::Insert(row(alloc, key, text)?))
 }
 
-fn delete<A: AllocHandle>(alloc: A, number: i64) -> Result<Op<A>, Fault<Refusal>> {
+pub(crate) fn delete<A: AllocHandle>(alloc: A, number: i64) -> Result<Op<A>, Fault<Refusal>> {
     let named = RowRef::Key(key(alloc, number)?);
     op(alloc, "t", Action::Delete(named))
 }
 
 // A database with these empty tables of a key and a value.
-fn with_tables<A: AllocHandle>(alloc: A, names: &[&str]) -> Result<Database<A>, Fault<Refusal>> {
+pub(crate) fn with_tables<A: AllocHandle>(
+    alloc: A,
+    names: &[&str],
+) -> Result<Database<A>, Fault<Refusal>> {
     let mut database = Database::empty(alloc);
     for name in names {
         let schema = Schema::new(alloc, &[true, false])?;
@@ -62,7 +69,7 @@ fn with_tables<A: AllocHandle>(alloc: A, names: &[&str]) -> Result<Database<A>, 
 }
 
 // Commits operations, which a session notes.
-fn commit<A: AllocHandle>(
+pub(crate) fn commit<A: AllocHandle>(
     alloc: A,
     database: &mut Database<A>,
     session: &mut Session<A>,
@@ -80,7 +87,10 @@ fn commit<A: AllocHandle>(
     }
 }
 
-fn attached<A: AllocHandle>(alloc: A, table: &str) -> Result<Session<A>, Fault<Refusal>> {
+pub(crate) fn attached<A: AllocHandle>(
+    alloc: A,
+    table: &str,
+) -> Result<Session<A>, Fault<Refusal>> {
     let mut session = Session::new(alloc);
     session.attach(&Name::new(alloc, table)?)?;
     Ok(session)

@@ -1,6 +1,6 @@
 use Rattle.std.proofs.Common.{◌≡◌, true, Some, sym, subst}
 use Rattle.std.specs.Option.{option_copied}
-use Rattle.cap_core.specs.Code.Sound.{image_stands}
+use Rattle.cap_core.specs.CanCapture.{image_stands}
 use Rattle.cap_core.proofs.SoundLemmas.{images-same_key, keyed-changes, found-image}
 use Rattle.cap_core.proofs.capture.change_now.Goals as goal
 

@@ -3,7 +3,7 @@ use Rattle.cap_session.specs.Records.{Records}
 use Rattle.cap_session.specs.Session.{AttachedTables}
 use Rattle.cap_database.specs.Tables.{schema_of, table_of}
 use Rattle.cap_core.specs.Capture.{changes_of, table_changes}
-use Rattle.cap_core.specs.Code.Sound.{records_stand, tables_stand}
+use Rattle.cap_core.specs.CanCapture.{records_stand, tables_stand}
 use Rattle.cap_core.proofs.GroupLemmas.{filter_map-more}
 use Rattle.cap_core.proofs.SmallLemmas.{second}
 use Rattle.cap_core.proofs.capture.changes_of.Goals as goal

@@ -1,6 +1,6 @@
 use Rattle.std.proofs.Common.{◌≡◌, ◌++◌, IsTrue}
 use Rattle.cap_core.specs.Capture.{changes_of}
-use Rattle.cap_core.specs.Code.Sound.{tables_stand}
+use Rattle.cap_core.specs.CanCapture.{tables_stand}
 use Rattle.cap_core.proofs.capture.changes_of.Given as goal
 
 abbrev pub invariant-loop-name : goal.invariant-loop-name

@@ -3,7 +3,7 @@ use Rattle.std.specs.List.{filter_map}
 use Rattle.std.specs.Option.{ForSome}
 use Rattle.cap_core.specs.Capture.{change_now}
 use Rattle.cap_core.specs.Code.Grouped.{IsGroupOf, changes_in}
-use Rattle.cap_core.specs.Code.Sound.{records_stand}
+use Rattle.cap_core.specs.CanCapture.{records_stand}
 use Rattle.cap_core.proofs.capture.group_of.Given as goal
 
 abbrev pub invariant-loop-key : goal.invariant-loop-key

@@ -1,5 +1,5 @@
 use Rattle.std.proofs.Common.{sym, ap, ◌∙◌}
-use Rattle.cap_core.specs.Code.Sound.{tables_stand}
+use Rattle.cap_core.specs.CanCapture.{tables_stand}
 use Rattle.cap_core.proofs.SoundLemmas.{numbered-stands}
 use Rattle.cap_core.proofs.server.Core.capture.Goals as goal
 

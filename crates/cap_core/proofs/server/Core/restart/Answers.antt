@@ -1,5 +1,6 @@
 use Rattle.std.proofs.Common.{arith, sym, ap, ◌∙◌}
-use Rattle.cap_core.specs.Code.Sound.{sessions_stand, tables_stand}
+use Rattle.cap_core.specs.CanCapture.{tables_stand}
+use Rattle.cap_core.specs.Code.Sound.{sessions_stand}
 use Rattle.cap_core.proofs.SessionStandLemmas.{changed-stands}
 use Rattle.cap_core.proofs.SoundLemmas.{numbered-stands, restart-stands}
 use Rattle.cap_core.proofs.server.Core.restart.Goals as goal

@@ -1,0 +1,95 @@
+//! The changes of a session that no server has.
+ghost use Rattle.std.specs.Prelude.{◌≡◌, IfOk, IsTrue};
+ghost use Rattle.std.specs.Option.{option_copied, option_map};
+ghost use Rattle.cap_row.specs.Key.{fields_eq, key_fields};
+ghost use Rattle.cap_table.specs.Sound.{keyed_stands};
+ghost use Rattle.cap_core.specs.CanCapture.{image_stands, records_stand, session_stands};
+ghost use Rattle.cap_core.specs.Capture.{session_changes};
+
+use crate::capture;
+use cap_changes::ChangeList;
+use cap_database::Database;
+use cap_row::{Key, Row, Schema};
+use cap_session::{Records, Session};
+use cap_table::Table;
+use cap_value::{AllocHandle, OutOfMemory, Value};
+
+/// What a session captures against a database: the changes of its attached tables, from each first image to
+/// the row in the database (The Session Extension, "sqlite3session_changeset"). `can_capture` tells whether
+/// it may be called. It may wherever the session recorded changes to this database.
+pub fn changes_of<A: AllocHandle>(
+    alloc: A,
+    session: &Session<A>,
+    database: &Database<A>,
+) -> Result<ChangeList<A>, OutOfMemory>
+    requires { IsTrue (session_stands database.now session.now) }
+    ensures { IfOk result (λ list. list ≡ session_changes database.now session.now) }
+{
+    capture::changes_of(alloc, session.attached(), database)
+}
+
+/// Whether a session can be captured against a database: each first image is a row of a table of the
+/// database, with the table's width, and has the key of its record. Takes no memory.
+pub fn can_capture<A: AllocHandle>(session: &Session<A>, database: &Database<A>) -> bool
+    ensures { result ≡ session_stands database.now session.now }
+{
+    for (name, records) in session.attached() {
+        if !records_stand(database.table(name), records) {
+            return false;
+        }
+    }
+    true
+}
+
+// Whether each first image is a row of this table.
+fn records_stand<A: AllocHandle>(table: Option<&Table<A>>, records: &Records<A>) -> bool
+    ensures { result ≡ records_stand (option_map (λ t. t.schema) (option_copied table.entry)) records.now }
+{
+    for (key, record) in records {
+        if !image_stands(table, key, record.image.as_ref()) {
+            return false;
+        }
+    }
+    true
+}
+
+fn image_stands<A: AllocHandle>(
+    table: Option<&Table<A>>,
+    key: &Key<A>,
+    image: Option<&Row<A>>,
+) -> bool
+    ensures { result ≡ image_stands (option_map (λ t. t.schema) (option_copied table.entry)) key.now
+        (option_copied image.entry) }
+{
+    match (table, image) {
+        (_, None) => true,
+        (None, Some(_)) => false,
+        (Some(table), Some(row)) => keyed_stands(table.schema(), key, row),
+    }
+}
+
+// Whether the row is as wide as the table, and has this key.
+fn keyed_stands<A: AllocHandle>(schema: &Schema<A>, key: &Key<A>, row: &Row<A>) -> bool
+    ensures { result ≡ keyed_stands schema.now key.now row.now }
+{
+    row.width() == schema.width() && has_key_fields(schema.flags(), row.fields(), key.fields())
+}
+
+// Whether these are the values of the key columns.
+fn has_key_fields<A: AllocHandle>(flags: &[bool], row: &[Value<A>], key: &[Value<A>]) -> bool
+    ensures { result ≡ fields_eq (key_fields flags.now row.now) key.now }
+{
+    let mut rest = key;
+    for (flag, value) in flags.iter().zip(row) {
+        if *flag {
+            let Some((first, others)) = rest.split_first() else {
+                return false;
+            };
+            if value != first {
+                return false;
+            }
+            rest = others;
+        }
+    }
+    rest.is_empty()
+}
