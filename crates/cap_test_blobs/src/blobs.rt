@@ -234,7 +234,8 @@ fn blobs_that_are_refused(rt: HostRuntime) -> Result<(), Fail> {
     let alloc = rt.alloc();
     let mut other_flag = INSERT_ONE;
     other_flag[2] = 2;
-    assert!(rt; changes_in(alloc, &other_flag).is_some());
+    let list = changes_in(alloc, &other_flag).ok_or("refused")?;
+    assert!(rt; write_changes(alloc, &list)?.as_slice() == INSERT_ONE.as_slice());
     let mut real = INSERT_ONE;
     real[17] = 2;
     refuses(&rt, alloc, &real, 17, FaultKind::Real);

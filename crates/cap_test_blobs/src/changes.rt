@@ -6,6 +6,7 @@ use cap_changes::{
     ChangeList, FieldRecord, Group, Patch, PatchList, RowChange, change_between, invert, to_patches,
 };
 use cap_row::{Row, Schema};
+use cap_test_support::Memory;
 use cap_value::{AllocHandle, Fault, Name, OutOfMemory, Refusal, Value};
 use linked_list_allocator::LocalHeap;
 use std::alloc::Global;
@@ -45,7 +46,7 @@ fn row_if_any<A: AllocHandle>(
     }
 }
 
-/// The change of the row with key 1 from one text to another.
+// The change of the row with key 1 from one text to another.
 fn change<A: AllocHandle>(
     alloc: A,
     image: Option<&str>,
@@ -57,7 +58,7 @@ fn change<A: AllocHandle>(
     Ok(change_between(alloc, &schema, true, image.as_ref(), now.as_ref())?)
 }
 
-/// A list with an insert, an update and a delete.
+// A list with an insert, an update and a delete.
 fn changes<A: AllocHandle>(alloc: A) -> Result<ChangeList<A>, Fault<Refusal>> {
     let mut group = Group::new(alloc, Name::new(alloc, "t")?, key_and_value(alloc)?);
     for (image, now) in [(None, Some("x")), (Some("x"), Some("y")), (Some("x"), None)] {
@@ -72,12 +73,12 @@ fn changes<A: AllocHandle>(alloc: A) -> Result<ChangeList<A>, Fault<Refusal>> {
     Ok(list)
 }
 
-/// The same list, as its patches.
+// The same list, as its patches.
 fn patches<A: AllocHandle>(alloc: A) -> Result<PatchList<A>, Fault<Refusal>> {
     Ok(to_patches(alloc, &changes(alloc)?)?)
 }
 
-/// The list that takes it back.
+// The list that takes it back.
 fn inverse<A: AllocHandle>(alloc: A) -> Result<ChangeList<A>, Fault<Refusal>> {
     Ok(invert(alloc, &changes(alloc)?)?)
 }
@@ -161,39 +162,91 @@ fn an_inverse_takes_each_change_back(rt: HostRuntime) -> Result<(), Fail> {
     Ok(())
 }
 
+// Makes the patches of a list with this request for memory refused: whether they are made, or else the call
+// is out of memory. None where anything else comes of it.
+fn patches_with_a_request_refused<A: AllocHandle>(
+    alloc: A,
+    memory: &Memory<&LocalHeap>,
+    list: &ChangeList<A>,
+    number: u64,
+) -> Option<bool> {
+    memory.refuse(number);
+    let answer = to_patches(alloc, list);
+    memory.refuse(0);
+    let is_refused = memory.has_refused();
+    match answer {
+        Ok(patches) => (!is_refused && patches.groups().len() == 1).then_some(true),
+        Err(OutOfMemory) => is_refused.then_some(false),
+    }
+}
+
+// Makes the inverse of a list in the same way.
+fn inverse_with_a_request_refused<A: AllocHandle>(
+    alloc: A,
+    memory: &Memory<&LocalHeap>,
+    list: &ChangeList<A>,
+    number: u64,
+) -> Option<bool> {
+    memory.refuse(number);
+    let answer = invert(alloc, list);
+    memory.refuse(0);
+    let is_refused = memory.has_refused();
+    match answer {
+        Ok(inverse) => (!is_refused && inverse.groups().len() == 1).then_some(true),
+        Err(OutOfMemory) => is_refused.then_some(false),
+    }
+}
+
+// Makes the patches with each request refused in turn, until they are made: whether there were such
+// requests.
+fn patches_in_refused_memory<A: AllocHandle>(
+    alloc: A,
+    memory: &Memory<&LocalHeap>,
+) -> Result<bool, Fault<Refusal>> {
+    let list = changes(alloc)?;
+    for number in 1..1_000u64 {
+        match patches_with_a_request_refused(alloc, memory, &list, number) {
+            Some(true) => return Ok(number > 1),
+            Some(false) => {}
+            None => return Ok(false),
+        }
+    }
+    Ok(false)
+}
+
+// The same of the inverse.
+fn inverse_in_refused_memory<A: AllocHandle>(
+    alloc: A,
+    memory: &Memory<&LocalHeap>,
+) -> Result<bool, Fault<Refusal>> {
+    let list = changes(alloc)?;
+    for number in 1..1_000u64 {
+        match inverse_with_a_request_refused(alloc, memory, &list, number) {
+            Some(true) => return Ok(number > 1),
+            Some(false) => {}
+            None => return Ok(false),
+        }
+    }
+    Ok(false)
+}
+
+// Each request for memory of an inverse is refused in turn, and the inverse is made once none is.
 #[test]
 fn each_growth_of_an_inverse_refused(rt: HostRuntime) -> Result<(), Fail> {
-    let mut refused = false;
-    for step in 4..512 {
-        let heap = LocalHeap::new(rt.alloc(), 16 * step)?;
-        match inverse(&heap) {
-            Ok(list) => assert!(rt; list.groups().len() == 1),
-            Err(Fault::OutOfMemory) => refused = true,
-            Err(Fault::Refused(_)) => panic!(rt; "refused by the rules"),
-        }
-        assert!(rt; heap.used() == 0);
-    }
-    assert!(rt; refused);
-    let heap = LocalHeap::new(rt.alloc(), 8192)?;
-    assert!(rt; inverse(&heap).is_ok());
+    let heap = LocalHeap::new(rt.alloc(), 32768)?;
+    let memory = Memory::new(&heap);
+    assert!(rt; inverse_in_refused_memory(&memory, &memory) == Ok(true));
+    assert!(rt; heap.used() == 0);
     Ok(())
 }
 
+// Each request for memory of the patches is refused in turn, and the patches are made once none is.
 #[test]
 fn each_growth_refused(rt: HostRuntime) -> Result<(), Fail> {
-    let mut refused = false;
-    for step in 4..512 {
-        let heap = LocalHeap::new(rt.alloc(), 16 * step)?;
-        match patches(&heap) {
-            Ok(list) => assert!(rt; list.groups().len() == 1),
-            Err(Fault::OutOfMemory) => refused = true,
-            Err(Fault::Refused(_)) => panic!(rt; "refused by the rules"),
-        }
-        assert!(rt; heap.used() == 0);
-    }
-    assert!(rt; refused);
-    let heap = LocalHeap::new(rt.alloc(), 8192)?;
-    assert!(rt; patches(&heap).is_ok());
+    let heap = LocalHeap::new(rt.alloc(), 32768)?;
+    let memory = Memory::new(&heap);
+    assert!(rt; patches_in_refused_memory(&memory, &memory) == Ok(true));
+    assert!(rt; heap.used() == 0);
     Ok(())
 }
 
