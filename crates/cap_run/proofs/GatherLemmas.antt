@@ -4,7 +4,7 @@ use Rattle.std.proofs.lemmas.Bool.{cases_Bool, cases_eq, cases_lt}
 use Rattle.std.proofs.lemmas.List.{drop_more, get_or-map, map_push, take_more, get_or-replicate, get_or-set_other, get_or-set_same, length-replicate, length-set}
 use Rattle.std.proofs.lemmas.List.Folds.{concat-append}
 use Rattle.std.proofs.lemmas.Simd.{map-map}
-use Rattle.std.specs.List.{AllZip, concat}
+use Rattle.std.specs.List.{AllZip, Any, concat}
 use Rattle.std.proofs.lemmas.List.{length-map}
 use mathlib.Core.List.{IsPrefix}
 use Rattle.cap_core.specs.Answer.{event_by}
@@ -12,10 +12,11 @@ use Rattle.cap_core.specs.declared.event.Event.{Event}
 use Rattle.cap_core.specs.declared.reply.Reply.{Reply}
 use Rattle.cap_history.specs.Beginnings.{prefix-length, prefix-of-none, prefix-trans}
 use Rattle.cap_history.specs.History.{own}
-use Rattle.cap_history.specs.Seat.{SeatState, calls}
-use Rattle.cap_run.proofs.SeatLemmas.{calls-begin, count_few, is_of, lines-other, lines-own, nat_eq-other, nat_eq-same, own-one, own-other, reply_texts-none, same-nat_eq, same_length, seat_of-most, texts-other, texts-own}
+use Rattle.cap_history.specs.Seat.{SeatState, calls, newcomer}
+use Rattle.cap_run.proofs.SeatLemmas.{calls-begin, count_few, is_of, lines-other, lines-own, nat_eq-other, nat_eq-same, number-at, own-one, own-other, reply_texts-none, reports, same-nat_eq, same_length, seat_of-most, texts-other, texts-own, zip-at}
+use Rattle.cap_run.proofs.WorkerLemmas.{lines_of-parts, lines_of-some}
 use Rattle.cap_run.specs.Run.{Ended, on_a_line, reply_lines}
-use Rattle.cap_run.specs.Code.Calls.{AreNumbered, AreSeats, Gathers, HasCalledLines, HasCalledOwn, HasWorked, HaveCalled, Work, lines_of, reply_texts, texts_of, work}
+use Rattle.cap_run.specs.Code.Calls.{AreNumbered, AreSeats, Gathers, HasCalledLines, HasCalledOwn, HasSeen, HasWorked, HaveCalled, IsFaultOf, OneHasSeen, Work, lines_of, reply_texts, texts_of, work}
 use Rattle.cap_run.specs.Workload.{HasCount, calls_of, seat_of}
 use Rattle.cap_script.specs.ReplyText.{reply_text}
 use Rattle.cap_script.specs.declared.line.Line.{Line}
@@ -228,6 +229,17 @@ module _ {A : Type 0} where
   calls-all threads lines (Err fault) texts old new so all =
       absurd (omega (arith, so.count, all, ap length so.texts_are, length-texts lines so.replies (omega (arith, so.count))))
 
+  -- and one whose lines have not has ended at a fault
+  pub ended-fault : (threads : ℕ) (lines : List (Line A)) (ended : Ended) (texts : List (List ℕ)) (old new : SeatState A) → HasCalledLines threads lines ended texts old new → length texts < length lines
+      → (fault : CallFault) × (ended ≡ Err fault)
+  ended-fault threads lines (Ok done) texts old new so few =
+      absurd (omega (arith, so.count, few, ap length so.texts_are, length-texts lines so.replies (omega (arith, so.count))))
+  ended-fault threads lines (Err fault) texts old new so few = (fault, refl)
+
+  pub fault-of : (works : List (Work A)) (one : Work A) (place : ℕ) → place < length works → get_or works place one ≡ one → (ended : Ended) → one.ended ≡ ended → IsFaultOf works ended
+  fault-of works one place within is (Ok done) same = tt
+  fault-of works one place within is (Err fault) same = inr (place, one, within, is, same)
+
   pub prefix-behind : (xs ys zs : List (Event A)) → IsPrefix ys zs → IsPrefix (xs ++ ys) (xs ++ zs)
   prefix-behind xs ys zs so = (so.0, append_assoc xs ys so.0 ∙ ap (λ (l : List (Event A)). xs ++ l) so.1)
 
@@ -297,10 +309,24 @@ module _ {A : Type 0} where
       each-all threads lines (calls_of threads lines all.replies) (λ place. place) old new each so (λ place. texts-all threads lines parts (get_or (all_texts new) place []) place count (texts place)) (all.whole count)
   each-ended threads lines (Err fault) old new each so parts count texts all = each-some threads fault lines (calls_of threads lines all.replies) (λ place. place) old new each so all.begins
 
+  -- what the fault that ended a worker reports is what its seat has seen
+  pub works_seen : (threads : ℕ) (lines : List (Line A)) (ended : Ended) (old : List (SeatState A)) (new : List (Work A)) → AllZip (HasWorked threads lines) old new → IsFaultOf new ended → OneHasSeen ended (seats_of new)
+  works_seen threads lines (Ok done) old new each is = tt
+  works_seen threads lines (Err fault) old new each (inl memory) = subst (λ (f : CallFault). OneHasSeen (Err f) (seats_of new)) (sym memory) tt
+  works_seen threads lines (Err fault) old new each (inr (place, one, within, at, ended)) =
+      let d : SeatState A = newcomer 0 in
+      let there : place < length old = omega (arith, same_length (HasWorked threads lines) old new each, within) in
+      let its : HasWorked threads lines (get_or old place d) one =
+      subst (λ (w : Work A). HasWorked threads lines (get_or old place d) w) at (zip-at (HasWorked threads lines) old new place d one each there) in
+      let long : place < length (seats_of new) = omega (arith, length-map new (λ (w : Work A). w.seat), within) in
+      let seat_is : get_or (seats_of new) place one.seat ≡ one.seat = get_or-map (λ (w : Work A). w.seat) new place one one.seat within ∙ ap (λ (w : Work A). w.seat) at in
+      reports (λ count. length one.seat.seen ≡ count) (λ count. Any (λ (seat : SeatState A). length seat.seen ≡ count) (seats_of new)) (λ count same. (place, one.seat, long, seat_is, same)) (Err fault)
+      (subst (λ (e : Ended). HasSeen e one.seat) ended its.events)
+
   -- the workers have called the lines of a block, and the texts were gathered
   pub block_called : (threads : ℕ) (lines : List (Line A)) (ended : Ended) (text : List ℕ) (old : List (SeatState A)) (new : List (Work A)) → AllZip (HasWorked threads lines) old new → AreSeats threads old
-      → Gathers threads lines (all_texts new) ended text → HaveCalled threads lines ended text old (seats_of new)
-  block_called threads lines ended text old new each seats gathers =
+      → Gathers threads lines (all_texts new) ended text → IsFaultOf new ended → HaveCalled threads lines ended text old (seats_of new)
+  block_called threads lines ended text old new each seats gathers fault =
       let replies_by = replies_of threads lines old new each in
       let has : Has threads lines gathers.parts replies_by = λ number.
       subst (λ (l : List (List ℕ)). IsPrefix (texts_of threads number lines gathers.parts) l) (texts_at threads lines (λ place. place) old new each seats.1 number) (gathers.of_seats number) in
@@ -310,6 +336,7 @@ module _ {A : Type 0} where
         count = subst (λ (n : ℕ). HasCount ended n (length lines)) (sym all.counted) gathers.count;
         text_is = gathers.text_is ∙ ap concat all.parts_are ∙ concat-texts lines all.replies;
         seats = each-ended threads lines ended old new each seats.1 gathers.parts gathers.count gathers.of_seats all;
+        events = works_seen threads lines ended old new each fault;
       }
 
   -- ---- the same of whatever has a seat, texts and an end
@@ -325,10 +352,33 @@ module _ {A : Type 0} where
     texts-made new = map-map (λ (w : Work A). w.texts) made_of new
 
     pub worked_called : (threads : ℕ) (block : List (Line A)) (out : Ended) (text : List ℕ) (old new : List W) → AllZip (HasWorked threads block) (map seat old) (map made_of new) → AreSeats threads (map seat old)
-        → Gathers threads block (map texts new) out text → HaveCalled threads block out text (map seat old) (map seat new)
-    worked_called threads block out text old new each seats gathers =
+        → Gathers threads block (map texts new) out text → IsFaultOf (map made_of new) out → HaveCalled threads block out text (map seat old) (map seat new)
+    worked_called threads block out text old new each seats gathers fault =
         subst (λ (l : List (SeatState A)). HaveCalled threads block out text (map seat old) l) (seats-made new)
-        (block_called threads block out text (map seat old) (map made_of new) each seats (subst (λ (l : List (List (List ℕ))). Gathers threads block l out text) (sym (texts-made new)) gathers))
+        (block_called threads block out text (map seat old) (map made_of new) each seats (subst (λ (l : List (List (List ℕ))). Gathers threads block l out text) (sym (texts-made new)) gathers) fault)
+
+    -- there is a worker for each seat
+    pub worked_some : (threads place : ℕ) (block : List (Line A)) (seats : List (SeatState A)) (workers : List W) → AllZip (HasWorked threads block) seats (map made_of workers) → AreSeats threads seats → place ≤ threads
+        → place < length workers
+    worked_some threads place block seats workers each numbered few =
+        omega (arith, same_length (HasWorked threads block) seats (map made_of workers) each, length-map workers made_of, numbered.0, few)
+
+    -- a worker without a text for one of its lines has ended at a fault
+    pub worked_fault : (threads place : ℕ) (block : List (Line A)) (seats : List (SeatState A)) (workers : List W) (worker : W) → AllZip (HasWorked threads block) seats (map made_of workers) → AreSeats threads seats
+        → place < length workers → worker ≡ get_or workers place worker → length (texts worker) < length (lines_of threads place block) → (fault : CallFault) × (ended worker ≡ Err fault)
+    worked_fault threads place block seats workers worker each numbered within is few =
+        let d : SeatState A = newcomer 0 in
+        let there : place < length seats = omega (arith, same_length (HasWorked threads block) seats (map made_of workers) each, length-map workers made_of, within) in
+        let made : get_or (map made_of workers) place (made_of worker) ≡ made_of worker = get_or-map made_of workers place worker (made_of worker) within ∙ ap made_of (sym is) in
+        let its : HasWorked threads block (get_or seats place d) (made_of worker) =
+        subst (λ (w : Work A). HasWorked threads block (get_or seats place d) w) made (zip-at (HasWorked threads block) seats (map made_of workers) place d (made_of worker) each there) in
+        ended-fault threads (lines_of threads (get_or seats place d).number block) (ended worker) (texts worker) (get_or seats place d) (seat worker) its
+        (subst (λ (n : ℕ). length (texts worker) < length (lines_of threads n block)) (sym (number-at (λ p. p) seats place d numbered.1 there)) few)
+
+    -- that fault is a worker's
+    pub worked_ended : (place : ℕ) (workers : List W) (worker : W) → place < length workers → worker ≡ get_or workers place worker → IsFaultOf (map made_of workers) (ended worker)
+    worked_ended place workers worker within is =
+        fault-of (map made_of workers) (made_of worker) place (omega (arith, length-map workers made_of, within)) (get_or-map made_of workers place worker (made_of worker) within ∙ ap made_of (sym is)) (ended worker) refl
 
     pub worked_still : (threads : ℕ) (block : List (Line A)) (old new : List W) → AllZip (HasWorked threads block) (map seat old) (map made_of new) → AreSeats threads (map seat old) → AreSeats threads (map seat new)
     worked_still threads block old new each seats =
@@ -493,6 +543,20 @@ module _ {A : Type 0} where
             (gathered_more threads (take index block) line texts taken more text (text ++ next) next seat so at few lower here set_is refl),
       )
 
+  -- all texts of a seat were taken, and it has one more line
+  pub gathered-few : (threads index place : ℕ) (block : List (Line A)) (line : Line A) (texts : List (List (List ℕ))) (taken text : List ℕ) → IsGathered threads (take index block) texts taken text
+      → index < length block → line ≡ get_or block index line → place ≡ seat_of threads line.worker → place < 64 → length (get_or texts place []) ≤ get_or taken place 0
+      → length (get_or texts place []) < length (lines_of threads place block)
+  gathered-few threads index place block line texts taken text so within is at few none =
+      omega (
+        arith,
+        ap length (so.of_seats place few ∙ take_all (get_or taken place 0) (get_or texts place []) none),
+        length-texts_of threads place (take index block) so.parts so.counted,
+        ap length (lines_of-parts threads place index block),
+        length-append (lines_of threads place (take index block)) (lines_of threads place (drop index block)),
+        lines_of-some threads place index block line within is (sym at),
+      )
+
   -- a line has no text
   pub gathered_stopped : (threads index : ℕ) (fault : CallFault) (block : List (Line A)) (line : Line A) (texts : List (List (List ℕ))) (taken old pending : List ℕ) → 1 ≤ threads → threads ≤ 63
       → index < length block → IsGatheredSo threads (take index block) texts taken old pending → (text : List ℕ) × (pending ≡ old ++ text) × Gathers threads block texts (Err fault) text
@@ -512,3 +576,16 @@ module _ {A : Type 0} where
     pending_is,
     gathered_all threads block texts taken text some most (subst (λ (l : List (Line A)). IsGathered threads l texts taken text) (take_all index block ended) so),
   )
+
+  -- a line has no text, since its worker has ended at a fault
+  pub gathered_ended : {W : Type 0} (seat : W → SeatState A) (texts : W → List (List ℕ)) (ended : W → Ended) (threads index place : ℕ) (block : List (Line A)) (line : Line A) (seats : List (SeatState A)) (workers : List W)
+      (worker : W) (taken old pending : List ℕ) → 1 ≤ threads → threads ≤ 63 → AreSeats threads seats → AllZip (HasWorked threads block) seats (map (λ w. work (seat w) (texts w) (ended w)) workers)
+      → index < length block → line ≡ get_or block index line → place ≡ seat_of threads line.worker → place < 64 → place < length workers → worker ≡ get_or workers place worker
+      → length (texts worker) ≤ get_or taken place 0 → IsGatheredSo threads (take index block) (map texts workers) taken old pending
+      → (text : List ℕ) × (pending ≡ old ++ text) × Gathers threads block (map texts workers) (ended worker) text
+  gathered_ended {W} seat texts ended threads index place block line seats workers worker taken old pending some most numbered each within is at few there found none so =
+      let mine : get_or (map texts workers) place [] ≡ texts worker = get_or-map texts workers place worker [] there ∙ ap texts (sym found) in
+      let more = gathered-few threads index place block line (map texts workers) taken so.0 so.2 within is at few (omega (arith, none, ap length mine)) in
+      let fault = worked_fault seat texts ended threads place block seats workers worker each numbered there found (omega (arith, more, ap length mine)) in
+      subst (λ (e : Ended). (text : List ℕ) × (pending ≡ old ++ text) × Gathers threads block (map texts workers) e text) (sym fault.1)
+      (gathered_stopped threads index fault.0 block line (map texts workers) taken old pending some most within so)

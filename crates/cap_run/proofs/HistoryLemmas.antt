@@ -3,22 +3,22 @@ use Rattle.std.proofs.Common.{◌≡◌, ℕ, zero, suc, ◌+◌, ◌<◌, ◌�
 use Rattle.std.proofs.lemmas.Bool.{cases_lt}
 use Rattle.std.proofs.lemmas.List.Elements.{AllZip-get_or}
 use Rattle.std.proofs.lemmas.List.FromFn.{get_or-map-range_with_len, length-map-range_with_len}
-use Rattle.std.specs.List.{AllZip, range_with_len}
+use Rattle.std.specs.List.{All, AllZip, Any, range_with_len}
 use Rattle.std.proofs.KnownBytes.{Keeps-refl}
 use Rattle.std.specs.Io.KnownBytes.{Appends}
 use mathlib.Core.List.{IsPrefix}
 use Rattle.cap_core.specs.Answer.{State}
 use Rattle.cap_core.specs.declared.event.Event.{Event}
 use Rattle.cap_core.specs.declared.reply.Reply.{Reply}
-use Rattle.cap_history.specs.Beginnings.{prefix-of-none, prefix-trans}
+use Rattle.cap_history.specs.Beginnings.{prefix-length, prefix-of-none, prefix-trans}
 use Rattle.cap_history.specs.History.{own}
 use Rattle.cap_history.specs.Own.{own-append}
 use Rattle.cap_history.specs.Seat.{SeatState, calls, newcomer}
 use Rattle.cap_run.proofs.GatherLemmas.{calls-beyond}
-use Rattle.cap_run.proofs.SeatLemmas.{calls-begin, calls_of-longer, count_few, newcomers_seats, reply_lines-longer, still_seats}
+use Rattle.cap_run.proofs.SeatLemmas.{calls-begin, calls_of-longer, count_few, newcomers_seats, number-at, reply_lines-longer, reports, still_seats}
 use Rattle.cap_run.specs.Run.{AppendsFront, Ended, IsSpelled, ending, reply_lines}
-use Rattle.cap_run.specs.Code.Calls.{AreNumbered, AreSeats, HasCalledOwn, HaveCalled, RunsLines, unclosed_outcome}
-use Rattle.cap_run.specs.Workload.{AreCalls, AreOfOneHistory, WritesAll, WritesSome, WritesWorkload, calls_of}
+use Rattle.cap_run.specs.Code.Calls.{AreSeats, HasCalledOwn, HaveCalled, OneHasSeen, RunsLines, unclosed_outcome}
+use Rattle.cap_run.specs.Workload.{AreCalls, AreOfOneHistory, ReportsEvents, WritesAll, WritesSome, WritesUnclosed, WritesWorkload, calls_of}
 use Rattle.cap_run.specs.RunFault.{RunsNothing}
 use Rattle.cap_run.specs.declared.fault.RunFault.{RunFault}
 use Rattle.cap_run.specs.declared.fault.RunFault.TheVariants.{Blob, Call, Close, Memory, NotHex, NotUtf8, Read, Script, Write}
@@ -42,19 +42,11 @@ pub calls-none : (A : Type 0) (ended : Ended) → AreCalls {A = A} ended [] []
 calls-none A (Ok done) = refl
 calls-none A (Err fault) = prefix-of-none []
 
-pub appends-front : (a b : Option (List ℕ)) (text : List ℕ) → Appends a b text → AppendsFront a b (text ++ [])
-appends-front a b text wrote = (text, [], refl, wrote)
-
 module _ {A : Type 0} where
   -- ---- the history that a closed server leaves
 
   pub own-prefix : (number : ℕ) (xs ys : List (Event A)) → IsPrefix xs ys → IsPrefix (own number xs) (own number ys)
   own-prefix number xs ys so = (own number so.0, sym (own-append number xs so.0) ∙ ap (own number) so.1)
-
-  pub number-at : (number : ℕ → ℕ) (seats : List (SeatState A)) (place : ℕ) (d : SeatState A) → AreNumbered number seats → place < length seats → (get_or seats place d).number ≡ number place
-  number-at number [] place d so within = absurd (omega (arith, within))
-  number-at number (seat ∷ seats) zero d so within = so.0
-  number-at number (seat ∷ seats) (suc place) d so within = number-at (λ p. number (suc p)) seats place d so.1 (omega (arith, within))
 
   -- each seat has its own index
   pub stands_at : (threads : ℕ) (seats : List (SeatState A)) (number : ℕ) → AreSeats threads seats → number < threads + 1 → StandsAt seats number number
@@ -98,66 +90,84 @@ module _ {A : Type 0} where
             subst (λ (l : List (Event A)). AreCalls ended (own number made) l) (sym same) its.calls_are
       ]
 
-  pub closed_history : (threads : ℕ) (lines : List (Line A)) (ended : Ended) (text : List ℕ) (seats : List (SeatState A)) (events : ℕ) (core : State A) (so : HaveCalled threads lines ended text (opened threads) seats)
-      → 1 ≤ threads → AreSeats threads seats → IsClosed seats events core → AreOfOneHistory (AreCalls ended) threads lines so.replies
-  closed_history threads lines ended text seats events core so some numbered closed =
-      record { history = closed.history; legal = closed.legal; blobs = closed.blobs; calls_are = closed-calls threads lines ended text seats events core so some numbered closed }
+  -- such a history, with as many events at least as the fault reports
+  abbrev pub OneHistory : (List (Event A) → List (Event A) → Type 0) → ℕ → List (Line A) → List (Reply A) → Ended → Type 0
+  OneHistory Are threads lines replies ended = (so : AreOfOneHistory Are threads lines replies) × ReportsEvents (λ count. count ≤ length so.history) ended
 
-  pub begun-history : (threads : ℕ) (lines : List (Line A)) (replies : List (Reply A)) (ended : Ended) → AreOfOneHistory (AreCalls ended) threads lines replies → AreOfOneHistory IsPrefix threads lines replies
-  begun-history threads lines replies ended so = record {
-    history = so.history;
-    legal = so.legal;
-    blobs = so.blobs;
-    calls_are = λ number. calls-begin ended (own number (calls_of threads lines replies)) (own number so.history) (so.calls_are number);
-  }
+  -- what one of the seats has seen begins it
+  pub seen-events : (ended : Ended) (seats : List (SeatState A)) (history : List (Event A)) → All (λ seat. IsPrefix seat.seen history) seats → OneHasSeen ended seats → ReportsEvents (λ count. count ≤ length history) ended
+  seen-events ended seats history shown seen =
+      reports (λ count. Any (λ (seat : SeatState A). length seat.seen ≡ count) seats) (λ count. count ≤ length history)
+      (λ count one.
+      let begins : IsPrefix one.1.seen history = subst (λ (seat : SeatState A). IsPrefix seat.seen history) one.3 (shown one.0 one.1 one.2) in
+      omega (arith, prefix-length one.1.seen history begins, one.4)) ended seen
+
+  pub closed_history : (threads : ℕ) (lines : List (Line A)) (ended : Ended) (text : List ℕ) (seats : List (SeatState A)) (events : ℕ) (core : State A) (so : HaveCalled threads lines ended text (opened threads) seats)
+      → 1 ≤ threads → AreSeats threads seats → IsClosed seats events core → OneHistory (AreCalls ended) threads lines so.replies ended
+  closed_history threads lines ended text seats events core so some numbered closed = (
+    record { history = closed.history; legal = closed.legal; blobs = closed.blobs; calls_are = closed-calls threads lines ended text seats events core so some numbered closed },
+    seen-events ended seats closed.history closed.seen so.events,
+  )
+
+  pub begun-history : (threads : ℕ) (lines : List (Line A)) (replies : List (Reply A)) (ended : Ended) → OneHistory (AreCalls ended) threads lines replies ended → OneHistory IsPrefix threads lines replies ended
+  begun-history threads lines replies ended (so, events) = (
+    record {
+      history = so.history;
+      legal = so.legal;
+      blobs = so.blobs;
+      calls_are = λ number. calls-begin ended (own number (calls_of threads lines replies)) (own number so.history) (so.calls_are number);
+    },
+    events,
+  )
 
   -- what the first seat has seen of an unclosed server's history
   pub seen_history : (threads : ℕ) (lines : List (Line A)) (ended : Ended) (text : List ℕ) (seats left : List (SeatState A)) (least : List (Event A)) (front : ℕ)
-      (so : HaveCalled threads lines ended text (opened threads) seats) → 1 ≤ threads → AreSeats threads seats → FirstHasSeen seats left least front → AreOfOneHistory IsPrefix threads lines so.replies
+      (so : HaveCalled threads lines ended text (opened threads) seats) → 1 ≤ threads → AreSeats threads seats → FirstHasSeen seats left least front → OneHistory IsPrefix threads lines so.replies ended
   seen_history threads lines ended text seats left least front so some numbered first =
-      let made = calls_of threads lines so.replies in
-      record {
-        history = first.history;
-        legal = first.legal;
-        blobs = first.blobs;
-        calls_are = λ number.
-            elim (cases_lt threads number) [
-              | inl beyond ↦
-                  subst (λ (l : List (Event A)). IsPrefix l (own number first.history)) (sym (calls-beyond threads number lines so.replies some beyond)) (prefix-of-none (own number first.history))
-              | inr within ↦
-                  let seat = get_or seats number (newcomer 0) in
-                  let less : number < threads + 1 = omega (arith, within) in
-                  let there : number < length seats = omega (arith, numbered.0, less) in
-                  let its = called-at threads ended made seats number so.seats less in
-                  let is = number-at (λ p. p) seats number (newcomer 0) numbered.1 there in
-                  let begins : IsPrefix (own number made) (own number seat.answered) =
-                  subst (λ (n : ℕ). IsPrefix (own number made) (own n seat.answered)) is (calls-begin ended (own number made) (calls seat) its.calls_are) in
-                  let shown : IsPrefix seat.answered first.history =
-                  prefix-trans seat.answered seat.seen first.history (its.seen (prefix-of-none [])) (first.seen number (newcomer 0) there) in
-                  prefix-trans (own number made) (own number seat.answered) (own number first.history) begins (own-prefix number seat.answered first.history shown)
-            ];
-      }
+      let made = calls_of threads lines so.replies in (
+        record {
+          history = first.history;
+          legal = first.legal;
+          blobs = first.blobs;
+          calls_are = λ number.
+              elim (cases_lt threads number) [
+                | inl beyond ↦
+                    subst (λ (l : List (Event A)). IsPrefix l (own number first.history)) (sym (calls-beyond threads number lines so.replies some beyond)) (prefix-of-none (own number first.history))
+                | inr within ↦
+                    let seat = get_or seats number (newcomer 0) in
+                    let less : number < threads + 1 = omega (arith, within) in
+                    let there : number < length seats = omega (arith, numbered.0, less) in
+                    let its = called-at threads ended made seats number so.seats less in
+                    let is = number-at (λ p. p) seats number (newcomer 0) numbered.1 there in
+                    let begins : IsPrefix (own number made) (own number seat.answered) =
+                    subst (λ (n : ℕ). IsPrefix (own number made) (own n seat.answered)) is (calls-begin ended (own number made) (calls seat) its.calls_are) in
+                    let shown : IsPrefix seat.answered first.history =
+                    prefix-trans seat.answered seat.seen first.history (its.seen (prefix-of-none [])) (first.seen number (newcomer 0) there) in
+                    prefix-trans (own number made) (own number seat.answered) (own number first.history) begins (own-prefix number seat.answered first.history shown)
+              ];
+        },
+        seen-events ended seats first.history first.seen so.events,
+      )
 
   -- ---- what a run wrote
 
-  pub sooner-history : (threads : ℕ) (lines others : List (Line A)) (replies : List (Reply A)) → length replies ≤ length lines → AreOfOneHistory IsPrefix threads lines replies
-      → AreOfOneHistory IsPrefix threads (lines ++ others) replies
-  sooner-history threads lines others replies few so = record {
-    history = so.history;
-    legal = so.legal;
-    blobs = so.blobs;
-    calls_are = λ number. subst (λ (l : List (Event A)). IsPrefix (own number l) (own number so.history)) (sym (calls_of-longer threads lines others replies few)) (so.calls_are number);
-  }
-
-  -- a history that has the calls of all lines that have replies
-  abbrev pub HasHistory : ℕ → (List (Event A) → List (Event A) → Type 0) → List (SeatState A) → Type 0
-  HasHistory threads Are seats =
-      (lines : List (Line A)) (ended : Ended) (text : List ℕ) (so : HaveCalled threads lines ended text (opened threads) seats) → AreOfOneHistory Are threads lines so.replies
+  pub sooner-history : (threads : ℕ) (lines others : List (Line A)) (replies : List (Reply A)) (ended : Ended) → length replies ≤ length lines → OneHistory IsPrefix threads lines replies ended
+      → OneHistory IsPrefix threads (lines ++ others) replies ended
+  sooner-history threads lines others replies ended few (so, events) = (
+    record {
+      history = so.history;
+      legal = so.legal;
+      blobs = so.blobs;
+      calls_are = λ number. subst (λ (l : List (Event A)). IsPrefix (own number l) (own number so.history)) (sym (calls_of-longer threads lines others replies few)) (so.calls_are number);
+    },
+    events,
+  )
 
   pub writes-some : (threads : ℕ) (called others lines : List (Line A)) (ended : Ended) (text : List ℕ) (seats : List (SeatState A)) (a b : Option (List ℕ)) → lines ≡ called ++ others
-      → (so : HaveCalled threads called ended text (opened threads) seats) → AreOfOneHistory IsPrefix threads called so.replies → AppendsFront a b (text ++ ending ended) → WritesSome threads lines a b
+      → (so : HaveCalled threads called ended text (opened threads) seats) → OneHistory IsPrefix threads called so.replies ended → AppendsFront a b (text ++ ending ended) → WritesSome threads lines a b
   writes-some threads called others lines ended text seats a b parts so history wrote =
-      let few = count_few ended (length so.replies) (length called) so.count in (
+      let few = count_few ended (length so.replies) (length called) so.count in
+      let all = subst (λ (l : List (Line A)). OneHistory IsPrefix threads l so.replies ended) (sym parts) (sooner-history threads called others so.replies ended few history) in (
         ended,
         text ++ ending ended,
         record {
@@ -165,15 +175,22 @@ module _ {A : Type 0} where
           few = omega (arith, few, ap length parts, length-append called others);
           text_is = ap (λ (t : List ℕ). t ++ ending ended)
               (so.text_is ∙ sym (reply_lines-longer called others so.replies few) ∙ ap (λ (l : List (Line A)). reply_lines l so.replies) (sym parts));
-          history = subst (λ (l : List (Line A)). AreOfOneHistory IsPrefix threads l so.replies) (sym parts) (sooner-history threads called others so.replies few history);
+          history = all.0;
+          events = all.1;
         },
         wrote,
       )
 
   pub writes-all : (threads : ℕ) (lines : List (Line A)) (ended : Ended) (text : List ℕ) (seats : List (SeatState A)) (a b : Option (List ℕ)) → (so : HaveCalled threads lines ended text (opened threads) seats)
-      → AreOfOneHistory (AreCalls ended) threads lines so.replies → Appends a b (text ++ ending ended) → WritesAll threads lines ended a b
-  writes-all threads lines ended text seats a b so history wrote =
-      (text ++ ending ended, record { replies = so.replies; count = so.count; text_is = ap (λ (t : List ℕ). t ++ ending ended) so.text_is; history = history }, wrote)
+      → OneHistory (AreCalls ended) threads lines so.replies ended → Appends a b (text ++ ending ended) → WritesAll threads lines ended a b
+  writes-all threads lines ended text seats a b so (history, events) wrote =
+      (text ++ ending ended, record { replies = so.replies; count = so.count; text_is = ap (λ (t : List ℕ). t ++ ending ended) so.text_is; history = history; events = events }, wrote)
+
+  -- the server was not closed
+  pub writes-unclosed : (threads : ℕ) (lines : List (Line A)) (text : List ℕ) (seats : List (SeatState A)) (a b : Option (List ℕ)) → (so : HaveCalled threads lines (Ok tt) text (opened threads) seats)
+      → OneHistory IsPrefix threads lines so.replies (Ok tt) → Appends a b text → WritesUnclosed threads lines a b
+  writes-unclosed threads lines text seats a b so (history, events) wrote =
+      (text, record { replies = so.replies; count = so.count; text_is = so.text_is ∙ sym (append-nil (reply_lines lines so.replies)); history = history; events = events }, wrote)
 
   -- ---- the whole run
 
@@ -201,7 +218,7 @@ module _ {A : Type 0} where
       → WritesWorkload A threads input (unclosed_outcome outcome) a b
   writes_unclosed threads input lines (Ok done) seats left least front a b some spelled (text, so, wrote) first =
       let history = seen_history threads lines (Ok tt) text seats left least front so some (still_seats threads lines (Ok tt) text (opened threads) seats so (newcomers_seats A threads)) first in
-      (lines, spelled, writes-some threads lines [] lines (Ok tt) text seats a b (sym (append-nil lines)) so history (appends-front a b text wrote))
+      (lines, spelled, writes-unclosed threads lines text seats a b so history wrote)
   writes_unclosed threads input lines (Err (Call fault)) seats left least front a b some spelled (text, so, wrote) first =
       let history = seen_history threads lines (Err fault) text seats left least front so some (still_seats threads lines (Err fault) text (opened threads) seats so (newcomers_seats A threads)) first in
       (lines, spelled, writes-all threads lines (Err fault) text seats a b so history wrote)

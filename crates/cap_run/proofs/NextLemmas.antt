@@ -12,6 +12,7 @@ use Rattle.cap_run.specs.declared.fault.RunFault.TheVariants.{Write}
 use Rattle.cap_script.specs.Script.{SpellsScript, TakesFirst, begins_at}
 use Rattle.cap_script.specs.declared.line.Line.{Line}
 use Rattle.cap_server.specs.declared.fault.CallFault.{CallFault}
+use Rattle.cap_server.specs.declared.fault.CallFault.TheVariants.{OutOfMemory}
 
 pub of_ended : {P : Type 0} (ended : Ended) → P → OnOk ended P
 of_ended (Ok done) so = so
@@ -33,10 +34,11 @@ module _ {A : Type 0} where
   }
 
   -- no line but these replies stand behind the others
-  pub called_stuck : (threads : ℕ) (fault : CallFault) (lines others : List (Line A)) (text : List ℕ) (a b : List (SeatState A)) → HaveCalled threads lines (Ok tt) text a b → 0 < length others
-      → HaveCalled threads (lines ++ others) (Err fault) text a b
-  called_stuck threads fault lines others text a b so some =
-      subst (λ (t : List ℕ). HaveCalled threads (lines ++ others) (Err fault) t a b) (append-nil text) (called_more threads (Err fault) lines others text [] a b b so (called_refused threads fault others b some))
+  pub called_stuck : (threads : ℕ) (lines others : List (Line A)) (text : List ℕ) (a b : List (SeatState A)) → HaveCalled threads lines (Ok tt) text a b → 0 < length others
+      → HaveCalled threads (lines ++ others) (Err OutOfMemory) text a b
+  called_stuck threads lines others text a b so some =
+      subst (λ (t : List ℕ). HaveCalled threads (lines ++ others) (Err OutOfMemory) t a b) (append-nil text)
+      (called_more threads (Err OutOfMemory) lines others text [] a b b so (called_refused threads others b some))
 
   pub next-parts : (lines called others : List (Line A)) (line : Line A) (rest taken left : List (Line A)) → lines ≡ called ++ others → others ≡ line ∷ rest → rest ≡ taken ++ left
       → lines ≡ (called ++ line ∷ taken) ++ left
@@ -86,12 +88,13 @@ module _ {A : Type 0} where
     so.wrote,
   )
 
-  pub under_stuck : (threads : ℕ) (fault : CallFault) (lines : List (Line A)) (rest pending : List ℕ) (a b : List (SeatState A)) (old new : Option (List ℕ)) (so : AreUnder threads lines rest pending a b old new)
-      → 0 < length so.others → EndSo threads lines (Err fault) pending a b old new
-  under_stuck threads fault lines rest pending a b old new so some = (
+  -- out of memory for the next line
+  pub under_stuck : (threads : ℕ) (lines : List (Line A)) (rest pending : List ℕ) (a b : List (SeatState A)) (old new : Option (List ℕ)) (so : AreUnder threads lines rest pending a b old new)
+      → 0 < length so.others → EndSo threads lines (Err OutOfMemory) pending a b old new
+  under_stuck threads lines rest pending a b old new so some = (
     so.written,
-    subst (λ (l : List (Line A)). HaveCalled threads l (Err fault) (so.written ++ pending) a b) (sym so.parts)
-        (called_stuck threads fault so.called so.others (so.written ++ pending) a b so.made some),
+    subst (λ (l : List (Line A)). HaveCalled threads l (Err OutOfMemory) (so.written ++ pending) a b) (sym so.parts)
+        (called_stuck threads so.called so.others (so.written ++ pending) a b so.made some),
     so.wrote,
   )
 
@@ -192,15 +195,15 @@ module _ {A : Type 0} where
       record { taken = []; left = rest; parts = refl; text = text; text_is = is; made = made; spelled = of_ended ended spelled }
 
   -- out of memory for a block
-  pub next_refused : (threads : ℕ) (fault : CallFault) (line : Line A) (rest : List (Line A)) (behind old new : List ℕ) (seats : List (SeatState A)) → new ≡ old
-      → IsNext threads line rest (Err fault) behind old new seats seats
-  next_refused threads fault line rest behind old new seats same = record {
+  pub next_refused : (threads : ℕ) (line : Line A) (rest : List (Line A)) (behind old new : List ℕ) (seats : List (SeatState A)) → new ≡ old
+      → IsNext threads line rest (Err OutOfMemory) behind old new seats seats
+  next_refused threads line rest behind old new seats same = record {
     taken = [];
     left = rest;
     parts = refl;
     text = [];
     text_is = same ∙ sym (append-nil old);
-    made = called_refused threads fault (line ∷ []) seats (omega arith);
+    made = called_refused threads (line ∷ []) seats (omega arith);
     spelled = tt;
   }
 

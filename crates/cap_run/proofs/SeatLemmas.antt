@@ -3,7 +3,7 @@ use Rattle.std.proofs.Common.{◌≡◌, ◌≢◌, ℕ, zero, suc, ◌+◌, ◌
 use Rattle.std.proofs.lemmas.Bool.Decides.{nat_tests}
 use Rattle.std.proofs.lemmas.List.{map_push}
 use Rattle.std.proofs.lemmas.List.FromFn.{length-map-range_with_len}
-use Rattle.std.specs.List.{AllZip, range_with_len}
+use Rattle.std.specs.List.{AllZip, Any, range_with_len}
 use Rattle.std.specs.Prelude.{OnErr, OnOk}
 use mathlib.Core.List.{IsPrefix}
 use Rattle.cap_core.specs.Answer.{event_by}
@@ -13,12 +13,13 @@ use Rattle.cap_history.specs.Beginnings.{prefix-self}
 use Rattle.cap_history.specs.History.{own}
 use Rattle.cap_history.specs.Own.{own-append}
 use Rattle.cap_history.specs.Seat.{SeatState, calls, newcomer}
-use Rattle.cap_run.specs.Run.{Ended, on_a_line, reply_lines}
-use Rattle.cap_run.specs.Code.Calls.{AreNumbered, AreSeats, HasAnswered, HasCalledOwn, HaveCalled, KeepsCalls, lines_of, reply_texts, texts_of}
-use Rattle.cap_run.specs.Workload.{AreCalls, HasCount, calls_of, seat_of}
+use Rattle.cap_run.specs.Run.{Ended, events_max, on_a_line, reply_lines}
+use Rattle.cap_run.specs.Code.Calls.{AreNumbered, AreSeats, HasAnswered, HasCalledOwn, HasSeen, HaveCalled, KeepsCalls, OneHasSeen, lines_of, reply_texts, texts_of}
+use Rattle.cap_run.specs.Workload.{AreCalls, HasCount, ReportsEvents, calls_of, seat_of}
 use Rattle.cap_script.specs.ReplyText.{reply_text}
 use Rattle.cap_script.specs.declared.line.Line.{Line}
 use Rattle.cap_server.specs.declared.fault.CallFault.{CallFault}
+use Rattle.cap_server.specs.declared.fault.CallFault.TheVariants as call
 
 -- ---- counts and numbers
 
@@ -40,6 +41,13 @@ same_length R [] (y ∷ b) each = absurd each
 same_length R (x ∷ a) [] each = absurd each
 same_length R (x ∷ a) (y ∷ b) each = ap suc (same_length R a b each.1)
 
+-- where each fits its partner, those at one place fit
+pub zip-at : {X Y : Type 0} (R : X → Y → Type 0) (a : List X) (b : List Y) (place : ℕ) (d : X) (e : Y) → AllZip R a b → place < length a → R (get_or a place d) (get_or b place e)
+zip-at R [] b place d e each within = absurd (omega (arith, within))
+zip-at R (x ∷ a) [] place d e each within = absurd each
+zip-at R (x ∷ a) (y ∷ b) zero d e each within = each.0
+zip-at R (x ∷ a) (y ∷ b) (suc place) d e each within = zip-at R a b place d e each.1 (omega (arith, within))
+
 pub nat_eq-same : (n : ℕ) → nat_eq n n ≡ true
 nat_eq-same n = grind (arith, nat_tests)
 
@@ -48,6 +56,13 @@ nat_eq-other n m other = grind (arith, nat_tests)
 
 pub same-nat_eq : (n m : ℕ) → nat_eq n m ≡ true → n ≡ m
 same-nat_eq n m is = grind (arith, nat_tests)
+
+-- what is reported is whatever follows from it
+pub reports : (P Q : ℕ → Type 0) → ((count : ℕ) → P count → Q count) → (ended : Ended) → ReportsEvents P ended → ReportsEvents Q ended
+reports P Q so (Ok done) has = tt
+reports P Q so (Err call.OutOfMemory) has = tt
+reports P Q so (Err (call.Overtaken front)) has = so front has
+reports P Q so (Err call.HistoryFull) has = so events_max has
 
 module _ {A : Type 0} where
   -- ---- seats of lines
@@ -136,15 +151,16 @@ module _ {A : Type 0} where
   each_none ended (seat ∷ seats) = (own_none ended seat, each_none ended seats)
 
   pub called_none : (threads : ℕ) (seats : List (SeatState A)) → HaveCalled threads [] (Ok tt) [] seats seats
-  called_none threads seats = record { replies = []; count = refl; text_is = refl; seats = each_none (Ok tt) seats }
+  called_none threads seats = record { replies = []; count = refl; text_is = refl; seats = each_none (Ok tt) seats; events = tt }
 
-  -- no reply to the first of some lines
-  pub called_refused : (threads : ℕ) (fault : CallFault) (lines : List (Line A)) (seats : List (SeatState A)) → 0 < length lines → HaveCalled threads lines (Err fault) [] seats seats
-  called_refused threads fault lines seats some = record {
+  -- out of memory for the first of some lines
+  pub called_refused : (threads : ℕ) (lines : List (Line A)) (seats : List (SeatState A)) → 0 < length lines → HaveCalled threads lines (Err call.OutOfMemory) [] seats seats
+  called_refused threads lines seats some = record {
     replies = [];
     count = some;
     text_is = sym (reply_lines-none lines);
-    seats = subst (λ (made : List (Event A)). AllZip (HasCalledOwn (Err fault) made) seats seats) (sym (calls_of-none threads lines)) (each_none (Err fault) seats);
+    seats = subst (λ (made : List (Event A)). AllZip (HasCalledOwn (Err call.OutOfMemory) made) seats seats) (sym (calls_of-none threads lines)) (each_none (Err call.OutOfMemory) seats);
+    events = tt;
   }
 
   pub own_more : (ended : Ended) (made more : List (Event A)) (a b c : SeatState A) → HasCalledOwn (Ok tt) made a b → HasCalledOwn ended more b c → HasCalledOwn ended (made ++ more) a c
@@ -178,6 +194,7 @@ module _ {A : Type 0} where
     text_is = ap₂ (λ (t u : List ℕ). t ++ u) first.text_is second.text_is ∙ sym (reply_lines-append lines others first.replies second.replies first.count);
     seats = subst (λ (made : List (Event A)). AllZip (HasCalledOwn ended made) a c) (sym (calls_of-append threads lines others first.replies second.replies first.count))
         (each_more ended (calls_of threads lines first.replies) (calls_of threads others second.replies) a b c first.seats second.seats);
+    events = second.events;
   }
 
   -- the lines behind the one that has no reply
@@ -190,6 +207,7 @@ module _ {A : Type 0} where
         count = omega (arith, so.count, length-append lines others);
         text_is = so.text_is ∙ sym (reply_lines-longer lines others so.replies few);
         seats = subst (λ (made : List (Event A)). AllZip (HasCalledOwn (Err fault) made) a b) (sym (calls_of-longer threads lines others so.replies few)) so.seats;
+        events = so.events;
       }
 
   -- ---- numbers of seats
@@ -199,6 +217,11 @@ module _ {A : Type 0} where
   same_numbers ended made number [] (y ∷ b) each so = absurd each
   same_numbers ended made number (x ∷ a) [] each so = absurd each
   same_numbers ended made number (x ∷ a) (y ∷ b) each so = (each.0.number ∙ so.0, same_numbers ended made (λ place. number (suc place)) a b each.1 so.1)
+
+  pub number-at : (number : ℕ → ℕ) (seats : List (SeatState A)) (place : ℕ) (d : SeatState A) → AreNumbered number seats → place < length seats → (get_or seats place d).number ≡ number place
+  number-at number [] place d so within = absurd (omega (arith, within))
+  number-at number (seat ∷ seats) zero d so within = so.0
+  number-at number (seat ∷ seats) (suc place) d so within = number-at (λ p. number (suc p)) seats place d so.1 (omega (arith, within))
 
   -- the seats stay seats
   pub still_seats : (threads : ℕ) (lines : List (Line A)) (ended : Ended) (text : List ℕ) (a b : List (SeatState A)) → HaveCalled threads lines ended text a b → AreSeats threads a → AreSeats threads b
@@ -244,12 +267,13 @@ module _ {A : Type 0} where
           },
           others_none (Ok tt) event (λ place. place) seats refl so.1,
         );
+        events = tt;
       }
 
   -- it has none
-  pub first_refused : (threads : ℕ) (fault : CallFault) (line : Line A) (old new : SeatState A) (seats : List (SeatState A)) → KeepsCalls old new
+  pub first_refused : (threads : ℕ) (fault : CallFault) (line : Line A) (old new : SeatState A) (seats : List (SeatState A)) → KeepsCalls old new → HasSeen (Err fault) new
       → HaveCalled threads (line ∷ []) (Err fault) [] (old ∷ seats) (new ∷ seats)
-  first_refused threads fault line old new seats so = record {
+  first_refused threads fault line old new seats so events = record {
     replies = [];
     count = omega arith;
     text_is = refl;
@@ -257,6 +281,7 @@ module _ {A : Type 0} where
       record { number = so.number; calls_are = subst (λ (l : List (Event A)). IsPrefix l (calls new)) (sym (append-nil (calls old))) so.begins; seen = so.seen },
       each_none (Err fault) seats,
     );
+    events = reports (λ count. length new.seen ≡ count) (λ count. Any (λ (seat : SeatState A). length seat.seen ≡ count) (new ∷ seats)) (λ count same. (0, new, omega arith, refl, same)) (Err fault) events;
   }
 
   -- ---- workers, each with a seat
@@ -282,18 +307,19 @@ module _ {A : Type 0} where
         first_called threads line text (seat x) (seat new) (map seat workers) alone so.1 (subst (λ (w : W). HasAnswered line text (seat w) (seat new)) is answered)
 
     alone_refused : (threads : ℕ) (fault : CallFault) (line : Line A) (workers : List W) (first new : W) → AreSeats threads (map seat workers) → first ≡ get_or workers 0 first
-        → KeepsCalls (seat first) (seat new) → HaveCalled threads (line ∷ []) (Err fault) [] (map seat workers) (map seat (set workers 0 new))
-    alone_refused threads fault line [] first new so is keeps = absurd (omega (arith, so.0))
-    alone_refused threads fault line (x ∷ workers) first new so is keeps =
-        first_refused threads fault line (seat x) (seat new) (map seat workers) (subst (λ (w : W). KeepsCalls (seat w) (seat new)) is keeps)
+        → KeepsCalls (seat first) (seat new) → HasSeen (Err fault) (seat new) → HaveCalled threads (line ∷ []) (Err fault) [] (map seat workers) (map seat (set workers 0 new))
+    alone_refused threads fault line [] first new so is keeps events = absurd (omega (arith, so.0))
+    alone_refused threads fault line (x ∷ workers) first new so is keeps events =
+        first_refused threads fault line (seat x) (seat new) (map seat workers) (subst (λ (w : W). KeepsCalls (seat w) (seat new)) is keeps) events
 
     -- the first worker called a line
     pub called_alone : (threads : ℕ) (line : Line A) (ended : Ended) (old new : List ℕ) (workers : List W) (first next : W) → AreSeats threads (map seat workers) → line.worker ≡ None → first ≡ get_or workers 0 first
         → OnOk ended ((text : List ℕ) × (new ≡ old ++ text) × HasAnswered line text (seat first) (seat next)) → OnErr ended ((new ≡ old) × KeepsCalls (seat first) (seat next))
-        → (text : List ℕ) × (new ≡ old ++ text) × HaveCalled threads (line ∷ []) ended text (map seat workers) (map seat (set workers 0 next))
-    called_alone threads line (Ok done) old new workers first next so alone is answered refused = (answered.0, answered.1, alone_called threads line answered.0 workers first next so alone is answered.2)
-    called_alone threads line (Err fault) old new workers first next so alone is answered refused =
-        ([], refused.0 ∙ sym (append-nil old), alone_refused threads fault line workers first next so is refused.1)
+        → HasSeen ended (seat next) → (text : List ℕ) × (new ≡ old ++ text) × HaveCalled threads (line ∷ []) ended text (map seat workers) (map seat (set workers 0 next))
+    called_alone threads line (Ok done) old new workers first next so alone is answered refused events =
+        (answered.0, answered.1, alone_called threads line answered.0 workers first next so alone is answered.2)
+    called_alone threads line (Err fault) old new workers first next so alone is answered refused events =
+        ([], refused.0 ∙ sym (append-nil old), alone_refused threads fault line workers first next so is refused.1 events)
 
     -- there is a first one
     pub some_worker : (threads : ℕ) (workers : List W) → AreSeats threads (map seat workers) → 0 < length workers

@@ -10,9 +10,9 @@ use Rattle.cap_core.specs.declared.command.Command.{Command}
 use Rattle.cap_history.specs.Beginnings.{prefix-append, prefix-self, prefix-trans}
 use Rattle.cap_history.specs.History.{own}
 use Rattle.cap_history.specs.Seat.{HasCalled, SeatState, SeesMore, calls}
-use Rattle.cap_run.proofs.SeatLemmas.{calls_of-append, calls_of-longer, calls_of-none, is_of, lines-own, nat_eq-other, nat_eq-same, reply_texts-none}
+use Rattle.cap_run.proofs.SeatLemmas.{calls-begin, calls_of-append, calls_of-longer, calls_of-none, is_of, lines-own, nat_eq-other, nat_eq-same, reply_texts-none}
 use Rattle.cap_run.specs.Run.{Ended, on_a_line}
-use Rattle.cap_run.specs.Code.Calls.{HasAnswered, HasCalledLines, HasWorked, KeepsCalls, Work, lines_of, reply_texts, work}
+use Rattle.cap_run.specs.Code.Calls.{HasAnswered, HasCalledLines, HasSeen, HasWorked, KeepsCalls, Work, lines_of, reply_texts, work}
 use Rattle.cap_run.specs.Workload.{calls_of, seat_of}
 use Rattle.cap_script.specs.ReplyText.{reply_text}
 use Rattle.cap_script.specs.declared.line.Line.{Line}
@@ -22,11 +22,11 @@ use Rattle.cap_server.specs.declared.fault.CallFault.TheVariants as call
 
 module _ {A : Type 0} where
   pub lines_none : (threads : ℕ) (seat : SeatState A) → HasCalledLines threads [] (Ok tt) [] seat seat
-  lines_none threads seat = record { replies = []; count = refl; texts_are = refl; number = refl; calls_are = sym (append-nil (calls seat)); seen = λ so. so }
+  lines_none threads seat = record { replies = []; count = refl; texts_are = refl; number = refl; calls_are = sym (append-nil (calls seat)); seen = λ so. so; events = tt }
 
-  -- no line of some is called
-  pub lines_refused : (threads : ℕ) (fault : CallFault) (lines : List (Line A)) (seat : SeatState A) → 0 < length lines → HasCalledLines threads lines (Err fault) [] seat seat
-  lines_refused threads fault lines seat some = record {
+  -- no line of some is called, out of memory
+  pub lines_refused : (threads : ℕ) (lines : List (Line A)) (seat : SeatState A) → 0 < length lines → HasCalledLines threads lines (Err call.OutOfMemory) [] seat seat
+  lines_refused threads lines seat some = record {
     replies = [];
     count = some;
     texts_are = sym (reply_texts-none lines);
@@ -34,6 +34,7 @@ module _ {A : Type 0} where
     calls_are = subst (λ (l : List (Event A)). IsPrefix (calls seat ++ l) (calls seat)) (sym (calls_of-none threads lines))
         (subst (λ (l : List (Event A)). IsPrefix l (calls seat)) (sym (append-nil (calls seat))) (prefix-self (calls seat)));
     seen = λ so. so;
+    events = tt;
   }
 
   pub reply_texts-append : (lines others : List (Line A)) (replies more : List (Reply A)) → length replies ≡ length lines
@@ -64,12 +65,13 @@ module _ {A : Type 0} where
         calls_are = answered.calls_are ∙ ap₂ (λ (l : List (Event A)) (e : Event A). l ++ e ∷ []) so.calls_are made
             ∙ append_assoc (calls a) (calls_of threads lines so.replies) (event ∷ []) ∙ ap (λ (l : List (Event A)). calls a ++ l) (sym (calls_of-append threads lines (line ∷ []) so.replies (answered.reply ∷ []) so.count));
         seen = λ before. answered.seen;
+        events = tt;
       }
 
   -- the next has none
   pub lines_ended : (threads : ℕ) (fault : CallFault) (lines others : List (Line A)) (texts : List (List ℕ)) (a b c : SeatState A) → HasCalledLines threads lines (Ok tt) texts a b
-      → KeepsCalls b c → 0 < length others → HasCalledLines threads (lines ++ others) (Err fault) texts a c
-  lines_ended threads fault lines others texts a b c so keeps some =
+      → KeepsCalls b c → HasSeen (Err fault) c → 0 < length others → HasCalledLines threads (lines ++ others) (Err fault) texts a c
+  lines_ended threads fault lines others texts a b c so keeps events some =
       let few : length so.replies ≤ length lines = omega (arith, so.count) in
       record {
         replies = so.replies;
@@ -79,6 +81,7 @@ module _ {A : Type 0} where
         calls_are = subst (λ (l : List (Event A)). IsPrefix (calls a ++ l) (calls c)) (sym (calls_of-longer threads lines others so.replies few))
             (subst (λ (l : List (Event A)). IsPrefix l (calls c)) so.calls_are keeps.begins);
         seen = λ before. keeps.seen (so.seen before);
+        events = events;
       }
 
   -- the lines of a seat, one line after the other
@@ -138,10 +141,10 @@ module _ {A : Type 0} where
   -- it has none
   pub lines_stopped : (threads number index : ℕ) (fault : CallFault) (block : List (Line A)) (line : Line A) (texts : List (List ℕ)) (a b c : SeatState A) → index < length block
       → line ≡ get_or block index line → seat_of threads line.worker ≡ number → HasCalledLines threads (lines_of threads number (take index block)) (Ok tt) texts a b → KeepsCalls b c
-      → HasCalledLines threads (lines_of threads number block) (Err fault) texts a c
-  lines_stopped threads number index fault block line texts a b c within is at so keeps =
+      → HasSeen (Err fault) c → HasCalledLines threads (lines_of threads number block) (Err fault) texts a c
+  lines_stopped threads number index fault block line texts a b c within is at so keeps events =
       subst (λ (l : List (Line A)). HasCalledLines threads l (Err fault) texts a c) (sym (lines_of-parts threads number index block))
-      (lines_ended threads fault (lines_of threads number (take index block)) (lines_of threads number (drop index block)) texts a b c so keeps (lines_of-some threads number index block line within is at))
+      (lines_ended threads fault (lines_of threads number (take index block)) (lines_of threads number (drop index block)) texts a b c so keeps events (lines_of-some threads number index block line within is at))
 
   -- all lines of the block were looked at
   pub lines_done : (threads number index : ℕ) (block : List (Line A)) (texts : List (List ℕ)) (a b : SeatState A) → length block ≤ index
@@ -156,10 +159,30 @@ module _ {A : Type 0} where
       (subst (λ (l : List (Line A)). HasCalledLines threads l (Ok tt) [] seat seat) (sym none) (lines_none threads seat))
 
   -- or has no thread for them
-  pub worked_refused : (threads : ℕ) (fault : CallFault) (block : List (Line A)) (seat : SeatState A) (done : Work A) → 0 < length (lines_of threads seat.number block) → done ≡ work seat [] (Err fault)
+  pub worked_refused : (threads : ℕ) (block : List (Line A)) (seat : SeatState A) (done : Work A) → 0 < length (lines_of threads seat.number block) → done ≡ work seat [] (Err call.OutOfMemory)
       → HasWorked threads block seat done
-  worked_refused threads fault block seat done some is =
-      subst (λ (w : Work A). HasWorked threads block seat w) (sym is) (lines_refused threads fault (lines_of threads seat.number block) seat some)
+  worked_refused threads block seat done some is =
+      subst (λ (w : Work A). HasWorked threads block seat w) (sym is) (lines_refused threads (lines_of threads seat.number block) seat some)
+
+  -- whatever a worker has called, it may be that it ends out of memory at its first line
+  pub worked_stopped : (threads : ℕ) (block : List (Line A)) (seat : SeatState A) (before done : Work A) → 0 < length (lines_of threads seat.number block) → HasWorked threads block seat before
+      → done ≡ work before.seat [] (Err call.OutOfMemory) → HasWorked threads block seat done
+  worked_stopped threads block seat before done some so is =
+      let lines = lines_of threads seat.number block in
+      let begins : IsPrefix (calls seat) (calls before.seat) =
+      prefix-trans (calls seat) (calls seat ++ calls_of threads lines so.replies) (calls before.seat) (prefix-append (calls seat) (calls_of threads lines so.replies))
+      (calls-begin before.ended (calls seat ++ calls_of threads lines so.replies) (calls before.seat) so.calls_are) in
+      let stopped : HasWorked threads block seat (work before.seat [] (Err call.OutOfMemory)) = record {
+        replies = [];
+        count = some;
+        texts_are = sym (reply_texts-none lines);
+        number = so.number;
+        calls_are = subst (λ (l : List (Event A)). IsPrefix (calls seat ++ l) (calls before.seat)) (sym (calls_of-none threads lines))
+            (subst (λ (l : List (Event A)). IsPrefix l (calls before.seat)) (sym (append-nil (calls seat))) begins);
+        seen = so.seen;
+        events = tt;
+      } in
+      subst (λ (w : Work A). HasWorked threads block seat w) (sym is) stopped
 
   pub work_same : (a b : SeatState A) (texts others : List (List ℕ)) (c d : Ended) → a ≡ b → texts ≡ others → c ≡ d → work a texts c ≡ work b others d
   work_same a b texts others c d seats same outcome =
@@ -202,6 +225,12 @@ module _ {A : Type 0} where
         begins = subst (λ (h : List (Event A)). IsPrefix (calls old) h) (sym same) (prefix-self (calls old));
         seen = λ before. subst (λ (h : List (Event A)). IsPrefix h new.seen) (sym so.answered) (prefix-trans old.answered old.seen new.seen before so.seen);
       }
+
+  -- what the fault of a call reports is what the seat has seen
+  pub seen_reported : (fault : CallFault) (old new : SeatState A) → LeavesSeat fault old new → HasSeen (Err fault) new
+  seen_reported call.OutOfMemory old new same = tt
+  seen_reported (call.Overtaken front) old new so = so.1
+  seen_reported call.HistoryFull old new so = omega (arith, so.1)
 
   -- the call was not answered
   pub keeps_left : (fault : CallFault) (old new : SeatState A) → LeavesSeat fault old new → KeepsCalls old new

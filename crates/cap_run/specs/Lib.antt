@@ -2,6 +2,7 @@ pub mod Code
 pub mod Hex
 pub mod Options
 pub mod Pieces
+pub mod Reads
 pub mod Run
 pub mod RunFault
 pub mod Show

@@ -1,5 +1,5 @@
 -- How a run ends.
-use Rattle.std.specs.Prelude.{◌≡◌, ◌⊎◌, ℕ}
+use Rattle.std.specs.Prelude.{◌≡◌, ◌⊎◌, ℕ, Bool, true, false}
 use Rattle.cap_value.specs.declared.memory.Fault.{Fault}
 use Rattle.cap_value.specs.declared.memory.Fault.TheVariants.{Refused, OutOfMemory}
 use Rattle.cap_run.specs.declared.fault.RunFault.{RunFault}
@@ -22,6 +22,11 @@ exit_status Close = 3
 -- the input was not read to its end
 abbrev pub IsUnread : RunFault → Type 0
 IsUnread fault = (fault ≡ Read) ⊎ (fault ≡ Memory)
+
+-- whether a read failed
+abbrev pub is_read : RunFault → Bool
+is_read Read = true
+is_read fault = false
 
 -- nothing was run
 abbrev pub RunsNothing : RunFault → Type 0

@@ -8,10 +8,11 @@ use Rattle.cap_core.specs.Table.{BlobsFit}
 use Rattle.cap_core.specs.declared.event.Event.{Event}
 use Rattle.cap_core.specs.declared.reply.Reply.{Reply}
 use Rattle.cap_history.specs.History.{own}
-use Rattle.cap_run.specs.Run.{AppendsFront, Ended, IsSpelled, Known, ending, reply_lines}
+use Rattle.cap_run.specs.Run.{AppendsFront, Ended, IsSpelled, Known, ending, events_max, reply_lines}
 use Rattle.cap_run.specs.declared.fault.RunFault.{RunFault}
 use Rattle.cap_run.specs.declared.fault.RunFault.TheVariants.{Call, Close, Write}
 use Rattle.cap_script.specs.declared.line.Line.{Line}
+use Rattle.cap_server.specs.Fault.{MatchCallFault}
 
 -- the seat from which a line is called: seat 0, or for `@K` that of a worker
 abbrev pub seat_of : ℕ → Option ℕ → ℕ
@@ -22,6 +23,12 @@ seat_of threads (Some number) = number % threads + 1
 abbrev pub HasCount : Ended → ℕ → ℕ → Type 0
 HasCount (Ok done) count lines = count ≡ lines
 HasCount (Err fault) count lines = count < lines
+
+-- What the fault at which lines ended says of a number of events: that of the history that overtook a call,
+-- or that of a full history. Out of memory says nothing of it.
+abbrev pub ReportsEvents : (ℕ → Type 0) → Ended → Type 0
+ReportsEvents Are (Ok done) = Unit {0}
+ReportsEvents Are (Err fault) = MatchCallFault fault (Unit {0}) Are (Are events_max)
 
 module _ {A : Type 0} where
   -- the calls of the lines that have replies, in the order of the lines, each by its line's seat
@@ -46,12 +53,14 @@ module _ {A : Type 0} where
     pub calls_are : (number : ℕ) → Are (own number (calls_of threads lines replies)) (own number history)
 
   -- A run of the lines that ended so has this text: the replies in the order of the lines, up to the first
-  -- line that has none, and then its fault.
-  pub record IsWorkload (threads : ℕ) (lines : List (Line A)) (ended : Ended) (text : List ℕ) : Type 0 where
+  -- line that has none, and then its fault. The history has at least as many events as the fault reports.
+  pub record IsWorkload (Are : List (Event A) → List (Event A) → Type 0) (threads : ℕ) (lines : List (Line A))
+      (ended : Ended) (text : List ℕ) : Type 0 where
     pub replies : List (Reply A)
     pub count : HasCount ended (length replies) (length lines)
     pub text_is : text ≡ reply_lines lines replies ++ ending ended
-    pub history : AreOfOneHistory (AreCalls ended) threads lines replies
+    pub history : AreOfOneHistory Are threads lines replies
+    pub events : ReportsEvents (λ count. count ≤ length history.history) ended
 
   -- A run that came so far has this text.
   pub record IsBegun (threads : ℕ) (lines : List (Line A)) (ended : Ended) (text : List ℕ) : Type 0 where
@@ -59,19 +68,26 @@ module _ {A : Type 0} where
     pub few : length replies ≤ length lines
     pub text_is : text ≡ reply_lines lines replies ++ ending ended
     pub history : AreOfOneHistory IsPrefix threads lines replies
+    pub events : ReportsEvents (λ count. count ≤ length history.history) ended
 
   -- all of a run's text was written
   abbrev pub WritesAll : ℕ → List (Line A) → Ended → Known → Known → Type 0
   WritesAll threads lines ended old new =
-      (text : List ℕ) × IsWorkload threads lines ended text × Appends old new text
+      (text : List ℕ) × IsWorkload (AreCalls ended) threads lines ended text × Appends old new text
+
+  -- all of it was written, and each line has its reply; the server was not closed, so its history has these
+  -- calls, and may have more
+  abbrev pub WritesUnclosed : ℕ → List (Line A) → Known → Known → Type 0
+  WritesUnclosed threads lines old new =
+      (text : List ℕ) × IsWorkload IsPrefix threads lines (Ok tt) text × Appends old new text
 
   -- a prefix of it was written
   abbrev pub WritesSome : ℕ → List (Line A) → Known → Known → Type 0
   WritesSome threads lines old new =
       (ended : Ended) × (text : List ℕ) × IsBegun threads lines ended text × AppendsFront old new text
 
--- The output of a run of the lines that the input spells: all of its text, a prefix where a write failed or
--- the server was not closed, or nothing where it did not begin.
+-- The output of a run of the lines that the input spells: all of its text, also where the server was not
+-- closed, a prefix where a write failed, or nothing where it did not begin.
 abbrev pub WritesWorkload : (A : Type 0) → ℕ → Known → Result (Unit {0}) RunFault → Known → Known → Type 0
 WritesWorkload A threads input (Ok done) old new =
     (lines : List (Line A)) × IsSpelled input lines × WritesAll threads lines (Ok done) old new
@@ -80,5 +96,5 @@ WritesWorkload A threads input (Err (Call fault)) old new =
 WritesWorkload A threads input (Err Write) old new =
     (lines : List (Line A)) × IsSpelled input lines × WritesSome threads lines old new
 WritesWorkload A threads input (Err Close) old new =
-    (lines : List (Line A)) × IsSpelled input lines × WritesSome threads lines old new
+    (lines : List (Line A)) × IsSpelled input lines × WritesUnclosed threads lines old new
 WritesWorkload A threads input (Err fault) old new = Keeps old new

@@ -1,5 +1,5 @@
 //! Runs the lines of a block, each worker's on its own thread.
-ghost use Rattle.std.specs.Prelude.{◌≡◌, ◌++◌, ◌∷◌, ◌+◌, ◌<◌, ◌≤◌, [], IfErr, IfOk, length, map};
+ghost use Rattle.std.specs.Prelude.{◌≡◌, ◌++◌, ◌∷◌, ◌+◌, ◌<◌, ◌≤◌, [], Err, IfErr, IfOk, length, map};
 ghost use Rattle.std.specs.Prelude.{string_bytes, vec_capacity, vec_len};
 ghost use Rattle.std.specs.List.{AllZip};
 ghost use denote.Param.Send.{Frees, IsSend, IsSync};
@@ -185,6 +185,8 @@ fn start<
     ensures worker { IfOk result (λ handle. handle.promise.worker.value.seat ≡ task.entry.worker.seat) }
     ensures here { IfErr result (λ worker. HasWorked task.entry.shared.now.threads task.entry.block.now
         task.entry.worker.seat (work worker.seat (map string_bytes worker.texts.items) worker.ended)) }
+    ensures memory { IfErr result (λ worker. (worker.texts.items ≡ [])
+        × (worker.ended ≡ Err CallFault.OutOfMemory)) }
 {
     let called = Called {
         threads: task.shared.threads,
@@ -205,7 +207,8 @@ fn start<
         Ok(handle) => Ok(handle),
         Err(unstarted) => {
             state.without_thread.store(number, Ordering::SeqCst);
-            Err((unstarted.value)())
+            let worker = (unstarted.value)();
+            Err(ended(worker, Err(CallFault::OutOfMemory)))
         }
     }
 }

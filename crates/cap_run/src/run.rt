@@ -1,13 +1,14 @@
 //! Runs a workload on one thread.
 ghost use Rattle.std.specs.Prelude.{◌≡◌, ◌⊎◌, ◌++◌, ◌∷◌, ◌<◌, ◌≤◌, ℕ, List, [], length, IfSome, IfOk, IfErr};
-ghost use Rattle.std.specs.Prelude.{OnOk, OnErr, IsErrAnd, IsUtf8, string_bytes};
+ghost use Rattle.std.specs.Prelude.{false, OnOk, OnErr, IsErrAnd, IsUtf8, string_bytes};
 ghost use Rattle.std.specs.Io.KnownBytes.{Appends};
 ghost use Rattle.cap_core.specs.Answer.{IsLegal, answer, event_by, reply_of, state};
 ghost use Rattle.cap_core.specs.Transition.{next};
 ghost use Rattle.cap_core.specs.declared.event.Event.{Event};
 ghost use Rattle.cap_run.specs.Run.{AppendsFront, BeginsRun, EndsAt, IsRun, MatchFault, Writes, WritesInput};
 ghost use Rattle.cap_run.specs.Run.{ending, events_max, on_a_line, run_outcome};
-ghost use Rattle.cap_run.specs.RunFault.{exit_status, IsUnread, IsUnspelled};
+ghost use Rattle.cap_run.specs.Reads.{EndsReads};
+ghost use Rattle.cap_run.specs.RunFault.{exit_status, is_read, IsUnread, IsUnspelled};
 ghost use Rattle.cap_script.specs.ReplyText.{reply_text};
 ghost use Rattle.cap_script.specs.Script.{SpellsScript};
 ghost use Rattle.cap_script.specs.declared.line.Line.{Line};
@@ -16,11 +17,12 @@ use crate::RunFault;
 use crate::input::read_whole;
 use crate::output::{write_ending, write_long, write_pending};
 use crate::worker::reply_line;
+use cap_codec::Source;
 use cap_core::{Command, Core, EVENTS_MAX, NoHook, Reply, legal_histories_grow};
 use cap_script::{Line, Lines};
 use cap_server::CallFault;
 use cap_value::{AllocHandle, Fault};
-use std::io::{Read, Write};
+use std::io::Write;
 
 /// Runs the workload from the reader on a new server, one command after the other, and writes the replies.
 ///
@@ -32,7 +34,7 @@ use std::io::{Read, Write};
 /// failed read and out of memory may come before any other answer. `cap_script::Lines::new` documents which
 /// other texts are refused, and with which fault; that is tested. The contracts determine the whole output,
 /// for writers whose content is known.
-pub fn run_core<A: AllocHandle, R: Read, W: Write>(
+pub fn run_core<A: AllocHandle, R: Source, W: Write>(
     alloc: A,
     reader: &mut R,
     writer: &mut W,
@@ -42,6 +44,9 @@ pub fn run_core<A: AllocHandle, R: Read, W: Write>(
         → IsErrAnd result (λ fault. (fault ≡ RunFault.NotUtf8) ⊎ IsUnread fault)) }
     ensures text { IfSome (R.remaining reader.old) (λ given.
         result ≡ Err RunFault.NotUtf8 → ¬ (IsUtf8 given)) }
+
+    // When a failed read is reported, as far as the outcomes of the reads are known.
+    ensures reported { EndsReads R.gave R.failed result reader.old reader.new }
 
     // Nothing is written where the input is refused.
     ensures silent { IfErr result (λ fault. exit_status fault ≡ 1 → writer.new ≡ writer.old) }
@@ -57,7 +62,7 @@ pub fn run_core<A: AllocHandle, R: Read, W: Write>(
 }
 
 // Reads the text. Whether the bytes are UTF-8 is checked without memory.
-pub(crate) fn read_text<A: AllocHandle, R: Read>(
+pub(crate) fn read_text<A: AllocHandle, R: Source>(
     alloc: A,
     reader: &mut R,
 ) -> Result<String<A>, RunFault>
@@ -66,6 +71,7 @@ pub(crate) fn read_text<A: AllocHandle, R: Read>(
     ensures text { IfSome (R.remaining reader.old) (λ given.
         result ≡ Err RunFault.NotUtf8 → ¬ (IsUtf8 given)) }
     ensures unread { IfErr result (λ fault. (fault ≡ RunFault.NotUtf8) ⊎ IsUnread fault) }
+    ensures reported { EndsReads R.gave R.failed result reader.old reader.new }
 {
     text_of(read_whole(alloc, reader)?)
 }
@@ -99,6 +105,7 @@ fn run_lines<A: AllocHandle, W: Write>(
     ensures writes { (spelled : List (Line A)) → SpellsScript spelled lines.old
         → Writes spelled result (W.contents writer.old) (W.contents writer.new) }
     ensures status { IfErr result (λ fault. exit_status fault ≡ 3) }
+    ensures read { IfErr result (λ fault. is_read fault ≡ false) }
 {
     let mut pending = String::new(alloc);
     let outcome = write_replies(alloc, lines, writer, &mut pending)?;
@@ -111,6 +118,7 @@ fn run_lines<A: AllocHandle, W: Write>(
 pub(crate) fn run_outcome(outcome: Result<(), CallFault>) -> Result<(), RunFault>
     ensures same { result ≡ run_outcome outcome }
     ensures status { IfErr result (λ fault. exit_status fault ≡ 3) }
+    ensures read { IfErr result (λ fault. is_read fault ≡ false) }
 {
     outcome.map_err(RunFault::Call)
 }

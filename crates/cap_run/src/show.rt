@@ -1,16 +1,17 @@
 //! Shows a changeset or a patchset.
-ghost use Rattle.std.specs.Prelude.{◌≡◌, ◌⊎◌, IfSome, IfErr, IsErrAnd};
+ghost use Rattle.std.specs.Prelude.{◌≡◌, ◌⊎◌, false, IfSome, IfErr, IsErrAnd};
 ghost use Rattle.cap_value.specs.Memory.{AnswersUnlessMemory};
-ghost use Rattle.cap_run.specs.RunFault.{exit_status, IsUnread};
+ghost use Rattle.cap_run.specs.Reads.{EndsReads};
+ghost use Rattle.cap_run.specs.RunFault.{exit_status, input_fault, is_read, IsUnread};
 ghost use Rattle.cap_run.specs.Show.{contents_at};
 
 use crate::RunFault;
 use crate::input::read_whole;
-use cap_codec::{Contents, read_blob};
+use cap_codec::{Contents, Source, read_blob};
 use cap_show::{write_changeset, write_patchset};
 use cap_value::{AllocHandle, Fault};
 use hex::FromHexError;
-use std::io::{BufWriter, Read, Write};
+use std::io::{BufWriter, Write};
 
 /// Shows the blob that the reader gives as hex digits, in either case, with at most one line feed at their
 /// end: writes a line for the blob, for each group and for each change, or `empty`.
@@ -18,7 +19,7 @@ use std::io::{BufWriter, Read, Write};
 /// The whole blob is read before anything is written. The contracts say exactly which input is refused and
 /// with which fault, where it is known what the reader gives. A failed read and out of memory may come before
 /// any other answer. No clause states the text of the output; it is tested.
-pub fn show_blob<A: AllocHandle, R: Read, W: Write>(
+pub fn show_blob<A: AllocHandle, R: Source, W: Write>(
     alloc: A,
     reader: &mut R,
     writer: &mut W,
@@ -29,6 +30,8 @@ pub fn show_blob<A: AllocHandle, R: Read, W: Write>(
         (λ fault. IsErrAnd result (λ f. (f ≡ fault) ⊎ IsUnread f))) }
     ensures just { IfSome (R.remaining reader.old) (λ given. IfErr result (λ fault.
         exit_status fault ≡ 1 → contents_at A given ≡ Err fault)) }
+    // When a failed read is reported, as far as the outcomes of the reads are known.
+    ensures reported { EndsReads R.gave R.failed result reader.old reader.new }
     // Nothing is written where the input is refused.
     ensures silent { IfErr result (λ fault. exit_status fault ≡ 1 → writer.new ≡ writer.old) }
 {
@@ -37,11 +40,12 @@ pub fn show_blob<A: AllocHandle, R: Read, W: Write>(
 }
 
 // Reads the blob.
-fn take_blob<A: AllocHandle, R: Read>(alloc: A, reader: &mut R) -> Result<Contents<A>, RunFault>
+fn take_blob<A: AllocHandle, R: Source>(alloc: A, reader: &mut R) -> Result<Contents<A>, RunFault>
     ensures refused { IfSome (R.remaining reader.old) (λ given. IfErr (contents_at A given)
         (λ fault. IsErrAnd result (λ f. (f ≡ fault) ⊎ IsUnread f))) }
     ensures just { IfSome (R.remaining reader.old) (λ given. IfErr result (λ fault.
         exit_status fault ≡ 1 → contents_at A given ≡ Err fault)) }
+    ensures reported { EndsReads R.gave R.failed result reader.old reader.new }
 {
     let text = read_whole(alloc, reader)?;
     Ok(blob_of(alloc, text.as_slice())?)
@@ -49,7 +53,8 @@ fn take_blob<A: AllocHandle, R: Read>(alloc: A, reader: &mut R) -> Result<Conten
 
 // The blob with these hex digits.
 fn blob_of<A: AllocHandle>(alloc: A, text: &[u8]) -> Result<Contents<A>, Fault<RunFault>>
-    ensures { AnswersUnlessMemory result (contents_at A text.now) }
+    ensures contents { AnswersUnlessMemory result (contents_at A text.now) }
+    ensures read { IfErr result (λ fault. is_read (input_fault fault) ≡ false) }
 {
     let digits = text.strip_suffix(b"\n").unwrap_or(text);
     let bytes = hex::decode(alloc, digits).map_err(|error| match error {
@@ -68,7 +73,8 @@ fn write_blob<A: AllocHandle, W: Write>(
     blob: &Contents<A>,
     writer: &mut W,
 ) -> Result<(), RunFault>
-    ensures { IfErr result (λ fault. exit_status fault ≡ 3) }
+    ensures status { IfErr result (λ fault. exit_status fault ≡ 3) }
+    ensures read { IfErr result (λ fault. is_read fault ≡ false) }
 {
     let mut output = BufWriter::new(alloc, writer).map_err(|_| RunFault::Memory)?;
     let written = match blob {

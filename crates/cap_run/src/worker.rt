@@ -1,7 +1,7 @@
 //! A worker of a workload, and its calls.
 ghost use Rattle.std.specs.Prelude.{◌≡◌, ◌++◌, ◌∷◌, ◌<◌, ◌≤◌, [], IfOk, MatchBool, OnOk, OnErr, List, ℕ};
-ghost use Rattle.std.specs.Prelude.{length, map, string_bytes};
-ghost use Rattle.cap_run.specs.Code.Calls.{HasAnswered, HasCalledLines, KeepsCalls, lines_of};
+ghost use Rattle.std.specs.Prelude.{Err, IfErr, length, map, string_bytes};
+ghost use Rattle.cap_run.specs.Code.Calls.{HasAnswered, HasCalledLines, HasSeen, KeepsCalls, lines_of};
 ghost use Rattle.cap_run.specs.Options.{IsThreadCount};
 ghost use Rattle.cap_run.specs.Run.{on_a_line};
 ghost use Rattle.cap_run.specs.Workload.{seat_of};
@@ -135,6 +135,7 @@ fn answer_own<J: Naming, A: AllocHandle, T: Wait, G: Gate>(
         × (map string_bytes worker.new.texts.items ≡ map string_bytes worker.old.texts.items ++ text ∷ [])) }
     ensures err { OnErr result (KeepsCalls worker.old.seat worker.new.seat
         × (worker.new.texts.items ≡ worker.old.texts.items)) }
+    ensures fault { HasSeen result worker.new.seat }
 {
     // Seat 0 belongs to no worker.
     let number = worker.seat.number().saturating_sub(1);
@@ -167,6 +168,7 @@ pub(crate) fn answer_line<J: Naming, A: AllocHandle, T: Wait>(
 ) -> Result<String<A>, CallFault>
     ensures ok { IfOk result (λ text. HasAnswered line.now (string_bytes text) seat.old seat.new) }
     ensures err { OnErr result (KeepsCalls seat.old seat.new) }
+    ensures fault { IfErr result (λ fault. HasSeen (Err fault) seat.new) }
 {
     let reply = server.call(rt, seat, &line.command)?;
     match reply_line(alloc, line, &reply) {

@@ -1,15 +1,17 @@
 //! Runs a workload on the server that threads share.
 ghost use Rattle.std.specs.Prelude.{◌≡◌, ◌⊎◌, ◌+◌, ◌++◌, ◌∷◌, ◌<◌, ◌≤◌, ℕ, List, [], length, map, Err, IfOk};
 ghost use Rattle.std.specs.Prelude.{IfSome, IfErr, IsErrAnd, IsUtf8, MatchResult, None, OnErr, OnOk};
-ghost use Rattle.std.specs.Prelude.{string_bytes, vec_capacity, vec_len};
+ghost use Rattle.std.specs.Prelude.{false, string_bytes, vec_capacity, vec_len};
+ghost use Rattle.std.specs.List.{AllZip};
 ghost use denote.Param.Send.{Frees};
 ghost use Rattle.cap_history.specs.Seat.{SeatState};
-ghost use Rattle.cap_run.specs.Code.Calls.{AreSeats, EndSo, Gathers, HasAnswered, HaveCalled, IsNext};
-ghost use Rattle.cap_run.specs.Code.Calls.{IsWholeBlock, KeepsCalls, RunsLines, fault_of};
-ghost use Rattle.cap_run.specs.Code.Calls.{unclosed_outcome};
+ghost use Rattle.cap_run.specs.Code.Calls.{AreSeats, EndSo, Gathers, HasAnswered, HasSeen, HasWorked};
+ghost use Rattle.cap_run.specs.Code.Calls.{HaveCalled, IsFaultOf, IsNext, IsWholeBlock, KeepsCalls};
+ghost use Rattle.cap_run.specs.Code.Calls.{RunsLines, unclosed_outcome, work};
 ghost use Rattle.cap_run.specs.Options.{IsThreadCount};
 ghost use Rattle.cap_run.specs.Run.{IsSpelled, Known};
-ghost use Rattle.cap_run.specs.RunFault.{IsUnread, exit_status};
+ghost use Rattle.cap_run.specs.Reads.{EndsReads};
+ghost use Rattle.cap_run.specs.RunFault.{IsUnread, exit_status, is_read};
 ghost use Rattle.cap_run.specs.Workload.{WritesWorkload};
 ghost use Rattle.cap_script.specs.Script.{SpellsScript};
 ghost use Rattle.cap_script.specs.declared.line.Line.{Line};
@@ -19,11 +21,12 @@ use crate::output::{write_ending, write_long, write_pending};
 use crate::run::{lines_of, read_text, run_outcome};
 use crate::worker::{Shared, Worker, answer_line, seat_of};
 use crate::{Gate, RunFault};
+use cap_codec::Source;
 use cap_history::{Naming, Opened, Seat};
 use cap_script::{Line, Lines};
 use cap_server::{CallFault, SEATS_MAX, Server};
 use cap_value::{AllocHandle, OutOfMemory};
-use std::io::{Read, Write};
+use std::io::Write;
 use std::marker::Brand;
 use std::sync::Wait;
 use std::thread::Threads;
@@ -48,7 +51,7 @@ pub fn run_workload<
     A: AllocHandle + Send + Sync,
     T: Threads + Wait + Sync,
     G: Gate,
-    R: Read,
+    R: Source,
     W: Write,
 >(rt: &T, alloc: A, gate: &G, threads: u64, reader: &mut R, writer: &mut W) -> Result<(), RunFault>
     requires threads { IsThreadCount threads }
@@ -59,13 +62,17 @@ pub fn run_workload<
     ensures text { IfSome (R.remaining reader.old) (λ given.
         result ≡ Err RunFault.NotUtf8 → ¬ (IsUtf8 given)) }
 
+    // When a failed read is reported, as far as the outcomes of the reads are known.
+    ensures reported { EndsReads R.gave R.failed result reader.old reader.new }
+
     // Nothing is written where the input is refused.
     ensures silent { IfErr result (λ fault. exit_status fault ≡ 1 → writer.new ≡ writer.old) }
 
     // The output is the replies in the order of the lines that the input spells. They are the replies of one
     // legal history that has each line's call once, each seat's in the order of its lines, and no other call.
     // Where the run ends at a fault, it is the first replies, and each seat's calls are a prefix of its calls
-    // in such a history.
+    // in such a history; where that fault is `Close`, it is all replies. The history has at least as many
+    // events as the fault reports: 2^63 - 1 where it is full.
     ensures written { WritesWorkload A threads (R.remaining reader.old) result
         (W.contents writer.old) (W.contents writer.new) }
 {
@@ -96,6 +103,7 @@ fn serve_lines<
     requires history { opened.seen.book ≡ J.book }
     requires seats { threads + 1 ≡ J.seats }
     ensures status { IfErr result (λ fault. exit_status fault ≡ 3) }
+    ensures read { IfErr result (λ fault. is_read fault ≡ false) }
     ensures written { (input : Known) → (spelled : List (Line A)) → IsSpelled input spelled
         → SpellsScript spelled lines.old
         → WritesWorkload A threads input result (W.contents writer.old) (W.contents writer.new) }
@@ -130,6 +138,8 @@ fn outcome_unclosed(outcome: Result<(), RunFault>) -> Result<(), RunFault>
     ensures same { result ≡ unclosed_outcome outcome }
     ensures status { IfErr outcome (λ fault. exit_status fault ≡ 3)
         → IfErr result (λ fault. exit_status fault ≡ 3) }
+    ensures read { IfErr outcome (λ fault. is_read fault ≡ false)
+        → IfErr result (λ fault. is_read fault ≡ false) }
 {
     match outcome {
         Ok(()) => Err(RunFault::Close),
@@ -192,6 +202,7 @@ fn run_lines<
     requires frees { Frees A.Allocator A.dealloc_token }
     requires seats { AreSeats shared.now.threads (map (λ w. w.seat) workers.items) }
     ensures status { IfErr result.1 (λ fault. exit_status fault ≡ 3) }
+    ensures read { IfErr result.1 (λ fault. is_read fault ≡ false) }
     ensures len { vec_len result.0 ≡ vec_len workers }
     ensures runs { (spelled : List (Line A)) → SpellsScript spelled lines.old
         → RunsLines shared.now.threads spelled result.1
@@ -214,6 +225,7 @@ fn write_rest<A: AllocHandle, W: Write>(
     outcome: Result<(), CallFault>,
 ) -> Result<(), RunFault>
     ensures status { IfErr result (λ fault. exit_status fault ≡ 3) }
+    ensures read { IfErr result (λ fault. is_read fault ≡ false) }
     ensures runs { (threads : ℕ) → (lines : List (Line A)) → (a : List (SeatState A))
         → (b : List (SeatState A)) → (known : Known)
         → EndSo threads lines outcome (string_bytes pending.old) a b known (W.contents writer.old)
@@ -384,6 +396,7 @@ fn answer_here<J: Naming, A: AllocHandle, T: Wait, G: Gate>(
         × HasAnswered line.now text seat.old seat.new) }
     ensures err { OnErr result ((string_bytes pending.new ≡ string_bytes pending.old)
         × KeepsCalls seat.old seat.new) }
+    ensures fault { HasSeen result seat.new }
 {
     let text = answer_line(shared.rt, shared.alloc, shared.server, seat, line)?;
     match pending.push_str(text.as_str()) {
@@ -393,7 +406,7 @@ fn answer_here<J: Naming, A: AllocHandle, T: Wait, G: Gate>(
 }
 
 // Appends the texts of the replies to a block's lines to `pending`, in the order of the lines, up to the
-// first line without a reply.
+// first line without a reply. Each worker has called its lines of the block.
 fn gather<J: Naming, A: AllocHandle>(
     threads: u64,
     block: &[Line<A>],
@@ -401,18 +414,22 @@ fn gather<J: Naming, A: AllocHandle>(
     pending: &mut String<A>,
 ) -> Result<(), CallFault>
     requires threads { IsThreadCount threads }
+    requires worked { (seats : List (SeatState A)) × AreSeats threads seats
+        × AllZip (HasWorked threads block.now) seats
+        (map (λ w. work w.seat (map string_bytes w.texts.items) w.ended) workers.now) }
     ensures gathered { (text : List ℕ) × (string_bytes pending.new ≡ string_bytes pending.old ++ text)
         × Gathers threads block.now (map (λ w. map string_bytes w.texts.items) workers.now) result text }
+    ensures fault { IsFaultOf
+        (map (λ w. work w.seat (map string_bytes w.texts.items) w.ended) workers.now) result }
 {
     // The number of texts taken from each seat's worker.
     let mut taken = [0usize; SEATS_MAX as usize];
     for line in block {
         let seat = seat_of(threads, line.worker) as usize;
-        let Some(worker) = workers.get(seat) else {
-            return Err(CallFault::OutOfMemory);
-        };
+        let worker = &workers[seat];
         let Some(text) = worker.texts.get(taken[seat]) else {
-            return Err(fault_of(worker));
+            // The worker has ended at a fault before this line.
+            return worker.ended;
         };
         taken[seat] = taken[seat].saturating_add(1);
         if let Err(_) = pending.push_str(text.as_str()) {
@@ -420,14 +437,4 @@ fn gather<J: Naming, A: AllocHandle>(
         }
     }
     Ok(())
-}
-
-// The fault of a worker that has no text for its next line: the one that ended it.
-fn fault_of<J: Naming, A: AllocHandle>(worker: &Worker<J, A>) -> CallFault
-    ensures { result ≡ fault_of worker.now.ended }
-{
-    match worker.ended {
-        Ok(()) => CallFault::OutOfMemory,
-        Err(fault) => fault,
-    }
 }

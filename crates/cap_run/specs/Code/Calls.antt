@@ -1,7 +1,7 @@
 -- The calls of the seats of a run, and the output so far.
-use Rattle.std.specs.Prelude.{◌≡◌, ℕ, ◌+◌, List, [], ◌∷◌, ◌++◌, Result, Ok, Err, filter, get_or, is_some}
+use Rattle.std.specs.Prelude.{◌≡◌, ◌⊎◌, ℕ, ◌+◌, List, [], ◌∷◌, ◌++◌, Result, Ok, Err, filter, get_or, is_some}
 use Rattle.std.specs.Prelude.{length, nat_eq, suc, true, false, if◌then◌else◌, OnOk}
-use Rattle.std.specs.List.{AllZip, concat}
+use Rattle.std.specs.List.{AllZip, Any, concat}
 use Rattle.std.specs.Io.KnownBytes.{Appends}
 use mathlib.Core.List.{IsPrefix}
 use Rattle.cap_core.specs.Answer.{event_by}
@@ -9,15 +9,14 @@ use Rattle.cap_core.specs.declared.event.Event.{Event}
 use Rattle.cap_core.specs.declared.reply.Reply.{Reply}
 use Rattle.cap_history.specs.History.{own}
 use Rattle.cap_history.specs.Seat.{SeatState, calls}
-use Rattle.cap_server.specs.declared.fault.CallFault.{CallFault}
-use Rattle.cap_server.specs.declared.fault.CallFault.TheVariants as call_fault
+use Rattle.cap_server.specs.declared.fault.CallFault.TheVariants.{OutOfMemory}
 use Rattle.cap_run.specs.Run.{AppendsFront, Ended, Known, ending, on_a_line, reply_lines}
 use Rattle.cap_run.specs.declared.fault.RunFault.{RunFault}
 use Rattle.cap_run.specs.declared.fault.RunFault.TheVariants.{Call, Close, Write}
 use Rattle.cap_script.specs.ReplyText.{reply_text}
 use Rattle.cap_script.specs.Script.{SpellsScript, begins_at}
 use Rattle.cap_script.specs.declared.line.Line.{Line}
-use Rattle.cap_run.specs.Workload.{AreCalls, HasCount, calls_of, seat_of}
+use Rattle.cap_run.specs.Workload.{AreCalls, HasCount, ReportsEvents, calls_of, seat_of}
 
 -- a worker after its lines of a block: its seat, the texts of their replies, and the fault of the line after
 -- those
@@ -25,11 +24,6 @@ pub record Work (A : Type 0) : Type 0 where
   pub seat : SeatState A
   pub texts : List (List ℕ)
   pub ended : Ended
-
--- the fault at the line after the last that has a reply; for a worker without a thread, out of memory
-abbrev pub fault_of : Ended → CallFault
-fault_of (Ok done) = call_fault.OutOfMemory
-fault_of (Err fault) = fault
 
 abbrev pub work : {A : Type 0} → SeatState A → List (List ℕ) → Ended → Work A
 work seat texts ended = record { seat = seat; texts = texts; ended = ended }
@@ -59,6 +53,10 @@ module _ {A : Type 0} where
   reply_texts (line ∷ lines) [] = []
   reply_texts (line ∷ lines) (reply ∷ replies) = on_a_line (reply_text line reply) ∷ reply_texts lines replies
 
+  -- what the fault reports is what the seat has seen
+  abbrev pub HasSeen : Ended → SeatState A → Type 0
+  HasSeen ended seat = ReportsEvents (λ count. length seat.seen ≡ count) ended
+
   -- The seat has called these lines, one after the other, up to one whose call had a fault. These are the
   -- texts of the replies.
   pub record HasCalledLines (threads : ℕ) (lines : List (Line A)) (ended : Ended) (texts : List (List ℕ))
@@ -69,11 +67,17 @@ module _ {A : Type 0} where
     pub number : new.number ≡ old.number
     pub calls_are : AreCalls ended (calls old ++ calls_of threads lines replies) (calls new)
     pub seen : IsPrefix old.answered old.seen → IsPrefix new.answered new.seen
+    pub events : HasSeen ended new
 
   -- a worker that had this seat has called its lines of a block
   abbrev pub HasWorked : ℕ → List (Line A) → SeatState A → Work A → Type 0
   HasWorked threads block old new =
       HasCalledLines threads (lines_of threads old.number block) new.ended new.texts old new.seat
+
+  -- out of memory, or the fault that ended one of the workers
+  abbrev pub IsFaultOf : List (Work A) → Ended → Type 0
+  IsFaultOf works (Ok done) = Unit {0}
+  IsFaultOf works (Err fault) = (fault ≡ OutOfMemory) ⊎ Any (λ work. work.ended ≡ Err fault) works
 
   -- those of the texts that are of a seat's lines
   abbrev pub texts_of : ℕ → ℕ → List (Line A) → List (List ℕ) → List (List ℕ)
@@ -98,6 +102,10 @@ module _ {A : Type 0} where
     pub calls_are : AreCalls ended (calls old ++ own old.number made) (calls new)
     pub seen : IsPrefix old.answered old.seen → IsPrefix new.answered new.seen
 
+  -- what the fault reports is what one of the seats has seen
+  abbrev pub OneHasSeen : Ended → List (SeatState A) → Type 0
+  OneHasSeen ended seats = ReportsEvents (λ count. Any (λ seat. length seat.seen ≡ count) seats) ended
+
   -- The seats have called these lines, each its own in their order, up to one that has no reply. This is the
   -- text of the replies, in the order of the lines.
   pub record HaveCalled (threads : ℕ) (lines : List (Line A)) (ended : Ended) (text : List ℕ)
@@ -106,6 +114,7 @@ module _ {A : Type 0} where
     pub count : HasCount ended (length replies) (length lines)
     pub text_is : text ≡ reply_lines lines replies
     pub seats : AllZip (HasCalledOwn ended (calls_of threads lines replies)) old new
+    pub events : OneHasSeen ended new
 
   -- each seat's number is its index
   abbrev pub AreNumbered : (ℕ → ℕ) → List (SeatState A) → Type 0

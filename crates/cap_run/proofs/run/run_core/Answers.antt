@@ -3,30 +3,43 @@ use Rattle.std.proofs.lemmas.Result.{err_from_is_err_and}
 use Rattle.cap_run.specs.RunFault.{IsUnread}
 use Rattle.cap_run.specs.declared.fault.RunFault.TheVariants.{NotUtf8}
 use Rattle.cap_script.specs.Script.{SpellsScript}
-use Rattle.cap_run.proofs.InputLemmas.{no_text_fault, text_known, unread_early, not_of_input, input_spelled}
+use Rattle.cap_run.proofs.InputLemmas.{reads_passed, reads_unspelled, no_text_fault, text_known, unread_early, not_of_input, input_spelled}
 use Rattle.cap_run.proofs.RunLemmas.{writes_input, writes_nothing}
 use Rattle.cap_run.proofs.run.run_core.Goals as goal
 
 pub returns-clause-no_text : goal.returns-clause-no_text
 returns-clause-no_text g c =
-    text_known (λ given. IsErrAnd c.run_lines.result (λ fault. (fault ≡ NotUtf8) ⊎ IsUnread fault)) (g.R.Read.remaining c.args.reader.now)
+    text_known (λ given. IsErrAnd c.run_lines.result (λ fault. (fault ≡ NotUtf8) ⊎ IsUnread fault)) (g.R.Source.remaining c.args.reader.now)
     (string_bytes c.in_ok-text.text) c.as_str.result.now c.as_str.ensures.value c.in_ok-text.ensures.whole c.as_str.utf8
 
 pub returns-clause-silent : goal.returns-clause-silent
 returns-clause-silent g c = not_of_input (c.run_lines.new.writer ≡ c.args.writer.now) c.run_lines.result c.run_lines.ensures.status
 
 pub returns-clause-text : goal.returns-clause-text
-returns-clause-text g c = no_text_fault (g.R.Read.remaining c.args.reader.now) c.run_lines.result c.run_lines.ensures.status
+returns-clause-text g c = no_text_fault (g.R.Source.remaining c.args.reader.now) c.run_lines.result c.run_lines.ensures.status
 
 pub returns-clause-written : goal.returns-clause-written
 returns-clause-written g c =
     let spelled = c.in_ok-lines.ensures.spelled in
-    writes_input {A = g.row.A.Denot} (g.R.Read.remaining c.args.reader.now) spelled.0 c.run_lines.result _ _
-    (input_spelled spelled.0 (g.R.Read.remaining c.args.reader.now) (string_bytes c.in_ok-text.text) c.as_str.result.now c.as_str.ensures.value c.in_ok-text.ensures.whole spelled.1)
+    writes_input {A = g.row.A.Denot} (g.R.Source.remaining c.args.reader.now) spelled.0 c.run_lines.result _ _
+    (input_spelled spelled.0 (g.R.Source.remaining c.args.reader.now) (string_bytes c.in_ok-text.text) c.as_str.result.now c.as_str.ensures.value c.in_ok-text.ensures.whole spelled.1)
     (c.run_lines.ensures.writes spelled.0 (subst (λ (l : List ℕ). SpellsScript spelled.0 l) (sym c.in_ok-lines.ensures.whole) spelled.1))
 
 -- nothing was run
 pub returns-in_err-text-clause-written : goal.returns-in_err-text-clause-written
 returns-in_err-text-clause-written g c =
     let p = err_from_is_err_and c.from_residual.result c.from_residual.ensures.1 in
-    rw (p.1, p.2) (writes_nothing g.row.A.Denot (g.R.Read.remaining c.args.reader.now) c.in_err-text.field-0.0 _ (unread_early c.in_err-text.field-0.0 c.in_err-text.ensures.unread))
+    rw (p.1, p.2) (writes_nothing g.row.A.Denot (g.R.Source.remaining c.args.reader.now) c.in_err-text.field-0.0 _ (unread_early c.in_err-text.field-0.0 c.in_err-text.ensures.unread))
+
+pub returns-clause-reported : goal.returns-clause-reported
+returns-clause-reported g c = reads_passed g.R.Source.gave g.R.Source.failed c.run_lines.result _ _ c.run_lines.ensures.read c.in_ok-text.ensures.reported
+
+pub returns-in_err-lines-clause-reported : goal.returns-in_err-lines-clause-reported
+returns-in_err-lines-clause-reported g c =
+    let p = err_from_is_err_and c.from_residual-in_err-lines.result c.from_residual-in_err-lines.ensures.1 in
+    rw (p.1, p.2) (reads_unspelled g.R.Source.gave g.R.Source.failed c.in_err-lines.field-0.0 _ _ c.in_err-lines.ensures.early c.in_ok-text.ensures.reported)
+
+pub returns-in_err-text-clause-reported : goal.returns-in_err-text-clause-reported
+returns-in_err-text-clause-reported g c =
+    let p = err_from_is_err_and c.from_residual.result c.from_residual.ensures.1 in
+    rw (p.1, p.2) c.in_err-text.ensures.reported

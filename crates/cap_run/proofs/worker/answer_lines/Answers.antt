@@ -39,7 +39,7 @@ returns-in_err-answer_own g c =
     rw (p.1, p.2, left.1)
     record {
       called = lines_stopped c.args.shared.now.threads seat.number c.loop-line.line-index c.in_err-answer_own.field-0.0 c.args.block.now c.line-item.result (map string_bytes c.loop-line.worker.texts.items) seat
-          c.loop-line.worker.seat c.answer_own.new.worker.seat c.loop-line-test.true c.line-item.is (sym c.seat_of.ensures.seat ∙ c.if-seat_of-number.true ∙ c.number-number.ensures.number) c.loop-line.invariant left.0;
+          c.loop-line.worker.seat c.answer_own.new.worker.seat c.loop-line-test.true c.line-item.is (sym c.seat_of.ensures.seat ∙ c.if-seat_of-number.true ∙ c.number-number.ensures.number) c.loop-line.invariant left.0 c.in_err-answer_own.ensures.fault;
     }
 
 pub returns : goal.returns

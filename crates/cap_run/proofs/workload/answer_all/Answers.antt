@@ -1,7 +1,6 @@
 use Rattle.std.proofs.Common.{◌∙◌, Option, refl, string_bytes, subst}
 use Rattle.cap_script.specs.Script.{TakesFirst}
 use Rattle.cap_script.specs.declared.line.Line.{Line}
-use Rattle.cap_server.specs.declared.fault.CallFault.TheVariants.{OutOfMemory}
 use Rattle.cap_run.proofs.NextLemmas.{under_begun, under_end, under_next, under_none, under_refused, under_stuck, under_written}
 use Rattle.cap_run.proofs.workload.answer_all.Goals as goal
 
@@ -36,7 +35,7 @@ returns-in-Ok-None-clause-called g c = λ spelled is.
 pub returns-in-Err-clause-called : goal.returns-in-Err-clause-called
 returns-in-Err-clause-called g c = λ spelled is.
     let so = c.loop-line.invariant.called spelled is in
-    under_stuck c.args.shared.now.threads OutOfMemory spelled c.loop-line.lines (string_bytes c.loop-line.pending) _ _ _ _ so (c.in-Err.ensures.next so.others so.spelled).0
+    under_stuck c.args.shared.now.threads spelled c.loop-line.lines (string_bytes c.loop-line.pending) _ _ _ _ so (c.in-Err.ensures.next so.others so.spelled).0
 
 -- a line has no reply
 pub returns-in-Err-outcome-clause-called : goal.returns-in-Err-outcome-clause-called

@@ -3,13 +3,12 @@ use Rattle.cap_run.specs.Code.Calls.{IsWholeBlock}
 use Rattle.cap_run.proofs.NextLemmas.{next_alone, next_block, next_refused, of_ended}
 use Rattle.cap_run.proofs.SeatLemmas.{still_seats}
 use Rattle.cap_script.specs.declared.line.Line.{Line}
-use Rattle.cap_server.specs.declared.fault.CallFault.TheVariants.{OutOfMemory}
 use Rattle.cap_run.proofs.workload.answer_next.Goals as goal
 
 -- out of memory for the block
 pub returns-in_default-clause-called : goal.returns-in_default-clause-called
 returns-in_default-clause-called g c = λ rest spelled.
-    next_refused c.args.shared.now.threads OutOfMemory c.args.line rest _ _ _ _ refl
+    next_refused c.args.shared.now.threads c.args.line rest _ _ _ _ refl
 
 pub returns-then-is_some-clause-left : goal.returns-then-is_some-clause-left
 returns-then-is_some-clause-left g c = of_ended c.answer_block.result.1 c.in-Ok.ensures.left
