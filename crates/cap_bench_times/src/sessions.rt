@@ -1,4 +1,5 @@
-//! Times commits under one and under 64 sessions, and captures and diffs of many rows.
+//! Times commits under one and under 64 sessions, with one attached table and with many, and captures and
+//! diffs of many rows.
 
 use crate::commits::{after, create_table, inserts, updates};
 use anyhow::{Context, Result, bail};
@@ -22,11 +23,28 @@ fn saved(alloc: Global) -> Option<Name<Global>> {
     Name::new(alloc, "saved").ok()
 }
 
-// The commands that create this many sessions and attach the table to each.
-fn attach_all(alloc: Global, sessions: u64) -> Option<Vec<Command<Global>>> {
+// The number of attached tables of a session that has many.
+const TABLES: u32 = 100;
+
+// The name of a table that no commit changes.
+fn other_table(alloc: Global, number: u32) -> Option<Name<Global>> {
+    let text = format!(in alloc; "other{number}").ok()?;
+    Name::new(alloc, text.as_str()).ok()
+}
+
+// The commands that create this many sessions and attach this many tables to each. The last is the one that
+// commits change.
+fn attach_all(alloc: Global, sessions: u64, tables: u32) -> Option<Vec<Command<Global>>> {
     let mut commands = Vec::new(alloc);
     for session in 1..=sessions {
         commands.push(Command::NewSession).ok()?;
+        for number in 1..tables {
+            let command = Command::Attach {
+                session,
+                table: other_table(alloc, number)?,
+            };
+            commands.push(command).ok()?;
+        }
         let command = Command::Attach {
             session,
             table: table(alloc)?,
@@ -44,20 +62,22 @@ fn server(alloc: Global, rows: u32) -> Result<Core<Global>> {
     after(core, rows.as_slice())
 }
 
-// The server after the commands, under this many sessions. Prints the nanoseconds of each.
+// The server after the commands, under this many sessions with this many attached tables. Prints the
+// nanoseconds of each.
 fn timed(
     rt: &(impl Eprint + CpuClock + AllocGlobal),
     load: &str,
     core: Core<Global>,
     sessions: u64,
+    tables: u32,
     commands: &[Command<Global>],
 ) -> Result<Core<Global>> {
-    let attach = attach_all(rt.alloc(), sessions).context("no commands")?;
+    let attach = attach_all(rt.alloc(), sessions, tables).context("no commands")?;
     let core = after(core, attach.as_slice())?;
     let watch = Stopwatch::start(rt)?;
     let core = after(core, commands)?;
     let each = watch.read(rt)? / (commands.len() as u128).max(1);
-    eprintln!(rt; "{load}, {sessions} sessions: {each} ns a commit")?;
+    eprintln!(rt; "{load}, {sessions} sessions of {tables} tables: {each} ns a commit")?;
     Ok(core)
 }
 
@@ -125,10 +145,12 @@ fn try_diff(rt: &(impl Print + Eprint + CpuClock + AllocGlobal)) -> Result<()> {
     try_capture(rt, &core)
 }
 
-// Times inserts and updates under one and under 64 sessions, captures and a diff.
+// Times inserts and updates under one session, under 64, and under 64 that have many tables, captures and a
+// diff.
 pub(crate) fn report(rt: &(impl Print + Eprint + CpuClock + AllocGlobal)) -> Result<()> {
     let alloc = rt.alloc();
-    for sessions in [1, SESSIONS_MAX as u64] {
+    let many = SESSIONS_MAX as u64;
+    for (sessions, tables) in [(1, 1), (many, 1), (many, TABLES)] {
         let commands = inserts(alloc, Order::Rising, COMMITS).context("no commands")?;
         let load = format!(in alloc; "{COMMITS} inserts")?;
         let core = timed(
@@ -136,6 +158,7 @@ pub(crate) fn report(rt: &(impl Print + Eprint + CpuClock + AllocGlobal)) -> Res
             load.as_str(),
             server(alloc, 0)?,
             sessions,
+            tables,
             commands.as_slice(),
         )?;
         try_capture(rt, &core)?;
@@ -146,6 +169,7 @@ pub(crate) fn report(rt: &(impl Print + Eprint + CpuClock + AllocGlobal)) -> Res
             load.as_str(),
             server(alloc, UPDATED)?,
             sessions,
+            tables,
             commands.as_slice(),
         )?;
         try_capture(rt, &core)?;

@@ -1,17 +1,26 @@
 -- Commands to one session: what they leave where it is not there or stays as it is, and that images go on to stand.
 use Rattle.std.proofs.Common.{◌≡◌, ℕ, true, false, cond, Option, Some, None, [], ◌∷◌, refl, sym, ap, nat_eq}
+use Rattle.std.specs.Borrow.{Bor}
 use Rattle.std.specs.Prelude.{is_some}
 use Rattle.std.specs.Option.{option_map}
 use Rattle.cap_database.specs.Tables.{Tables}
-use Rattle.cap_session.specs.Session.{SessionState}
+use Rattle.cap_session.specs.Session.{SessionState, StagedSession, changed_by}
+use Rattle.cap_session.specs.declared.session_change.SessionChange.{SessionChange}
+use Rattle.cap_session.specs.declared.session_change.SessionChange.TheVariants.{AttachAll, SetFilter, Enable, Indirect, Restart}
 use Rattle.cap_session.specs.Sessions.{NumberedSessions, session_numbered, with_session, with_session_if, without_session}
 use Rattle.cap_core.specs.CanCapture.{session_stands}
 use Rattle.cap_core.specs.Code.Sound.{sessions_stand}
-use Rattle.cap_core.proofs.SoundLemmas.{numbered-stands, with_session-stands}
+use Rattle.cap_core.proofs.SoundLemmas.{numbered-stands, restart-stands, with_session-stands}
 
-pub some_found : {X : Type 0} (found : Option X) → is_some found ≡ true → (x : X) × (found ≡ Some x)
-some_found None e = cc
-some_found (Some x) e = (x, refl)
+module _ {A : Type 0} where
+  -- a session that is lent, as it is live
+  pub none_lent : (found : Option (Bor (StagedSession A))) → is_some found ≡ false → option_map (λ session. session.now.live) found ≡ None
+  none_lent None e = refl
+  none_lent (Some session) e = cc
+
+  pub some_lent : (found : Option (Bor (StagedSession A))) → is_some found ≡ true → (session : SessionState A) × (option_map (λ session. session.now.live) found ≡ Some session)
+  some_lent None e = cc
+  some_lent (Some session) e = (session.now.live, refl)
 
 module _ {A : Type 0} (number : ℕ) where
   -- taking out a session that is not there leaves all
@@ -31,6 +40,14 @@ module _ {A : Type 0} (number : ℕ) where
         | true ↦ λ is. let own : session.1 ≡ same = cc in ap (λ s. (session.0, s) ∷ sessions) (sym own)
         | false ↦ λ rest. ap (λ others. session ∷ others) (with-same sessions same rest)
       ] found
+
+-- a session goes on to stand where its caller changes it
+pub change-stands : {A : Type 0} (database : Tables A) (change : SessionChange A) (session : SessionState A) → session_stands database session ≡ true → session_stands database (changed_by change session) ≡ true
+change-stands database AttachAll session all = all
+change-stands database (SetFilter rule) session all = all
+change-stands database (Enable asked) session all = all
+change-stands database (Indirect asked) session all = all
+change-stands database Restart session all = restart-stands database session.tables
 
 -- sessions go on to stand where one of them is changed so that it does
 module _ {A : Type 0} (database : Tables A) (number : ℕ) (change : SessionState A → SessionState A) where

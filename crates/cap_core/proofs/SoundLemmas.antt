@@ -86,10 +86,6 @@ module _ {X : Type 0} (test : X → Bool) where
   list_all-push : (xs : List X) (v : X) → list_all test xs ≡ true → test v ≡ true → list_all test (xs ++ v ∷ []) ≡ true
   list_all-push xs v all new = list_all-append test xs (v ∷ []) ∙ both (list_all test xs) _ all (both (test v) true new refl)
 
-pub absent_found : {X : Type 0} (found : Option X) → is_some found ≡ false → found ≡ None
-absent_found None e = refl
-absent_found (Some x) e = cc
-
 module _ {A : Type 0} where
   -- a row that is found is stored under its own key
   pub stands-found : (table : TableState A) (key row : Fields A) → IsTable table → get fields_cmp table.keyed key ≡ Some row → keyed_stands table.schema key row ≡ true

@@ -11,8 +11,8 @@ ghost use Rattle.cap_core.specs.Past.{HasRoom};
 ghost use Rattle.cap_core.specs.Transition.{after_drop, after_new_session, changed_session, compared};
 ghost use Rattle.cap_core.specs.Transition.{one_more};
 ghost use Rattle.cap_session.specs.Note.{note_diff};
-ghost use Rattle.cap_session.specs.Session.{attach_all, attached, enabled_as, indirect_as, new_session};
-ghost use Rattle.cap_session.specs.Session.{restart, set_filter};
+ghost use Rattle.cap_session.specs.Session.{attach_all, attached, changed_by, enabled_as, indirect_as};
+ghost use Rattle.cap_session.specs.Session.{new_session, restart, set_filter};
 ghost use Rattle.cap_session.specs.Sessions.{session_numbered};
 ghost use Rattle.cap_database.specs.Tables.{schema_of};
 
@@ -22,6 +22,7 @@ use crate::diff::differences;
 use crate::{Capture, CommitHook, Core, Reply, SESSIONS_MAX};
 use cap_compare::Difference;
 use cap_filter::TableFilter;
+use cap_session::SessionChange;
 use cap_value::{AllocHandle, Fault, Name, Refusal};
 
 impl<A: AllocHandle> Core<A> {
@@ -132,11 +133,7 @@ impl<A: AllocHandle> Core<A> {
         if self.sessions.get(number).is_none() {
             return self.refuse_session(hook);
         }
-        let reply = Reply::Done;
-        ask(hook, &reply)?;
-        self.sessions.attach_all(number);
-        self.events += 1;
-        Ok(reply)
+        self.change_session(number, SessionChange::AttachAll, Reply::Done, hook)
     }
 
     pub(crate) fn set_filter<C: CommitHook<A>>(
@@ -156,12 +153,8 @@ impl<A: AllocHandle> Core<A> {
         if self.sessions.get(number).is_none() {
             return self.refuse_session(hook);
         }
-        let filter = filter.copy()?;
-        let reply = Reply::Done;
-        ask(hook, &reply)?;
-        self.sessions.set_filter(number, filter);
-        self.events += 1;
-        Ok(reply)
+        let filter = SessionChange::SetFilter(filter.copy()?);
+        self.change_session(number, filter, Reply::Done, hook)
     }
 
     pub(crate) fn enable<C: CommitHook<A>>(
@@ -182,10 +175,7 @@ impl<A: AllocHandle> Core<A> {
             return self.refuse_session(hook);
         };
         let reply = Reply::Flag(asked.unwrap_or(session.is_enabled()));
-        ask(hook, &reply)?;
-        self.sessions.enable(number, asked);
-        self.events += 1;
-        Ok(reply)
+        self.change_session(number, SessionChange::Enable(asked), reply, hook)
     }
 
     pub(crate) fn indirect<C: CommitHook<A>>(
@@ -206,10 +196,7 @@ impl<A: AllocHandle> Core<A> {
             return self.refuse_session(hook);
         };
         let reply = Reply::Flag(asked.unwrap_or(session.is_indirect()));
-        ask(hook, &reply)?;
-        self.sessions.indirect(number, asked);
-        self.events += 1;
-        Ok(reply)
+        self.change_session(number, SessionChange::Indirect(asked), reply, hook)
     }
 
     pub(crate) fn is_empty<C: CommitHook<A>>(
@@ -320,8 +307,26 @@ impl<A: AllocHandle> Core<A> {
         };
         let changes = changes_of(self.alloc, session.attached(), &self.main)?;
         let reply = Reply::Capture(Capture::new(changes));
+        self.change_session(number, SessionChange::Restart, reply, hook)
+    }
+
+    // Changes the session with this number, and answers this.
+    fn change_session<C: CommitHook<A>>(
+        &mut self,
+        number: u64,
+        change: SessionChange<A>,
+        reply: Reply<A>,
+        hook: &mut C,
+    ) -> Result<Reply<A>, Fault<C::Refusal>>
+        requires room { HasRoom self.old.events }
+        requires can_ask { C.can_ask hook.old reply }
+        ensures { let session = session_numbered self.old.sessions number in
+            Reports C.gives reply
+            (changed_session self.old number (option_map (changed_by change) session))
+            self.old self.new hook.old hook.new result }
+    {
         ask(hook, &reply)?;
-        self.sessions.restart(number);
+        self.sessions.change(number, change);
         self.events += 1;
         Ok(reply)
     }

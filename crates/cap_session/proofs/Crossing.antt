@@ -48,16 +48,16 @@ module _ (A : RattleType) (h : handle.Ghosts A.Denot) (a : allocator.Ghosts A.De
   tables_sync = search (attached_table_sync, sendable, crosses) depth 20
 
   pub session_send : IsSend (Session.the_row A h a c)
-  session_send = search (tables_send, filter_send, sendable) depth 40 fits 100000
+  session_send = search (tables_send, filter_send, sendable) depth 60 fits 100000
 
   pub session_sync : IsSync (Session.the_row A h a c)
-  session_sync = search (tables_sync, filter_sync, sendable) depth 40 fits 100000
+  session_sync = search (tables_sync, filter_sync, sendable) depth 60 fits 100000
 
   numbered_send : IsSend (Numbered.the_row A h a c)
-  numbered_send = search (tables_send, filter_send, sendable) depth 40 fits 100000
+  numbered_send = search (session_send, sendable) depth 20
 
   numbered_sync : IsSync (Numbered.the_row A h a c)
-  numbered_sync = search (tables_sync, filter_sync, sendable) depth 40 fits 100000
+  numbered_sync = search (session_sync, sendable) depth 20
 
   pub sessions_send : IsSend (Sessions.the_row A h a c)
   sessions_send = search (numbered_send, sendable, crosses) depth 20

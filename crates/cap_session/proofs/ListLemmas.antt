@@ -111,9 +111,9 @@ module _ {X Y : Type 0} (f g : X → Y) where
       let both = loop-more f g (λ y. y) xs start i x d lt same more kept (sofar ∙ sym (map-id (take i start))) in
       (both.0, both.1 ∙ map-id (take (i + 1) start))
 
-module _ {X Y : Type 0} (f : X → Y) where
-  -- one copy more, which looks as what it was made of
-  pub copy-more : (copies xs : List X) (i : ℕ) (x item : X) → i < length xs → item ≡ get_or xs i item → f x ≡ f item → map f copies ≡ map f (take i xs) → map f (copies ++ x ∷ []) ≡ map f (take (i + 1) xs)
+module _ {X Y : Type 0} (g f : X → Y) where
+  -- one copy more, which looks by g as what it was made of does by f
+  pub copy-more : (copies xs : List X) (i : ℕ) (x item : X) → i < length xs → item ≡ get_or xs i item → g x ≡ f item → map g copies ≡ map f (take i xs) → map g (copies ++ x ∷ []) ≡ map f (take (i + 1) xs)
   copy-more copies xs i x item lt is same sofar =
-      map-append f copies (x ∷ []) ∙ ap₂ (λ a b. a ++ b ∷ []) sofar (same ∙ ap f is)
+      map-append g copies (x ∷ []) ∙ ap₂ (λ a b. a ++ b ∷ []) sofar (same ∙ ap f is)
       ∙ sym (ap (λ n. map f (take n xs)) (add-one i) ∙ ap (map f) (take-suc xs i item lt) ∙ map-append f (take i xs) (get_or xs i item ∷ []))

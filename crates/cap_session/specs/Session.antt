@@ -14,6 +14,9 @@ use Rattle.cap_filter.specs.Rule.{Rule}
 use Rattle.cap_session.specs.declared.record.Record.{Record}
 use Rattle.cap_session.specs.declared.rule.AutomaticRule.{AutomaticRule}
 use Rattle.cap_session.specs.declared.rule.AutomaticRule.TheVariants.{Nothing, All, Filter}
+use Rattle.cap_session.specs.declared.session_change.SessionChange.{SessionChange}
+use Rattle.cap_session.specs.declared.session_change.SessionChange.TheVariants.{AttachAll, SetFilter, Enable}
+use Rattle.cap_session.specs.declared.session_change.SessionChange.TheVariants.{Indirect, Restart}
 use Rattle.cap_session.specs.Records.{Records}
 
 -- the attached tables in the order in which they were attached, each with its records
@@ -26,7 +29,16 @@ pub record SessionState (A : Type 0) : Type 0 where
   pub rule : AutomaticRule A
   pub tables : AttachedTables A
 
+-- A session, and what it is once what is staged is published.
+pub record StagedSession (A : Type 0) : Type 0 where
+  pub live : SessionState A
+  pub staged : SessionState A
+
 module _ {A : Type 0} where
+  -- the session, with nothing staged
+  abbrev pub settled : SessionState A → StagedSession A
+  settled session = record { live = session; staged = session }
+
   abbrev pub new_session : SessionState A
   new_session = record { enabled = true; indirect = false; rule = Nothing; tables = [] }
 
@@ -84,3 +96,11 @@ module _ {A : Type 0} where
   -- the session without records; all else stays
   abbrev pub restart : SessionState A → SessionState A
   restart session = record session { tables = forget session.tables }
+
+  -- the session after a change by its caller
+  abbrev pub changed_by : SessionChange A → SessionState A → SessionState A
+  changed_by AttachAll session = attach_all session
+  changed_by (SetFilter rule) session = set_filter rule session
+  changed_by (Enable asked) session = enabled_as asked session
+  changed_by (Indirect asked) session = indirect_as asked session
+  changed_by Restart session = restart session

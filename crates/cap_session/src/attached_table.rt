@@ -37,10 +37,23 @@ impl<A: AllocHandle> AttachedTable<A> {
         }
     }
 
+    // Publishes the staged records, if any.
+    fn publish(&mut self)
+        ensures name { self.new.name ≡ self.old.name }
+        ensures records { self.new.records ≡ unwrap_or self.old.staged self.old.records }
+        ensures none { unwrap_or self.new.staged self.new.records
+            ≡ unwrap_or self.old.staged self.old.records }
+    {
+        if let Some(records) = self.staged.take() {
+            self.records = records;
+        }
+    }
+
     // A copy without staged records, which shares the nodes of the records.
     pub(crate) fn copy(&self) -> Result<Self, OutOfMemory>
         ensures name { IfOk result (λ copy. copy.name ≡ self.now.name) }
         ensures records { IfOk result (λ copy. copy.records ≡ self.now.records) }
+        ensures staged { IfOk result (λ copy. copy.staged ≡ None) }
     {
         Ok(AttachedTable {
             name: self.name.copy()?,
@@ -68,7 +81,8 @@ pub(crate) fn copies_of<A: AllocHandle>(
     alloc: A,
     tables: &[AttachedTable<A>],
 ) -> Result<Vec<AttachedTable<A>, A>, OutOfMemory>
-    ensures { IfOk result (λ copies. tables_of copies.items ≡ tables_of tables.now) }
+    ensures same { IfOk result (λ copies. tables_of copies.items ≡ tables_of tables.now) }
+    ensures none { IfOk result (λ copies. staged_tables copies.items ≡ tables_of tables.now) }
 {
     let mut copies = Vec::with_capacity(alloc, tables.len())?;
     for table in tables {
@@ -179,12 +193,11 @@ fn touch_tables<A: AllocHandle>(
 
 // Publishes the staged records.
 pub(crate) fn publish<A: AllocHandle>(tables: &mut [AttachedTable<A>])
-    ensures { tables_of tables.new ≡ staged_tables tables.old }
+    ensures published { tables_of tables.new ≡ staged_tables tables.old }
+    ensures none { staged_tables tables.new ≡ staged_tables tables.old }
 {
     for table in tables.iter_mut() {
-        if let Some(records) = table.staged.take() {
-            table.records = records;
-        }
+        table.publish();
     }
 }
 
@@ -244,12 +257,14 @@ fn records_found<A: AllocHandle>(
     Ok(Some(records_after_diff(records, indirect, differences)?))
 }
 
-// Clears all records.
+// Clears all records and what is staged.
 pub(crate) fn forget<A: AllocHandle>(alloc: A, tables: &mut [AttachedTable<A>])
-    ensures { tables_of tables.new ≡ forget (tables_of tables.old) }
+    ensures same { tables_of tables.new ≡ forget (tables_of tables.old) }
+    ensures none { staged_tables tables.new ≡ forget (tables_of tables.old) }
 {
     for table in tables.iter_mut() {
         table.records = Records::empty(alloc);
+        table.staged = None;
     }
 }
 

@@ -1,17 +1,17 @@
 //! Sessions: which rows were touched, their first images, and whether every touch was indirect.
 #![tactic(auto)]
 
+mod attach_list;
 mod attached;
 mod attached_table;
 mod laws;
 mod numbered;
-mod parts;
 mod record;
 mod records;
 mod records_iter;
 mod rule;
 mod session;
-mod session_ref;
+mod session_change;
 mod sessions;
 mod touch;
 
@@ -26,5 +26,5 @@ pub use records::Records;
 pub use records_iter::RecordsIter;
 pub use rule::AutomaticRule;
 pub use session::Session;
-pub use session_ref::SessionRef;
+pub use session_change::SessionChange;
 pub use sessions::Sessions;

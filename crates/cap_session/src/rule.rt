@@ -1,6 +1,6 @@
 //! The rule by which a session attaches tables by itself.
 ghost use Rattle.std.specs.Prelude.{◌≡◌, IfOk};
-ghost use Rattle.cap_session.specs.Session.{accepts_by};
+ghost use Rattle.cap_session.specs.Session.{accepts_by, all_unless_filter};
 
 use cap_filter::TableFilter;
 use cap_value::{AllocHandle, Name, OutOfMemory};
@@ -25,6 +25,16 @@ impl<A: AllocHandle> AutomaticRule<A> {
             AutomaticRule::Nothing => false,
             AutomaticRule::All => true,
             AutomaticRule::Filter(filter) => filter.accepts(name),
+        }
+    }
+
+    // Accepts every table, unless a filter is set.
+    pub(crate) fn accept_all(&mut self)
+        ensures { self.new ≡ all_unless_filter self.old }
+    {
+        match self {
+            AutomaticRule::Filter(_) => {}
+            _ => *self = AutomaticRule::All,
         }
     }
 

@@ -1,113 +1,163 @@
 //! One session.
-ghost use Rattle.std.specs.Prelude.{◌≡◌, ◌<◌, ◌^◌, ◌↔◌, length, IfOk, IsTrue, OnOk, OnErr};
+ghost use Rattle.std.specs.Prelude.{◌≡◌, ◌<◌, ◌^◌, length, nat_eq, IfOk, OnOk, OnErr};
 ghost use Rattle.std.specs.Option.{option_copied};
 ghost use Rattle.cap_session.specs.Note.{note, note_diff};
-ghost use Rattle.cap_session.specs.Session.{attach_all, attached, enabled_as, indirect_as, new_session};
-ghost use Rattle.cap_session.specs.Session.{record_of, records_of, restart, set_filter, stored};
+ghost use Rattle.cap_session.specs.Session.{attach_all, attached, changed_by, enabled_as, indirect_as};
+ghost use Rattle.cap_session.specs.Session.{new_session, record_of, records_of, restart, set_filter, settled};
+ghost use Rattle.cap_session.specs.Session.{stored};
 
+use crate::attach_list::AttachList;
 use crate::attached::Attached;
 use crate::attached_table::{is_empty, records_of, stored};
-use crate::parts::Parts;
-use crate::{Record, Records};
+use crate::{AutomaticRule, Record, Records, SessionChange};
 use cap_compare::Difference;
 use cap_database::{Change, Database};
 use cap_filter::TableFilter;
 use cap_row::Key;
-use cap_value::{AllocHandle, Exact, Name, OutOfMemory};
+use cap_value::{AllocHandle, Name, OutOfMemory};
 use std::marker::Model;
 
 /// A session. It records, for each attached table, the keys that changes touched, each with the row before
 /// the commit that touched it first, and whether every touch was indirect (The Session Extension, "Recording
 /// Changes").
 ///
-/// Copies share the records. On an error the session is unchanged.
+/// A change that takes memory is staged first, and then published, which takes none. Each call here leaves
+/// nothing staged. Copies share the records. On an error the session is unchanged.
 pub struct Session<A: AllocHandle> {
-    parts: Parts<A>,
+    enabled: bool,
+    indirect: bool,
+    rule: AutomaticRule<A>,
+    list: AttachList<A>,
 }
 
 impl<A: AllocHandle> Model for Session<A> {
-    ghost use Rattle.cap_session.specs.Session.{SessionState};
-    ghost use Rattle.cap_session.specs.Code.Parts.{state_of};
+    ghost use Rattle.cap_session.specs.Session.{StagedSession};
+    ghost use Rattle.cap_session.specs.Code.AttachList.{attached_of, staged_of, with_tables};
 
-    ghost Value = { SessionState A };
+    ghost Value = { StagedSession A };
 
     ghost use Rattle.cap_filter.specs.Rule.{coded_rule};
     ghost use Rattle.std.specs.Coded.{codes};
 
     ghost coded = { Prim.hlevel (codes, coded_rule) };
 
-    ghost view = { λ s. state_of s.parts };
+    ghost view = { λ s. record {
+      live = with_tables s.enabled s.indirect s.rule (attached_of s.list);
+      staged = with_tables s.enabled s.indirect s.rule (staged_of s.list);
+    } };
 }
 
 // A derived `Drop` would be opened in each caller's loop.
 impl<A: AllocHandle> Drop for Session<A> {
     fn drop(self) {
-        let Session { parts: _ } = self;
+        let Session {
+            enabled: _,
+            indirect: _,
+            rule: _,
+            list: _,
+        } = self;
     }
 }
 
 impl<A: AllocHandle> Session<A> {
     /// A session that is enabled, not indirect, and has no attached tables.
     pub fn new(alloc: A) -> Self
-        ensures { result ≡ new_session }
+        ensures { result ≡ settled new_session }
     {
         Session {
-            parts: Parts::new(alloc),
+            enabled: true,
+            indirect: false,
+            rule: AutomaticRule::Nothing,
+            list: AttachList::new(alloc),
         }
+    }
+
+    pub fn is_enabled(&self) -> bool
+        ensures { result ≡ self.now.live.enabled }
+    {
+        self.enabled
+    }
+
+    /// The indirect flag: whether every touch is indirect.
+    pub fn is_indirect(&self) -> bool
+        ensures { result ≡ self.now.live.indirect }
+    {
+        self.indirect
     }
 
     /// Attaches a table, last in the list, unless it is attached. The table need not exist.
     pub fn attach(&mut self, name: &Name<A>) -> Result<(), OutOfMemory>
-        ensures attached { OnOk result (self.new ≡ attached name.now self.old) }
-        ensures err { OnErr result (self.new ≡ self.old) }
+        ensures attached { OnOk result (self.new ≡ settled (attached name.now self.old.live)) }
+        ensures err { OnErr result (self.new ≡ settled self.old.live) }
     {
-        self.parts.note_attached(name)?;
-        self.parts.publish();
+        self.stage_attached(name)?;
+        self.publish();
         Ok(())
     }
 
     /// Attaches every table from now on when one of its rows changes. A filter, set before or later, takes
     /// precedence.
     pub fn attach_all(&mut self)
-        ensures { self.new ≡ attach_all self.old }
+        ensures { self.new ≡ settled (attach_all self.old.live) }
     {
-        self.parts.attach_all();
+        self.change(SessionChange::AttachAll);
     }
 
     /// Attaches a table from now on when one of its rows changes and the filter accepts its name. Attached
     /// tables stay attached.
     pub fn set_filter(&mut self, filter: TableFilter<A>)
-        ensures { self.new ≡ set_filter filter self.old }
+        ensures { self.new ≡ settled (set_filter filter self.old.live) }
     {
-        self.parts.set_filter(filter);
+        self.change(SessionChange::SetFilter(filter));
     }
 
     /// Enables or disables the session, or leaves it as it is (`None`), and answers whether it is enabled. A
     /// disabled session records no commit and attaches no table by itself.
     pub fn enable(&mut self, asked: Option<bool>) -> bool
-        ensures set { self.new ≡ enabled_as asked self.old }
-        ensures answer { result ≡ self.new.enabled }
+        ensures set { self.new ≡ settled (enabled_as asked self.old.live) }
+        ensures answer { result ≡ self.new.live.enabled }
     {
-        self.parts.enable(asked);
-        self.parts.enabled
+        self.change(SessionChange::Enable(asked));
+        self.is_enabled()
     }
 
     /// Sets or clears the indirect flag, or leaves it as it is (`None`), and answers it.
     pub fn indirect(&mut self, asked: Option<bool>) -> bool
-        ensures set { self.new ≡ indirect_as asked self.old }
-        ensures answer { result ≡ self.new.indirect }
+        ensures set { self.new ≡ settled (indirect_as asked self.old.live) }
+        ensures answer { result ≡ self.new.live.indirect }
     {
-        self.parts.set_indirect(asked);
-        self.parts.indirect
+        self.change(SessionChange::Indirect(asked));
+        self.is_indirect()
+    }
+
+    /// Clears all records. The flags, the rule and the attached tables stay.
+    pub fn restart(&mut self)
+        ensures { self.new ≡ settled (restart self.old.live) }
+    {
+        self.change(SessionChange::Restart);
+    }
+
+    /// Makes a change that takes no memory.
+    pub fn change(&mut self, change: SessionChange<A>)
+        ensures { self.new ≡ settled (changed_by change self.old.live) }
+    {
+        self.list.discard_staged();
+        match change {
+            SessionChange::AttachAll => self.rule.accept_all(),
+            SessionChange::SetFilter(filter) => self.rule = AutomaticRule::Filter(filter),
+            SessionChange::Enable(asked) => self.enabled = asked.unwrap_or(self.enabled),
+            SessionChange::Indirect(asked) => self.indirect = asked.unwrap_or(self.indirect),
+            SessionChange::Restart => self.list.forget(),
+        }
     }
 
     /// Records the changes of one commit. `before` is the database before it.
     pub fn note(&mut self, before: &Database<A>, changes: &[Change<A>]) -> Result<(), OutOfMemory>
-        ensures staged { OnOk result (self.new ≡ note before.now changes.now self.old) }
-        ensures err { OnErr result (self.new ≡ self.old) }
+        ensures noted { OnOk result (self.new ≡ settled (note before.now changes.now self.old.live)) }
+        ensures err { OnErr result (self.new ≡ settled self.old.live) }
     {
-        self.parts.note(before, changes)?;
-        self.parts.publish();
+        self.stage_changes(before, changes)?;
+        self.publish();
         Ok(())
     }
 
@@ -118,78 +168,128 @@ impl<A: AllocHandle> Session<A> {
         name: &Name<A>,
         differences: &[Difference<A>],
     ) -> Result<(), OutOfMemory>
-        ensures staged { OnOk result (self.new ≡ note_diff name.now differences.now self.old) }
-        ensures err { OnErr result (self.new ≡ self.old) }
+        ensures noted { OnOk result
+            (self.new ≡ settled (note_diff name.now differences.now self.old.live)) }
+        ensures err { OnErr result (self.new ≡ settled self.old.live) }
     {
-        self.parts.note_diff(name, differences)?;
-        self.parts.publish();
+        self.stage_differences(name, differences)?;
+        self.publish();
         Ok(())
     }
 
-    /// Clears all records. The flags, the rule and the attached tables stay.
-    pub fn restart(&mut self)
-        ensures { self.new ≡ restart self.old }
+    // Stages attaching a table.
+    pub(crate) fn stage_attached(&mut self, name: &Name<A>) -> Result<(), OutOfMemory>
+        ensures kept { self.new.live ≡ self.old.live }
+        ensures staged { OnOk result (self.new.staged ≡ attached name.now self.old.live) }
+        ensures none { OnErr result (self.new.staged ≡ self.old.live) }
     {
-        self.parts.restart();
+        self.list.stage_attached(name)
+    }
+
+    // Stages the changes of one commit.
+    pub(crate) fn stage_changes(
+        &mut self,
+        before: &Database<A>,
+        changes: &[Change<A>],
+    ) -> Result<(), OutOfMemory>
+        ensures kept { self.new.live ≡ self.old.live }
+        ensures staged { OnOk result (self.new.staged ≡ note before.now changes.now self.old.live) }
+        ensures none { OnErr result (self.new.staged ≡ self.old.live) }
+    {
+        if !self.enabled {
+            self.list.discard_staged();
+            return Ok(());
+        }
+        self.list
+            .stage_changes(&self.rule, before, self.indirect, changes)
+    }
+
+    // Stages a diff of a table.
+    pub(crate) fn stage_differences(
+        &mut self,
+        name: &Name<A>,
+        differences: &[Difference<A>],
+    ) -> Result<(), OutOfMemory>
+        ensures kept { self.new.live ≡ self.old.live }
+        ensures staged { OnOk result
+            (self.new.staged ≡ note_diff name.now differences.now self.old.live) }
+        ensures none { OnErr result (self.new.staged ≡ self.old.live) }
+    {
+        self.list
+            .stage_differences(name, self.indirect, differences)
+    }
+
+    // Discards what is staged.
+    pub(crate) fn discard_staged(&mut self)
+        ensures { self.new ≡ settled self.old.live }
+    {
+        self.list.discard_staged();
+    }
+
+    // Publishes what is staged.
+    pub(crate) fn publish(&mut self)
+        ensures { self.new ≡ settled self.old.staged }
+    {
+        self.list.publish();
     }
 
     /// Whether there is no record (SQLite's sqlite3session_isempty). The row of a record may be unchanged.
     pub fn is_empty(&self) -> bool
-        ensures { IsTrue result ↔ (stored self.now.tables ≡ 0) }
+        ensures { result ≡ nat_eq (stored self.now.live.tables) 0 }
     {
-        is_empty(self.parts.tables())
+        is_empty(self.list.tables())
     }
 
     /// The number of records.
     pub fn stored(&self) -> u128
-        ensures { result ≡ stored self.now.tables }
+        ensures { result ≡ stored self.now.live.tables }
     {
-        stored(self.parts.tables())
+        stored(self.list.tables())
     }
 
     /// The attached tables in the order in which they were attached, each with its records.
     pub fn attached(&self) -> Attached<'_, A>
-        ensures tables { result ≡ self.now.tables }
+        ensures tables { result ≡ self.now.live.tables }
         ensures fits { length result < 2 ^ 64 }
     {
-        Attached::over(self.parts.tables())
+        Attached::over(self.list.tables())
     }
 
     /// The records of a table in the order of their keys, `None` where it is not attached.
     pub fn records(&self, name: &Name<A>) -> Option<&Records<A>>
-        ensures { option_copied result ≡ records_of self.now.tables name.now }
+        ensures { option_copied result ≡ records_of self.now.live.tables name.now }
     {
-        records_of(self.parts.tables(), name)
+        records_of(self.list.tables(), name)
     }
 
     /// The record of a key, if any.
     pub fn record(&self, name: &Name<A>, key: &Key<A>) -> Option<&Record<A>>
-        ensures { option_copied result ≡ record_of self.now.tables name.now key.now }
+        ensures { option_copied result ≡ record_of self.now.live.tables name.now key.now }
     {
         self.records(name)?.get(key)
     }
 
-    /// A copy, which shares the records.
+    /// A copy without what is staged, which shares the records.
     pub fn copy(&self) -> Result<Self, OutOfMemory>
-        ensures { IfOk result (λ copy. copy ≡ self.now) }
+        ensures { IfOk result (λ copy. copy ≡ settled self.now.live) }
     {
         Ok(Session {
-            parts: self.parts.copy()?,
+            enabled: self.enabled,
+            indirect: self.indirect,
+            rule: self.rule.copy()?,
+            list: self.list.copy()?,
         })
     }
 }
 
-/// A clone shares the records.
+/// A clone is a copy.
 impl<A: AllocHandle> Clone for Session<A> {
     ghost use Rattle.std.specs.Prelude.{◌≡◌};
+    ghost use Rattle.cap_session.specs.Session.{settled};
 
-    ghost is_clone = { λ session clone. clone ≡ session };
+    ghost is_clone = { λ session clone. clone ≡ settled session.live };
 
     fn clone(&self) -> Result<Self, OutOfMemory> {
         self.copy()
     }
-}
-
-impl<A: AllocHandle> Exact for Session<A> {
-    ghost exact = { λ session clone same. same };
 }

@@ -3,16 +3,16 @@ ghost use Rattle.std.specs.Prelude.{◌≡◌, [], ◌∷◌, ◌++◌, Ok, Err,
 ghost use Rattle.std.specs.Option.{option_map};
 ghost use Rattle.cap_value.specs.Memory.{MatchFault};
 ghost use Rattle.cap_session.specs.Note.{note_diff};
-ghost use Rattle.cap_session.specs.Session.{attach_all, attached, enabled_as, indirect_as, new_session};
-ghost use Rattle.cap_session.specs.Session.{restart, set_filter};
+ghost use Rattle.cap_session.specs.Session.{attached, changed_by, new_session};
 ghost use Rattle.cap_session.specs.Sessions.{note_each, session_numbered, with_session_if, without_session};
 
-use crate::SessionRef;
-use crate::numbered::{Numbered, copies_of, note, note_attached, note_diff, place_of, publish};
-use crate::parts::Parts;
+use crate::numbered::{
+    Numbered, change, copies_of, note, note_attached, note_diff, place_of, publish, settle,
+    settled_place,
+};
+use crate::{Session, SessionChange};
 use cap_compare::Difference;
 use cap_database::{Change, Database};
-use cap_filter::TableFilter;
 use cap_tree::CommitHook;
 use cap_value::{AllocHandle, Fault, Name, OutOfMemory};
 use std::marker::Model;
@@ -21,7 +21,7 @@ use std::marker::Model;
 ///
 /// A change that takes memory is two calls: the first stages it and leaves the sessions unchanged, and
 /// `publish`, which takes no memory, puts in place what was staged last. Nothing has to be undone where a
-/// step between the two fails: the next call discards what is staged.
+/// step between the two fails: each other call, and each that fails, discards what is staged.
 pub struct Sessions<A: AllocHandle> {
     alloc: A,
     sessions: Vec<Numbered<A>, A>,
@@ -55,6 +55,7 @@ impl<A: AllocHandle> Sessions<A> {
     /// No sessions. Takes no memory.
     pub fn new(alloc: A) -> Self
         ensures live { result.live ≡ [] }
+        ensures nothing_staged { result.staged ≡ result.live }
     {
         Sessions {
             alloc,
@@ -70,11 +71,11 @@ impl<A: AllocHandle> Sessions<A> {
     }
 
     /// The session with this number, if any.
-    pub fn get(&self, number: u64) -> Option<SessionRef<'_, A>>
-        ensures { result ≡ session_numbered self.now.live number }
+    pub fn get(&self, number: u64) -> Option<&Session<A>>
+        ensures { option_map (λ session. session.now.live) result ≡ session_numbered self.now.live number }
     {
         let place = place_of(&self.sessions, number)?;
-        Some(SessionRef::of(&self.sessions[place].parts))
+        Some(&self.sessions[place].session)
     }
 
     /// Adds a new session with this number, where the commit hook allows it. The hook is asked once, after
@@ -90,21 +91,24 @@ impl<A: AllocHandle> Sessions<A> {
         ensures err { OnErr result (self.new.live ≡ self.old.live) }
         ensures refused { IfErr result (λ fault. MatchFault fault (hook.new ≡ hook.old)
             (λ why. C.gives hook.old (Err why) hook.new)) }
+        ensures nothing_staged { self.new.staged ≡ self.new.live }
     {
+        settle(&mut self.sessions);
         self.sessions.reserve(1)?;
         if let Err(why) = hook.before_commit() {
             return Err(Fault::Refused(why));
         }
-        let parts = Parts::new(self.alloc);
-        self.sessions.push_reserved(Numbered { number, parts });
+        let session = Session::new(self.alloc);
+        self.sessions.push_reserved(Numbered { number, session });
         Ok(())
     }
 
     /// Removes the session with this number, if any.
     pub fn remove(&mut self, number: u64)
-        ensures { self.new.live ≡ without_session self.old.live number }
+        ensures removed { self.new.live ≡ without_session self.old.live number }
+        ensures nothing_staged { self.new.staged ≡ self.new.live }
     {
-        if let Some(place) = place_of(&self.sessions, number) {
+        if let Some(place) = settled_place(&mut self.sessions, number) {
             self.sessions.remove(place);
         }
     }
@@ -113,6 +117,7 @@ impl<A: AllocHandle> Sessions<A> {
     pub fn note(&mut self, before: &Database<A>, changes: &[Change<A>]) -> Result<(), OutOfMemory>
         ensures kept { self.new.live ≡ self.old.live }
         ensures staged { OnOk result (self.new.staged ≡ note_each before.now changes.now self.old.live) }
+        ensures nothing_staged { OnErr result (self.new.staged ≡ self.new.live) }
     {
         note(self.sessions.as_mut_slice(), before, changes)
     }
@@ -122,8 +127,9 @@ impl<A: AllocHandle> Sessions<A> {
         ensures kept { self.new.live ≡ self.old.live }
         ensures staged { OnOk result (self.new.staged ≡ with_session_if self.old.live number
             (option_map (attached name.now) (session_numbered self.old.live number))) }
+        ensures nothing_staged { OnErr result (self.new.staged ≡ self.new.live) }
     {
-        note_attached(self.sessions.as_mut_slice(), number, name)
+        note_attached(&mut self.sessions, number, name)
     }
 
     /// Stages a diff of a table in the session with this number, if any.
@@ -136,72 +142,32 @@ impl<A: AllocHandle> Sessions<A> {
         ensures kept { self.new.live ≡ self.old.live }
         ensures staged { OnOk result (self.new.staged ≡ with_session_if self.old.live number
             (option_map (note_diff name.now differences.now) (session_numbered self.old.live number))) }
+        ensures nothing_staged { OnErr result (self.new.staged ≡ self.new.live) }
     {
-        note_diff(self.sessions.as_mut_slice(), number, name, differences)
+        note_diff(&mut self.sessions, number, name, differences)
     }
 
     /// Publishes what was staged last.
     pub fn publish(&mut self)
-        ensures { self.new.live ≡ self.old.staged }
+        ensures published { self.new.live ≡ self.old.staged }
+        ensures nothing_staged { self.new.staged ≡ self.new.live }
     {
         publish(self.sessions.as_mut_slice());
     }
 
-    /// The session with this number attaches every table from now on when one of its rows changes. A filter
-    /// takes precedence.
-    pub fn attach_all(&mut self, number: u64)
-        ensures { self.new.live ≡ with_session_if self.old.live number
-            (option_map attach_all (session_numbered self.old.live number)) }
+    /// Changes the session with this number, if any.
+    pub fn change(&mut self, number: u64, with: SessionChange<A>)
+        ensures changed { self.new.live ≡ with_session_if self.old.live number
+            (option_map (changed_by with) (session_numbered self.old.live number)) }
+        ensures nothing_staged { self.new.staged ≡ self.new.live }
     {
-        if let Some(place) = place_of(&self.sessions, number) {
-            self.sessions[place].parts.attach_all();
-        }
+        change(&mut self.sessions, number, with);
     }
 
-    /// The session with this number attaches a table from now on when one of its rows changes and the filter
-    /// accepts its name.
-    pub fn set_filter(&mut self, number: u64, filter: TableFilter<A>)
-        ensures { self.new.live ≡ with_session_if self.old.live number
-            (option_map (set_filter filter) (session_numbered self.old.live number)) }
-    {
-        if let Some(place) = place_of(&self.sessions, number) {
-            self.sessions[place].parts.set_filter(filter);
-        }
-    }
-
-    /// Enables or disables the session with this number, or leaves it as it is (`None`).
-    pub fn enable(&mut self, number: u64, asked: Option<bool>)
-        ensures { self.new.live ≡ with_session_if self.old.live number
-            (option_map (enabled_as asked) (session_numbered self.old.live number)) }
-    {
-        if let Some(place) = place_of(&self.sessions, number) {
-            self.sessions[place].parts.enable(asked);
-        }
-    }
-
-    /// Sets or clears the indirect flag of the session with this number, or leaves it as it is (`None`).
-    pub fn indirect(&mut self, number: u64, asked: Option<bool>)
-        ensures { self.new.live ≡ with_session_if self.old.live number
-            (option_map (indirect_as asked) (session_numbered self.old.live number)) }
-    {
-        if let Some(place) = place_of(&self.sessions, number) {
-            self.sessions[place].parts.set_indirect(asked);
-        }
-    }
-
-    /// Clears all records of the session with this number. Its flags, rule and attached tables stay.
-    pub fn restart(&mut self, number: u64)
-        ensures { self.new.live ≡ with_session_if self.old.live number
-            (option_map restart (session_numbered self.old.live number)) }
-    {
-        if let Some(place) = place_of(&self.sessions, number) {
-            self.sessions[place].parts.restart();
-        }
-    }
-
-    /// A copy, which shares the records.
+    /// A copy without what is staged, which shares the records.
     pub fn copy(&self) -> Result<Self, OutOfMemory>
-        ensures { IfOk result (λ copy. copy.live ≡ self.now.live) }
+        ensures copied { IfOk result (λ copy. copy.live ≡ self.now.live) }
+        ensures nothing_staged { IfOk result (λ copy. copy.staged ≡ copy.live) }
     {
         Ok(Sessions {
             alloc: self.alloc,

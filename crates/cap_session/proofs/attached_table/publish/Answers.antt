@@ -1,13 +1,25 @@
-use Rattle.std.proofs.Common.{arith, refl}
+use Rattle.std.proofs.Common.{add-one, arith, refl, ap₂, ◌∙◌}
 use Rattle.std.specs.Option.{unwrap_or}
 use Rattle.cap_session.specs.Code.Attached.{staged_tables}
-use Rattle.cap_session.proofs.ListLemmas.{loop-over-done}
+use Rattle.cap_session.proofs.ListLemmas.{loop-over, loop-over-done, map-set-same}
 use Rattle.cap_session.proofs.attached_table.publish.Goals as goal
 
 pub loop-table-init : goal.loop-table-init
-loop-table-init g c = refl
+loop-table-init g c = (refl, refl)
 
-pub returns : goal.returns
-returns g c =
+pub loop-table-preserved : goal.loop-table-preserved
+loop-table-preserved g c = (
+  rw add-one (loop-over (λ table. (table.name, table.records)) (λ table. (table.name, unwrap_or table.staged table.records))
+      c.loop-table.tables c.loop-table.table-index c.publish.new.self c.table-item.result (omega (arith, c.loop-table-test.true, c.loop-table.auto.tables)) (ap₂ (λ name records. (name, records)) c.publish.ensures.name c.publish.ensures.records)
+      ∙ c.loop-table.invariant.0),
+  map-set-same (λ table. (table.name, unwrap_or table.staged table.records)) c.loop-table.tables c.loop-table.table-index c.publish.new.self c.table-item.result (omega (arith, c.loop-table-test.true, c.loop-table.auto.tables)) (ap₂ (λ name records. (name, records)) c.publish.ensures.name c.publish.ensures.none)
+      ∙ c.loop-table.invariant.1,
+)
+
+pub returns-clause-published : goal.returns-clause-published
+returns-clause-published g c =
     loop-over-done (λ table. (table.name, table.records)) (λ table. (table.name, unwrap_or table.staged table.records))
-    c.loop-table.tables (staged_tables c.args.tables.now) c.loop-table.table-index (omega (arith, c.loop-table-test.false, c.loop-table.auto.tables)) c.loop-table.invariant
+    c.loop-table.tables (staged_tables c.args.tables.now) c.loop-table.table-index (omega (arith, c.loop-table-test.false, c.loop-table.auto.tables)) c.loop-table.invariant.0
+
+pub returns-clause-none : goal.returns-clause-none
+returns-clause-none g c = c.loop-table.invariant.1

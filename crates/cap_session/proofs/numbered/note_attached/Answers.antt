@@ -1,42 +1,25 @@
-use Rattle.std.proofs.Common.{get_or, sym, ap, ◌∙◌}
-use Rattle.std.proofs.lemmas.Result.{on_ok_weaker}
-use Rattle.cap_session.specs.declared.numbered.Numbered.{Numbered}
+use Rattle.std.proofs.Common.{arith, refl, sym, ◌∙◌}
 use Rattle.cap_session.specs.Code.Numbered.{live_of}
-use Rattle.cap_session.specs.Code.Parts.{state_of}
 use Rattle.cap_session.specs.Session.{attached}
-use Rattle.cap_session.proofs.PlaceLemmas.{live-kept, none-staged, place-lt, staged-changed}
+use Rattle.cap_session.proofs.PlaceLemmas.{none-staged, one-staged, place-lt}
 use Rattle.cap_session.proofs.numbered.note_attached.Goals as goal
 
-pub returns-in-Some-clause-kept : goal.returns-in-Some-clause-kept
-returns-in-Some-clause-kept g c =
-    let mid = c.discard_staged.new.sessions in
-    let old = c.index-sessions-place.result in
-    let at = get_or mid c.in-Some.place old in
-    let found = sym c.place_of.ensures ∙ c.in-Some.is in
-    live-kept mid c.in-Some.place (record { number = at.number; parts = c.note_attached.new.self }) old (place-lt c.args.number mid c.in-Some.place found) c.index-sessions-place.is
-    (ap (λ (s : Numbered g.row.A.Denot). s.number) (sym c.index-sessions-place.is))
-    (c.note_attached.ensures.kept ∙ ap (λ (s : Numbered g.row.A.Denot). state_of s.parts) (sym c.index-sessions-place.is))
-    ∙ c.discard_staged.ensures.kept
-
-pub returns-in-Some-clause-staged : goal.returns-in-Some-clause-staged
-returns-in-Some-clause-staged g c =
-    let mid = c.discard_staged.new.sessions in
-    let old = c.index-sessions-place.result in
-    let at = get_or mid c.in-Some.place old in
-    let found = sym c.place_of.ensures ∙ c.in-Some.is in
-    let same = ap (λ (s : Numbered g.row.A.Denot). s.number) (sym c.index-sessions-place.is) in
-    let change = (attached c.args.name.now) in
-    on_ok_weaker c.note_attached.result
-    (λ made. staged-changed c.args.number change mid (live_of c.args.sessions.now) c.in-Some.place (record { number = at.number; parts = c.note_attached.new.self }) old c.discard_staged.ensures.kept c.discard_staged.ensures.none found c.index-sessions-place.is same
-    (made ∙ ap (λ (s : Numbered g.row.A.Denot). change (state_of s.parts)) (sym c.index-sessions-place.is)))
-    c.note_attached.ensures.staged
+pub returns-in-Some : goal.returns-in-Some
+returns-in-Some g c =
+    let mid = c.settled_place.new.sessions.items in
+    let d = c.index_mut.result.now in
+    let staged = one-staged c.args.number mid (live_of c.args.sessions.now.items) c.settled_place.ensures.kept c.settled_place.ensures.none c.in-Some.place (record { number = d.number; session = c.stage_attached.new.self }) d (sym c.settled_place.ensures.place ∙ c.in-Some.is) c.index_mut.ensures.value refl
+    c.stage_attached.result (attached c.args.name.now) c.stage_attached.ensures.kept c.stage_attached.ensures.staged c.stage_attached.ensures.none in
+    record { kept = staged.0; staged = staged.1; none = staged.2 }
 
 pub returns-in-None-clause-staged : goal.returns-in-None-clause-staged
 returns-in-None-clause-staged g c =
-    none-staged c.args.number (attached c.args.name.now) c.discard_staged.new.sessions (live_of c.args.sessions.now) c.discard_staged.ensures.kept c.discard_staged.ensures.none (sym c.place_of.ensures ∙ c.in-None.is)
+    none-staged c.args.number c.settled_place.new.sessions.items (live_of c.args.sessions.now.items) c.settled_place.ensures.kept c.settled_place.ensures.none (attached c.args.name.now) (sym c.settled_place.ensures.place ∙ c.in-None.is)
 
 pub returns-in-None-clause-kept : goal.returns-in-None-clause-kept
-returns-in-None-clause-kept g c = c.discard_staged.ensures.kept
+returns-in-None-clause-kept g c = c.settled_place.ensures.kept
 
-pub bounds-sessions-place : goal.bounds-sessions-place
-bounds-sessions-place g c = place-lt c.args.number c.discard_staged.new.sessions c.in-Some.place (sym c.place_of.ensures ∙ c.in-Some.is)
+pub index_mut-requires : goal.index_mut-requires
+index_mut-requires g c =
+    let lt = place-lt c.args.number c.settled_place.new.sessions.items c.in-Some.place (sym c.settled_place.ensures.place ∙ c.in-Some.is) in
+    omega (arith, lt, c.settled_place.new.sessions.ok)

@@ -6,4 +6,4 @@ use Rattle.cap_core.proofs.server.Core.capture.Goals as goal
 pub changes_of-requires : goal.changes_of-requires
 changes_of-requires g c =
     ap (tables_stand c.self.inside.main) c.attached.ensures.tables
-    ∙ numbered-stands c.self.inside.main c.self.inside.sessions.live c.args.number c.in-Some.session c.self.invariant.2 (sym c.in-Some.ensures)
+    ∙ numbered-stands c.self.inside.main c.self.inside.sessions.live c.args.number c.in-Some.session.now.live c.self.invariant.2 (sym c.in-Some.ensures)

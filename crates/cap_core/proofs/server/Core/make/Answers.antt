@@ -12,5 +12,5 @@ invariant_of-self-in-Ok-step_with_hook g c =
     let all = note_each-stand inside.main after c.rows_stand.ensures kept c.args.changes.now inside.sessions.live c.self.invariant.2 in (
       omega (arith, c.self.invariant.0),
       omega (arith, c.self.invariant.1),
-      ap (sessions_stand after) (c.publish.ensures ∙ c.in-Ok.ensures.staged) ∙ all,
+      ap (sessions_stand after) (c.publish.ensures.published ∙ c.in-Ok.ensures.staged) ∙ all,
     )

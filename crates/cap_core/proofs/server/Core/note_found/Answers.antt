@@ -15,6 +15,6 @@ invariant_of-self-2 g c =
     let stand : differences_stand (schema_of main name) found ≡ true = subst (λ (s : State g.row.A.Denot). differences_stand (schema_of s.main name) found ≡ true) (sym c.self.view_is) c.requires.stand in (
       omega (arith, c.self.invariant.0),
       omega (arith, c.self.invariant.1),
-      ap (sessions_stand main) (c.publish.ensures ∙ c.in_ok-note_diff.ensures.staged)
+      ap (sessions_stand main) (c.publish.ensures.published ∙ c.in_ok-note_diff.ensures.staged)
           ∙ changed-stands main c.args.number (note_diff name found) (λ session all. note_diff-stands main name found session stand all) c.self.inside.sessions.live c.self.invariant.2,
     )

@@ -12,5 +12,5 @@ invariant_of-self-2 g c =
     let all = note_each-stand inside.main tables c.rows_stand.ensures kept c.args.changes.now inside.sessions.live c.self.invariant.2 in (
       omega (arith, c.self.invariant.0),
       omega (arith, c.self.invariant.1),
-      ap (sessions_stand tables) (c.publish.ensures ∙ c.in_ok-note.ensures.staged) ∙ all,
+      ap (sessions_stand tables) (c.publish.ensures.published ∙ c.in_ok-note.ensures.staged) ∙ all,
     )
