@@ -1,7 +1,7 @@
 -- What is known of a run's input.
-use Rattle.std.proofs.Common.{◌≡◌, ◌∙◌, ap, ℕ, ◌+◌, Bool, true, false, add-one, List, Option, Some, None, ◌⊎◌, Result, Ok, Err, IfSome, IfErr, IsUtf8, arith, inl, inr, subst, sym}
+use Rattle.std.proofs.Common.{◌≡◌, ◌∙◌, ap, ℕ, ◌+◌, false, add-one, List, Option, Some, None, ◌⊎◌, Result, Ok, Err, IfSome, IfErr, IsUtf8, arith, inl, inr, subst, sym}
 use Rattle.cap_run.specs.Run.{IsSpelled}
-use Rattle.cap_codec.specs.StreamCalls.{AllWent, Calls, LastFailed}
+use Rattle.cap_codec.specs.StreamCalls.{AllWent, Calls}
 use Rattle.cap_run.specs.Reads.{EndsAtFault, EndsReads}
 use Rattle.cap_run.specs.RunFault.{exit_status, is_read, IsUnread, IsUnspelled, RunsNothing}
 use Rattle.cap_run.specs.declared.fault.RunFault.{RunFault}

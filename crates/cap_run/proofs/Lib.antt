@@ -3,6 +3,7 @@ mod GatherLemmas
 mod HistoryLemmas
 mod InputLemmas
 mod NextLemmas
+mod OutputLemmas
 mod PieceLemmas
 mod RunLemmas
 mod SeatLemmas

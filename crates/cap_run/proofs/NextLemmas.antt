@@ -177,6 +177,16 @@ module _ {A : Type 0} where
         spelled = others.2;
       }
 
+  -- a line begins with `@` behind the block, so there is one
+  pub block_goes_on : {P : Type 0} (first : Line A) (rest block : List (Line A)) (found : Bool) (text middle behind : List ℕ) → IsBlock first rest block text
+      → ((lines : List (Line A)) → SpellsScript lines text → (found ≡ begins_at lines) × SpellsScript lines middle) → found ≡ true
+      → ((lines : List (Line A)) → SpellsScript lines middle → TakesFirst None lines behind) → P
+  block_goes_on first rest block found text middle behind so begins at takes =
+      let begun = begins so.left so.spelled in
+      let none = takes so.left begun.1 in
+      let ends : true ≡ false = sym at ∙ begun.0 ∙ ap begins_at none in
+      absurd (cc ends)
+
   -- the next line has none
   pub block_whole : (first : Line A) (rest block : List (Line A)) (found : Bool) (text middle : List ℕ) → IsBlock first rest block text
       → ((lines : List (Line A)) → SpellsScript lines text → (found ≡ begins_at lines) × SpellsScript lines middle) → found ≡ false → IsWholeBlock first rest block middle

@@ -14,7 +14,7 @@ use Rattle.cap_history.specs.History.{own}
 use Rattle.cap_history.specs.Own.{own-append}
 use Rattle.cap_history.specs.Seat.{SeatState, calls, newcomer}
 use Rattle.cap_run.specs.Run.{Ended, events_max, on_a_line, reply_lines}
-use Rattle.cap_run.specs.Code.Calls.{AreNumbered, AreSeats, HasAnswered, HasCalledOwn, HasSeen, HaveCalled, KeepsCalls, OneHasSeen, lines_of, reply_texts, texts_of}
+use Rattle.cap_run.specs.Code.Calls.{AreNumbered, AreSeats, HasAnswered, HasCalledOwn, HasSeen, HaveCalled, KeepsCalls, lines_of, reply_texts, texts_of}
 use Rattle.cap_run.specs.Workload.{AreCalls, HasCount, ReportsEvents, calls_of, seat_of}
 use Rattle.cap_script.specs.ReplyText.{reply_text}
 use Rattle.cap_script.specs.declared.line.Line.{Line}

@@ -7,3 +7,4 @@ pub mod Run
 pub mod RunFault
 pub mod Show
 pub mod Workload
+pub mod Writes

@@ -1,13 +1,14 @@
 //! Writes replies and faults.
 ghost use Rattle.std.specs.Prelude.{◌≡◌, ◌++◌, ◌∷◌, ℕ, List, [], OnOk, IfErr, codes, decimal, string_bytes};
-ghost use Rattle.std.specs.Io.KnownBytes.{Appends};
+ghost use Rattle.std.specs.Io.KnownBytes.{Appends, Keeps};
 ghost use Rattle.cap_run.specs.Run.{AppendsFront, ending};
+ghost use Rattle.cap_run.specs.Writes.{EndsWrites};
 
-use crate::RunFault;
+use crate::input::is_interrupted;
+use crate::{RunFault, RunOutput};
 use cap_server::CallFault;
 use cap_value::AllocHandle;
 use itoa::Buffer;
-use std::io::{ErrorKind, Write};
 
 // The most writes for one piece of output.
 const WRITES_MAX: u64 = 1 << 40;
@@ -16,20 +17,21 @@ const WRITES_MAX: u64 = 1 << 40;
 const PIECE_LEN: usize = 8192;
 
 /// Writes all of the bytes, in several writes where one is short. An interrupted write is retried.
-pub fn write_whole<W: Write>(writer: &mut W, bytes: &[u8]) -> Result<(), RunFault>
+pub fn write_whole<W: RunOutput>(writer: &mut W, bytes: &[u8]) -> Result<(), RunFault>
     ensures ok { OnOk result (Appends (W.contents writer.old) (W.contents writer.new) bytes.now) }
     ensures err { IfErr result (λ fault. (fault ≡ RunFault.Write)
         × AppendsFront (W.contents writer.old) (W.contents writer.new) bytes.now) }
+    ensures reported { EndsWrites W.went W.failed result writer.old writer.new }
 {
     let mut rest = bytes;
     for _ in 0..WRITES_MAX {
         if rest.is_empty() {
             return Ok(());
         }
-        match writer.write(rest) {
+        match writer.write_some(rest) {
             Ok(0) => return Err(RunFault::Write),
             Ok(count) => rest = &rest[count..],
-            Err(error) if error.kind() == ErrorKind::Interrupted => continue,
+            Err(error) if is_interrupted(&error) => continue,
             Err(_) => return Err(RunFault::Write),
         }
     }
@@ -37,7 +39,7 @@ pub fn write_whole<W: Write>(writer: &mut W, bytes: &[u8]) -> Result<(), RunFaul
 }
 
 // Writes the pending output. Where a write fails it stays pending, though a prefix of it may be written.
-pub(crate) fn write_pending<A: AllocHandle, W: Write>(
+pub(crate) fn write_pending<A: AllocHandle, W: RunOutput>(
     writer: &mut W,
     pending: &mut String<A>,
 ) -> Result<(), RunFault>
@@ -45,6 +47,7 @@ pub(crate) fn write_pending<A: AllocHandle, W: Write>(
         × Appends (W.contents writer.old) (W.contents writer.new) (string_bytes pending.old)) }
     ensures err { IfErr result (λ fault. (fault ≡ RunFault.Write)
         × AppendsFront (W.contents writer.old) (W.contents writer.new) (string_bytes pending.old)) }
+    ensures reported { EndsWrites W.went W.failed result writer.old writer.new }
 {
     write_whole(writer, pending.as_str().as_bytes())?;
     pending.clear();
@@ -52,7 +55,7 @@ pub(crate) fn write_pending<A: AllocHandle, W: Write>(
 }
 
 // Writes the pending output, if it is as long as a piece.
-pub(crate) fn write_long<A: AllocHandle, W: Write>(
+pub(crate) fn write_long<A: AllocHandle, W: RunOutput>(
     writer: &mut W,
     pending: &mut String<A>,
 ) -> Result<(), RunFault>
@@ -61,6 +64,7 @@ pub(crate) fn write_long<A: AllocHandle, W: Write>(
         × Appends (W.contents writer.old) (W.contents writer.new) front) }
     ensures err { IfErr result (λ fault. (fault ≡ RunFault.Write)
         × AppendsFront (W.contents writer.old) (W.contents writer.new) (string_bytes pending.old)) }
+    ensures reported { EndsWrites W.went W.failed result writer.old writer.new }
 {
     if pending.len() < PIECE_LEN {
         return Ok(());
@@ -69,24 +73,38 @@ pub(crate) fn write_long<A: AllocHandle, W: Write>(
 }
 
 // Writes the fault at which the run ended, if any, and flushes the writer.
-pub(crate) fn write_ending<W: Write>(
+pub(crate) fn write_ending<W: RunOutput>(
     outcome: Result<(), CallFault>,
     writer: &mut W,
 ) -> Result<(), RunFault>
     ensures ok { OnOk result (Appends (W.contents writer.old) (W.contents writer.new) (ending outcome)) }
     ensures err { IfErr result (λ fault. (fault ≡ RunFault.Write)
         × AppendsFront (W.contents writer.old) (W.contents writer.new) (ending outcome)) }
+    ensures reported { EndsWrites W.went W.failed result writer.old writer.new }
 {
     write_last_line(outcome, writer)?;
-    writer.flush().map_err(|_| RunFault::Write)
+    flush(writer)
+}
+
+// Flushes the writer.
+pub(crate) fn flush<W: RunOutput>(writer: &mut W) -> Result<(), RunFault>
+    ensures bytes { Keeps (W.contents writer.old) (W.contents writer.new) }
+    ensures err { IfErr result (λ fault. fault ≡ RunFault.Write) }
+    ensures reported { EndsWrites W.went W.failed result writer.old writer.new }
+{
+    writer.flush_all().map_err(|_| RunFault::Write)
 }
 
 // Writes the fault at which the run ended, if any. It takes no memory.
 #[tactic(auto, unfolding(crate::specs::Run::call_fault_text))]
-fn write_last_line<W: Write>(outcome: Result<(), CallFault>, writer: &mut W) -> Result<(), RunFault>
+fn write_last_line<W: RunOutput>(
+    outcome: Result<(), CallFault>,
+    writer: &mut W,
+) -> Result<(), RunFault>
     ensures ok { OnOk result (Appends (W.contents writer.old) (W.contents writer.new) (ending outcome)) }
     ensures err { IfErr result (λ fault. (fault ≡ RunFault.Write)
         × AppendsFront (W.contents writer.old) (W.contents writer.new) (ending outcome)) }
+    ensures reported { EndsWrites W.went W.failed result writer.old writer.new }
 {
     match outcome {
         Ok(()) => write_whole(writer, b""),
@@ -98,12 +116,13 @@ fn write_last_line<W: Write>(outcome: Result<(), CallFault>, writer: &mut W) -> 
 
 // Writes that a call was overtaken, with the number of events of the history.
 #[tactic(auto, using(crate::proofs::RunLemmas::front_more, crate::proofs::RunLemmas::front_sooner))]
-fn write_overtaken<W: Write>(writer: &mut W, front: u64) -> Result<(), RunFault>
+fn write_overtaken<W: RunOutput>(writer: &mut W, front: u64) -> Result<(), RunFault>
     ensures ok { OnOk result (Appends (W.contents writer.old) (W.contents writer.new)
         ((codes "overtaken " ++ decimal front) ++ 10 ∷ [])) }
     ensures err { IfErr result (λ fault. (fault ≡ RunFault.Write)
         × AppendsFront (W.contents writer.old) (W.contents writer.new)
         ((codes "overtaken " ++ decimal front) ++ 10 ∷ [])) }
+    ensures reported { EndsWrites W.went W.failed result writer.old writer.new }
 {
     let mut digits = Buffer::new();
     if let Err(_) = write_both(writer, b"overtaken ", digits.format(front).as_bytes()) {
@@ -117,11 +136,12 @@ fn write_overtaken<W: Write>(writer: &mut W, front: u64) -> Result<(), RunFault>
 
 // Writes some bytes and then others.
 #[tactic(auto, using(crate::proofs::RunLemmas::front_more, crate::proofs::RunLemmas::front_sooner))]
-fn write_both<W: Write>(writer: &mut W, first: &[u8], second: &[u8]) -> Result<(), RunFault>
+fn write_both<W: RunOutput>(writer: &mut W, first: &[u8], second: &[u8]) -> Result<(), RunFault>
     ensures ok { OnOk result (Appends (W.contents writer.old) (W.contents writer.new)
         (first.now ++ second.now)) }
     ensures err { IfErr result (λ fault. (fault ≡ RunFault.Write)
         × AppendsFront (W.contents writer.old) (W.contents writer.new) (first.now ++ second.now)) }
+    ensures reported { EndsWrites W.went W.failed result writer.old writer.new }
 {
     if let Err(_) = write_whole(writer, first) {
         return Err(RunFault::Write);

@@ -9,20 +9,20 @@ ghost use Rattle.cap_run.specs.Run.{AppendsFront, BeginsRun, EndsAt, IsRun, Matc
 ghost use Rattle.cap_run.specs.Run.{ending, events_max, on_a_line, run_outcome};
 ghost use Rattle.cap_run.specs.Reads.{EndsReads};
 ghost use Rattle.cap_run.specs.RunFault.{exit_status, is_read, IsUnread, IsUnspelled};
+ghost use Rattle.cap_run.specs.Writes.{EndsWrites};
 ghost use Rattle.cap_script.specs.ReplyText.{reply_text};
 ghost use Rattle.cap_script.specs.Script.{SpellsScript};
 ghost use Rattle.cap_script.specs.declared.line.Line.{Line};
 
-use crate::RunFault;
 use crate::input::read_whole;
 use crate::output::{write_ending, write_long, write_pending};
 use crate::worker::reply_line;
+use crate::{RunFault, RunOutput};
 use cap_codec::Source;
 use cap_core::{Command, Core, EVENTS_MAX, NoHook, Reply, legal_histories_grow};
 use cap_script::{Line, Lines};
 use cap_server::CallFault;
 use cap_value::{AllocHandle, Fault};
-use std::io::Write;
 
 /// Runs the workload from the reader on a new server, one command after the other, and writes the replies.
 ///
@@ -34,7 +34,7 @@ use std::io::Write;
 /// failed read and out of memory may come before any other answer. `cap_script::Lines::new` documents which
 /// other texts are refused, and with which fault; that is tested. The contracts determine the whole output,
 /// for writers whose content is known.
-pub fn run_core<A: AllocHandle, R: Source, W: Write>(
+pub fn run_core<A: AllocHandle, R: Source, W: RunOutput>(
     alloc: A,
     reader: &mut R,
     writer: &mut W,
@@ -47,6 +47,9 @@ pub fn run_core<A: AllocHandle, R: Source, W: Write>(
 
     // When a failed read is reported, as far as the outcomes of the reads are known.
     ensures reported { EndsReads R.gave R.failed result reader.old reader.new }
+
+    // When a failed write is reported, as far as the outcomes of the writes are known.
+    ensures write_reported { EndsWrites W.went W.failed result writer.old writer.new }
 
     // Nothing is written where the input is refused.
     ensures silent { IfErr result (λ fault. exit_status fault ≡ 1 → writer.new ≡ writer.old) }
@@ -97,7 +100,7 @@ pub(crate) fn lines_of<A: AllocHandle>(alloc: A, text: &str) -> Result<Lines<'_,
 }
 
 // Runs the lines on a new server, and writes their replies.
-fn run_lines<A: AllocHandle, W: Write>(
+fn run_lines<A: AllocHandle, W: RunOutput>(
     alloc: A,
     lines: &mut Lines<'_, A>,
     writer: &mut W,
@@ -106,6 +109,7 @@ fn run_lines<A: AllocHandle, W: Write>(
         → Writes spelled result (W.contents writer.old) (W.contents writer.new) }
     ensures status { IfErr result (λ fault. exit_status fault ≡ 3) }
     ensures read { IfErr result (λ fault. is_read fault ≡ false) }
+    ensures write_reported { EndsWrites W.went W.failed result writer.old writer.new }
 {
     let mut pending = String::new(alloc);
     let outcome = write_replies(alloc, lines, writer, &mut pending)?;
@@ -125,7 +129,7 @@ pub(crate) fn run_outcome(outcome: Result<(), CallFault>) -> Result<(), RunFault
 
 // Writes the replies to the lines, except the last ones, which are left in `pending`. The inner fault is that
 // of the line at which the run ended.
-fn write_replies<A: AllocHandle, W: Write>(
+fn write_replies<A: AllocHandle, W: RunOutput>(
     alloc: A,
     lines: &mut Lines<'_, A>,
     writer: &mut W,
@@ -140,6 +144,7 @@ fn write_replies<A: AllocHandle, W: Write>(
     ensures err { (spelled : List (Line A)) → SpellsScript spelled lines.old
         → IfErr result (λ fault. BeginsRun spelled (W.contents writer.old) (W.contents writer.new)) }
     ensures write { IfErr result (λ fault. fault ≡ RunFault.Write) }
+    ensures write_reported { EndsWrites W.went W.failed result writer.old writer.new }
 {
     let mut core = Core::new(alloc);
     loop {

@@ -13,6 +13,7 @@ ghost use Rattle.cap_run.specs.Run.{IsSpelled, Known};
 ghost use Rattle.cap_run.specs.Reads.{EndsReads};
 ghost use Rattle.cap_run.specs.RunFault.{IsUnread, exit_status, is_read};
 ghost use Rattle.cap_run.specs.Workload.{WritesWorkload};
+ghost use Rattle.cap_run.specs.Writes.{EndsWrites};
 ghost use Rattle.cap_script.specs.Script.{SpellsScript};
 ghost use Rattle.cap_script.specs.declared.line.Line.{Line};
 
@@ -20,13 +21,12 @@ use crate::block::run_block;
 use crate::output::{write_ending, write_long, write_pending};
 use crate::run::{lines_of, read_text, run_outcome};
 use crate::worker::{Shared, Worker, answer_line, seat_of};
-use crate::{Gate, RunFault};
+use crate::{Gate, RunFault, RunOutput};
 use cap_codec::Source;
 use cap_history::{Naming, Opened, Seat};
 use cap_script::{Line, Lines};
 use cap_server::{CallFault, SEATS_MAX, Server};
 use cap_value::{AllocHandle, OutOfMemory};
-use std::io::Write;
 use std::marker::Brand;
 use std::sync::Wait;
 use std::thread::Threads;
@@ -52,7 +52,7 @@ pub fn run_workload<
     T: Threads + Wait + Sync,
     G: Gate,
     R: Source,
-    W: Write,
+    W: RunOutput,
 >(rt: &T, alloc: A, gate: &G, threads: u64, reader: &mut R, writer: &mut W) -> Result<(), RunFault>
     requires threads { IsThreadCount threads }
     requires frees { Frees A.Allocator A.dealloc_token }
@@ -64,6 +64,9 @@ pub fn run_workload<
 
     // When a failed read is reported, as far as the outcomes of the reads are known.
     ensures reported { EndsReads R.gave R.failed result reader.old reader.new }
+
+    // When a failed write is reported, as far as the outcomes of the writes are known.
+    ensures write_reported { EndsWrites W.went W.failed result writer.old writer.new }
 
     // Nothing is written where the input is refused.
     ensures silent { IfErr result (λ fault. exit_status fault ≡ 1 → writer.new ≡ writer.old) }
@@ -88,7 +91,7 @@ fn serve_lines<
     A: AllocHandle + Send + Sync,
     T: Threads + Wait + Sync,
     G: Gate,
-    W: Write,
+    W: RunOutput,
 >(
     rt: &T,
     alloc: A,
@@ -102,8 +105,10 @@ fn serve_lines<
     requires frees { Frees A.Allocator A.dealloc_token }
     requires history { opened.seen.book ≡ J.book }
     requires seats { threads + 1 ≡ J.seats }
+    requires spelled { (spelled : List (Line A)) × SpellsScript spelled lines.old }
     ensures status { IfErr result (λ fault. exit_status fault ≡ 3) }
     ensures read { IfErr result (λ fault. is_read fault ≡ false) }
+    ensures write_reported { EndsWrites W.went W.failed result writer.old writer.new }
     ensures written { (input : Known) → (spelled : List (Line A)) → IsSpelled input spelled
         → SpellsScript spelled lines.old
         → WritesWorkload A threads input result (W.contents writer.old) (W.contents writer.new) }
@@ -191,7 +196,7 @@ fn run_lines<
     A: AllocHandle + Send + Sync,
     T: Threads + Wait + Sync,
     G: Gate,
-    W: Write,
+    W: RunOutput,
 >(
     shared: &Shared<'_, J, A, T, G>,
     lines: &mut Lines<'_, A>,
@@ -201,8 +206,10 @@ fn run_lines<
     requires threads { IsThreadCount shared.now.threads }
     requires frees { Frees A.Allocator A.dealloc_token }
     requires seats { AreSeats shared.now.threads (map (λ w. w.seat) workers.items) }
+    requires spelled { (spelled : List (Line A)) × SpellsScript spelled lines.old }
     ensures status { IfErr result.1 (λ fault. exit_status fault ≡ 3) }
     ensures read { IfErr result.1 (λ fault. is_read fault ≡ false) }
+    ensures write_reported { EndsWrites W.went W.failed result.1 writer.old writer.new }
     ensures len { vec_len result.0 ≡ vec_len workers }
     ensures runs { (spelled : List (Line A)) → SpellsScript spelled lines.old
         → RunsLines shared.now.threads spelled result.1
@@ -219,13 +226,14 @@ fn run_lines<
 }
 
 // Writes the pending output, and the fault at which the lines ended.
-fn write_rest<A: AllocHandle, W: Write>(
+fn write_rest<A: AllocHandle, W: RunOutput>(
     writer: &mut W,
     pending: &mut String<A>,
     outcome: Result<(), CallFault>,
 ) -> Result<(), RunFault>
     ensures status { IfErr result (λ fault. exit_status fault ≡ 3) }
     ensures read { IfErr result (λ fault. is_read fault ≡ false) }
+    ensures write_reported { EndsWrites W.went W.failed result writer.old writer.new }
     ensures runs { (threads : ℕ) → (lines : List (Line A)) → (a : List (SeatState A))
         → (b : List (SeatState A)) → (known : Known)
         → EndSo threads lines outcome (string_bytes pending.old) a b known (W.contents writer.old)
@@ -243,7 +251,7 @@ fn answer_all<
     A: AllocHandle + Send + Sync,
     T: Threads + Wait + Sync,
     G: Gate,
-    W: Write,
+    W: RunOutput,
 >(
     shared: &Shared<'_, J, A, T, G>,
     lines: &mut Lines<'_, A>,
@@ -258,8 +266,10 @@ fn answer_all<
     requires frees { Frees A.Allocator A.dealloc_token }
     requires seats { AreSeats shared.now.threads (map (λ w. w.seat) workers.items) }
     requires none { string_bytes pending.old ≡ [] }
+    requires spelled { (spelled : List (Line A)) × SpellsScript spelled lines.old }
     ensures len { vec_len result.0 ≡ vec_len workers }
     ensures status { IfErr result.1 (λ fault. fault ≡ RunFault.Write) }
+    ensures write_reported { EndsWrites W.went W.failed result.1 writer.old writer.new }
     ensures called { (spelled : List (Line A)) → SpellsScript spelled lines.old → MatchResult result.1
         (λ ended. EndSo shared.now.threads spelled ended (string_bytes pending.new)
         (map (λ w. w.seat) workers.items)
@@ -302,6 +312,7 @@ fn answer_next<
     requires threads { IsThreadCount shared.now.threads }
     requires frees { Frees A.Allocator A.dealloc_token }
     requires seats { AreSeats shared.now.threads (map (λ w. w.seat) workers.items) }
+    requires spelled { (spelled : List (Line A)) × SpellsScript spelled lines.old }
     ensures seats { AreSeats shared.now.threads (map (λ w. w.seat) result.0.items) }
     ensures len { vec_len result.0 ≡ vec_len workers }
     ensures left { OnOk result.1 (length lines.new ≤ length lines.old) }
@@ -353,6 +364,7 @@ fn block_from<A: AllocHandle>(
     first: Line<A>,
     lines: &mut Lines<'_, A>,
 ) -> Result<Vec<Line<A>, A>, OutOfMemory>
+    requires spelled { (spelled : List (Line A)) × SpellsScript spelled lines.old }
     ensures left { IfOk result (λ block. length lines.new ≤ length lines.old) }
     ensures block { (rest : List (Line A)) → SpellsScript rest lines.old
         → IfOk result (λ block. IsWholeBlock first rest block.items lines.new) }
@@ -360,8 +372,9 @@ fn block_from<A: AllocHandle>(
     let mut block = Vec::new(alloc);
     block.push(first)?;
     while lines.begins_at() {
-        // A line begins here, so there is a next one.
-        let line = lines.next_line()?.ok_or(OutOfMemory)?;
+        let Some(line) = lines.next_line()? else {
+            return Ok(block);
+        };
         block.push(line)?;
     }
     Ok(block)

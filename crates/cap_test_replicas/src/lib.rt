@@ -2,6 +2,10 @@
 #![tactic(auto)]
 
 #[cfg(test)]
+mod applied;
+#[cfg(test)]
+mod calls;
+#[cfg(test)]
 mod replicas;
 mod replication;
 

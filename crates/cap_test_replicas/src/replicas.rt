@@ -1,12 +1,10 @@
 //! A replica that captures keep up to date.
 ghost use Rattle.std.specs.Prelude.{◌≡◌};
 
+use crate::calls::{carry_out, have_same_rows, snapshot};
 use crate::{Form, NotReplicated, replicate};
 use cap_apply::{Answer, Policy};
-use cap_core::Reply;
-use cap_database::{Database, Snapshot};
-use cap_history::{Naming, Opened, Seat};
-use cap_script::{Show, parse};
+use cap_history::{Naming, Opened};
 use cap_server::Server;
 use std::alloc::Global;
 use std::marker::Brand;
@@ -19,52 +17,6 @@ const OMIT: Policy = Policy {
     on_notfound: Answer::Omit,
     on_conflict: Answer::Abort,
 };
-
-// Carries out the commands of a workload.
-fn carry_out<J: Naming>(
-    rt: &impl Wait,
-    alloc: Global,
-    server: &Server<J, Global>,
-    seat: &mut Seat<J, Global>,
-    workload: &str,
-) -> Option<()> {
-    for line in &parse(alloc, workload).ok()?.lines {
-        match server.call(rt, seat, &line.command).ok()? {
-            Reply::Refused { .. } => return None,
-            _ => {}
-        }
-    }
-    Some(())
-}
-
-fn snapshot<J: Naming>(
-    rt: &impl Wait,
-    server: &Server<J, Global>,
-    seat: &mut Seat<J, Global>,
-) -> Option<Snapshot<Global>> {
-    match server.read(rt, seat).ok()? {
-        Reply::Snapshot(snapshot) => Some(snapshot),
-        _ => None,
-    }
-}
-
-// Whether both databases have the same row, or none, under the name that `get` of a workload's line has.
-fn is_same_row(
-    alloc: Global,
-    first: &Database<Global>,
-    second: &Database<Global>,
-    line: &str,
-) -> Option<bool> {
-    let parsed = parse(alloc, line).ok()?;
-    let Show::Get(table, row) = &parsed.lines.first()?.show else {
-        return None;
-    };
-    match (first.get(table, row).ok()?, second.get(table, row).ok()?) {
-        (Some(one), Some(other)) => Some(one.same(other)),
-        (None, None) => Some(true),
-        _ => Some(false),
-    }
-}
 
 // A replica is taken before rows change, and holds the first images. In either form it then has the rows of the
 // server; another that lacks a row meets a conflict.
@@ -99,10 +51,7 @@ fn replicated<J: Naming + Send + Sync, R: Wait + Abort>(
     .ok()
     .ok_or("a replica")?;
     assert!(rt; left.report().applied() == 3 && left.report().conflicts().is_empty());
-    for line in ["get t key(1)", "get t key(2)", "get t key(3)"] {
-        let same = is_same_row(alloc, left.database(), now.database(), line);
-        assert!(rt; same == Some(true), "{line}");
-    }
+    assert!(rt; have_same_rows(alloc, left.database(), now.database()));
     let missing = replicate(
         rt,
         alloc,

@@ -2,8 +2,6 @@
 #![tactic(auto)]
 
 #[cfg(test)]
-mod applied;
-#[cfg(test)]
 mod histories;
 #[cfg(test)]
 mod overtaken;

@@ -7,5 +7,8 @@ mod memory;
 mod rows;
 #[cfg(test)]
 mod streams;
+mod watched;
 #[cfg(test)]
 mod workers;
+
+pub use watched::{WatchedReader, WatchedWriter, run_watched, serve_watched, show_watched};

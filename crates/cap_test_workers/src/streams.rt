@@ -1,6 +1,7 @@
 //! Readers and writers that fail, that are interrupted, and that give or take one byte at a time.
 use crate::rows::{CHANGESET, SHOWN};
-use cap_run::{NoGate, RunFault, run_core, run_workload, show_blob};
+use crate::{WatchedReader, WatchedWriter, run_watched, serve_watched, show_watched};
+use cap_run::RunFault;
 use cap_test_support::{Failure, Sink, Source};
 use std::alloc::{AllocError, Global};
 use std::sync::Wait;
@@ -30,7 +31,7 @@ const PROGRAMS: [(Program, &str, &str); 3] = [
     (Program::Show, CHANGESET, SHOWN),
 ];
 
-// Runs a program on these streams.
+// Runs a program on these streams. It reports a call that failed.
 fn run<T: Threads + Wait + Sync>(
     rt: &T,
     alloc: Global,
@@ -38,10 +39,12 @@ fn run<T: Threads + Wait + Sync>(
     source: &mut Source<'_>,
     sink: &mut Sink<Global>,
 ) -> Result<(), RunFault> {
+    let mut reader = WatchedReader::new(source);
+    let mut writer = WatchedWriter::new(sink);
     match program {
-        Program::Core => run_core(alloc, source, sink),
-        Program::Workload => run_workload(rt, alloc, &NoGate, 1, source, sink),
-        Program::Show => show_blob(alloc, source, sink),
+        Program::Core => run_watched(alloc, &mut reader, &mut writer),
+        Program::Workload => serve_watched(rt, alloc, &mut reader, &mut writer),
+        Program::Show => show_watched(alloc, &mut reader, &mut writer),
     }
 }
 

@@ -1,5 +1,7 @@
 use Rattle.std.proofs.Common.{refl}
+use Rattle.cap_run.proofs.OutputLemmas.{fault_later, went_on, write_fault}
 use Rattle.cap_run.proofs.RunLemmas.{front_more}
+use Rattle.cap_run.specs.declared.fault.RunFault.TheVariants.{Write}
 use Rattle.cap_run.proofs.output.write_both.Goals as goal
 
 -- the first bytes were written, and a beginning of the others
@@ -8,3 +10,12 @@ returns-in-Err-write_whole-clause-err g c = (
   refl,
   front_more _ _ _ c.args.first.now c.args.second.now c.in_default.ensures.ok c.in-Err-write_whole.ensures.err.1,
 )
+
+pub returns-in-Err-write_whole-clause-reported : goal.returns-in-Err-write_whole-clause-reported
+returns-in-Err-write_whole-clause-reported g c =
+    fault_later g.W.RunOutput.went g.W.RunOutput.failed Write c.args.writer.now c.write_whole.new.writer c.write_whole-2.new.writer c.in_default.ensures.reported
+    (write_fault g.W.RunOutput.went g.W.RunOutput.failed c.in-Err-write_whole.field-0 c.write_whole.new.writer c.write_whole-2.new.writer c.in-Err-write_whole.ensures.err.0 c.in-Err-write_whole.ensures.reported)
+
+pub returns-clause-reported : goal.returns-clause-reported
+returns-clause-reported g c =
+    went_on g.W.RunOutput.went g.W.RunOutput.failed c.args.writer.now c.write_whole.new.writer c.write_whole-2.new.writer c.in_default.ensures.reported c.in_default-write_whole.ensures.reported

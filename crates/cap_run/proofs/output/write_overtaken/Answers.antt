@@ -1,6 +1,8 @@
 use Rattle.std.proofs.Common.{List, ℕ, [], ◌∷◌, ◌++◌, ◌∙◌, refl, subst, codes}
+use Rattle.cap_run.proofs.OutputLemmas.{fault_later, went_on, write_fault}
 use Rattle.cap_run.proofs.RunLemmas.{front_more, front_sooner}
 use Rattle.cap_run.specs.Run.{AppendsFront}
+use Rattle.cap_run.specs.declared.fault.RunFault.TheVariants.{Write}
 use Rattle.cap_run.proofs.output.write_overtaken.Goals as goal
 
 -- the words and the number were written, and nothing behind them
@@ -8,7 +10,7 @@ pub returns-in-Err-write_whole-clause-err : goal.returns-in-Err-write_whole-clau
 returns-in-Err-write_whole-clause-err g c =
     let text = c.as_bytes.ensures.value ∙ c.format.ensures.text in (
       refl,
-      subst (λ (digits : List ℕ). AppendsFront (g.W.Write.contents c.args.writer.now) (g.W.Write.contents c.write_whole.new.writer) ((codes "overtaken " ++ digits) ++ 10 ∷ [])) text
+      subst (λ (digits : List ℕ). AppendsFront (g.W.RunOutput.contents c.args.writer.now) (g.W.RunOutput.contents c.write_whole.new.writer) ((codes "overtaken " ++ digits) ++ 10 ∷ [])) text
           (front_more _ _ _ (codes "overtaken " ++ c.as_bytes.result.now) (10 ∷ []) c.in_default.ensures.ok c.in-Err-write_whole.ensures.err.1),
     )
 
@@ -17,6 +19,19 @@ pub returns-in-Err-clause-err : goal.returns-in-Err-clause-err
 returns-in-Err-clause-err g c =
     let text = c.as_bytes.ensures.value ∙ c.format.ensures.text in (
       refl,
-      subst (λ (digits : List ℕ). AppendsFront (g.W.Write.contents c.args.writer.now) (g.W.Write.contents c.write_both.new.writer) ((codes "overtaken " ++ digits) ++ 10 ∷ [])) text
+      subst (λ (digits : List ℕ). AppendsFront (g.W.RunOutput.contents c.args.writer.now) (g.W.RunOutput.contents c.write_both.new.writer) ((codes "overtaken " ++ digits) ++ 10 ∷ [])) text
           (front_sooner _ _ (codes "overtaken " ++ c.as_bytes.result.now) (10 ∷ []) c.in-Err.ensures.err.1),
     )
+
+pub returns-in-Err-write_whole-clause-reported : goal.returns-in-Err-write_whole-clause-reported
+returns-in-Err-write_whole-clause-reported g c =
+    fault_later g.W.RunOutput.went g.W.RunOutput.failed Write c.args.writer.now c.write_both.new.writer c.write_whole.new.writer c.in_default.ensures.reported
+    (write_fault g.W.RunOutput.went g.W.RunOutput.failed c.in-Err-write_whole.field-0 c.write_both.new.writer c.write_whole.new.writer c.in-Err-write_whole.ensures.err.0 c.in-Err-write_whole.ensures.reported)
+
+pub returns-in-Err-clause-reported : goal.returns-in-Err-clause-reported
+returns-in-Err-clause-reported g c =
+    write_fault g.W.RunOutput.went g.W.RunOutput.failed c.in-Err.field-0 c.args.writer.now c.write_both.new.writer c.in-Err.ensures.err.0 c.in-Err.ensures.reported
+
+pub returns-clause-reported : goal.returns-clause-reported
+returns-clause-reported g c =
+    went_on g.W.RunOutput.went g.W.RunOutput.failed c.args.writer.now c.write_both.new.writer c.write_whole.new.writer c.in_default.ensures.reported c.in_default-write_whole.ensures.reported

@@ -1,5 +1,6 @@
 use Rattle.std.proofs.lemmas.Result.{err_from_is_err_and}
 use Rattle.cap_run.proofs.InputLemmas.{reads_passed}
+use Rattle.cap_run.proofs.OutputLemmas.{none_reported}
 use Rattle.cap_run.proofs.show.show_blob.Goals as goal
 
 pub returns-in_err-blob-clause-reported : goal.returns-in_err-blob-clause-reported
@@ -9,3 +10,8 @@ returns-in_err-blob-clause-reported g c =
 
 pub returns-clause-reported : goal.returns-clause-reported
 returns-clause-reported g c = reads_passed g.R.Source.gave g.R.Source.failed c.write_blob.result _ _ c.write_blob.ensures.read c.in_ok-blob.ensures.reported
+
+pub returns-in_err-blob-clause-write_reported : goal.returns-in_err-blob-clause-write_reported
+returns-in_err-blob-clause-write_reported g c =
+    let p = err_from_is_err_and c.from_residual.result c.from_residual.ensures.1 in
+    rw (p.1, p.2) (none_reported g.W.RunOutput.went g.W.RunOutput.failed c.in_err-blob.field-0.0 c.args.writer.now c.in_err-blob.ensures.early)

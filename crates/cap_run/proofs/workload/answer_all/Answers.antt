@@ -2,6 +2,7 @@ use Rattle.std.proofs.Common.{◌∙◌, Option, refl, string_bytes, subst}
 use Rattle.cap_script.specs.Script.{TakesFirst}
 use Rattle.cap_script.specs.declared.line.Line.{Line}
 use Rattle.cap_run.proofs.NextLemmas.{under_begun, under_end, under_next, under_none, under_refused, under_stuck, under_written}
+use Rattle.cap_run.proofs.OutputLemmas.{fault_later, went_on}
 use Rattle.cap_run.proofs.workload.answer_all.Goals as goal
 
 pub loop-line-init : goal.loop-line-init
@@ -9,6 +10,7 @@ loop-line-init g c = record {
   seats = c.requires.seats;
   len = refl;
   called = λ spelled is. under_none c.args.shared.now.threads spelled c.args.lines.now (string_bytes c.args.pending.now) _ _ is c.requires.none;
+  went = (0, refl);
 }
 
 -- the line and those of its block have their replies, and what was long enough was written
@@ -22,6 +24,7 @@ loop-line-preserved g c = record {
       let next = under_next c.args.shared.now.threads spelled c.loop-line.lines c.next_line.new.self c.answer_next-called.new.lines (string_bytes c.loop-line.pending) (string_bytes c.answer_next-called.new.pending)
       c.in-Ok-Some.line _ _ _ _ _ _ so taken c.in_default.is c.answer_next-called.ensures.called in
       under_written c.args.shared.now.threads spelled c.answer_next-called.new.lines (string_bytes c.answer_next-called.new.pending) (string_bytes c.write_long.new.pending) _ _ _ _ _ next c.in_default-write_long.ensures.ok;
+  went = went_on g.W.RunOutput.went g.W.RunOutput.failed c.args.writer.now c.loop-line.writer c.write_long.new.writer c.loop-line.invariant.went c.in_default-write_long.ensures.reported;
 }
 
 -- all lines were called
@@ -53,3 +56,14 @@ returns-in-Err-write_long-clause-called g c = λ spelled is.
     let next = under_next c.args.shared.now.threads spelled c.loop-line.lines c.next_line.new.self c.answer_next-called.new.lines (string_bytes c.loop-line.pending) (string_bytes c.answer_next-called.new.pending)
     c.in-Ok-Some.line _ _ _ _ _ _ so taken c.in_default.is c.answer_next-called.ensures.called in
     under_begun c.args.shared.now.threads spelled c.answer_next-called.new.lines (string_bytes c.answer_next-called.new.pending) _ _ _ _ _ next c.in-Err-write_long.ensures.err.1
+
+pub returns-in-Err-write_long-clause-write_reported : goal.returns-in-Err-write_long-clause-write_reported
+returns-in-Err-write_long-clause-write_reported g c =
+    fault_later g.W.RunOutput.went g.W.RunOutput.failed c.in-Err-write_long.fault c.args.writer.now c.loop-line.writer c.write_long.new.writer c.loop-line.invariant.went c.in-Err-write_long.ensures.reported
+
+-- the lines behind this one are those that are left
+pub answer_next-called-requires-clause-spelled : goal.answer_next-called-requires-clause-spelled
+answer_next-called-requires-clause-spelled g c κs within =
+    let so = c.loop-line.invariant.called c.requires.spelled.0 c.requires.spelled.1 in
+    let taken = subst (λ (o : Option (Line g.row.A.Denot)). TakesFirst o so.others c.next_line.new.self) c.in-Ok-Some.field-0-is (c.in-Ok-Some.ensures.next so.others so.spelled) in
+    (taken.0, taken.2)

@@ -30,3 +30,8 @@ pub returns-in_err-text-clause-reported : goal.returns-in_err-text-clause-report
 returns-in_err-text-clause-reported g c =
     let p = err_from_is_err_and c.from_residual.result c.from_residual.ensures.1 in
     rw (p.1, p.2) c.in_err-text.ensures.reported
+
+pub serve_lines-requires-clause-spelled : goal.serve_lines-requires-clause-spelled
+serve_lines-requires-clause-spelled g c κs within =
+    let spelled = c.in_ok-lines.ensures.spelled in
+    (spelled.0, subst (λ (l : List ℕ). SpellsScript spelled.0 l) (sym c.in_ok-lines.ensures.whole) spelled.1)

@@ -5,6 +5,7 @@ use Rattle.cap_run.specs.Code.Calls.{AreSeats}
 use Rattle.cap_run.specs.Workload.{WritesWorkload}
 use Rattle.cap_run.specs.declared.fault.RunFault.{RunFault}
 use Rattle.cap_run.proofs.HistoryLemmas.{served_closed, served_unclosed}
+use Rattle.cap_run.proofs.OutputLemmas.{unclosed_reported}
 use Rattle.cap_run.proofs.SeatLemmas.{newcomers_seats}
 use Rattle.cap_run.proofs.workload.serve_lines.Goals as goal
 
@@ -30,7 +31,12 @@ returns-in-Ok-closed-clause-written g c = λ input spelled is spells.
 pub returns-in-Err-clause-written : goal.returns-in-Err-clause-written
 returns-in-Err-clause-written g c = λ input spelled is spells.
     let last = map (λ w. w.seat) c.run_lines-workers.result.0.items in
-    subst (λ (r : Result (Unit {0}) RunFault). WritesWorkload g.row.A.Denot c.args.threads input r (g.W.Write.contents c.args.writer.now) (g.W.Write.contents c.run_lines-workers.new.writer)) (sym c.outcome_unclosed.ensures.same)
+    subst (λ (r : Result (Unit {0}) RunFault). WritesWorkload g.row.A.Denot c.args.threads input r (g.W.RunOutput.contents c.args.writer.now) (g.W.RunOutput.contents c.run_lines-workers.new.writer)) (sym c.outcome_unclosed.ensures.same)
     (served_unclosed c.args.threads g.J.Naming.seats input spelled c.run_lines-workers.result.1 (map (λ w. w.seat) c.in-Ok-employ.workers.items) last c.hand_back.new.seats.items c.in-Err._unclosed.1.items c.in-Err._unclosed.2 _ _
     c.requires.threads.0 (sym c.requires.seats) is (c.in-Ok-employ.ensures.seats ∙ c.in-Ok.ensures) (c.hand_back.ensures.seats ∙ ap (λ (l : List (SeatState g.row.A.Denot)). l ++ last) c.in-Ok-with_capacity.ensures.items)
     (c.run_lines-workers.ensures.runs spelled spells) c.in-Err.ensures.refused)
+
+pub returns-in-Err-clause-write_reported : goal.returns-in-Err-clause-write_reported
+returns-in-Err-clause-write_reported g c =
+    rw c.outcome_unclosed.ensures.same
+    (unclosed_reported g.W.RunOutput.went g.W.RunOutput.failed c.run_lines-workers.result.1 c.args.writer.now c.run_lines-workers.new.writer c.run_lines-workers.ensures.write_reported)

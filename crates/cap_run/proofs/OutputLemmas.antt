@@ -1,0 +1,91 @@
+-- What is known of the writes of a run's output.
+use Rattle.std.proofs.Common.{◌≡◌, ℕ, zero, suc, ◌+◌, add-one, List, [], Option, Result, Ok, Err, IfErr, append-nil, inl, inr, refl, subst, sym, arith}
+use Rattle.std.specs.Io.KnownBytes.{Appends, Keeps}
+use Rattle.std.proofs.KnownBytes.{Appends-kept}
+use Rattle.cap_codec.specs.StreamCalls.{AllWent, Calls, LastFailed}
+use Rattle.cap_run.specs.Run.{AppendsFront, Ended, run_outcome}
+use Rattle.cap_run.specs.Code.Calls.{unclosed_outcome}
+use Rattle.cap_run.specs.RunFault.{RunsNothing}
+use Rattle.cap_run.specs.Writes.{EndsAtWriteFault, EndsWrites, ReportsWrite, WriteLimitReached}
+use Rattle.cap_run.specs.declared.fault.RunFault.{RunFault}
+use Rattle.cap_run.specs.declared.fault.RunFault.TheVariants.{Blob, Call, Close, Memory, NotHex, NotUtf8, Read, Script, Write}
+
+-- all of the bytes was written before the flush failed
+pub flush_failed : {X : Type 0} (result : Result X RunFault) (a b c : Option (List ℕ)) (bytes : List ℕ) → IfErr result (λ fault. fault ≡ Write) → Appends a b bytes → Keeps b c
+    → IfErr result (λ fault. (fault ≡ Write) × AppendsFront a c bytes)
+flush_failed (Ok x) a b c bytes is wrote kept = tt
+flush_failed (Err fault) a b c bytes is wrote kept = (is, (bytes, [], sym (append-nil bytes), Appends-kept a b c bytes wrote kept))
+
+module _ {W : Type 0} (went failed : W → W → Type 0) where
+  -- ---- calls one after the other
+
+  calls_on : (m n : ℕ) (a b c : W) → Calls went m a b → Calls went n b c → (k : ℕ) × (k ≡ m + n) × Calls went k a c
+  calls_on m zero a b c some same = (m, omega arith, subst (λ (w : W). Calls went m a w) same some)
+  calls_on m (suc n) a b c some (before, calls, last) =
+      let all = calls_on m n a b before some calls in
+      (suc all.0, omega (arith, all.1), (before, all.2, last))
+
+  pub went_on : (a b c : W) → AllWent went a b → AllWent went b c → AllWent went a c
+  went_on a b c (m, some) (n, others) =
+      let all = calls_on m n a b c some others in
+      (all.0, all.2)
+
+  failed_later : (a b c : W) → AllWent went a b → LastFailed went failed b c → LastFailed went failed a c
+  failed_later a b c some (before, calls, last) = (before, went_on a b before some calls, last)
+
+  limit_later : (a b c : W) → AllWent went a b → WriteLimitReached went failed b c → WriteLimitReached went failed a c
+  limit_later a b c (m, some) (n, most, others) =
+      let all = calls_on m n a b c some others in
+      (all.0, omega (arith, most, all.1), all.2)
+
+  pub one_write : (n : ℕ) (a b c : W) → Calls went n a b → went b c → Calls went (n + 1) a c
+  one_write n a b c calls last = rw add-one (b, calls, last)
+
+  -- a write that took some bytes
+  pub write_went : (count : ℕ) (a b : W) → (count ≡ 0 → ⊥) → ReportsWrite went failed (Ok count) a b → went a b
+  write_went zero a b some so = absurd (some refl)
+  write_went (suc count) a b some so = so
+
+  -- ---- how the writes ended, after calls without a failure
+
+  pub fault_later : (fault : RunFault) (a b c : W) → AllWent went a b → EndsAtWriteFault went failed fault b c → EndsAtWriteFault went failed fault a c
+  fault_later (Script fault) a b c some so = went_on a b c some so
+  fault_later NotUtf8 a b c some so = went_on a b c some so
+  fault_later NotHex a b c some so = went_on a b c some so
+  fault_later (Blob fault) a b c some so = went_on a b c some so
+  fault_later (Call fault) a b c some so = went_on a b c some so
+  fault_later Read a b c some so = went_on a b c some so
+  fault_later Write a b c some (inl last) = inl (failed_later a b c some last)
+  fault_later Write a b c some (inr most) = inr (limit_later a b c some most)
+  fault_later Memory a b c some so = went_on a b c some so
+  fault_later Close a b c some so = went_on a b c some so
+
+  pub writes_later : {X : Type 0} (result : Result X RunFault) (a b c : W) → AllWent went a b → EndsWrites went failed result b c → EndsWrites went failed result a c
+  writes_later (Ok x) a b c some so = went_on a b c some so
+  writes_later (Err fault) a b c some so = fault_later fault a b c some so
+
+  -- the fault is that of a write
+  pub write_fault : (fault : RunFault) (a b : W) → fault ≡ Write → EndsAtWriteFault went failed fault a b → EndsAtWriteFault went failed Write a b
+  write_fault fault a b is so = subst (λ (f : RunFault). EndsAtWriteFault went failed f a b) is so
+
+  -- the lines ended without a failed write
+  pub ended_reported : (ended : Ended) (a b : W) → AllWent went a b → EndsWrites went failed (run_outcome ended) a b
+  ended_reported (Ok done) a b so = so
+  ended_reported (Err fault) a b so = so
+
+  -- the server was not closed
+  pub unclosed_reported : (outcome : Result (Unit {0}) RunFault) (a b : W) → EndsWrites went failed outcome a b → EndsWrites went failed (unclosed_outcome outcome) a b
+  unclosed_reported (Ok done) a b so = so
+  unclosed_reported (Err fault) a b so = so
+
+  -- nothing was run
+  pub none_reported : (fault : RunFault) (a : W) → RunsNothing fault → EndsAtWriteFault went failed fault a a
+  none_reported (Script fault) a early = (0, refl)
+  none_reported NotUtf8 a early = (0, refl)
+  none_reported NotHex a early = (0, refl)
+  none_reported (Blob fault) a early = (0, refl)
+  none_reported (Call fault) a early = absurd early
+  none_reported Read a early = (0, refl)
+  none_reported Write a early = absurd early
+  none_reported Memory a early = (0, refl)
+  none_reported Close a early = absurd early
