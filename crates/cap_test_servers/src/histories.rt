@@ -1,11 +1,12 @@
 //! Seats of one front word: what each has seen, and who appends.
 
-ghost use Rattle.std.specs.Prelude.{◌≡◌, [], IfSome};
+ghost use Rattle.std.specs.Prelude.{◌≡◌, [], length, IfSome};
 ghost use Rattle.cap_core.specs.Answer.{reply_of};
+ghost use Rattle.cap_history.specs.Seat.{calls};
 ghost use Rattle.cap_core.specs.declared.command.Command.TheVariants.{Read};
 
 use cap_core::{Command, Core, NoHook, Reply, legal_histories_grow};
-use cap_history::{Naming, Opened, Overtaken};
+use cap_history::{Front, List, Naming, Opened, Overtaken, Seat};
 use std::alloc::Global;
 use std::marker::Brand;
 use std::process::Abort;
@@ -24,6 +25,27 @@ fn first_reply(alloc: Global) -> Option<Reply<Global>>
 }
 
 // Two seats append to the empty history; the second has to see the first one's event in place of adding its own.
+fn append_from_both<J: Naming, R: Abort>(
+    rt: &R,
+    front: &Front<J, Global>,
+    list: &List<J, Global>,
+    reply: &Reply<Global>,
+    first: &mut Seat<J, Global>,
+    second: &mut Seat<J, Global>,
+)
+    requires list { list.now ≡ [] }
+    requires reply { reply.now ≡ reply_of [] Read }
+    requires none { length (calls first.old) ≡ 0 }
+    requires neither { length (calls second.old) ≡ 0 }
+{
+    assert!(rt; front.append(first, list, &Command::Read, reply) == Ok(()));
+    assert!(rt; (first.seen(), first.calls()) == (1, 1));
+    let refused = front.append(second, list, &Command::Read, reply);
+    assert!(rt; refused == Err(Overtaken { front: 1 }));
+    assert!(rt; (second.seen(), second.calls()) == (1, 0));
+}
+
+// Two seats append to the empty history; the second has to see the first one's event in place of adding its own.
 fn append_twice<J: Naming, R: Abort>(
     rt: &R,
     opened: Opened<Global>,
@@ -39,14 +61,7 @@ fn append_twice<J: Naming, R: Abort>(
     if first.calls() != 0 || second.calls() != 0 {
         return Err("no calls".into());
     }
-    let added = front.append(&mut first, &list, &Command::Read, &reply);
-    assert!(rt; added == Ok(()));
-    assert!(rt; first.seen() == 1);
-    assert!(rt; first.calls() == 1);
-    let refused = front.append(&mut second, &list, &Command::Read, &reply);
-    assert!(rt; refused == Err(Overtaken { front: 1 }));
-    assert!(rt; second.seen() == 1);
-    assert!(rt; second.calls() == 0);
+    append_from_both(rt, &front, &list, &reply, &mut first, &mut second);
     Ok(())
 }
 

@@ -46,6 +46,29 @@ fn is_answered<J: Naming>(
 }
 
 // Three seats, of which the first makes a table, the others commit, and the second reads its own row.
+fn call_from_three<J: Naming, R: Wait + Abort>(
+    rt: &R,
+    alloc: Global,
+    server: &Server<J, Global>,
+    zero: &mut Seat<J, Global>,
+    first: &mut Seat<J, Global>,
+    second: &mut Seat<J, Global>,
+) {
+    let rows = ("create t kv", "ok version 1\n");
+    assert!(rt; is_answered(rt, alloc, server, zero, rows));
+    let rows = ("commit insert t (1,'x')", "ok version 2\n");
+    assert!(rt; is_answered(rt, alloc, server, first, rows));
+    let rows = ("commit insert t (2,'y')", "ok version 3\n");
+    assert!(rt; is_answered(rt, alloc, server, second, rows));
+    let rows = ("get t key(1)", "row (1,'x')\n");
+    assert!(rt; is_answered(rt, alloc, server, first, rows));
+    assert!(rt; (first.seen(), second.seen()) == (4, 3));
+    server.meet(first, second);
+    assert!(rt; (zero.seen(), second.seen()) == (1, 4));
+    assert!(rt; server.front(zero) == 4);
+    assert!(rt; (zero.calls(), first.calls(), second.calls()) == (1, 2, 1));
+}
+
 fn three_seats<J: Naming + Send + Sync, R: Wait + Abort>(
     rt: &R,
     opened: Opened<Global>,
@@ -58,19 +81,7 @@ fn three_seats<J: Naming + Send + Sync, R: Wait + Abort>(
     let mut second = seats.pop().ok_or("seat 2")?;
     let mut first = seats.pop().ok_or("seat 1")?;
     let mut zero = seats.pop().ok_or("seat 0")?;
-    let rows = ("create t kv", "ok version 1\n");
-    assert!(rt; is_answered(rt, alloc, &server, &mut zero, rows));
-    let rows = ("commit insert t (1,'x')", "ok version 2\n");
-    assert!(rt; is_answered(rt, alloc, &server, &mut first, rows));
-    let rows = ("commit insert t (2,'y')", "ok version 3\n");
-    assert!(rt; is_answered(rt, alloc, &server, &mut second, rows));
-    let rows = ("get t key(1)", "row (1,'x')\n");
-    assert!(rt; is_answered(rt, alloc, &server, &mut first, rows));
-    assert!(rt; (first.seen(), second.seen()) == (4, 3));
-    server.meet(&first, &mut second);
-    assert!(rt; (zero.seen(), second.seen()) == (1, 4));
-    assert!(rt; server.front(&mut zero) == 4);
-    assert!(rt; (zero.calls(), first.calls(), second.calls()) == (1, 2, 1));
+    call_from_three(rt, alloc, &server, &mut zero, &mut first, &mut second);
     seats.push(first)?;
     seats.push(zero)?;
     seats.push(second)?;
