@@ -1,9 +1,14 @@
 PROGRAM = crates/changecap/out/changecap
+TIMES = crates/cap_bench_times/out/cap_bench_times
+
+# How many random cases `make conformance` makes of each kind, and how often `make bench` runs each load.
+CASES = 500
+ROUNDS = 3
 
 # The code that the program may be made of: that of every crate but those that test or measure it.
 SOURCES = $(filter-out crates/cap_test_% crates/cap_bench_%, $(wildcard crates/*/src))
 
-.PHONY: run build test format clean
+.PHONY: run build test format clean conformance bench
 
 # The replies to the first example, by the optimised program where `make build` or `make test` left one. Else the sources
 # run before any proof, with checks in place of the proofs, and what `rt try` says of that is shown where it fails.
@@ -40,3 +45,11 @@ format:
 
 clean:
 	rm -rf crates/*/out
+
+# The program beside SQLite's session extension, which the gate does without.
+conformance:
+	@conformance/run $(PROGRAM) --cases $(CASES)
+
+# How long the libraries and the program take beside SQLite: a table of ratios.
+bench:
+	@bench/run $(PROGRAM) $(TIMES) $(ROUNDS)

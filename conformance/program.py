@@ -1,0 +1,49 @@
+"""Runs the program `changecap` on workloads and on blobs."""
+import os
+import subprocess
+
+SECONDS = 120
+
+
+class Fault(Exception):
+    """The program ended otherwise than by printing the replies."""
+
+
+class Program:
+    """The program at a path."""
+
+    def __init__(self, path):
+        self.path = path
+
+    def call(self, words, given):
+        """Its status, and what it writes to standard output and to standard error."""
+        try:
+            ran = subprocess.run([self.path, *words], input=given, capture_output=True, timeout=SECONDS, check=False)
+        except subprocess.TimeoutExpired:
+            raise Fault(f"{' '.join(words)}: no end after {SECONDS} seconds") from None
+        return ran.returncode, ran.stdout.decode(), ran.stderr.decode(errors="replace").strip()
+
+    def lines(self, words, given):
+        """The lines that it prints where it succeeds."""
+        status, out, error = self.call(words, given)
+        if status != 0:
+            raise Fault(f"{' '.join(words)}: status {status} {error}")
+        return out.splitlines()
+
+    def run(self, text, *words):
+        """The lines that are printed for a workload."""
+        return self.lines(["run", *words], text.encode())
+
+    def show(self, blob):
+        """The lines that are printed for a blob."""
+        return self.lines(["show"], blob.hex().encode())
+
+    def has(self, word):
+        """Whether it has a command of this name."""
+        return os.path.isfile(self.path) and self.call([word, "--help"], b"")[0] == 0
+
+    def on_blobs(self, word, *blobs):
+        """The blob that a command makes of blobs, each given in hex on a line of its own."""
+        given = "".join(f"{blob.hex()}\n" for blob in blobs)
+        printed = "".join(self.lines([word], given.encode())).strip()
+        return bytes.fromhex("" if printed == "-" else printed)

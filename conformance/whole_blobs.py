@@ -1,0 +1,96 @@
+"""What the program makes of one blob or two, beside SQLite's calls for that: show, invert, patchset and concat.
+
+A program that lacks a command is not asked for it: `Commands.missing` names those that it lacks.
+"""
+import blob
+import sqlite
+import workload
+from program import Fault
+
+WORDS = ("show", "invert", "patchset", "concat")
+
+
+def shown(content):
+    """The lines that `changecap show` prints, made of what SQLite's iterator answers."""
+    if not content:
+        return ["empty"]
+    is_patchset = content[0] == blob.PATCHSET
+    lines, header = ["patchset" if is_patchset else "changeset"], None
+    for change in sqlite.iterate(content):
+        group = f"group {change.table} {''.join('k' if flag else 'v' for flag in change.key)}"
+        if group != header:
+            lines.append(group)
+            header = group
+        lines.append(shown_change(change, is_patchset))
+    return lines
+
+
+def shown_change(change, is_patchset):
+    mark = "indirect" if change.indirect else "direct"
+    old, new = (workload.fields_text(fields, change.width) for fields in (change.old, change.new))
+    if change.operation == "insert":
+        return f"insert {mark} {new}"
+    if change.operation == "update" and is_patchset:
+        return f"update {mark} {workload.fields_text(change.old | change.new, change.width)}"
+    if change.operation == "update":
+        return f"update {mark} old {old} new {new}"
+    key = [change.old.get(column) for column, flag in enumerate(change.key) if flag]
+    return f"delete {mark} {workload.row_text(key) if is_patchset else old}"
+
+
+class Commands:
+    """The program's commands on blobs, and how often each was compared with SQLite."""
+
+    def __init__(self, program):
+        self.program = program
+        self.missing = [word for word in WORDS if not program.has(word)]
+        self.compared = dict.fromkeys(WORDS, 0)
+
+    def problems(self, blobs):
+        """A text for each difference in what is made of these blobs."""
+        for content in blobs:
+            if "show" not in self.missing:
+                yield from self.differences("show", content.hex(), shown(content), self.lines, content)
+        changesets = [content for content in blobs if content[:1] != b"P"]
+        for content in changesets:
+            if "invert" not in self.missing:
+                yield from self.differences("invert", content.hex(), sqlite.invert(content), self.made, content)
+            if "patchset" not in self.missing:
+                wanted = blob.write(blob.patches(blob.read(content)))
+                yield from self.differences("patchset", content.hex(), wanted, self.made, content)
+        for first, second in zip(changesets, changesets[1:]):
+            if "concat" not in self.missing:
+                yield from self.differences("concat", f"{first.hex()} {second.hex()}", joined(first, second),
+                                            self.made_in_order, first, second)
+
+    def differences(self, word, label, wanted, call, *blobs):
+        self.compared[word] += 1
+        try:
+            found = call(word, *blobs)
+        except Fault as fault:
+            found = str(fault)
+        if found != wanted:
+            yield f"{word} {label}\n  changecap: {text_of(found)}\n  SQLite:    {text_of(wanted)}"
+
+    def lines(self, _word, content):
+        return self.program.show(content)
+
+    def made(self, word, *blobs):
+        return self.program.on_blobs(word, *blobs)
+
+    def made_in_order(self, word, *blobs):
+        return blob.in_key_order(self.made(word, *blobs))
+
+
+def joined(first, second):
+    """Both as one by SQLite, in the order of keys; or the text of what it refuses, which is an error for both."""
+    try:
+        return blob.in_key_order(sqlite.concat(first, second))
+    except sqlite.SqliteError as error:
+        return str(error)
+
+
+def text_of(value):
+    if isinstance(value, bytes):
+        return value.hex()
+    return value if isinstance(value, str) else "\n             ".join(value)
