@@ -20,7 +20,7 @@ def damaged(content, random):
         at = random.randrange(len(content)) if content else 0
         how = random.choice(("change", "change", "flip", "flip", "leave out", "add", "cut"))
         if how == "change" and content:
-            content[at] = random.choice((0, 1, 2, 3, 4, 5, 9, 0x12, 0x17, 0x50, 0x54, 0x80, 0xff, random.randrange(256)))
+            content[at] = random.choice((0, 1, 2, 3, 4, 5, 9, 0x12, 0x17, 0x50, 0x54, 0x80, random.randrange(256)))
         elif how == "flip" and content:
             content[at] ^= 1 << random.randrange(8)
         elif how == "leave out":
@@ -79,7 +79,11 @@ class Damage:
                 yield f"show {content.hex()}: {fault}"
             return
         self.read += 1
-        groups = blob.read(content)
+        try:
+            groups = blob.read(content)
+        except (ValueError, IndexError) as error:
+            yield f"show {content.hex()}\n  changecap: {found}\n  read apart: {error}"
+            return
         if not is_read_alike(groups):
             return
         wanted = shown(content)

@@ -244,18 +244,33 @@ def exchange_case(number):
     for _ in range(maker.random.randint(0, 8)):
         maker.commit()
     first = list(maker.lines)
-    maker.add("session")
-    maker.add("attachall 1")
+    for line in ("session", "attachall 1", "session", "attachall 2"):
+        maker.add(line)
     for _ in range(maker.random.randint(1, 20)):
         maker.commit()
+        if maker.chance(0.1):
+            maker.add("restart 1 places")
+    maker.add("restart 1 places")
+    restarts = sum(line.startswith("restart") for line in maker.lines)
+    maker.add("changeset 2 places")
+    maker.add("patchset 2 places")
     maker.finish()
-    source = maker.end()
+    return Case(f"random exchange {number}", maker.end(), target_of(maker, first, restarts))
+
+
+def target_of(maker, first, restarts):
+    """The same tables, sometimes with one missing or wider and with commits of their own, to which the blobs are
+    applied: those of the restarts one after the other, or the one changeset or patchset of all that was done."""
     maker.begin()
     for line in first:
-        if not (line.startswith("create ") and maker.chance(0.03)):
+        if line.startswith("create ") and maker.chance(0.06):
+            line = maker.pick(("# no table", f"{line}v"))
+        if line != "# no table":
             maker.add(line)
-    for _ in range(maker.pick((0, 0, 1, 3))):
-        maker.commit()
-    maker.lines += ["session", "attachall 1", f"apply x'{{{maker.pick((1, 1, 2))}}}' {maker.policy()}"]
+    for _ in range(maker.pick((0, 3, 6, 12))):
+        if maker.server.tables:
+            maker.commit()
+    blobs = maker.pick((range(1, restarts + 1), [restarts + 1], [restarts + 2]))
+    maker.lines += ["session", "attachall 1"] + [f"apply x'{{{number}}}' {maker.policy()}" for number in blobs]
     maker.lines += ["changeset 1 places"] + [f"scan {name}" for name in sorted(maker.server.tables)]
-    return Case(f"random exchange {number}", source, maker.end())
+    return maker.end()

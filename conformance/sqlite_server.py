@@ -139,6 +139,8 @@ class SqliteServer:
             answered = getattr(self, f"do_{command.word}")(*command.arguments)
         except Refusal as refusal:
             answered = refusal.text
+        except sqlite.SqliteError as error:
+            answered = f"SQLite fails: {error}"
         return answered if isinstance(answered, list) else [answered]
 
     def written(self, more=""):

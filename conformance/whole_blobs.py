@@ -8,6 +8,7 @@ import workload
 from program import Fault
 
 WORDS = ("show", "invert", "patchset", "concat")
+REFUSED = "refused"
 
 
 def shown(content):
@@ -16,12 +17,15 @@ def shown(content):
         return ["empty"]
     is_patchset = content[0] == blob.PATCHSET
     lines, header = ["patchset" if is_patchset else "changeset"], None
-    for change in sqlite.iterate(content):
-        group = f"group {change.table} {''.join('k' if flag else 'v' for flag in change.key)}"
-        if group != header:
-            lines.append(group)
-            header = group
-        lines.append(shown_change(change, is_patchset))
+    try:
+        for change in sqlite.iterate(content):
+            group = f"group {change.table} {''.join('k' if flag else 'v' for flag in change.key)}"
+            if group != header:
+                lines.append(group)
+                header = group
+            lines.append(shown_change(change, is_patchset))
+    except sqlite.SqliteError as error:
+        lines.append(f"SQLite fails: {error}")
     return lines
 
 
@@ -68,7 +72,7 @@ class Commands:
         try:
             found = call(word, *blobs)
         except Fault as fault:
-            found = str(fault)
+            found = REFUSED if "status 1 " in str(fault) else str(fault)
         if found != wanted:
             yield f"{word} {label}\n  changecap: {text_of(found)}\n  SQLite:    {text_of(wanted)}"
 
@@ -83,11 +87,11 @@ class Commands:
 
 
 def joined(first, second):
-    """Both as one by SQLite, in the order of keys; or the text of what it refuses, which is an error for both."""
+    """Both as one by SQLite, in the order of keys, where it does not refuse them."""
     try:
         return blob.in_key_order(sqlite.concat(first, second))
-    except sqlite.SqliteError as error:
-        return str(error)
+    except sqlite.SqliteError:
+        return REFUSED
 
 
 def text_of(value):
