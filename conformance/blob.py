@@ -34,9 +34,10 @@ class Group:
         record = change.new if change.operation == INSERT else change.old
         return [order(value) for value, flag in zip(record, self.flags) if flag]
 
-    def shape(self):
-        """The columns as in a workload: one letter for each, k for a key column."""
-        return "".join("k" if flag else "v" for flag in self.flags)
+    def has_positions(self):
+        """Whether the flag of each key column is its position within the key."""
+        flags = [flag for flag in self.flags if flag]
+        return flags == list(range(1, len(flags) + 1))
 
 
 def order(value):

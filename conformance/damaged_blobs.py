@@ -40,12 +40,7 @@ def is_read_alike(groups):
 
 def is_applied_alike(groups):
     """Whether key flags are positions, and each update has a modified field."""
-    return all(has_positions(group) and all(is_whole(change) for change in group.changes) for group in groups)
-
-
-def has_positions(group):
-    flags = [flag for flag in group.flags if flag]
-    return flags == list(range(1, len(flags) + 1))
+    return all(group.has_positions() and all(is_whole(change) for change in group.changes) for group in groups)
 
 
 def is_whole(change):

@@ -35,9 +35,9 @@ class Maker:
     def add(self, line):
         reply = self.server.answer(workload.command_of(line))
         self.lines.append(line)
-        found = CAPTURE.match(reply[0])
-        if found and found[2] != "-":
-            self.blobs.append(bytes.fromhex(found[2]))
+        content = bytes.fromhex(found[2]) if (found := CAPTURE.match(reply[0])) and found[2] != "-" else b""
+        if content and all(group.has_positions() for group in blob.read(content)):
+            self.blobs.append(content)
 
     def chance(self, share):
         return self.random.random() < share
@@ -194,6 +194,11 @@ class Maker:
     def restart(self):
         self.add(f"restart {self.session()}")
 
+    def capture_and_restart(self):
+        """The changeset with positions, which both sides apply. That of the restart has 01 throughout."""
+        self.add("changeset 1 places")
+        self.add("restart 1")
+
     def ask(self):
         self.add(f"isempty {self.session()}")
 
@@ -249,18 +254,18 @@ def exchange_case(number):
     for _ in range(maker.random.randint(1, 20)):
         maker.commit()
         if maker.chance(0.1):
-            maker.add("restart 1 places")
-    maker.add("restart 1 places")
-    restarts = sum(line.startswith("restart") for line in maker.lines)
+            maker.capture_and_restart()
+    maker.capture_and_restart()
+    parts = sum(line.startswith("restart") for line in maker.lines)
     maker.add("changeset 2 places")
     maker.add("patchset 2 places")
     maker.finish()
-    return Case(f"random exchange {number}", maker.end(), target_of(maker, first, restarts))
+    return Case(f"random exchange {number}", maker.end(), target_of(maker, first, parts))
 
 
-def target_of(maker, first, restarts):
+def target_of(maker, first, parts):
     """The same tables, sometimes with one missing or wider and with commits of their own, to which the blobs are
-    applied: those of the restarts one after the other, or the one changeset or patchset of all that was done."""
+    applied: those before each restart one after the other, or the one changeset or patchset of all that was done."""
     maker.begin()
     for line in first:
         if line.startswith("create ") and maker.chance(0.06):
@@ -270,7 +275,7 @@ def target_of(maker, first, restarts):
     for _ in range(maker.pick((0, 3, 6, 12))):
         if maker.server.tables:
             maker.commit()
-    blobs = maker.pick((range(1, restarts + 1), [restarts + 1], [restarts + 2]))
+    blobs = maker.pick((range(1, 2 * parts, 2), [2 * parts + 1], [2 * parts + 2]))
     maker.lines += ["session", "attachall 1"] + [f"apply x'{{{number}}}' {maker.policy()}" for number in blobs]
     maker.lines += ["changeset 1 places"] + [f"scan {name}" for name in sorted(maker.server.tables)]
     return maker.end()

@@ -170,7 +170,7 @@ class Connection:
         """Applies a changeset or a patchset by `sqlite3changeset_apply`. The policy is a function from the kind of a
         conflict to an answer. Answers what SQLite tells of it, and raises what it refuses."""
         told = Applied(policy)
-        update = XUpdate(lambda *_: told.note_row())
+        update = XUpdate(lambda _, operation, database, table, row: told.note_row(table.decode()))
         conflict = XConflict(lambda _, kind, at: told.note_conflict(CONFLICTS[kind]))
         before = len(library().log)
         self.calls.sqlite3_update_hook(self.at, update, None)
@@ -193,16 +193,18 @@ class Connection:
 
 
 class Applied:
-    """What is seen of an application: how many changes were made and omitted, conflicts with their answers, warnings,
-    and the result code. Each conflict has with it how many changes were made and omitted before."""
+    """What is seen of an application: how many changes were made and omitted, the table of each row that was changed,
+    conflicts with their answers, warnings, and the result code. Each conflict has with it how many changes were made
+    and omitted before."""
 
     def __init__(self, policy):
-        self.policy, self.conflicts, self.warnings = policy, [], []
+        self.policy, self.tables, self.conflicts, self.warnings = policy, [], [], []
         self.made = self.omitted = 0
         self.code, self.error = OK, None
 
-    def note_row(self):
+    def note_row(self, table):
         self.made += 1
+        self.tables.append(table)
 
     def note_conflict(self, kind):
         """SQLite calls this, so that no exception may leave it. An insert that replaces a row changes two rows."""

@@ -385,10 +385,9 @@ class SqliteServer:
     def do_patchset(self, number, has_places):
         return self.capture("patchset", self.state(number).session.patchset(), has_places)
 
-    def do_restart(self, number, has_places):
-        state = self.state(number)
-        answered = self.capture("changeset", state.session.changeset(), has_places)
-        state.restart()
+    def do_restart(self, number):
+        answered = self.do_changeset(number, False)
+        self.state(number).restart()
         return answered
 
     # Applying
@@ -398,7 +397,7 @@ class SqliteServer:
         self.rehearse(lambda: self.apply(content, answers))
         told, skipped = self.apply(content, answers)
         for state in self.sessions.values():
-            state.note([group.table for group in blob.read(content) if group.changes])
+            state.note(told.tables)
         counts = f", applied {told.made}, omitted {told.omitted}, skipped {skipped}"
         return self.written(counts)
 

@@ -181,7 +181,7 @@ FORMS = {
     "diff": lambda tokens: (tokens.number(), tokens.word(), tokens.word()),
     "changeset": capture_of,
     "patchset": capture_of,
-    "restart": capture_of,
+    "restart": lambda tokens: (tokens.number(),),
 }
 
 
