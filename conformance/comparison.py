@@ -25,7 +25,8 @@ class Case:
 
 
 def split(lines, commands):
-    """The lines of each command's reply: one, or for all rows of a table one more for each row."""
+    """The lines of each command's reply: one, or for all rows of a table one more for each row. A text that has a line
+    feed moves the replies after it, on both sides alike."""
     replies, at = [], 0
     for _ in commands:
         rows = int(lines[at][5:]) if at < len(lines) and lines[at].startswith("rows ") else 0
@@ -78,7 +79,8 @@ class Comparison:
             ours = [[str(fault)]]
         server = SqliteServer()
         try:
-            theirs = server.run(commands)
+            theirs = split([part for reply in server.run(commands) for line in reply for part in line.split("\n")],
+                           commands)
         finally:
             server.close()
         self.compare(commands, ours, theirs, label)

@@ -1,8 +1,8 @@
 """Blobs that are damaged in a byte or two. What the program still reads, SQLite reads alike, and applies alike.
 
 What SQLite reads and the program refuses is in DIFFERENCES.md. Blobs that meet one of the other differences are left
-out: groups without changes or of one table side by side, updates without a modified field, and key flags that are not
-positions.
+out: groups without changes or of one table side by side, updates without a modified field, key flags that are not
+positions, and names that differ from a table's in case only.
 """
 import blob
 from comparison import Case, Comparison
@@ -38,9 +38,12 @@ def is_read_alike(groups):
     return all(group.changes for group in groups) and all(one != other for one, other in zip(names, names[1:]))
 
 
-def is_applied_alike(groups):
-    """Whether key flags are positions, and each update has a modified field."""
-    return all(group.has_positions() and all(is_whole(change) for change in group.changes) for group in groups)
+def is_applied_alike(groups, tables):
+    """Whether key flags are positions, names are those of tables or others in any case, and each update has a modified
+    field."""
+    lower = {name.lower() for name in tables}
+    return all(group.has_positions() and (group.table in tables or group.table.lower() not in lower)
+               and all(map(is_whole, group.changes)) for group in groups)
 
 
 def is_whole(change):
@@ -84,7 +87,7 @@ class Damage:
         wanted = shown(content)
         if found != wanted:
             yield f"show {content.hex()}\n  changecap: {found}\n  SQLite:    {wanted}"
-        if is_applied_alike(groups):
+        if is_applied_alike(groups, names):
             self.applied += 1
             scans = "".join(f"scan {name}\n" for name in names)
             case = Case("damaged", f"{before}session\nattachall 1\napply x'{content.hex()}' replace omit replace\n"

@@ -5,6 +5,11 @@ import subprocess
 SECONDS = 120
 
 
+def lines_of(text):
+    """The lines of a text that ends with a line feed. Other signs at which Python ends lines may be in a text."""
+    return text.split("\n")[:-1]
+
+
 class Fault(Exception):
     """The program ended otherwise than by printing the replies."""
 
@@ -28,7 +33,7 @@ class Program:
         status, out, error = self.call(words, given)
         if status != 0:
             raise Fault(f"{' '.join(words)}: status {status} {error}")
-        return out.splitlines()
+        return lines_of(out)
 
     def run(self, text, *words):
         """The lines that are printed for a workload."""

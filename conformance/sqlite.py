@@ -122,11 +122,19 @@ class Connection:
             raise SqliteError(code, self.calls.sqlite3_errmsg(self.at).decode(errors="replace"))
         return code
 
+    def prepare(self, sql):
+        """The statement, or what SQLite refuses of it."""
+        statement, text = c_void_p(), sql.encode()
+        self.check(self.calls.sqlite3_prepare_v2(self.at, text, len(text), byref(statement), None))
+        return statement
+
+    def try_statement(self, sql):
+        """Raises what SQLite refuses of a statement before it runs: a table or a column that is not there."""
+        self.calls.sqlite3_finalize(self.prepare(sql))
+
     def execute(self, sql, values=()):
         """Runs one statement, and gives the rows that it answers."""
-        statement = c_void_p()
-        text = sql.encode()
-        self.check(self.calls.sqlite3_prepare_v2(self.at, text, len(text), byref(statement), None))
+        statement = self.prepare(sql)
         try:
             for place, value in enumerate(values, 1):
                 self.bind(statement, place, value)

@@ -228,7 +228,7 @@ class SqliteServer:
         columns = [column for column, _ in op.assigned]
         marks = ", ".join(f"{quoted(f'c{column}')} = ?" for column in columns)
         sql, values = f"UPDATE {quoted(op.table)} SET {marks} WHERE {where}", [it for _, it in op.assigned] + values
-        self.connection.execute(f"EXPLAIN {sql}", values)
+        self.connection.try_statement(sql)
         if len(set(columns)) < len(columns):
             raise Refusal("E4 BadColumn")
         found = self.connection.execute(f"SELECT rowid FROM {quoted(op.table)} WHERE {where}", values[len(columns):])

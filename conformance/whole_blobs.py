@@ -26,7 +26,7 @@ def shown(content):
             lines.append(shown_change(change, is_patchset))
     except sqlite.SqliteError as error:
         lines.append(f"SQLite fails: {error}")
-    return lines
+    return "\n".join(lines).split("\n")
 
 
 def shown_change(change, is_patchset):
@@ -52,11 +52,11 @@ class Commands:
 
     def problems(self, blobs):
         """A text for each difference in what is made of these blobs."""
-        for content in blobs:
+        for content in dict.fromkeys(blobs):
             if "show" not in self.missing:
-                yield from self.differences("show", content.hex(), shown(content), self.lines, content)
+                yield from self.differences("show", content.hex(), shown(content), self.shown, content)
         changesets = [content for content in blobs if content[:1] != b"P"]
-        for content in changesets:
+        for content in dict.fromkeys(changesets):
             if "invert" not in self.missing:
                 yield from self.differences("invert", content.hex(), sqlite.invert(content), self.made, content)
             if "patchset" not in self.missing:
@@ -76,7 +76,7 @@ class Commands:
         if found != wanted:
             yield f"{word} {label}\n  changecap: {text_of(found)}\n  SQLite:    {text_of(wanted)}"
 
-    def lines(self, _word, content):
+    def shown(self, _word, content):
         return self.program.show(content)
 
     def made(self, word, *blobs):
