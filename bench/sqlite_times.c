@@ -1,5 +1,6 @@
 /* The loads of cap_bench_times on SQLite with its session extension: in memory, on one connection, with prepared
-** statements and without any text. A load is timed by the processor time of the thread, as there.
+** statements and, but for the load `texts`, without any text. A load is timed by the processor time of the thread, as
+** there.
 **
 ** Use: sqlite_times LOAD ..
 ** Each load prints lines 'NAME NANOSECONDS', those of one commit, change, row or transaction. */
@@ -266,6 +267,25 @@ static void transactions(const char *name, int is_read) {
     close_all(db, 0, 0);
 }
 
+/* Commits of one insert, or of one update of 1,000 rows in turn, under a session, each as the text of a statement. */
+static void texts(const char *name, int is_update) {
+    sqlite3 *db = table();
+    char sql[100];
+    if (is_update) insert_together(db, UPDATED, 0);
+    sqlite3_session *made = session(db);
+    double start = now();
+    for (long number = 0; number < COMMITS; number++) {
+        if (is_update) {
+            snprintf(sql, sizeof sql, "UPDATE t SET c1 = %ld WHERE c0 = %ld", number, number % UPDATED);
+        } else {
+            snprintf(sql, sizeof sql, "INSERT INTO t VALUES(%ld, 'x')", number);
+        }
+        run(db, sql);
+    }
+    report(name, start, COMMITS);
+    close_all(db, &made, 1);
+}
+
 static void load(const char *name) {
     if (!strcmp(name, "version")) {
         printf("%s\n", sqlite3_libversion());
@@ -274,6 +294,9 @@ static void load(const char *name) {
         inserts("inserts_scrambled", "capture_scrambled", 1, 1);
         updates("updates_of_1000", UPDATED, 1);
         updates("updates_of_1", 1, 1);
+    } else if (!strcmp(name, "texts")) {
+        texts("inserts_as_text", 0);
+        texts("updates_as_text", 1);
     } else if (!strcmp(name, "sessions")) {
         inserts("inserts_64", "capture_64", SESSIONS, 0);
         updates("updates_64", UPDATED, SESSIONS);
