@@ -17,8 +17,9 @@ import sqlite
 from filters import filter_of
 from workload import row_text, value_text
 
-TABLE_EXISTS, NO_TABLE, WRONG_WIDTH, NO_COLUMN = "already exists", "no such table", "has ", "no such column"
-UNIQUE, PRIMARY_KEY, ROW_ID = 2067, 1555, 2579
+# What SQLite's messages say, and its result codes.
+TABLE_EXISTS, NO_TABLE, NO_COLUMN, OTHER_WIDTH = "already exists", "no such table", "no such column", "were supplied"
+CONSTRAINT_UNIQUE, CONSTRAINT_PRIMARYKEY = 2067, 1555
 SCHEMA, MISUSE, ABORT = 17, 21, 4
 CASCADES = "changecap_cascade"
 FLAGS = {"on": True, "off": False, "ask": None}
@@ -360,10 +361,7 @@ class SqliteServer:
 
     def do_diff(self, number, database, name):
         """A session that is thrown away is asked first, since the table is attached only where there is a diff."""
-        state = self.state(number)
-        if name not in self.tables or not self.tables[name].key:
-            return "ok"
-        trial = self.connection.session()
+        state, trial = self.state(number), self.connection.session()
         try:
             trial.attach(name)
             trial.diff(f"saved_{database}", name)
@@ -371,8 +369,9 @@ class SqliteServer:
             raise Refusal("E14 Incompatible" if error.code == SCHEMA else "E19 NoDatabase") from None
         finally:
             trial.delete()
-        state.attach(name)
-        state.session.diff(f"saved_{database}", name)
+        if name in self.tables and self.tables[name].key:
+            state.attach(name)
+            state.session.diff(f"saved_{database}", name)
         return "ok"
 
     def capture(self, word, content, has_places):
@@ -436,12 +435,12 @@ def changes_passed_over(content, skipped, considered):
 
 def refusal_name(error):
     """The program's name for an error of a statement."""
-    if error.code in (UNIQUE, PRIMARY_KEY, ROW_ID):
+    if error.code in (CONSTRAINT_UNIQUE, CONSTRAINT_PRIMARYKEY):
         return "E5 Duplicate"
     if NO_TABLE in error.message:
         return "E8 NoTable"
     if NO_COLUMN in error.message:
         return "E4 BadColumn"
-    if error.message.startswith("table ") and "values were supplied" in error.message:
+    if OTHER_WIDTH in error.message:
         return "E3 WrongWidth"
     raise error
