@@ -90,6 +90,15 @@ def read(text):
     return [command_of(line) for line in lines]
 
 
+def is_known(text):
+    """Whether each command has a form here."""
+    try:
+        read(text)
+    except (KeyError, ValueError):
+        return False
+    return True
+
+
 def command_of(line):
     found = WORKER.match(line)
     tokens = Tokens(line, found.end() if found else 0)
