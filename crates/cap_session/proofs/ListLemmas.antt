@@ -1,14 +1,7 @@
 -- Lists that loops go over.
-use Rattle.std.proofs.Common.{◌≡◌, ◌<◌, ◌≤◌, ◌+◌, ℕ, zero, suc, Bool, cond, Some, List, [], ◌∷◌, ◌++◌, ◌||◌, map, length, set, get_or, take, drop, drop-cons, refl, sym, ap, ap₂, ◌∙◌, arith, add-one}
+use Rattle.std.proofs.Common.{◌≡◌, ◌<◌, ◌≤◌, ◌+◌, ℕ, zero, suc, List, [], ◌∷◌, ◌++◌, map, length, set, get_or, take, drop, drop-cons, refl, sym, ap, ap₂, ◌∙◌, arith, add-one}
 use Rattle.std.proofs.lemmas.List.{append-nil, drop_all, map-append, get_or-map, length-map, take_all}
-use Rattle.std.proofs.Math.Seq.{take-append_seam, take-length, take-suc, take-suc-set}
-use Rattle.std.specs.List.{list_any}
-use Rattle.cap_value.specs.Bytes.{bytes_eq}
-use Rattle.cap_session.specs.declared.attached_table.AttachedTable.{AttachedTable}
-use Rattle.cap_session.specs.Code.Attached.{tables_of, staged_tables}
-use Rattle.cap_session.specs.Session.{AttachedTables, records_of}
-use Rattle.cap_session.specs.Records.{Records}
-use Rattle.std.specs.Option.{unwrap_or}
+use Rattle.std.proofs.Math.Seq.{take-append_seam, take-suc, take-suc-set}
 
 -- the item at a place, and what follows it
 pub drop-item : {X : Type 0} (xs : List X) (i : ℕ) (x : X) → i < length xs → x ≡ get_or xs i x → drop i xs ≡ x ∷ drop (i + 1) xs
@@ -59,45 +52,6 @@ module _ {X Y : Type 0} (f g : X → Y) where
   pub loop-over-done : (xs : List X) (end : List Y) (i : ℕ) → length xs ≤ i → map f (take i xs) ++ map g (drop i xs) ≡ end → map f xs ≡ end
   loop-over-done xs end i all sofar = sym (ap₂ (λ a b. map f a ++ map g b) (take_all i xs all) (drop_all i xs all) ∙ append-nil (map f xs)) ∙ sofar
 
-module _ {A : Type 0} where
-  -- a table has the name
-  pub tables-any : (name : List ℕ) (tables : List (AttachedTable A)) → list_any (λ table. bytes_eq name table.name) tables ≡ list_any (λ attached. bytes_eq name attached.0) (tables_of tables)
-  tables-any name [] = refl
-  tables-any name (table ∷ tables) = ap (λ b. bytes_eq name table.name || b) (tables-any name tables)
-
-  -- the first tables, where all were put back and look the same
-  pub front-same : (old mid new : List (AttachedTable A)) (len : ℕ) → mid ≡ old → len ≡ length old → tables_of new ≡ tables_of mid → tables_of (take (length old) (take len (new ++ drop (length new) old))) ≡ tables_of old
-  front-same old mid new len is whole same =
-      let all : tables_of new ≡ tables_of old = same ∙ ap tables_of is in
-      let long : length new ≡ length old = same-length (λ table. (table.name, table.records)) new old all in
-      ap (λ ts. tables_of (take (length old) ts)) (put_back old new len whole long) ∙ ap (λ n. tables_of (take n new)) (sym long) ∙ ap tables_of (take-length new) ∙ all
-
-  -- all tables were put back
-  pub all-back : (old mid new : List (AttachedTable A)) (len : ℕ) → mid ≡ old → len ≡ length old → tables_of new ≡ tables_of mid → take len (new ++ drop (length new) old) ≡ new
-  all-back old mid new len is whole same = put_back old new len whole (same-length (λ table. (table.name, table.records)) new old (same ∙ ap tables_of is))
-
-  -- Tables and those behind them, each with staged records: the first are unchanged, and all are staged as changed.
-  pub both-changed : (change : List ℕ × Records A → List ℕ × Records A) (old mid new others mid_others new_others after : List (AttachedTable A)) (len len_others : ℕ) (all : AttachedTables A)
-      → mid ≡ old → len ≡ length old → tables_of new ≡ tables_of mid → staged_tables new ≡ map change (tables_of mid)
-      → mid_others ≡ others → len_others ≡ length others → tables_of new_others ≡ tables_of mid_others → staged_tables new_others ≡ map change (tables_of mid_others)
-      → after ≡ take len (new ++ drop (length new) old) ++ take len_others (new_others ++ drop (length new_others) others) → tables_of old ++ tables_of others ≡ all
-      → (tables_of (take (length old) after) ≡ tables_of old) × (staged_tables after ≡ map change all)
-  both-changed change old mid new others mid_others new_others after len len_others all is whole same waits is_others whole_others same_others waits_others put whole_list =
-      let kept : tables_of new ≡ tables_of old = same ∙ ap tables_of is in
-      let long : length new ≡ length old = same-length (λ table. (table.name, table.records)) new old kept in
-      let parts : after ≡ new ++ new_others = put ∙ ap₂ (λ a b. a ++ b) (all-back old mid new len is whole same) (all-back others mid_others new_others len_others is_others whole_others same_others) in (
-        ap (λ ts. tables_of (take (length old) ts)) parts ∙ ap (λ n. tables_of (take n (new ++ new_others))) (sym long) ∙ ap tables_of (take-append_seam new new_others) ∙ kept,
-        ap staged_tables parts ∙ map-append (λ table. (table.name, unwrap_or table.staged table.records)) new new_others
-            ∙ ap₂ (λ a b. a ++ b) (waits ∙ ap (λ ts. map change (tables_of ts)) is) (waits_others ∙ ap (λ ts. map change (tables_of ts)) is_others)
-            ∙ sym (map-append change (tables_of old) (tables_of others)) ∙ ap (map change) whole_list,
-      )
-
-  -- the records of a name in the tables that are left, by whether the next of them has it
-  pub records-next : (name : List ℕ) (tables : List (AttachedTable A)) (i : ℕ) (next : AttachedTable A) (same : Bool) → i < length tables → next ≡ get_or tables i next → bytes_eq name next.name ≡ same
-      → records_of (tables_of (drop i tables)) name ≡ records_of (tables_of tables) name → cond same (Some next.records) (records_of (tables_of (drop (i + 1) tables)) name) ≡ records_of (tables_of tables) name
-  records-next name tables i next same lt is named sofar =
-      sym (ap (λ ts. records_of (tables_of ts) name) (drop-item tables i next lt is) ∙ ap (λ b. cond b (Some next.records) (records_of (tables_of (drop (i + 1) tables)) name)) named) ∙ sofar
-
 module _ {X : Type 0} where
   map-id : (xs : List X) → map (λ x. x) xs ≡ xs
   map-id [] = refl
@@ -110,6 +64,10 @@ module _ {X Y : Type 0} (f g : X → Y) where
   loop-same xs start i x d lt same more kept sofar =
       let both = loop-more f g (λ y. y) xs start i x d lt same more kept (sofar ∙ sym (map-id (take i start))) in
       (both.0, both.1 ∙ map-id (take (i + 1) start))
+
+  -- such a loop at its end
+  pub loop-same-done : (xs : List X) (start : List Y) (i : ℕ) → length xs ≤ i → map f xs ≡ start → map g (take i xs) ≡ take i start → map g xs ≡ start
+  loop-same-done xs start i all kept sofar = ap (map g) (sym (take_all i xs all)) ∙ sofar ∙ take_all i start (omega (arith, ap length kept, length-map xs f))
 
 module _ {X Y : Type 0} (g f : X → Y) where
   -- one copy more, which looks by g as what it was made of does by f

@@ -1,5 +1,4 @@
 -- The state in the code, for its own contracts. No rule is defined here.
 pub mod AttachList
-pub mod Attached
 pub mod Latest
 pub mod Numbered

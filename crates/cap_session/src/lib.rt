@@ -3,7 +3,6 @@
 
 mod attach_list;
 mod attached;
-mod attached_table;
 mod laws;
 mod numbered;
 mod record;
@@ -13,6 +12,7 @@ mod rule;
 mod session;
 mod session_change;
 mod sessions;
+mod table_records;
 mod touch;
 
 pub use attached::Attached;

@@ -8,7 +8,6 @@ ghost use Rattle.cap_session.specs.Session.{stored};
 
 use crate::attach_list::AttachList;
 use crate::attached::Attached;
-use crate::attached_table::{is_empty, records_of, stored};
 use crate::{AutomaticRule, Record, Records, SessionChange};
 use cap_compare::Difference;
 use cap_database::{Change, Database};
@@ -32,7 +31,7 @@ pub struct Session<A: AllocHandle> {
 
 impl<A: AllocHandle> Model for Session<A> {
     ghost use Rattle.cap_session.specs.Session.{StagedSession};
-    ghost use Rattle.cap_session.specs.Code.AttachList.{attached_of, staged_of, with_tables};
+    ghost use Rattle.cap_session.specs.Code.AttachList.{IsWhole, attached_of, staged_of, with_tables};
 
     ghost Value = { StagedSession A };
 
@@ -45,6 +44,8 @@ impl<A: AllocHandle> Model for Session<A> {
       live = with_tables s.enabled s.indirect s.rule (attached_of s.list);
       staged = with_tables s.enabled s.indirect s.rule (staged_of s.list);
     } };
+
+    ghost invariant = { λ s. IsWhole s.list };
 }
 
 // A derived `Drop` would be opened in each caller's loop.
@@ -237,14 +238,14 @@ impl<A: AllocHandle> Session<A> {
     pub fn is_empty(&self) -> bool
         ensures { result ≡ nat_eq (stored self.now.live.tables) 0 }
     {
-        is_empty(self.list.tables())
+        self.list.is_empty()
     }
 
     /// The number of records.
     pub fn stored(&self) -> u128
         ensures { result ≡ stored self.now.live.tables }
     {
-        stored(self.list.tables())
+        self.list.stored()
     }
 
     /// The attached tables in the order in which they were attached, each with its records.
@@ -252,14 +253,14 @@ impl<A: AllocHandle> Session<A> {
         ensures tables { result ≡ self.now.live.tables }
         ensures fits { length result < 2 ^ 64 }
     {
-        Attached::over(self.list.tables())
+        self.list.attached()
     }
 
     /// The records of a table in the order of their keys, `None` where it is not attached.
     pub fn records(&self, name: &Name<A>) -> Option<&Records<A>>
         ensures { option_copied result ≡ records_of self.now.live.tables name.now }
     {
-        records_of(self.list.tables(), name)
+        self.list.records(name)
     }
 
     /// The record of a key, if any.

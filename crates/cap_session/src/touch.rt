@@ -4,7 +4,7 @@ ghost use Rattle.std.specs.Option.{option_copied, unwrap_or};
 ghost use Rattle.cap_row.specs.Key.{fields_cmp};
 ghost use Rattle.cap_tree.specs.Tree.{IsOrdered, get};
 ghost use Rattle.cap_database.specs.Read.{row_at};
-ghost use Rattle.cap_session.specs.Note.{is_cascade, touch_of, touches_of, touches_found};
+ghost use Rattle.cap_session.specs.Note.{is_cascade, touch_of, touches_found};
 ghost use Rattle.cap_session.specs.Records.{Records, Touch, record_after, touch, touch_if, with_touches};
 
 use crate::{Record, Records};
@@ -13,82 +13,22 @@ use cap_database::{Cause, Change, Database};
 use cap_row::{Key, Row};
 use cap_value::{AllocHandle, Name, OutOfMemory};
 
-// The records of the table of this name after changes to rows of any table, `None` where they stay the same.
-pub(crate) fn records_after<A: AllocHandle>(
-    name: &Name<A>,
-    records: &Records<A>,
-    before: &Database<A>,
-    indirect: bool,
-    changes: &[Change<A>],
-) -> Result<Option<Records<A>>, OutOfMemory>
-    ensures { IfOk result (λ after. unwrap_or after records.now
-        ≡ with_touches records.now (touches_of before.now indirect name.now changes.now)) }
-{
-    let mut after = None;
-    let mut last = None;
-    for change in changes {
-        if is_again(last, change) {
-            continue;
-        }
-        after = after_change(name, records, after, before, indirect, change)?;
-        last = Some(change);
-    }
-    Ok(after)
-}
-
-// Whether a change repeats the last one, and so touches nothing new. An update gives one change for the old
-// row and one for the new row, mostly under the same key.
-fn is_again<A: AllocHandle>(last: Option<&Change<A>>, change: &Change<A>) -> bool
-    ensures { IsTrue result → option_copied last.entry ≡ Some change.now }
-{
-    match last {
-        Some(last) => is_same(last, change),
-        None => false,
-    }
-}
-
-fn is_same<A: AllocHandle>(one: &Change<A>, other: &Change<A>) -> bool
-    ensures { IsTrue result → one.now ≡ other.now }
-{
-    if !have_same_key(&one.key, &other.key) {
-        return false;
-    }
-    if is_cascade(one.cause) != is_cascade(other.cause) {
-        return false;
-    }
-    one.table == other.table
-}
-
-fn have_same_key<A: AllocHandle>(one: &Option<Key<A>>, other: &Option<Key<A>>) -> bool
-    ensures { IsTrue result → one.now ≡ other.now }
-{
-    match (one, other) {
-        (Some(one), Some(other)) => one == other,
-        (None, None) => true,
-        _ => false,
-    }
-}
-
-// `after`, or where it is `None` the records, after one more change.
-fn after_change<A: AllocHandle>(
-    name: &Name<A>,
+// `after`, or where it is `None` the records, after a change of their table.
+pub(crate) fn after_change<A: AllocHandle>(
     records: &Records<A>,
     after: Option<Records<A>>,
     before: &Database<A>,
     indirect: bool,
     change: &Change<A>,
 ) -> Result<Option<Records<A>>, OutOfMemory>
-    ensures { IfOk result (λ then. unwrap_or then records.now
-        ≡ touch_if (unwrap_or after records.now) (touch_of before.now indirect name.now change.now)) }
+    ensures { IfOk result (λ then. unwrap_or then records.now ≡ touch_if (unwrap_or after records.now)
+        (touch_of before.now indirect change.now.table change.now)) }
 {
-    if *name != change.table {
-        return Ok(after);
-    }
     match &change.key {
         None => Ok(after),
         Some(key) => {
             let indirect = indirect || is_cascade(change.cause);
-            after_touch(name, records, after, before, indirect, key)
+            after_touch(&change.table, records, after, before, indirect, key)
         }
     }
 }
@@ -131,7 +71,7 @@ fn after_touch<A: AllocHandle>(
 }
 
 // `after`, or where it is `None` the records.
-fn current<'a, A: AllocHandle>(
+pub(crate) fn current<'a, A: AllocHandle>(
     records: &'a Records<A>,
     after: &'a Option<Records<A>>,
 ) -> &'a Records<A>
