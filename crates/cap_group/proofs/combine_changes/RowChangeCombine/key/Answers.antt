@@ -1,0 +1,18 @@
+use Rattle.std.proofs.Common.{refl}
+use Rattle.std.proofs.lemmas.Bool.{and_parts}
+use Rattle.cap_changes.specs.Requirements.{requirement_of, requirements, new_requirements, satisfy}
+use Rattle.cap_changes.specs.declared.record_kind.RecordKind.TheVariants.{Full, Keyed}
+use Rattle.cap_group.proofs.KeyLemmas.{key_is}
+use Rattle.cap_group.proofs.combine_changes.RowChangeCombine.key.Goals as goal
+
+pub record_key-requires : goal.record_key-requires
+record_key-requires g c = key_is (requirement_of Full) refl c.args.schema.now c.in-Insert.new (rw c.in-Insert.is at c.requires.fits) c.requires.keyed
+
+pub record_key-requires-in-Update : goal.record_key-requires-in-Update
+record_key-requires-in-Update g c =
+    key_is (requirement_of Keyed) refl c.args.schema.now c.in-Update.old
+    (and_parts (satisfy (requirements Keyed c.args.schema.now) c.in-Update.old) (satisfy (new_requirements c.args.schema.now c.in-Update.old) c.in-Update.new) (rw c.in-Update.is at c.requires.fits)).0
+    c.requires.keyed
+
+pub record_key-requires-in-Delete : goal.record_key-requires-in-Delete
+record_key-requires-in-Delete g c = key_is (requirement_of Full) refl c.args.schema.now c.in-Delete.old (rw c.in-Delete.is at c.requires.fits) c.requires.keyed
