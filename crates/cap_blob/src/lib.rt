@@ -1,0 +1,8 @@
+//! Whole blobs, from bytes to bytes: the inverse and the patchset of a changeset.
+#![tactic(auto)]
+
+mod convert;
+mod refusal;
+
+pub use convert::{invert_bytes, patchset_bytes};
+pub use refusal::BytesRefusal;
