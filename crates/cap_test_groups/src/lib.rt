@@ -1,0 +1,5 @@
+//! Tests of changegroups and of blobs as bytes through their public calls.
+#![tactic(auto)]
+
+#[cfg(test)]
+mod groups;
