@@ -1,6 +1,6 @@
 //! Readers and writers that fail, that are interrupted, and that give or take one byte at a time.
 use crate::rows::{CHANGESET, SHOWN};
-use crate::{WatchedReader, WatchedWriter, run_watched, serve_watched, show_watched};
+use crate::{Watched, run_watched, serve_watched, show_watched};
 use cap_run::RunFault;
 use cap_test_support::{Failure, Sink, Source};
 use std::alloc::{AllocError, Global};
@@ -39,8 +39,8 @@ fn run<T: Threads + Wait + Sync>(
     source: &mut Source<'_>,
     sink: &mut Sink<Global>,
 ) -> Result<(), RunFault> {
-    let mut reader = WatchedReader::new(source);
-    let mut writer = WatchedWriter::new(sink);
+    let mut reader = Watched::new(source);
+    let mut writer = Watched::new(sink);
     match program {
         Program::Core => run_watched(alloc, &mut reader, &mut writer),
         Program::Workload => serve_watched(rt, alloc, &mut reader, &mut writer),

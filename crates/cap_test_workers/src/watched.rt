@@ -1,5 +1,7 @@
-//! Readers and writers that keep whether a call of theirs failed, and runs over them.
+//! Streams that keep whether a call of theirs failed, and runs over them.
 ghost use Rattle.std.specs.Prelude.{◌≡◌, Err, false, true};
+ghost use Rattle.std.specs.IoError.{error_kind};
+ghost use Rattle.std.specs.declared.io.ErrorKind.TheVariants.{Interrupted};
 
 use cap_codec::Source;
 use cap_run::{NoGate, RunFault, RunOutput, run_core, run_workload, show_blob};
@@ -9,75 +11,66 @@ use std::io::{ErrorKind, Read, Write};
 use std::sync::Wait;
 use std::thread::Threads;
 
-/// A reader, and whether a read has failed. An interruption is no failure.
+/// A reader or a writer, and whether a call of it has failed. An interruption is no failure of a read or a write.
 #[derive(Drop)]
-pub struct WatchedReader<R: Read> {
-    pub reader: R,
+pub struct Watched<S> {
+    pub stream: S,
     pub has_failed: bool,
 }
 
-impl<R: Read> WatchedReader<R> {
-    pub fn new(reader: R) -> Self
+impl<S> Watched<S> {
+    pub fn new(stream: S) -> Self
         ensures fresh { result.has_failed ≡ false }
     {
-        WatchedReader {
-            reader,
+        Watched {
+            stream,
             has_failed: false,
+        }
+    }
+
+    // Keeps that a read or a write failed with this error, unless it was interrupted.
+    fn keep(&mut self, error: &io::Error)
+        ensures stream { self.new.stream ≡ self.old.stream }
+        ensures interrupted { error_kind error.now ≡ Interrupted → self.new.has_failed ≡ self.old.has_failed }
+        ensures failed { (error_kind error.now ≡ Interrupted → ⊥) → self.new.has_failed ≡ true }
+    {
+        if error.kind() != ErrorKind::Interrupted {
+            self.has_failed = true;
         }
     }
 }
 
-impl<R: Read> Source for WatchedReader<R> {
+impl<R: Read> Source for Watched<R> {
     ghost use Rattle.std.specs.Prelude.{◌≡◌, true};
 
-    ghost remaining = { λ watched. R.Read.remaining watched.reader };
+    ghost remaining = { λ watched. R.Read.remaining watched.stream };
 
     ghost gave = { λ old new. new.has_failed ≡ old.has_failed };
 
     ghost failed = { λ old new. new.has_failed ≡ true };
 
     fn read_some(&mut self, piece: &mut [u8]) -> io::Result<usize> {
-        match self.reader.read(piece) {
+        match self.stream.read(piece) {
             Ok(count) => Ok(count),
             Err(error) => {
-                if error.kind() != ErrorKind::Interrupted {
-                    self.has_failed = true;
-                }
+                self.keep(&error);
                 Err(error)
             }
         }
     }
 }
 
-/// A writer, and whether a write or a flush has failed. An interruption is no failure.
-#[derive(Drop)]
-pub struct WatchedWriter<W: Write> {
-    pub writer: W,
-    pub has_failed: bool,
-}
-
-impl<W: Write> WatchedWriter<W> {
-    pub fn new(writer: W) -> Self
-        ensures fresh { result.has_failed ≡ false }
-    {
-        WatchedWriter {
-            writer,
-            has_failed: false,
-        }
-    }
-}
-
-impl<W: Write> RunOutput for WatchedWriter<W> {
+impl<W: Write> RunOutput for Watched<W> {
     ghost use Rattle.std.specs.Prelude.{◌≡◌, true};
 
-    ghost contents = { λ watched. W.Write.contents watched.writer };
+    ghost contents = { λ watched. W.Write.contents watched.stream };
 
     ghost went = { λ old new. new.has_failed ≡ old.has_failed };
 
     ghost failed = { λ old new. new.has_failed ≡ true };
 
     fn write_some(&mut self, bytes: &[u8]) -> io::Result<usize> {
-        match self.writer.write(bytes) {
+        match self.stream.write(bytes) {
             Ok(count) => {
                 if count == 0 {
                     self.has_failed = true;
@@ -85,16 +78,14 @@ impl<W: Write> RunOutput for WatchedWriter<W> {
                 Ok(count)
             }
             Err(error) => {
-                if error.kind() != ErrorKind::Interrupted {
-                    self.has_failed = true;
-                }
+                self.keep(&error);
                 Err(error)
             }
         }
     }
 
     fn flush_all(&mut self) -> io::Result<()> {
-        match self.writer.flush() {
+        match self.stream.flush() {
             Ok(()) => Ok(()),
             Err(error) => {
                 self.has_failed = true;
@@ -107,8 +98,8 @@ impl<W: Write> RunOutput for WatchedWriter<W> {
 /// Runs a workload on one thread. A call of the streams that failed is what the run reports.
 pub fn run_watched<R: Read, W: Write>(
     alloc: Global,
-    reader: &mut WatchedReader<R>,
-    writer: &mut WatchedWriter<W>,
+    reader: &mut Watched<R>,
+    writer: &mut Watched<W>,
 ) -> Result<(), RunFault>
     requires reader { reader.old.has_failed ≡ false }
     requires writer { writer.old.has_failed ≡ false }
@@ -123,8 +114,8 @@ pub fn run_watched<R: Read, W: Write>(
 pub fn serve_watched<T: Threads + Wait + Sync, R: Read, W: Write>(
     rt: &T,
     alloc: Global,
-    reader: &mut WatchedReader<R>,
-    writer: &mut WatchedWriter<W>,
+    reader: &mut Watched<R>,
+    writer: &mut Watched<W>,
 ) -> Result<(), RunFault>
     requires reader { reader.old.has_failed ≡ false }
     requires writer { writer.old.has_failed ≡ false }
@@ -137,8 +128,8 @@ pub fn serve_watched<T: Threads + Wait + Sync, R: Read, W: Write>(
 /// Shows a blob. A call of the streams that failed is what the run reports.
 pub fn show_watched<R: Read, W: Write>(
     alloc: Global,
-    reader: &mut WatchedReader<R>,
-    writer: &mut WatchedWriter<W>,
+    reader: &mut Watched<R>,
+    writer: &mut Watched<W>,
 ) -> Result<(), RunFault>
     requires reader { reader.old.has_failed ≡ false }
     requires writer { writer.old.has_failed ≡ false }
