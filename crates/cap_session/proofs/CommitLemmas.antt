@@ -1,8 +1,8 @@
 -- The changes of a commit, staged one after the other.
-use Rattle.std.proofs.Common.{◌≡◌, ℕ, Bool, true, false, cond, Some, None, List, [], ◌∷◌, ◌||◌, map, set, get_or, refl, sym, ap, ap₂, ◌∙◌}
+use Rattle.std.proofs.Common.{◌≡◌, ℕ, Bool, true, false, cond, None, List, [], ◌∷◌, ◌||◌, map, refl, sym, ap, ap₂, ◌∙◌}
 use Rattle.std.specs.Prelude.{fold}
 use Rattle.std.specs.Cmp.Lexicographic.{bytes_decides}
-use Rattle.std.specs.List.{IsDistinct, cons_option, position}
+use Rattle.std.specs.List.{cons_option}
 use Rattle.std.specs.Option.{option_map}
 use Rattle.cap_value.specs.Bytes.{bytes_eq}
 use Rattle.cap_database.specs.Read.{row_at}
@@ -10,10 +10,10 @@ use Rattle.cap_database.specs.Tables.{Tables}
 use Rattle.cap_database.specs.declared.change.Change.{Change}
 use Rattle.cap_session.specs.declared.rule.AutomaticRule.{AutomaticRule}
 use Rattle.cap_session.specs.Note.{attach_by, attach_by_rule, is_cascade, touch_of, touch_table, touch_tables, touches_of}
-use Rattle.cap_session.specs.Records.{Records, Touch, touch, touch_if, with_touches}
+use Rattle.cap_session.specs.Records.{Records, touch, with_touches}
 use Rattle.cap_session.specs.Session.{AttachedTables, accepts_by, attach}
 use Rattle.cap_session.proofs.RecordLemmas.{touch-first}
-use Rattle.cap_session.proofs.SideLemmas.{beside, changed-none, changed-some, other-way}
+use Rattle.cap_session.proofs.TableLemmas.{other-way}
 use Rattle.cap_session.proofs.StageLemmas.{all-later, there-once}
 
 module _ {A : Type 0} (before : Tables A) (indirect : Bool) where
@@ -21,9 +21,20 @@ module _ {A : Type 0} (before : Tables A) (indirect : Bool) where
   abbrev pub after_one : Change A → List ℕ → Records A → Records A
   after_one change name records = with_touches records (touches_of before indirect name (change ∷ []))
 
-  pub untouched : (change : Change A) (other : List ℕ) (records : Records A) → bytes_eq other change.table ≡ false → after_one change other records ≡ records
+  untouched : (change : Change A) (other : List ℕ) (records : Records A) → bytes_eq other change.table ≡ false → after_one change other records ≡ records
   untouched change other records not =
       ap (λ b. with_touches records (cons_option (cond b (option_map (λ key. record { key = key; image = row_at before other key; indirect = indirect || is_cascade change.cause }) change.key) None) [])) not
+
+  -- a change of one table alone
+  pub one-table : (change : Change A) (tables : AttachedTables A) → touch_table change.table (touches_of before indirect change.table (change ∷ [])) tables ≡ touch_tables before indirect (change ∷ []) tables
+  one-table change [] = refl
+  one-table change (t ∷ ts) =
+      ap₂ (λ a b. a ∷ b)
+      (elim (bytes_eq change.table t.0) as (λ b. bytes_eq change.table t.0 ≡ b → cond b (t.0, after_one change change.table t.1) t ≡ (t.0, after_one change t.0 t.1)) [
+        | true ↦ λ same. ap (λ n. (t.0, after_one change n t.1)) ((bytes_decides change.table t.0).0 same)
+        | false ↦ λ other. ap (λ records. (t.0, records)) (sym (untouched change t.0 t.1 (other-way change.table t.0 other)))
+      ] refl)
+      (one-table change ts)
 
   one-more : (change : Change A) (rest : List (Change A)) (tables : AttachedTables A) → touch_tables before indirect rest (touch_tables before indirect (change ∷ []) tables) ≡ touch_tables before indirect (change ∷ rest) tables
   one-more change rest [] = refl
@@ -52,32 +63,3 @@ module _ {A : Type 0} where
         | true ↦ there
         | false ↦ refl
       ]
-
-module _ {A X : Type 0} (shown : X → Records A) (names : List (List ℕ)) (items : List X) where
-  -- a change of the table at this place
-  pub change-at : (before : Tables A) (indirect : Bool) (change : Change A) (i : ℕ) (x d : X) → position (bytes_eq change.table) names ≡ Some i → IsDistinct bytes_eq names
-      → shown d ≡ shown (get_or items i d) → shown x ≡ touch_if (shown d) (touch_of before indirect change.table change)
-      → beside shown names (set items i x) ≡ touch_tables before indirect (change ∷ []) (beside shown names items)
-  change-at before indirect change i x d found distinct is made =
-      sym (changed-some shown change.table (λ attached. (attached.0, after_one before indirect change attached.0 attached.1))
-      (λ other records not. ap (λ r. (other, r)) (untouched before indirect change other records (other-way change.table other not)))
-      names items i x d found distinct
-      (ap (λ r. (change.table, r)) (ap (after_one before indirect change change.table) (sym is) ∙ sym (touch-first (shown d) (touch_of before indirect change.table change) []) ∙ sym made)))
-
-  -- a change of a table that is not there
-  pub change-nowhere : (before : Tables A) (indirect : Bool) (change : Change A) → position (bytes_eq change.table) names ≡ None → beside shown names items ≡ touch_tables before indirect (change ∷ []) (beside shown names items)
-  change-nowhere before indirect change none =
-      sym (changed-none shown change.table (λ attached. (attached.0, after_one before indirect change attached.0 attached.1))
-      (λ other records not. ap (λ r. (other, r)) (untouched before indirect change other records (other-way change.table other not)))
-      names items none)
-
-  -- a diff of the table at this place
-  pub diff-at : (name : List ℕ) (touches : List (Touch A)) (i : ℕ) (x d : X) → position (bytes_eq name) names ≡ Some i → IsDistinct bytes_eq names
-      → shown d ≡ shown (get_or items i d) → shown x ≡ with_touches (shown d) touches
-      → beside shown names (set items i x) ≡ touch_table name touches (beside shown names items)
-  diff-at name touches i x d found distinct is made =
-      sym (changed-some shown name (λ attached. cond (bytes_eq name attached.0) (attached.0, with_touches attached.1 touches) attached)
-      (λ other records not. ap (λ b. cond b (other, with_touches records touches) (other, records)) not)
-      names items i x d found distinct
-      (ap (λ b. cond b (name, with_touches (shown (get_or items i d)) touches) (name, shown (get_or items i d))) ((bytes_decides name name).1 refl)
-      ∙ ap (λ r. (name, r)) (ap (λ r. with_touches r touches) (sym is) ∙ sym made)))

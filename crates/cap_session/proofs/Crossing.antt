@@ -10,7 +10,6 @@ use Rattle.std.specs.declared.hash.BuildHasher as builds
 use Rattle.std.specs.declared.hash.Hasher as hasher
 use Rattle.std.specs.contracts.hash.BuildHasherDefault as BuildHasherDefault
 use Rattle.std.specs.contracts.hash.FoldHasher as FoldHasher
-use Rattle.indexmap.specs.contracts.set.IndexSet as IndexSet
 use Rattle.indexmap.specs.contracts.map.IndexMap as IndexMap
 use Rattle.indexmap.specs.contracts.columns.Columns as Columns
 use Rattle.indexmap.specs.contracts.index_table.IndexTable as IndexTable
@@ -24,11 +23,9 @@ use Rattle.cap_filter.proofs.Crossing.{filter_send, filter_sync}
 use Rattle.cap_session.proofs.record.Record.TheSendSync as record_
 use Rattle.cap_session.specs.contracts.records.Records as Records
 use Rattle.cap_session.specs.contracts.table_records.TableRecords as TableRecords
-use Rattle.cap_session.specs.contracts.attach_list.AttachList as AttachList
 use Rattle.cap_session.specs.contracts.session.Session as Session
 use Rattle.cap_session.specs.contracts.numbered.Numbered as Numbered
 use Rattle.cap_session.specs.contracts.sessions.Sessions as Sessions
-use Rattle.std.specs.contracts.vec.Vec as Vec
 use Rattle.cap_row.specs.contracts.key.Key as Key
 use Rattle.cap_session.specs.contracts.record.Record as Record
 use denote.Struct.Tuple.{Tuple}
@@ -67,13 +64,6 @@ module _ (A : RattleType) (a : allocator.Ghosts A.Denot) (al : IsSend A) (ay : I
       map_sync : IsSync K → IsSync V → IsSync S → IsSync (IndexMap.the_row K V S A H e k b r a)
       map_sync ks vs ss = search (columns_sync, table_sync, sendable) depth 40
 
-  module _ (K S H : RattleType) (e : equality.Ghosts K.Denot) (k : hashes.Ghosts K.Denot) (b : builds.Ghosts S.Denot H.Denot) (r : hasher.Ghosts H.Denot) where
-    set_send : IsSend K → IsSend S → IsSend (IndexSet.the_row K S A H e k b r a)
-    set_send ks ss = search (map_send, sendable) depth 40
-
-    set_sync : IsSync K → IsSync S → IsSync (IndexSet.the_row K S A H e k b r a)
-    set_sync ks ss = search (map_sync, sendable) depth 40
-
 module _ (A : RattleType) (h : handle.Ghosts A.Denot) (a : allocator.Ghosts A.Denot) (c : clone.Ghosts A.Denot)
     (al : IsSend A) (ay : IsSync A) (frees : Frees a a.dealloc_token) where
   pair_send : IsSend (Tuple (Key.the_row A a ∷ Record.the_row A a ∷ []))
@@ -94,29 +84,17 @@ module _ (A : RattleType) (h : handle.Ghosts A.Denot) (a : allocator.Ghosts A.De
   table_records_sync : IsSync (TableRecords.the_row A h a c)
   table_records_sync = search (records_sync, sendable, crosses) depth 20
 
-  tables_send : IsSend (Vec.the_row (TableRecords.the_row A h a c) A a)
-  tables_send = search (table_records_send, sendable, crosses) depth 20
-
-  tables_sync : IsSync (Vec.the_row (TableRecords.the_row A h a c) A a)
-  tables_sync = search (table_records_sync, sendable, crosses) depth 20
-
   fold_send : IsSend (BuildHasherDefault.the_row FoldHasher.the_row)
   fold_send = search sendable depth 20
 
   fold_sync : IsSync (BuildHasherDefault.the_row FoldHasher.the_row)
   fold_sync = search sendable depth 20
 
-  list_send : IsSend (AttachList.the_row A h a c)
-  list_send = search (fold_send, tables_send, set_send, name.the_send, sendable) depth 40 fits 100000
-
-  list_sync : IsSync (AttachList.the_row A h a c)
-  list_sync = search (fold_sync, tables_sync, set_sync, name.the_sync, sendable) depth 40 fits 100000
-
   pub session_send : IsSend (Session.the_row A h a c)
-  session_send = search (fold_send, tables_send, set_send, name.the_send, filter_send, sendable) depth 60 fits 100000
+  session_send = search (fold_send, table_records_send, map_send, name.the_send, filter_send, sendable) depth 60 fits 100000
 
   pub session_sync : IsSync (Session.the_row A h a c)
-  session_sync = search (fold_sync, tables_sync, set_sync, name.the_sync, filter_sync, sendable) depth 60 fits 100000
+  session_sync = search (fold_sync, table_records_sync, map_sync, name.the_sync, filter_sync, sendable) depth 60 fits 100000
 
   numbered_send : IsSend (Numbered.the_row A h a c)
   numbered_send = search (session_send, sendable) depth 20

@@ -1,10 +1,10 @@
-mod AttachLemmas
 mod CommitLemmas
 pub mod Crossing
 mod LatestLemmas
 mod ListLemmas
 mod NoteLemmas
+mod NumberLemmas
 mod PlaceLemmas
 mod RecordLemmas
-mod SideLemmas
+mod TableLemmas
 mod StageLemmas

@@ -2,48 +2,29 @@
 use Rattle.std.proofs.Common.{◌≡◌, Bool, true, false, cond, Option, Some, None, List, [], ◌∷◌, ◌&&◌, ◌||◌, not, refl, sym, ap, ap₂, ◌∙◌, Ordering, Less, Equal, Greater}
 use Rattle.std.specs.Prelude.{fold}
 use Rattle.std.proofs.Math.Bool.{and-true}
-use Rattle.std.specs.FinMap.Entries.{find, put, by_order, find-put}
-use Rattle.std.specs.List.{AllByRecursion, cons_option}
+use Rattle.std.specs.List.{cons_option}
 use Rattle.std.specs.List.Sorted.{IsStrictlySortedBy}
-use Rattle.std.specs.Map.{keys_of}
 use Rattle.std.specs.Ordering.{eq_by_cmp, match_ordering, is_eq}
-use Rattle.std.specs.Cmp.{IsTotalOrder, Equal-is, tied_itself}
+use Rattle.std.specs.Cmp.{IsTotalOrder, Equal-is, eq_by_cmp_equiv, tied_itself}
 use Rattle.std.specs.FinMap.{IsAntisymmetric}
 use Rattle.cap_row.specs.Fields.{Fields}
-use Rattle.cap_row.specs.Key.{fields_cmp, fields_cmp_total, fields_cmp-Equal}
+use Rattle.cap_row.specs.Key.{fields_cmp, fields_cmp_total, fields_cmp-Equal, fields_eq}
 use Rattle.cap_tree.specs.Tree.{IsOrdered, get, put_entry}
+use Rattle.cap_tree.proofs.EntryLemmas.{get-below, less_than_back, put_entry-Updates}
 use Rattle.cap_session.specs.declared.record.Record.{Record}
 use Rattle.cap_session.specs.Records.{AreTouched, Records, Touch, are_indirect, record_after, touch, touch_if, touches_at, with_touches}
 
 module _ {K V : Type 0} (R : K → K → Ordering) (o : IsTotalOrder R) where
-  -- a key below the first one is not found
-  pub get-below_first : (k e : K) → R k e ≡ Less → (es : List (K × V)) → AllByRecursion (λ y. R e y ≡ Less) (keys_of es) → get R es k ≡ None
-  get-below_first k e less [] h = refl
-  get-below_first k e less (x ∷ xs) h = ap (λ r. cond (is_eq r) (Some x.1) (get R xs k)) (o.trans k e x.0 less h.0) ∙ get-below_first k e less xs h.1
-
   -- an entry that is there is put without a change
   pub put_entry-there : IsAntisymmetric R → (es : List (K × V)) (k : K) (v : V) → IsOrdered R es → get R es k ≡ Some v → put_entry R es k v ≡ es
   unfolding IsStrictlySortedBy
   put_entry-there same [] k v s is = absurd cc
   put_entry-there same (e ∷ es) k v s is =
       elim (R k e.0) as (λ r. R k e.0 ≡ r → cond (is_eq r) (Some e.1) (get R es k) ≡ Some v → match_ordering r ((k, v) ∷ e ∷ es) ((k, v) ∷ es) (e ∷ put_entry R es k v) ≡ e ∷ es) [
-        | Less ↦ λ p found. let none : get R es k ≡ None = get-below_first k e.0 p es s.0 in absurd cc
+        | Less ↦ λ p found. let none : get R es k ≡ None = get-below R k es (less_than_back R o k [] e es s p) in absurd cc
         | Equal ↦ λ p found. let value : v ≡ e.1 = cc in ap₂ (λ a b. (a, b) ∷ es) (same k e.0 p) value
         | Greater ↦ λ p found. ap (λ x. e ∷ x) (put_entry-there same es k v s.1 found)
       ] refl is
-
-  again : (k : K) (v : V) (es : List (K × V)) → put_entry R ((k, v) ∷ es) k v ≡ (k, v) ∷ es
-  again k v es = ap (λ r. match_ordering r ((k, v) ∷ (k, v) ∷ es) ((k, v) ∷ es) ((k, v) ∷ put_entry R es k v)) (tied_itself o k)
-
-  -- an entry that is put once more
-  put_entry-twice : (es : List (K × V)) (k : K) (v : V) → put_entry R (put_entry R es k v) k v ≡ put_entry R es k v
-  put_entry-twice [] k v = again k v []
-  put_entry-twice (e ∷ es) k v =
-      elim (R k e.0) as (λ r. R k e.0 ≡ r → put_entry R (match_ordering r ((k, v) ∷ e ∷ es) ((k, v) ∷ es) (e ∷ put_entry R es k v)) k v ≡ match_ordering r ((k, v) ∷ e ∷ es) ((k, v) ∷ es) (e ∷ put_entry R es k v)) [
-        | Less ↦ λ p. again k v (e ∷ es)
-        | Equal ↦ λ p. again k v es
-        | Greater ↦ λ p. ap (λ r. match_ordering r ((k, v) ∷ e ∷ put_entry R es k v) ((k, v) ∷ put_entry R es k v) (e ∷ put_entry R (put_entry R es k v) k v)) p ∙ ap (λ x. e ∷ x) (put_entry-twice es k v)
-      ] refl
 
 noted_mark : (a b : Bool) → (not a || b) ≡ true → (a && b) ≡ a
 noted_mark true b is = is
@@ -65,24 +46,11 @@ module _ {A : Type 0} where
   touch-first records None others = refl
   touch-first records (Some t) others = refl
 
-module _ {K X : Type 0} (R : K → K → Ordering) where
-  get-find : (es : List (K × X)) (q : K) → get R es q ≡ find R q es
-  get-find [] q = refl
-  get-find (e ∷ es) q = ap (cond (eq_by_cmp R q e.0) (Some e.1)) (get-find es q)
-
-  put_entry-put : IsAntisymmetric R → (es : List (K × X)) (k : K) (v : X) → put_entry R es k v ≡ put R k v es
-  put_entry-put same [] k v = refl
-  put_entry-put same (e ∷ es) k v =
-      elim (R k e.0) as (λ r. R k e.0 ≡ r → match_ordering r ((k, v) ∷ e ∷ es) ((k, v) ∷ es) (e ∷ put_entry R es k v) ≡ by_order r ((k, v) ∷ e ∷ es) ((e.0, v) ∷ es) (e ∷ put R k v es)) [
-        | Less ↦ λ p. refl
-        | Equal ↦ λ p. ap (λ x. (x, v) ∷ es) (same k e.0 p)
-        | Greater ↦ λ p. ap (λ x. e ∷ x) (put_entry-put same es k v)
-      ] refl
-
+module _ {A : Type 0} where
   -- what is found after a put
-  pub get-put_entry : IsTotalOrder R → IsAntisymmetric R → (es : List (K × X)) (k : K) (v : X) (q : K) → get R (put_entry R es k v) q ≡ cond (eq_by_cmp R q k) (Some v) (get R es q)
-  get-put_entry o same es k v q =
-      ap (λ list. get R list q) (put_entry-put same es k v) ∙ get-find (put R k v es) q ∙ find-put R o q k v es ∙ ap (cond (eq_by_cmp R q k) (Some v)) (sym (get-find es q))
+  pub get-put : (records : Records A) (k : Fields A) (r : Record A) (q : Fields A) → get fields_cmp (put_entry fields_cmp records k r) q ≡ cond (fields_eq q k) (Some r) (get fields_cmp records q)
+  get-put records k r q =
+      put_entry-Updates fields_cmp fields_cmp_total k r records q ∙ ap (λ b. cond b (Some r) (get fields_cmp records q)) ((eq_by_cmp_equiv fields_cmp_total).symm k q)
 
 false_first : (a b : Bool) → a ≡ false → (a && b) ≡ false
 false_first true b is = cc
@@ -91,10 +59,6 @@ false_first false b is = refl
 false_second : (a b : Bool) → b ≡ false → (a && b) ≡ false
 false_second true b is = is
 false_second false b is = refl
-
-and_self : (a : Bool) → (a && a) ≡ a
-and_self true = refl
-and_self false = refl
 
 and_twice : (a b c : Bool) → ((a && b) && c) ≡ (a && (b && c))
 and_twice true b c = refl
@@ -106,24 +70,8 @@ module _ {A : Type 0} where
   found-touched records t =
       let found = get fields_cmp records t.key in
       let made = record_after found t.image t.indirect in
-      get-put_entry fields_cmp fields_cmp_total fields_same records t.key made t.key
+      get-put records t.key made t.key
       ∙ ap (λ b. cond b (Some made) found) ((Equal-is (fields_cmp t.key t.key)).1 (tied_itself fields_cmp_total t.key))
-
-  marked-twice : (found : Option (Record A)) (image : Option (Fields A)) (indirect : Bool) → record_after (Some (record_after found image indirect)) image indirect ≡ record_after found image indirect
-  marked-twice None image indirect = ap (λ b. record { image = image; indirect = b }) (and_self indirect)
-  marked-twice (Some r) image indirect = ap (λ b. record { image = r.image; indirect = b }) (and_twice r.indirect indirect indirect ∙ ap (λ b. r.indirect && b) (and_self indirect))
-
-  touch-twice : (records : Records A) (t : Touch A) → touch (touch records t) t ≡ touch records t
-  touch-twice records t =
-      let found = get fields_cmp records t.key in
-      ap (λ r. put_entry fields_cmp (touch records t) t.key (record_after r t.image t.indirect)) (found-touched records t)
-      ∙ ap (put_entry fields_cmp (touch records t) t.key) (marked-twice found t.image t.indirect)
-      ∙ put_entry-twice fields_cmp fields_cmp_total records t.key (record_after found t.image t.indirect)
-
-  -- the same touch, or none, once more
-  pub touch_if-twice : (records : Records A) (t : Option (Touch A)) → touch_if (touch_if records t) t ≡ touch_if records t
-  touch_if-twice records None = refl
-  touch_if-twice records (Some t) = touch-twice records t
 
   -- a record, or none, after touches of its own key
   record_from : Option (Record A) → List (Touch A) → Option (Record A)
@@ -143,7 +91,7 @@ module _ {A : Type 0} where
   get-with_touches (t ∷ touches) records key =
       let made : Record A = record_after (get fields_cmp records t.key) t.image t.indirect in
       get-with_touches touches (touch records t) key
-      ∙ ap (λ found. record_from found (touches_at key touches)) (get-put_entry fields_cmp fields_cmp_total fields_same records t.key made key)
+      ∙ ap (λ found. record_from found (touches_at key touches)) (get-put records t.key made key)
       ∙ elim (eq_by_cmp fields_cmp key t.key) as (λ b. eq_by_cmp fields_cmp key t.key ≡ b → record_from (cond b (Some made) (get fields_cmp records key)) (touches_at key touches) ≡ record_from (get fields_cmp records key) (cond b (t ∷ touches_at key touches) (touches_at key touches))) [
         | true ↦ λ e. ap (λ k. record_from (Some (record_after (get fields_cmp records k) t.image t.indirect)) (touches_at key touches)) (sym (fields_same key t.key ((Equal-is (fields_cmp key t.key)).0 e)))
         | false ↦ λ e. refl

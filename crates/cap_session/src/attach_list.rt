@@ -1,34 +1,34 @@
 //! The attach list of a session, published and staged.
-ghost use Rattle.std.specs.Prelude.{◌≡◌, ◌∷◌, ◌++◌, [], Some, None, length, nat_eq, IfOk, OnOk, OnErr};
-ghost use Rattle.std.specs.List.{IsDistinct, position};
+ghost use Rattle.std.specs.Prelude.{◌≡◌, ◌<◌, ◌^◌, ◌∷◌, ◌++◌, [], Some, None, length, nat_eq, position, IfOk, OnOk};
+ghost use Rattle.std.specs.List.{IsDistinct};
+ghost use Rattle.std.specs.Map.{keys_of};
 ghost use Rattle.std.specs.Option.{option_copied};
 ghost use Rattle.cap_value.specs.Bytes.{bytes_eq};
-ghost use Rattle.cap_session.specs.Code.AttachList.{IsWhole, attached_of, staged_of, tables_of};
-ghost use Rattle.cap_session.specs.Note.{attach_by, attach_by_rule, touch_table, touch_tables, touches_found};
-ghost use Rattle.cap_session.specs.Session.{attach, forget, records_of, stored};
+ghost use Rattle.cap_session.specs.Code.AttachList.{IsWhole, attached_of, kept_in, live_in, staged_in, staged_of};
+ghost use Rattle.cap_session.specs.Code.Keep.{kept_count, kept_tables};
+ghost use Rattle.cap_session.specs.Code.Staging.{touches_by};
+ghost use Rattle.cap_session.specs.Note.{attach_by, attach_by_rule, touch_table, touch_tables};
+ghost use Rattle.cap_session.specs.Session.{records_of, stored};
 
 use crate::attached::Attached;
-use crate::table_records::{
-    TableRecords, copies_of, forget, is_empty, keep_first, publish, stored,
-};
+use crate::keep::Keep;
+use crate::table_records::TableRecords;
+use crate::touch::Touches;
 use crate::{AutomaticRule, Records};
-use cap_compare::Difference;
 use cap_database::{Change, Database};
 use cap_value::{AllocHandle, Name, OutOfMemory};
-use indexmap::IndexSet;
+use indexmap::IndexMap;
 use std::hash::{BuildHasherDefault, FoldHasher};
 
-// Names in the order in which they were put into the set.
-type NameSet<A> = IndexSet<Name<A>, BuildHasherDefault<FoldHasher>, A>;
+// Tables by name, in the order in which they were put into the map.
+type Tables<A> = IndexMap<Name<A>, TableRecords<A>, BuildHasherDefault<FoldHasher>, A>;
 
 // The attached tables with their records. A change that takes memory is staged first, and then published,
 // which takes none.
 #[derive(Drop)]
 pub(crate) struct AttachList<A: AllocHandle> {
     alloc: A,
-    names: NameSet<A>,
-    // The records of each name, in the same order.
-    tables: Vec<TableRecords<A>, A>,
+    tables: Tables<A>,
     // How many of the tables are attached. Those behind them are staged.
     attached: usize,
 }
@@ -42,55 +42,41 @@ impl<A: AllocHandle> AttachList<A> {
     {
         AttachList {
             alloc,
-            names: IndexSet::new(alloc),
-            tables: Vec::new(alloc),
+            tables: IndexMap::new(alloc),
             attached: 0,
         }
     }
 
-    // Discards what is staged.
-    pub(crate) fn discard_staged(&mut self)
+    // Keeps these records. Staged tables are attached where staged records stay, and else discarded.
+    pub(crate) fn keep(&mut self, what: Keep)
         requires whole { IsWhole self.old }
-        ensures same { attached_of self.new ≡ attached_of self.old }
-        ensures none { staged_of self.new ≡ attached_of self.old }
+        ensures kept { attached_of self.new ≡ kept_tables what (attached_of self.old) (staged_of self.old) }
+        ensures none { staged_of self.new ≡ kept_tables what (attached_of self.old) (staged_of self.old) }
         ensures whole { IsWhole self.new }
     {
-        self.names.truncate(self.attached);
-        keep_first(&mut self.tables, self.attached);
+        let count = self.count_kept(what);
+        self.tables.truncate(count);
+        keep_each(self.alloc, &mut self.tables, what);
+        self.attached = count;
     }
 
-    // Stages the changes of one commit. `before` is the database before it. Tables that the rule accepts are
-    // attached.
-    pub(crate) fn stage_changes(
-        &mut self,
-        rule: &AutomaticRule<A>,
-        before: &Database<A>,
-        indirect: bool,
-        changes: &[Change<A>],
-    ) -> Result<(), OutOfMemory>
-        requires whole { IsWhole self.old }
-        ensures kept { attached_of self.new ≡ attached_of self.old }
-        ensures staged { OnOk result (staged_of self.new ≡ touch_tables before.now indirect changes.now
-            (attach_by_rule rule.now changes.now (attached_of self.old))) }
-        ensures none { OnErr result (staged_of self.new ≡ attached_of self.old) }
-        ensures whole { IsWhole self.new }
+    // How many of the tables stay.
+    fn count_kept(&self, what: Keep) -> usize
+        ensures { result ≡ kept_count what self.now.attached (length self.now.tables.entries) }
     {
-        self.discard_staged();
-        match self.stage_each(rule, before, indirect, changes) {
-            Ok(()) => Ok(()),
-            Err(fault) => {
-                self.discard_staged();
-                Err(fault)
-            }
+        match what {
+            Keep::Staged => self.tables.len(),
+            Keep::Published | Keep::Nothing => self.attached,
         }
     }
 
-    // Stages these changes after what is staged.
-    fn stage_each(
+    // Stages the changes of one commit after what is staged. `before` is the database before it. Tables that
+    // the rule accepts are attached.
+    pub(crate) fn stage_changes(
         &mut self,
         rule: &AutomaticRule<A>,
-        before: &Database<A>,
         indirect: bool,
+        before: &Database<A>,
         changes: &[Change<A>],
     ) -> Result<(), OutOfMemory>
         requires whole { IsWhole self.old }
@@ -100,33 +86,35 @@ impl<A: AllocHandle> AttachList<A> {
         ensures whole { IsWhole self.new }
     {
         for change in changes {
-            self.stage_change(rule, before, indirect, change)?;
+            let touches = Touches::OfChange(before, change);
+            self.stage_touches(rule, indirect, &change.table, touches)?;
         }
         Ok(())
     }
 
-    // Stages this change after what is staged. Its table is looked up once.
-    fn stage_change(
+    // Stages touches of a table after what is staged. The table is looked up once, and attached where the rule
+    // accepts it.
+    pub(crate) fn stage_touches(
         &mut self,
         rule: &AutomaticRule<A>,
-        before: &Database<A>,
         indirect: bool,
-        change: &Change<A>,
+        name: &Name<A>,
+        touches: Touches<'_, A>,
     ) -> Result<(), OutOfMemory>
         requires whole { IsWhole self.old }
         ensures kept { attached_of self.new ≡ attached_of self.old }
-        ensures staged { OnOk result (staged_of self.new ≡ touch_tables before.now indirect (change.now ∷ [])
-            (attach_by rule.now (staged_of self.old) change.now.table)) }
+        ensures staged { OnOk result (staged_of self.new ≡ touch_table name.now (touches_by indirect touches.entry)
+            (attach_by rule.now (staged_of self.old) name.now)) }
         ensures whole { IsWhole self.new }
     {
-        match self.place_by(rule, &change.table)? {
-            Some(place) => { self.tables[place].stage_change(before, indirect, change) }
+        match self.place_by(rule, name)? {
+            Some(place) => self.tables[place].stage(indirect, touches),
             None => Ok(()),
         }
     }
 
     // The index of the table of this name, which is appended where the rule accepts it, unless it is there.
-    fn place_by(
+    pub(crate) fn place_by(
         &mut self,
         rule: &AutomaticRule<A>,
         name: &Name<A>,
@@ -134,11 +122,12 @@ impl<A: AllocHandle> AttachList<A> {
         requires whole { IsWhole self.old }
         ensures kept { attached_of self.new ≡ attached_of self.old }
         ensures staged { OnOk result (staged_of self.new ≡ attach_by rule.now (staged_of self.old) name.now) }
-        ensures place { IfOk result (λ place. place ≡ position (bytes_eq name.now) self.new.names.keys) }
-        ensures distinct { OnOk result (IsDistinct bytes_eq self.new.names.keys) }
+        ensures place { IfOk result (λ place. place
+            ≡ position (bytes_eq name.now) (keys_of self.new.tables.entries)) }
+        ensures distinct { OnOk result (IsDistinct bytes_eq (keys_of self.new.tables.entries)) }
         ensures whole { IsWhole self.new }
     {
-        match self.place_of(name) {
+        match self.tables.get_index_of(name) {
             Some(place) => Ok(Some(place)),
             None => {
                 if !rule.accepts(name) {
@@ -149,141 +138,36 @@ impl<A: AllocHandle> AttachList<A> {
         }
     }
 
-    // The index of the table of this name, which is appended unless it is there.
-    fn place_in(&mut self, name: &Name<A>) -> Result<usize, OutOfMemory>
-        requires whole { IsWhole self.old }
-        ensures kept { attached_of self.new ≡ attached_of self.old }
-        ensures staged { OnOk result (staged_of self.new ≡ attach name.now (staged_of self.old)) }
-        ensures place { IfOk result (λ place. Some place ≡ position (bytes_eq name.now) self.new.names.keys) }
-        ensures distinct { OnOk result (IsDistinct bytes_eq self.new.names.keys) }
-        ensures whole { IsWhole self.new }
-    {
-        match self.place_of(name) {
-            Some(place) => Ok(place),
-            None => self.push(name),
-        }
-    }
-
-    // The index of the table of this name, attached or staged.
-    fn place_of(&self, name: &Name<A>) -> Option<usize>
-        ensures place { result ≡ position (bytes_eq name.now) self.now.names.keys }
-        ensures distinct { IsDistinct bytes_eq self.now.names.keys }
-    {
-        // The length shows that the names are distinct.
-        let _count = self.names.len();
-        self.names.get_index_of(name)
-    }
-
     // Appends a table that is not there, and answers its index.
     fn push(&mut self, name: &Name<A>) -> Result<usize, OutOfMemory>
         requires whole { IsWhole self.old }
-        requires absent { position (bytes_eq name.now) self.old.names.keys ≡ None }
+        requires absent { position (bytes_eq name.now) (keys_of self.old.tables.entries) ≡ None }
         ensures kept { attached_of self.new ≡ attached_of self.old }
         ensures staged { OnOk result (staged_of self.new ≡ staged_of self.old ++ (name.now, []) ∷ []) }
-        ensures place { IfOk result (λ place. Some place ≡ position (bytes_eq name.now) self.new.names.keys) }
-        ensures distinct { OnOk result (IsDistinct bytes_eq self.new.names.keys) }
+        ensures place { IfOk result (λ place. Some place
+            ≡ position (bytes_eq name.now) (keys_of self.new.tables.entries)) }
+        ensures distinct { OnOk result (IsDistinct bytes_eq (keys_of self.new.tables.entries)) }
         ensures whole { IsWhole self.new }
     {
         let name = name.copy()?;
-        self.tables.reserve(1)?;
         let place = self.tables.len();
-        let Ok(_) = self.names.insert(name) else {
-            return Err(OutOfMemory);
-        };
-        self.tables.push_reserved(TableRecords::new(self.alloc));
-        Ok(place)
-    }
-
-    // Stages attaching a table.
-    pub(crate) fn stage_attached(&mut self, name: &Name<A>) -> Result<(), OutOfMemory>
-        requires whole { IsWhole self.old }
-        ensures kept { attached_of self.new ≡ attached_of self.old }
-        ensures staged { OnOk result (staged_of self.new ≡ attach name.now (attached_of self.old)) }
-        ensures none { OnErr result (staged_of self.new ≡ attached_of self.old) }
-        ensures whole { IsWhole self.new }
-    {
-        self.discard_staged();
-        match self.place_in(name) {
-            Ok(_) => Ok(()),
-            Err(fault) => {
-                self.discard_staged();
-                Err(fault)
-            }
+        match self
+            .tables
+            .insert(name, TableRecords::new(Records::empty(self.alloc)))
+        {
+            Ok(_) => Ok(place),
+            Err(_) => Err(OutOfMemory),
         }
-    }
-
-    // Stages a diff of a table, which is attached.
-    pub(crate) fn stage_differences(
-        &mut self,
-        name: &Name<A>,
-        indirect: bool,
-        differences: &[Difference<A>],
-    ) -> Result<(), OutOfMemory>
-        requires whole { IsWhole self.old }
-        ensures kept { attached_of self.new ≡ attached_of self.old }
-        ensures staged { OnOk result (staged_of self.new ≡ touch_table name.now
-            (touches_found indirect differences.now) (attach name.now (attached_of self.old))) }
-        ensures none { OnErr result (staged_of self.new ≡ attached_of self.old) }
-        ensures whole { IsWhole self.new }
-    {
-        self.discard_staged();
-        match self.stage_found(name, indirect, differences) {
-            Ok(()) => Ok(()),
-            Err(fault) => {
-                self.discard_staged();
-                Err(fault)
-            }
-        }
-    }
-
-    // Stages a diff of a table after what is staged.
-    fn stage_found(
-        &mut self,
-        name: &Name<A>,
-        indirect: bool,
-        differences: &[Difference<A>],
-    ) -> Result<(), OutOfMemory>
-        requires whole { IsWhole self.old }
-        ensures kept { attached_of self.new ≡ attached_of self.old }
-        ensures staged { OnOk result (staged_of self.new ≡ touch_table name.now
-            (touches_found indirect differences.now) (attach name.now (staged_of self.old))) }
-        ensures whole { IsWhole self.new }
-    {
-        let place = self.place_in(name)?;
-        self.tables[place].stage_differences(indirect, differences)
-    }
-
-    // Publishes what is staged.
-    pub(crate) fn publish(&mut self)
-        requires whole { IsWhole self.old }
-        ensures attached { attached_of self.new ≡ staged_of self.old }
-        ensures none { staged_of self.new ≡ staged_of self.old }
-        ensures whole { IsWhole self.new }
-    {
-        publish(&mut self.tables);
-        self.attached = self.tables.len();
-    }
-
-    // Clears all records and what is staged.
-    pub(crate) fn forget(&mut self)
-        requires whole { IsWhole self.old }
-        ensures attached { attached_of self.new ≡ forget (attached_of self.old) }
-        ensures none { staged_of self.new ≡ forget (attached_of self.old) }
-        ensures whole { IsWhole self.new }
-    {
-        self.discard_staged();
-        forget(self.alloc, &mut self.tables);
     }
 
     // The attached tables, without the staged ones.
     pub(crate) fn attached(&self) -> Attached<'_, A>
         requires whole { IsWhole self.now }
-        ensures { result ≡ attached_of self.now }
+        ensures tables { result ≡ attached_of self.now }
+        ensures fits { length result < 2 ^ 64 }
     {
-        Attached::over(
-            &self.names.as_slice()[..self.attached],
-            &self.tables[..self.attached],
-        )
+        let (attached, _) = self.tables.as_slice().split_at(self.attached);
+        Attached::over(attached)
     }
 
     // The records of the table of this name, where it is attached.
@@ -291,15 +175,11 @@ impl<A: AllocHandle> AttachList<A> {
         requires whole { IsWhole self.now }
         ensures { option_copied result ≡ records_of (attached_of self.now) name.now }
     {
-        match self.place_of(name) {
-            Some(place) => {
-                if place < self.attached {
-                    Some(&self.tables[place].records)
-                } else {
-                    None
-                }
-            }
-            None => None,
+        let place = self.tables.get_index_of(name)?;
+        if place < self.attached {
+            Some(&self.tables[place].records)
+        } else {
+            None
         }
     }
 
@@ -308,7 +188,12 @@ impl<A: AllocHandle> AttachList<A> {
         requires whole { IsWhole self.now }
         ensures { result ≡ stored (attached_of self.now) }
     {
-        stored(&self.tables[..self.attached])
+        let mut count = 0;
+        let mut rest = self.attached();
+        while let Some((_, records)) = rest.next() {
+            count += records.count();
+        }
+        count
     }
 
     // Whether there is no record.
@@ -316,7 +201,13 @@ impl<A: AllocHandle> AttachList<A> {
         requires whole { IsWhole self.now }
         ensures { result ≡ nat_eq (stored (attached_of self.now)) 0 }
     {
-        is_empty(&self.tables[..self.attached])
+        let mut rest = self.attached();
+        while let Some((_, records)) = rest.next() {
+            if !records.is_empty() {
+                return false;
+            }
+        }
+        true
     }
 
     // A copy without what is staged, which shares the records.
@@ -326,27 +217,28 @@ impl<A: AllocHandle> AttachList<A> {
         ensures none { IfOk result (λ copy. staged_of copy ≡ attached_of self.now) }
         ensures whole { IfOk result (λ copy. IsWhole copy) }
     {
-        let mut names = copy_of(self.alloc, &self.names)?;
-        names.truncate(self.attached);
-        let tables = copies_of(self.alloc, &self.tables[..self.attached])?;
+        let mut tables = IndexMap::with_capacity(self.alloc, self.attached)?;
+        let mut rest = self.attached();
+        while let Some((name, records)) = rest.next() {
+            // No name comes twice.
+            let Ok(None) = tables.insert(name.copy()?, TableRecords::new(records.copy()?)) else {
+                return Err(OutOfMemory);
+            };
+        }
         Ok(AttachList {
             alloc: self.alloc,
-            names,
             tables,
             attached: self.attached,
         })
     }
 }
 
-// A copy of the names.
-fn copy_of<A: AllocHandle>(alloc: A, names: &NameSet<A>) -> Result<NameSet<A>, OutOfMemory>
-    ensures { IfOk result (λ copy. copy.keys ≡ names.now.keys) }
+// Keeps these records of each table.
+fn keep_each<A: AllocHandle>(alloc: A, tables: &mut Tables<A>, what: Keep)
+    ensures live { live_in tables.new.entries ≡ kept_in what tables.old.entries }
+    ensures staged { staged_in tables.new.entries ≡ kept_in what tables.old.entries }
 {
-    let mut copy = IndexSet::with_capacity(alloc, names.len())?;
-    for name in names.as_slice() {
-        let Ok(_) = copy.insert(name.copy()?) else {
-            return Err(OutOfMemory);
-        };
+    for place in 0..tables.len() {
+        tables[place].keep(alloc, what);
     }
-    Ok(copy)
 }

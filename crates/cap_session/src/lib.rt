@@ -3,6 +3,7 @@
 
 mod attach_list;
 mod attached;
+mod keep;
 mod laws;
 mod numbered;
 mod record;
@@ -12,6 +13,7 @@ mod rule;
 mod session;
 mod session_change;
 mod sessions;
+mod staging;
 mod table_records;
 mod touch;
 

@@ -1,16 +1,14 @@
 //! Sessions by number: staging and publishing their changes.
-ghost use Rattle.std.specs.Prelude.{◌≡◌, IfOk, OnOk, OnErr, nat_eq};
+ghost use Rattle.std.specs.Prelude.{◌≡◌, IfOk, OnOk, Some, None, nat_eq};
 ghost use Rattle.std.specs.List.{position};
-ghost use Rattle.std.specs.Option.{option_map};
-ghost use Rattle.cap_session.specs.Code.Numbered.{live_of, staged_of};
-ghost use Rattle.cap_session.specs.Note.{note_diff};
-ghost use Rattle.cap_session.specs.Session.{attached, changed_by};
-ghost use Rattle.cap_session.specs.Sessions.{note_each, session_numbered, with_session_if};
+ghost use Rattle.cap_session.specs.Code.Numbered.{kept_of, live_of, made_of, staged_of};
+ghost use Rattle.cap_session.specs.Code.Staging.{staged_by};
+ghost use Rattle.cap_session.specs.Session.{changed_by};
 
+use crate::keep::Keep;
+use crate::staging::Staging;
 use crate::{Session, SessionChange};
-use cap_compare::Difference;
-use cap_database::{Change, Database};
-use cap_value::{AllocHandle, Name, OutOfMemory};
+use cap_value::{AllocHandle, OutOfMemory};
 
 // A session and its number.
 #[derive(Drop)]
@@ -28,131 +26,75 @@ pub(crate) fn place_of<A: AllocHandle>(sessions: &[Numbered<A>], number: u64) ->
         .position(|numbered| number == numbered.number)
 }
 
-// Discards what is staged.
-pub(crate) fn discard_staged<A: AllocHandle>(sessions: &mut [Numbered<A>])
-    ensures kept { live_of sessions.new ≡ live_of sessions.old }
-    ensures none { staged_of sessions.new ≡ live_of sessions.old }
+// Keeps these records of each session. Nothing is staged then.
+pub(crate) fn keep<A: AllocHandle>(sessions: &mut Vec<Numbered<A>, A>, what: Keep)
+    ensures live { live_of sessions.new.items ≡ kept_of what sessions.old.items }
+    ensures staged { staged_of sessions.new.items ≡ kept_of what sessions.old.items }
 {
-    for numbered in sessions.iter_mut() {
-        numbered.session.discard_staged();
+    for place in 0..sessions.len() {
+        sessions[place].session.keep(what);
     }
 }
 
-// Discards what is staged, and answers the index of the session with this number.
-pub(crate) fn settled_place<A: AllocHandle>(
+// Stages this in the session with this number, if any, or in each, after what is staged. On an error some may
+// be staged.
+pub(crate) fn stage<A: AllocHandle>(
+    sessions: &mut Vec<Numbered<A>, A>,
+    number: Option<u64>,
+    what: &Staging<'_, A>,
+) -> Result<(), OutOfMemory>
+    ensures kept { live_of sessions.new.items ≡ live_of sessions.old.items }
+    ensures staged { OnOk result (staged_of sessions.new.items
+        ≡ made_of (staged_by what.now) number (staged_of sessions.old.items)) }
+{
+    match number {
+        Some(number) => stage_at(sessions, number, what),
+        None => stage_each(sessions, what),
+    }
+}
+
+fn stage_at<A: AllocHandle>(
     sessions: &mut Vec<Numbered<A>, A>,
     number: u64,
-) -> Option<usize>
-    ensures kept { live_of sessions.new.items ≡ live_of sessions.old.items }
-    ensures none { staged_of sessions.new.items ≡ live_of sessions.old.items }
-    ensures place { result ≡ position (λ numbered. nat_eq number numbered.number) sessions.new.items }
-{
-    settle(sessions);
-    place_of(sessions, number)
-}
-
-// Discards what is staged in a list.
-pub(crate) fn settle<A: AllocHandle>(sessions: &mut Vec<Numbered<A>, A>)
-    ensures kept { live_of sessions.new.items ≡ live_of sessions.old.items }
-    ensures none { staged_of sessions.new.items ≡ live_of sessions.old.items }
-{
-    discard_staged(sessions.as_mut_slice());
-}
-
-// Stages the changes of one commit in each session. `before` is the database before it.
-pub(crate) fn note<A: AllocHandle>(
-    sessions: &mut [Numbered<A>],
-    before: &Database<A>,
-    changes: &[Change<A>],
+    what: &Staging<'_, A>,
 ) -> Result<(), OutOfMemory>
-    ensures kept { live_of sessions.new ≡ live_of sessions.old }
-    ensures staged { OnOk result (staged_of sessions.new
-        ≡ note_each before.now changes.now (live_of sessions.old)) }
-    ensures none { OnErr result (staged_of sessions.new ≡ live_of sessions.old) }
+    ensures kept { live_of sessions.new.items ≡ live_of sessions.old.items }
+    ensures staged { OnOk result (staged_of sessions.new.items
+        ≡ made_of (staged_by what.now) (Some number) (staged_of sessions.old.items)) }
 {
-    match stage_changes(sessions, before, changes) {
-        Ok(()) => Ok(()),
-        Err(fault) => {
-            discard_staged(sessions);
-            Err(fault)
-        }
+    match place_of(sessions, number) {
+        Some(place) => sessions[place].session.stage(what),
+        None => Ok(()),
     }
 }
 
-// The same. On an error some may be staged.
-fn stage_changes<A: AllocHandle>(
-    sessions: &mut [Numbered<A>],
-    before: &Database<A>,
-    changes: &[Change<A>],
+fn stage_each<A: AllocHandle>(
+    sessions: &mut Vec<Numbered<A>, A>,
+    what: &Staging<'_, A>,
 ) -> Result<(), OutOfMemory>
-    ensures kept { live_of sessions.new ≡ live_of sessions.old }
-    ensures staged { OnOk result (staged_of sessions.new
-        ≡ note_each before.now changes.now (live_of sessions.old)) }
+    ensures kept { live_of sessions.new.items ≡ live_of sessions.old.items }
+    ensures staged { OnOk result (staged_of sessions.new.items
+        ≡ made_of (staged_by what.now) None (staged_of sessions.old.items)) }
 {
-    for numbered in sessions.iter_mut() {
-        numbered.session.stage_changes(before, changes)?;
+    for place in 0..sessions.len() {
+        sessions[place].session.stage(what)?;
     }
     Ok(())
 }
 
-// Stages attaching a table to the session with this number, if any.
-pub(crate) fn note_attached<A: AllocHandle>(
-    sessions: &mut Vec<Numbered<A>, A>,
-    number: u64,
-    name: &Name<A>,
-) -> Result<(), OutOfMemory>
-    ensures kept { live_of sessions.new.items ≡ live_of sessions.old.items }
-    ensures staged { let live = live_of sessions.old.items in OnOk result (staged_of sessions.new.items
-        ≡ with_session_if live number (option_map (attached name.now) (session_numbered live number))) }
-    ensures none { OnErr result (staged_of sessions.new.items ≡ live_of sessions.old.items) }
-{
-    match settled_place(sessions, number) {
-        Some(place) => sessions[place].session.stage_attached(name),
-        None => Ok(()),
-    }
-}
-
-// Stages a diff of a table in the session with this number, if any.
-pub(crate) fn note_diff<A: AllocHandle>(
-    sessions: &mut Vec<Numbered<A>, A>,
-    number: u64,
-    name: &Name<A>,
-    differences: &[Difference<A>],
-) -> Result<(), OutOfMemory>
-    ensures kept { live_of sessions.new.items ≡ live_of sessions.old.items }
-    ensures staged { let live = live_of sessions.old.items in OnOk result (staged_of sessions.new.items
-        ≡ with_session_if live number
-        (option_map (note_diff name.now differences.now) (session_numbered live number))) }
-    ensures none { OnErr result (staged_of sessions.new.items ≡ live_of sessions.old.items) }
-{
-    match settled_place(sessions, number) {
-        Some(place) => sessions[place].session.stage_differences(name, differences),
-        None => Ok(()),
-    }
-}
-
-// Changes the session with this number, if any.
+// Changes the session with this number, if any. Nothing is staged then.
 pub(crate) fn change<A: AllocHandle>(
     sessions: &mut Vec<Numbered<A>, A>,
     number: u64,
     change: SessionChange<A>,
 )
-    ensures changed { let live = live_of sessions.old.items in live_of sessions.new.items
-        ≡ with_session_if live number (option_map (changed_by change) (session_numbered live number)) }
+    ensures changed { live_of sessions.new.items
+        ≡ made_of (changed_by change) (Some number) (live_of sessions.old.items) }
     ensures none { staged_of sessions.new.items ≡ live_of sessions.new.items }
 {
-    if let Some(place) = settled_place(sessions, number) {
+    keep(sessions, Keep::Published);
+    if let Some(place) = place_of(sessions, number) {
         sessions[place].session.change(change);
-    }
-}
-
-// Publishes what is staged.
-pub(crate) fn publish<A: AllocHandle>(sessions: &mut [Numbered<A>])
-    ensures published { live_of sessions.new ≡ staged_of sessions.old }
-    ensures none { staged_of sessions.new ≡ staged_of sessions.old }
-{
-    for numbered in sessions.iter_mut() {
-        numbered.session.publish();
     }
 }
 

@@ -1,6 +1,8 @@
 //! One session.
 ghost use Rattle.std.specs.Prelude.{◌≡◌, ◌<◌, ◌^◌, length, nat_eq, IfOk, OnOk, OnErr};
 ghost use Rattle.std.specs.Option.{option_copied};
+ghost use Rattle.cap_session.specs.Code.Keep.{kept_session};
+ghost use Rattle.cap_session.specs.Code.Staging.{staged_by};
 ghost use Rattle.cap_session.specs.Note.{note, note_diff};
 ghost use Rattle.cap_session.specs.Session.{attach_all, attached, changed_by, enabled_as, indirect_as};
 ghost use Rattle.cap_session.specs.Session.{new_session, record_of, records_of, restart, set_filter, settled};
@@ -8,6 +10,9 @@ ghost use Rattle.cap_session.specs.Session.{stored};
 
 use crate::attach_list::AttachList;
 use crate::attached::Attached;
+use crate::keep::Keep;
+use crate::staging::Staging;
+use crate::touch::Touches;
 use crate::{AutomaticRule, Record, Records, SessionChange};
 use cap_compare::Difference;
 use cap_database::{Change, Database};
@@ -91,9 +96,7 @@ impl<A: AllocHandle> Session<A> {
         ensures attached { OnOk result (self.new ≡ settled (attached name.now self.old.live)) }
         ensures err { OnErr result (self.new ≡ settled self.old.live) }
     {
-        self.stage_attached(name)?;
-        self.publish();
-        Ok(())
+        self.stage_and_publish(&Staging::Attach(name))
     }
 
     /// Attaches every table from now on when one of its rows changes. A filter, set before or later, takes
@@ -142,13 +145,13 @@ impl<A: AllocHandle> Session<A> {
     pub fn change(&mut self, change: SessionChange<A>)
         ensures { self.new ≡ settled (changed_by change self.old.live) }
     {
-        self.list.discard_staged();
+        self.keep(Keep::Published);
         match change {
             SessionChange::AttachAll => self.rule.accept_all(),
             SessionChange::SetFilter(filter) => self.rule = AutomaticRule::Filter(filter),
             SessionChange::Enable(asked) => self.enabled = asked.unwrap_or(self.enabled),
             SessionChange::Indirect(asked) => self.indirect = asked.unwrap_or(self.indirect),
-            SessionChange::Restart => self.list.forget(),
+            SessionChange::Restart => self.keep(Keep::Nothing),
         }
     }
 
@@ -157,9 +160,7 @@ impl<A: AllocHandle> Session<A> {
         ensures noted { OnOk result (self.new ≡ settled (note before.now changes.now self.old.live)) }
         ensures err { OnErr result (self.new ≡ settled self.old.live) }
     {
-        self.stage_changes(before, changes)?;
-        self.publish();
-        Ok(())
+        self.stage_and_publish(&Staging::Changes(before, changes))
     }
 
     /// Records a diff of a table (SQLite's sqlite3session_diff): attaches the table unless it is attached,
@@ -173,65 +174,57 @@ impl<A: AllocHandle> Session<A> {
             (self.new ≡ settled (note_diff name.now differences.now self.old.live)) }
         ensures err { OnErr result (self.new ≡ settled self.old.live) }
     {
-        self.stage_differences(name, differences)?;
-        self.publish();
-        Ok(())
+        self.stage_and_publish(&Staging::Diff(name, differences))
     }
 
-    // Stages attaching a table.
-    pub(crate) fn stage_attached(&mut self, name: &Name<A>) -> Result<(), OutOfMemory>
-        ensures kept { self.new.live ≡ self.old.live }
-        ensures staged { OnOk result (self.new.staged ≡ attached name.now self.old.live) }
-        ensures none { OnErr result (self.new.staged ≡ self.old.live) }
+    // Stages this, and publishes it.
+    fn stage_and_publish(&mut self, what: &Staging<'_, A>) -> Result<(), OutOfMemory>
+        ensures made { OnOk result (self.new ≡ settled (staged_by what.now self.old.live)) }
+        ensures err { OnErr result (self.new ≡ settled self.old.live) }
     {
-        self.list.stage_attached(name)
-    }
-
-    // Stages the changes of one commit.
-    pub(crate) fn stage_changes(
-        &mut self,
-        before: &Database<A>,
-        changes: &[Change<A>],
-    ) -> Result<(), OutOfMemory>
-        ensures kept { self.new.live ≡ self.old.live }
-        ensures staged { OnOk result (self.new.staged ≡ note before.now changes.now self.old.live) }
-        ensures none { OnErr result (self.new.staged ≡ self.old.live) }
-    {
-        if !self.enabled {
-            self.list.discard_staged();
-            return Ok(());
+        self.keep(Keep::Published);
+        match self.stage(what) {
+            Ok(()) => {
+                self.keep(Keep::Staged);
+                Ok(())
+            }
+            Err(fault) => {
+                self.keep(Keep::Published);
+                Err(fault)
+            }
         }
-        self.list
-            .stage_changes(&self.rule, before, self.indirect, changes)
     }
 
-    // Stages a diff of a table.
-    pub(crate) fn stage_differences(
-        &mut self,
-        name: &Name<A>,
-        differences: &[Difference<A>],
-    ) -> Result<(), OutOfMemory>
+    // Stages this after what is staged. On an error some may be staged.
+    pub(crate) fn stage(&mut self, what: &Staging<'_, A>) -> Result<(), OutOfMemory>
         ensures kept { self.new.live ≡ self.old.live }
-        ensures staged { OnOk result
-            (self.new.staged ≡ note_diff name.now differences.now self.old.live) }
-        ensures none { OnErr result (self.new.staged ≡ self.old.live) }
+        ensures staged { OnOk result (self.new.staged ≡ staged_by what.now self.old.staged) }
     {
-        self.list
-            .stage_differences(name, self.indirect, differences)
+        match *what {
+            Staging::Attach(name) => {
+                self.list.place_by(&AutomaticRule::All, name)?;
+                Ok(())
+            }
+            Staging::Changes(before, changes) => {
+                if !self.enabled {
+                    return Ok(());
+                }
+                self.list
+                    .stage_changes(&self.rule, self.indirect, before, changes)
+            }
+            Staging::Diff(name, differences) => {
+                let touches = Touches::OfDiff(differences);
+                self.list
+                    .stage_touches(&AutomaticRule::All, self.indirect, name, touches)
+            }
+        }
     }
 
-    // Discards what is staged.
-    pub(crate) fn discard_staged(&mut self)
-        ensures { self.new ≡ settled self.old.live }
+    // Keeps these records. Nothing is staged then.
+    pub(crate) fn keep(&mut self, what: Keep)
+        ensures { self.new ≡ settled (kept_session what self.old) }
     {
-        self.list.discard_staged();
-    }
-
-    // Publishes what is staged.
-    pub(crate) fn publish(&mut self)
-        ensures { self.new ≡ settled self.old.staged }
-    {
-        self.list.publish();
+        self.list.keep(what);
     }
 
     /// Whether there is no record (SQLite's sqlite3session_isempty). The row of a record may be unchanged.

@@ -2,14 +2,15 @@
 ghost use Rattle.std.specs.Prelude.{◌≡◌, [], ◌∷◌, ◌++◌, Ok, Err, IfOk, IfErr, OnOk, OnErr, length};
 ghost use Rattle.std.specs.Option.{option_map};
 ghost use Rattle.cap_value.specs.Memory.{MatchFault};
+ghost use Rattle.cap_session.specs.Code.Numbered.{made_of};
+ghost use Rattle.cap_session.specs.Code.Staging.{staged_by};
 ghost use Rattle.cap_session.specs.Note.{note_diff};
 ghost use Rattle.cap_session.specs.Session.{attached, changed_by, new_session};
 ghost use Rattle.cap_session.specs.Sessions.{note_each, session_numbered, with_session_if, without_session};
 
-use crate::numbered::{
-    Numbered, change, copies_of, note, note_attached, note_diff, place_of, publish, settle,
-    settled_place,
-};
+use crate::keep::Keep;
+use crate::numbered::{Numbered, change, copies_of, keep, place_of, stage};
+use crate::staging::Staging;
 use crate::{Session, SessionChange};
 use cap_compare::Difference;
 use cap_database::{Change, Database};
@@ -93,7 +94,7 @@ impl<A: AllocHandle> Sessions<A> {
             (λ why. C.gives hook.old (Err why) hook.new)) }
         ensures nothing_staged { self.new.staged ≡ self.new.live }
     {
-        settle(&mut self.sessions);
+        keep(&mut self.sessions, Keep::Published);
         self.sessions.reserve(1)?;
         if let Err(why) = hook.before_commit() {
             return Err(Fault::Refused(why));
@@ -108,7 +109,8 @@ impl<A: AllocHandle> Sessions<A> {
         ensures removed { self.new.live ≡ without_session self.old.live number }
         ensures nothing_staged { self.new.staged ≡ self.new.live }
     {
-        if let Some(place) = settled_place(&mut self.sessions, number) {
+        keep(&mut self.sessions, Keep::Published);
+        if let Some(place) = place_of(&self.sessions, number) {
             self.sessions.remove(place);
         }
     }
@@ -119,7 +121,7 @@ impl<A: AllocHandle> Sessions<A> {
         ensures staged { OnOk result (self.new.staged ≡ note_each before.now changes.now self.old.live) }
         ensures nothing_staged { OnErr result (self.new.staged ≡ self.new.live) }
     {
-        note(self.sessions.as_mut_slice(), before, changes)
+        self.stage(None, &Staging::Changes(before, changes))
     }
 
     /// Stages attaching a table to the session with this number, if any.
@@ -129,7 +131,7 @@ impl<A: AllocHandle> Sessions<A> {
             (option_map (attached name.now) (session_numbered self.old.live number))) }
         ensures nothing_staged { OnErr result (self.new.staged ≡ self.new.live) }
     {
-        note_attached(&mut self.sessions, number, name)
+        self.stage(Some(number), &Staging::Attach(name))
     }
 
     /// Stages a diff of a table in the session with this number, if any.
@@ -144,7 +146,23 @@ impl<A: AllocHandle> Sessions<A> {
             (option_map (note_diff name.now differences.now) (session_numbered self.old.live number))) }
         ensures nothing_staged { OnErr result (self.new.staged ≡ self.new.live) }
     {
-        note_diff(&mut self.sessions, number, name, differences)
+        self.stage(Some(number), &Staging::Diff(name, differences))
+    }
+
+    // Stages this in the session with this number, if any, or in each.
+    fn stage(&mut self, number: Option<u64>, what: &Staging<'_, A>) -> Result<(), OutOfMemory>
+        ensures kept { self.new.live ≡ self.old.live }
+        ensures staged { OnOk result (self.new.staged ≡ made_of (staged_by what.now) number self.old.live) }
+        ensures nothing_staged { OnErr result (self.new.staged ≡ self.new.live) }
+    {
+        keep(&mut self.sessions, Keep::Published);
+        match stage(&mut self.sessions, number, what) {
+            Ok(()) => Ok(()),
+            Err(fault) => {
+                keep(&mut self.sessions, Keep::Published);
+                Err(fault)
+            }
+        }
     }
 
     /// Publishes what was staged last.
@@ -152,7 +170,7 @@ impl<A: AllocHandle> Sessions<A> {
         ensures published { self.new.live ≡ self.old.staged }
         ensures nothing_staged { self.new.staged ≡ self.new.live }
     {
-        publish(self.sessions.as_mut_slice());
+        keep(&mut self.sessions, Keep::Staged);
     }
 
     /// Changes the session with this number, if any.

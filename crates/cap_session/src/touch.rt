@@ -4,6 +4,7 @@ ghost use Rattle.std.specs.Option.{option_copied, unwrap_or};
 ghost use Rattle.cap_row.specs.Key.{fields_cmp};
 ghost use Rattle.cap_tree.specs.Tree.{IsOrdered, get};
 ghost use Rattle.cap_database.specs.Read.{row_at};
+ghost use Rattle.cap_session.specs.Code.Staging.{touches_by};
 ghost use Rattle.cap_session.specs.Note.{is_cascade, touch_of, touches_found};
 ghost use Rattle.cap_session.specs.Records.{Records, Touch, record_after, touch, touch_if, with_touches};
 
@@ -13,8 +14,36 @@ use cap_database::{Cause, Change, Database};
 use cap_row::{Key, Row};
 use cap_value::{AllocHandle, Name, OutOfMemory};
 
+// What touches rows of one table.
+#[derive(Drop)]
+pub(crate) enum Touches<'a, A: AllocHandle> {
+    // A change of a commit, after the database before it.
+    OfChange(&'a Database<A>, &'a Change<A>),
+    // A diff.
+    OfDiff(&'a [Difference<A>]),
+}
+
+// `after`, or where it is `None` the records, after touches.
+pub(crate) fn after_touches<A: AllocHandle>(
+    records: &Records<A>,
+    after: Option<Records<A>>,
+    indirect: bool,
+    touches: Touches<'_, A>,
+) -> Result<Option<Records<A>>, OutOfMemory>
+    ensures { IfOk result (λ then. unwrap_or then records.now
+        ≡ with_touches (unwrap_or after records.now) (touches_by indirect touches.entry)) }
+{
+    match touches {
+        Touches::OfChange(before, change) => after_change(records, after, before, indirect, change),
+        Touches::OfDiff(differences) => {
+            let after = after_or_copy(records, after)?;
+            Ok(Some(after_diff(after, indirect, differences)?))
+        }
+    }
+}
+
 // `after`, or where it is `None` the records, after a change of their table.
-pub(crate) fn after_change<A: AllocHandle>(
+fn after_change<A: AllocHandle>(
     records: &Records<A>,
     after: Option<Records<A>>,
     before: &Database<A>,
@@ -71,7 +100,7 @@ fn after_touch<A: AllocHandle>(
 }
 
 // `after`, or where it is `None` the records.
-pub(crate) fn current<'a, A: AllocHandle>(
+fn current<'a, A: AllocHandle>(
     records: &'a Records<A>,
     after: &'a Option<Records<A>>,
 ) -> &'a Records<A>
@@ -155,15 +184,15 @@ fn copy_of<A: AllocHandle>(row: Option<&Row<A>>) -> Result<Option<Row<A>>, OutOf
 }
 
 // The records after a touch of each key that differs.
-pub(crate) fn records_after_diff<A: AllocHandle>(
-    records: &Records<A>,
+fn after_diff<A: AllocHandle>(
+    records: Records<A>,
     indirect: bool,
     differences: &[Difference<A>],
 ) -> Result<Records<A>, OutOfMemory>
     ensures { IfOk result (λ after. after
-        ≡ with_touches records.now (touches_found indirect differences.now)) }
+        ≡ with_touches records (touches_found indirect differences.now)) }
 {
-    let mut after = records.copy()?;
+    let mut after = records;
     for difference in differences {
         after = touch_difference(after, indirect, difference)?;
     }

@@ -1,11 +1,10 @@
-use Rattle.std.proofs.Common.{take, ap₂, ◌∙◌}
-use Rattle.cap_session.specs.Code.AttachList.{tables_of}
-use Rattle.cap_session.proofs.SideLemmas.{beside-take}
+use Rattle.std.proofs.Common.{sym, take, ap, ◌∙◌}
+use Rattle.std.proofs.lemmas.List.{take-map}
+use Rattle.cap_session.specs.Code.AttachList.{live_in}
 use Rattle.cap_session.proofs.attach_list.AttachList.attached.Goals as goal
 
-pub returns : goal.returns
-returns g c =
+pub returns-clause-tables : goal.returns-clause-tables
+returns-clause-tables g c =
     let list = c.args.self.now in
-    c.over.ensures
-    ∙ ap₂ (λ names tables. tables_of (take list.attached names) (take list.attached tables)) c.as_slice.ensures.keys c.deref.ensures.value
-    ∙ beside-take (λ table. table.records) list.names.keys list.tables.items list.attached
+    c.over.ensures ∙ ap live_in (c.split_at-attached.ensures.front ∙ ap (take list.attached) c.as_slice.ensures.entries)
+    ∙ sym (take-map (λ table. (table.0, table.1.records)) list.attached list.tables.entries)

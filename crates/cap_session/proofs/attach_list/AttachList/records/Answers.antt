@@ -1,20 +1,21 @@
-use Rattle.std.proofs.Common.{Some, arith, sym, ap, ◌∙◌}
-use Rattle.cap_session.specs.declared.table_records.TableRecords.{TableRecords}
-use Rattle.cap_session.proofs.SideLemmas.{found-behind, found-none, found-some}
+use Rattle.std.proofs.Common.{sym, ◌∙◌}
+use Rattle.std.specs.Map.{keys_of}
+use Rattle.cap_value.specs.Bytes.{bytes_eq}
+use Rattle.cap_session.proofs.PlaceLemmas.{is-first, is-none}
+use Rattle.cap_session.proofs.TableLemmas.{found-behind, found-first, found-none}
 use Rattle.cap_session.proofs.attach_list.AttachList.records.Goals as goal
+
+pub returns-in_err-place : goal.returns-in_err-place
+returns-in_err-place g c =
+    let list = c.args.self.now in
+    rw c.from_residual.ensures (sym (found-none (λ table. table.records) c.args.name.now list.tables.entries list.attached (is-none (bytes_eq c.args.name.now) (keys_of list.tables.entries) (sym c.get_index_of.ensures.index ∙ c.in_err-place.was))))
 
 pub returns-then-place-self : goal.returns-then-place-self
 returns-then-place-self g c =
     let list = c.args.self.now in
-    ap (λ (table : TableRecords g.row.A.Denot). Some table.records) c.index.ensures
-    ∙ sym (found-some (λ table. table.records) c.args.name.now list.names.keys list.tables.items list.attached c.in-Some.place c.index.result.now (sym c.place_of.ensures.place ∙ c.in-Some.is) c.if-place-self.true (omega (arith, c.if-place-self.true, c.requires.whole.among)))
+    sym (found-first (λ table. table.records) c.args.name.now list.tables.entries list.attached c.in_ok-place.place c.index.result.now (is-first (bytes_eq c.args.name.now) (keys_of list.tables.entries) c.in_ok-place.place c.args.name.now (sym c.get_index_of.ensures.index ∙ c.in_ok-place.was)) c.index.ensures c.if-place-self.true)
 
 pub returns-else-place-self : goal.returns-else-place-self
 returns-else-place-self g c =
     let list = c.args.self.now in
-    sym (found-behind (λ table. table.records) c.args.name.now list.names.keys list.tables.items list.attached c.in-Some.place (sym c.place_of.ensures.place ∙ c.in-Some.is) c.if-place-self.false)
-
-pub returns-in-None : goal.returns-in-None
-returns-in-None g c =
-    let list = c.args.self.now in
-    sym (found-none (λ table. table.records) c.args.name.now list.names.keys list.tables.items list.attached (sym c.place_of.ensures.place ∙ c.in-None.is))
+    sym (found-behind (λ table. table.records) c.args.name.now list.tables.entries list.attached c.in_ok-place.place (is-first (bytes_eq c.args.name.now) (keys_of list.tables.entries) c.in_ok-place.place c.args.name.now (sym c.get_index_of.ensures.index ∙ c.in_ok-place.was)) c.if-place-self.false)

@@ -1,14 +1,14 @@
-use Rattle.std.proofs.Common.{◌∙◌, ap, sym, length}
+use Rattle.std.proofs.Common.{◌∙◌, None, Some, arith, ap, sym, length}
 use Rattle.std.specs.Option.{option_copied}
-use Rattle.cap_session.proofs.LatestLemmas.{count_new, count_there}
+use Rattle.cap_session.proofs.LatestLemmas.{counted}
 use Rattle.cap_session.proofs.records.Records.count.Goals as goal
 
 pub returns-in-None-get-clause-count : goal.returns-in-None-get-clause-count
 returns-in-None-get-clause-count g c =
-    count_new c.self.inside.settled c.self.inside.latest _ c.in-Some.is c.len-settled.result c.len-settled.ensures.value (sym c.get.ensures ∙ ap option_copied c.in-None-get.is)
+    counted c.self.inside.settled c.self.inside.latest _ c.in-Some.is None c.len-settled.result c.len-settled.ensures.value c.len-settled.ensures.ordered (sym c.get.ensures ∙ ap option_copied c.in-None-get.is)
     ∙ ap length c.self.view_is
 
 pub returns-in-Some-get-clause-count : goal.returns-in-Some-get-clause-count
 returns-in-Some-get-clause-count g c =
-    count_there c.self.inside.settled c.self.inside.latest _ c.in-Some.is c.len-settled.result c.in-Some-get.field-0.now c.len-settled.ensures.value c.len-settled.ensures.ordered (sym c.get.ensures ∙ ap option_copied c.in-Some-get.is)
-    ∙ ap length c.self.view_is
+    let all = counted c.self.inside.settled c.self.inside.latest _ c.in-Some.is (Some c.in-Some-get.field-0.now) c.len-settled.result c.len-settled.ensures.value c.len-settled.ensures.ordered (sym c.get.ensures ∙ ap option_copied c.in-Some-get.is) in
+    omega (arith, all, ap length c.self.view_is)
