@@ -7,7 +7,7 @@ use Rattle.cap_session.specs.Sessions.{session_numbered}
 use Rattle.cap_core.specs.declared.command.Command.{Command}
 use Rattle.cap_core.specs.declared.command.Command.TheVariants as command
 use Rattle.cap_core.specs.declared.event.Event.{Event}
-use Rattle.cap_core.specs.Answer.{answer, capture_reply, state_after}
+use Rattle.cap_core.specs.Answer.{answer, capture_reply, session_answer, state_after}
 use Rattle.cap_core.specs.Flags.{drops, is_dropped, makes_session, session_named, sessions_made}
 use Rattle.cap_core.specs.History.{effect_of, event_effect, is_write, main, name_saved, save_under, saved, snapshot, version}
 use Rattle.cap_core.specs.Outcome.{no_effect, outcome}
@@ -162,7 +162,7 @@ module _ {A : Type 0} where
       numbered-is past number
       ∙ (λ i. cond (not (agree.dropped i) && (nat_le 1 number && nat_lt number (1 + agree.made i))) (Some (agree.session i)) None)
       ∙ sym (numbered-is other number) in
-      λ i. capture_reply (agree.mains i) (found i)
+      λ i. session_answer (found i) (capture_reply (agree.mains i))
 
   -- a command to one session changes no other's captures
   pub others_capture : (past : Past A) (event : Event A) (one other : ℕ) → session_named event.command ≡ Some one → (other ≡ one → ⊥) → (later : List (Event A))

@@ -38,7 +38,7 @@ use Rattle.cap_session.specs.Session.{AttachedTables, record_of, records_of as a
 use Rattle.cap_core.specs.declared.command.Command.TheVariants as command
 use Rattle.cap_core.specs.declared.reply.Reply.TheVariants.{Capture as Captured}
 use Rattle.cap_core.specs.Capture.{change_now, changes_of, group_of, session_changes, table_changes}
-use Rattle.cap_core.specs.Answer.{answer, capture_reply, state_after}
+use Rattle.cap_core.specs.Answer.{answer, capture_reply, session_answer, state_after}
 use Rattle.cap_core.specs.AppliedCapture.{AppliesWhole, GivesRows, HoldsImages, but_keyed, changes_in}
 use Rattle.cap_core.specs.Flags.{is_dropped, sessions_made}
 use Rattle.cap_core.specs.History.{main}
@@ -522,7 +522,7 @@ module _ {A : Type 0} where
   -- a capture has the changes of the session
   pub captured : (past : Past A) (number : ℕ) (list : List (TableChanges A)) → answer (state_after past) (command.Capture number) ≡ Captured list → list ≡ session_changes (main past) (session_of past number)
   captured past number list is =
-      elim (session_numbered (sessions past) number) as (λ o. session_numbered (sessions past) number ≡ o → capture_reply (main past) o ≡ Captured list → list ≡ session_changes (main past) (session_of past number)) [
+      elim (session_numbered (sessions past) number) as (λ o. session_numbered (sessions past) number ≡ o → session_answer o (capture_reply (main past)) ≡ Captured list → list ≡ session_changes (main past) (session_of past number)) [
         | None ↦ λ _ e. cc
         | Some session ↦ λ found e.
             let told : session_changes (main past) session ≡ list = cc in

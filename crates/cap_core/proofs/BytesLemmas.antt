@@ -1,10 +1,9 @@
 -- The bytes of a capture are read as its changes, and what is read is applied as they are.
-use Rattle.std.proofs.Common.{◌≡◌, ℕ, Bool, true, false, cond, Option, Some, None, Result, Ok, Err, List, [], ◌∷◌, map, refl, sym, ap, subst, ◌∙◌}
+use Rattle.std.proofs.Common.{◌≡◌, ℕ, Bool, true, false, cond, Option, Some, None, Result, Ok, List, [], ◌∷◌, map, refl, sym, ap, subst, ◌∙◌}
 use Rattle.std.specs.Prelude.{All, IfSome, filter}
-use Rattle.std.specs.List.{AllByRecursion, cons_option, filter_map, zip}
+use Rattle.std.specs.List.{AllByRecursion, cons_option, filter_map}
 use Rattle.std.proofs.lemmas.List.Elements.{All-from_recursion, recursion_from_All}
 use Rattle.cap_value.specs.Value.{IsValue}
-use Rattle.cap_value.specs.declared.refusal.Refusal.{Refusal}
 use Rattle.cap_changes.specs.FieldRecord.{RecordFields}
 use Rattle.cap_changes.specs.Fits.{change_fits, patch_fits}
 use Rattle.cap_changes.specs.Group.{TableChanges}
@@ -12,7 +11,6 @@ use Rattle.cap_changes.specs.PatchGroup.{TablePatches}
 use Rattle.cap_changes.specs.Patch.{key_record, patch_list_of, patch_of, patches_of, update_record}
 use Rattle.cap_changes.specs.declared.row_change.RowChange.{RowChange}
 use Rattle.cap_changes.specs.declared.row_change.RowChange.TheVariants.{Delete, Insert, Update}
-use Rattle.cap_changes.specs.declared.patch.Patch.{Patch}
 use Rattle.cap_changes.proofs.PatchLemmas.{patch_of-fits}
 use Rattle.cap_codec.specs.BlobReading.{blob_at}
 use Rattle.cap_codec.specs.Changeset.{list_bytes_with}
@@ -24,7 +22,6 @@ use Rattle.cap_codec.specs.declared.read.Contents.TheVariants.{Changes, Patches}
 use Rattle.cap_codec.specs.Writable.{AreValues, HasNoEmptyGroup, HasValues, IsGroup, IsPatchGroup, IsWritable, PatchHasValues, blob_bytes_with, has_some, of_patches, with_some}
 use Rattle.cap_session.specs.Records.{Records}
 use Rattle.cap_session.specs.Session.{AttachedTables}
-use Rattle.cap_apply.specs.Applied.{AppliedState}
 use Rattle.cap_apply.specs.Apply.{apply}
 use Rattle.cap_apply.specs.declared.policy.Policy.{Policy}
 use Rattle.cap_table.specs.Table.{TableState}
@@ -33,7 +30,7 @@ use Rattle.cap_core.specs.declared.command.Command.TheVariants as command
 use Rattle.cap_core.specs.declared.reply.Reply.TheVariants.{Capture as Captured}
 use Rattle.cap_core.specs.AppliedCapture.{AppliesWhole}
 use Rattle.cap_core.specs.Answer.{answer, state_after}
-use Rattle.cap_core.specs.Capture.{change_now, changes_of, group_of, session_changes, table_changes}
+use Rattle.cap_core.specs.Capture.{change_now, changes_of, group_of, table_changes}
 use Rattle.cap_core.specs.History.{main}
 use Rattle.cap_core.specs.Past.{Past}
 use Rattle.cap_core.specs.Session.{session_of}

@@ -4,11 +4,9 @@ use Rattle.std.proofs.lemmas.List.{reverse-append}
 use Rattle.cap_core.specs.declared.command.Command.{Command}
 use Rattle.cap_core.specs.declared.event.Event.{Event}
 use Rattle.cap_core.specs.Answer.{IsLegal, IsLegalPast, event_by, reply_of}
-use Rattle.std.proofs.Common.{◌≡◌, refl, ◌⊎◌, inl, inr, ℕ, ◌+◌, Option, Some, None, Result, Ok, Err, List, [], ◌∷◌, ◌++◌, ap, sym, subst, ◌∙◌}
+use Rattle.std.proofs.Common.{◌≡◌, refl, inl, inr, ℕ, Option, Some, None, Result, List, [], ◌∷◌, ◌++◌, ap, subst}
 use Rattle.cap_value.specs.declared.refusal.Refusal.{Refusal}
-use Rattle.cap_database.specs.Operation.{run}
 use Rattle.cap_database.specs.Outcome.{OutcomeState}
-use Rattle.cap_database.specs.Tables.{Tables}
 use Rattle.cap_database.specs.declared.op.Op.{Op}
 use Rattle.cap_database.specs.declared.refused_at.RefusedAt.{RefusedAt}
 use Rattle.cap_database.specs.Snapshot.{SnapshotState}
@@ -18,7 +16,7 @@ use Rattle.cap_txn.specs.Seen.{SeenState}
 use Rattle.cap_txn.specs.Stale.{IsJudged, StandsFor, stale}
 use Rattle.cap_core.specs.Answer.{State, answer, snapshot_of, state, write_reply}
 use Rattle.cap_core.specs.Commit.{CommitsIfUnchanged}
-use Rattle.cap_core.specs.Outcome.{Effect, Refused as Why, commit_unless, made}
+use Rattle.cap_core.specs.Outcome.{commit_unless, made}
 use Rattle.cap_core.specs.declared.command.Command.TheVariants as command
 use Rattle.cap_core.specs.declared.reply.Reply.{Reply}
 

@@ -27,7 +27,7 @@ use Rattle.cap_session.specs.Sessions.{session_numbered}
 use Rattle.cap_core.specs.declared.command.Command.{Command}
 use Rattle.cap_core.specs.declared.command.Command.TheVariants as command
 use Rattle.cap_core.specs.declared.event.Event.{Event}
-use Rattle.cap_core.specs.Answer.{answer, diff_reply, state_after}
+use Rattle.cap_core.specs.Answer.{answer, diffed, session_answer, state_after}
 use Rattle.cap_core.specs.Diff.{compared as all_found, diff, diff_from, diff_to}
 use Rattle.cap_core.specs.AppliedCapture.{AreQuiet, GivesRows, HoldsImages, IsDiffed, renews}
 use Rattle.cap_core.specs.Flags.{is_indirect}
@@ -267,15 +267,15 @@ module _ {A : Type 0} where
     made : compare (table_of database name) table ≡ Ok ds
 
   was_made : (main : Tables A) (databases : Databases A) (from name : List ℕ) (database : Tables A) (table : TableState A) (session : Option (SessionState A))
-      → get bytes_cmp databases from ≡ Some database → table_of main name ≡ Some table → has_key table.schema ≡ true → is_accepted (diff_reply (diff main databases from name) session) ≡ true
+      → get bytes_cmp databases from ≡ Some database → table_of main name ≡ Some table → has_key table.schema ≡ true → is_accepted (session_answer session (λ _. diffed (diff main databases from name))) ≡ true
       → WasMade main databases from name database table
   was_made main databases from name database table session saved_is there keyed accepted =
       let result : diff main databases from name ≡ all_found (compare (table_of database name) table) =
       (λ i. diff_to (saved_is i) name (there i)) ∙ ap (λ b. cond b (diff_from (Some database) name table) (Ok None)) keyed in
-      elim (compare (table_of database name) table) as (λ r. compare (table_of database name) table ≡ r → is_accepted (diff_reply (all_found r) session) ≡ true → WasMade main databases from name database table) [
+      elim (compare (table_of database name) table) as (λ r. compare (table_of database name) table ≡ r → is_accepted (session_answer session (λ _. diffed (all_found r))) ≡ true → WasMade main databases from name database table) [
         | Ok ds ↦ λ is _. record { ds = ds; is = result ∙ ap all_found is; made = is }
-        | Err why ↦ λ _ e. elim session as (λ o. is_accepted (diff_reply (Err why) o) ≡ true → WasMade main databases from name database table) [ None ↦ λ a. cc | Some s ↦ λ a. cc ] e
-      ] refl (ap (λ r. is_accepted (diff_reply r session)) (sym result) ∙ accepted)
+        | Err why ↦ λ _ e. elim session as (λ o. is_accepted (session_answer o (λ _. diffed (Err why))) ≡ true → WasMade main databases from name database table) [ None ↦ λ a. cc | Some s ↦ λ a. cc ] e
+      ] refl (ap (λ r. is_accepted (session_answer session (λ _. diffed r))) (sym result) ∙ accepted)
 
   same_option : (found : Option (Records A)) (key : Fields A) → option_and_then (λ records. get fields_cmp records key) (option_map (λ records. records) found) ≡ option_and_then (λ records. get fields_cmp records key) found
   same_option None key = refl

@@ -1,5 +1,5 @@
 -- A session has no record exactly where it has no touch.
-use Rattle.std.proofs.Common.{◌≡◌, ◌≤◌, ◌+◌, ℕ, Bool, true, false, cond, Some, None, List, [], ◌∷◌, ◌||◌, map, length, refl, sym, ap, subst, ◌∙◌, arith, nat_eq}
+use Rattle.std.proofs.Common.{◌≡◌, ◌≤◌, ◌+◌, ℕ, true, false, cond, Some, None, List, [], ◌∷◌, ◌||◌, map, length, refl, sym, ap, subst, ◌∙◌, arith, nat_eq}
 use Rattle.std.proofs.lemmas.Bool.Decides.{nat_tests}
 use Rattle.std.proofs.lemmas.List.Sums.{sum_by-cons}
 use Rattle.std.specs.Prelude.{filter}
@@ -18,7 +18,7 @@ use Rattle.cap_session.specs.Records.{Records}
 use Rattle.cap_session.specs.Session.{AttachedTables, stored}
 use Rattle.cap_core.specs.declared.command.Command.TheVariants as command
 use Rattle.cap_core.specs.declared.reply.Reply.TheVariants.{Flag}
-use Rattle.cap_core.specs.Answer.{answer, empty_reply, refusal, state_after}
+use Rattle.cap_core.specs.Answer.{answer, refusal, session_answer, session_reply, state_after}
 use Rattle.cap_core.specs.Flags.{live_sessions}
 use Rattle.cap_core.specs.Past.{Past}
 use Rattle.cap_core.specs.Session.{mark, records_of, session_of}
@@ -115,8 +115,8 @@ module _ {A : Type 0} where
 
     pub empty-live : list_any (nat_eq session) (live_sessions past) ≡ true → answer (state_after past) (command.IsEmpty session) ≡ Flag (nat_eq (length (touches session past)) 0)
     empty-live is =
-        ap empty_reply (found-live ∙ ap (λ b. cond b (Some (session_of past session)) None) is)
+        ap (λ found. session_answer found (session_reply (state_after past) (command.IsEmpty session))) (found-live ∙ ap (λ b. cond b (Some (session_of past session)) None) is)
         ∙ ap (λ b. Flag b) (stored-touches (touches session past) refl)
 
     pub empty-none : list_any (nat_eq session) (live_sessions past) ≡ false → answer (state_after past) (command.IsEmpty session) ≡ refusal NoSession
-    empty-none is = ap empty_reply (found-live ∙ ap (λ b. cond b (Some (session_of past session)) None) is)
+    empty-none is = ap (λ found. session_answer found (session_reply (state_after past) (command.IsEmpty session))) (found-live ∙ ap (λ b. cond b (Some (session_of past session)) None) is)

@@ -16,19 +16,21 @@ use Rattle.cap_database.specs.Tables.{Tables, table_of}
 use Rattle.cap_session.specs.declared.record.Record.{Record}
 use Rattle.cap_session.specs.Records.{Records}
 use Rattle.cap_session.specs.Session.{SessionState, new_session}
+use Rattle.cap_session.specs.Sessions.{session_numbered}
 use Rattle.cap_core.specs.declared.command.Command.{Command}
 use Rattle.cap_core.specs.declared.command.Command.TheVariants as command
 use Rattle.cap_core.specs.declared.event.Event.{Event}
 use Rattle.cap_core.specs.declared.reply.Reply.{Reply}
 use Rattle.cap_core.specs.Answer.{IsLegal, IsLegalPast, State, answer, event_by, has_room_for, reply_of, snapshot_of, state, state_after, write_reply}
 use Rattle.cap_core.specs.Capture.{change_now, changes_of, session_changes, table_changes}
+use Rattle.cap_core.specs.Flags.{session_named}
 use Rattle.cap_core.specs.History.{main}
 use Rattle.cap_core.specs.Outcome.{Effect, Refused as Why, outcome}
 use Rattle.cap_core.specs.Past.{Past, is_accepted}
 use Rattle.cap_core.specs.Replies.{replies_after}
 use Rattle.cap_core.specs.Session.{mark, records_of, session_of}
 use Rattle.cap_core.specs.Touch.{Touch, attach_list, touches, touches_of}
-use Rattle.cap_core.specs.Transition.{after_write, changed_session, next, one_more}
+use Rattle.cap_core.specs.Transition.{after_named, after_session, after_write, next, one_more, session_left}
 use Rattle.cap_core.proofs.NextLemmas.{IsLegal-push, after_refusal, next-is, state-push}
 use Rattle.cap_core.proofs.TouchedLemmas.{find-records_of, get-find, records_of-none, touched_at}
 
@@ -105,29 +107,23 @@ module _ {A : Type 0} where
   one_more-either true s t = refl
   one_more-either false s t = refl
 
-  changed_session-one_more : (s : State A) (number : ℕ) (new : Option (SessionState A)) → changed_session (one_more s) number new ≡ one_more (changed_session s number new)
-  changed_session-one_more s number None = refl
-  changed_session-one_more s number (Some new) = refl
+  after_session-one_more : (s : State A) (number : ℕ) (found : Option (SessionState A)) (left : SessionState A → Option (SessionState A)) → after_session (one_more s) number found left ≡ one_more (after_session s number found left)
+  after_session-one_more s number None left = refl
+  after_session-one_more s number (Some session) left = refl
+
+  after_named-one_more : (s : State A) (named : Option ℕ) (left : SessionState A → Option (SessionState A)) → after_named (one_more s) named left ≡ one_more (after_named s named left)
+  after_named-one_more s None left = refl
+  after_named-one_more s (Some number) left = after_session-one_more s number (session_numbered s.sessions number) left
 
   next-one_more : (s : State A) (c : Command A) → next (one_more s) c ≡ one_more (next s c)
   next-one_more s (command.CreateTable name schema) = after_write-one_more s (outcome (snapshot_of s) (command.CreateTable name schema))
   next-one_more s (command.Commit batch) = after_write-one_more s (outcome (snapshot_of s) (command.Commit batch))
   next-one_more s (command.Apply blob policy) = after_write-one_more s (outcome (snapshot_of s) (command.Apply blob policy))
-  next-one_more s command.Read = refl
   next-one_more s (command.SaveAs name) = one_more-either (has_room_for s.saved name) (record (one_more s) { saved = put_entry bytes_cmp s.saved name s.main }) (one_more s)
   next-one_more s command.NewSession =
       one_more-either (nat_le 64 (length s.sessions)) (one_more s)
       (record (one_more s) { sessions_made = s.sessions_made + 1; sessions = s.sessions ++ (s.sessions_made + 1, new_session) ∷ [] })
-  next-one_more s (command.DropSession number) = refl
-  next-one_more s (command.Attach number name) = changed_session-one_more s number _
-  next-one_more s (command.AttachAll number) = changed_session-one_more s number _
-  next-one_more s (command.SetFilter number filter) = changed_session-one_more s number _
-  next-one_more s (command.Enable number asked) = changed_session-one_more s number _
-  next-one_more s (command.Indirect number asked) = changed_session-one_more s number _
-  next-one_more s (command.IsEmpty number) = refl
-  next-one_more s (command.Diff number from name) = changed_session-one_more s number _
-  next-one_more s (command.Capture number) = refl
-  next-one_more s (command.Restart number) = changed_session-one_more s number _
+  next-one_more s c = after_named-one_more s (session_named c) (session_left s c)
 
   one_more-same : (s : State A) (commands : List (Command A)) → replies_from (one_more s) commands ≡ replies_from s commands
   one_more-same s [] = refl

@@ -3,32 +3,32 @@ use Rattle.std.proofs.lemmas.List.{length-reverse, map-append, reverse-append}
 use Rattle.std.proofs.Common.{◌≡◌, ℕ, ◌+◌, ◌<◌, Bool, true, false, cond, Option, Some, None, Ok, Err, List, [], ◌∷◌, ◌++◌, ◌&&◌, ◌||◌, not, map, length, refl, sym, ap, ap₂, subst, ◌∙◌, arith, nat_eq, nat_le, add-one}
 use Rattle.std.specs.Prelude.{filter, reverse}
 use Rattle.std.specs.List.{range_with_len}
-use Rattle.std.specs.Option.{option_map, unwrap_or}
+use Rattle.std.specs.Option.{unwrap_or}
 use Rattle.cap_value.specs.Bytes.{bytes_cmp}
 use Rattle.cap_value.specs.declared.refusal.Refusal.TheVariants.{TooMany, NoSession}
 use Rattle.cap_filter.specs.Rule.{Rule}
 use Rattle.cap_tree.specs.Tree.{put_entry}
 use Rattle.cap_apply.specs.Report.{ReportState}
 use Rattle.cap_session.specs.Note.{note}
-use Rattle.cap_session.specs.Session.{SessionState, attach_all, attached, enabled_as, indirect_as, new_session, restart, set_filter}
+use Rattle.cap_session.specs.Session.{SessionState, attach_all, attached, enabled_as, indirect_as, new_session, restart, set_filter, stored}
 use Rattle.cap_session.specs.Sessions.{session_numbered, with_session}
 use Rattle.cap_core.specs.declared.event.Event.{Event}
 use Rattle.cap_core.specs.declared.command.Command.{Command}
 use Rattle.cap_core.specs.declared.command.Command.TheVariants as command
 use Rattle.cap_core.specs.declared.reply.Reply.{Reply}
-use Rattle.cap_core.specs.declared.reply.Reply.TheVariants.{Capture, Done, Flag, Refused, Snapshot, Session as SessionMade}
-use Rattle.cap_core.specs.Answer.{IsLegal, IsLegalPast, State, answer, capture_reply, diff_reply, diffed, done_reply, empty_reply, enabled_reply, event_by, has_room_for, indirect_reply, refusal, reply_of, save_reply, session_reply, state, state_after, version_reply, write_reply}
-use Rattle.cap_core.specs.Capture.{session_changes}
+use Rattle.cap_core.specs.declared.reply.Reply.TheVariants.{Done, Flag, Refused, Snapshot, Session as SessionMade}
+use Rattle.cap_core.specs.Answer.{IsLegal, IsLegalPast, State, answer, capture_reply, diffed, event_by, has_room_for, new_session_reply, refusal, reply_of, save_reply, session_answer, session_reply, state, state_after, version_reply, write_reply}
 use Rattle.cap_core.specs.Diff.{diff}
 use Rattle.cap_core.specs.Flags.{drops, is_dropped, live_sessions, makes_session, sessions_made}
 use Rattle.cap_core.specs.History.{effect_of, event_effect, is_write, main, name_saved, save_under, saved, snapshot, version}
 use Rattle.cap_core.specs.Outcome.{Effect, no_effect, outcome}
 use Rattle.cap_core.specs.Past.{Past, is_accepted}
 use Rattle.cap_core.specs.Session.{session_of, sessions}
-use Rattle.cap_core.specs.Transition.{after_drop, after_new_session, after_save, after_write, changed_session, compared, next, one_more, written}
+use Rattle.cap_core.specs.Transition.{after_new_session, after_save, after_session, after_write, compared, next, one_more, session_left, with_left, with_sessions, written}
 use Rattle.cap_core.proofs.HistoryLemmas.{map-map}
 use Rattle.cap_core.proofs.SessionLemmas.{and_false, effect-refused, flags-elsewhere, note-new, session-elsewhere, session-quiet, session-refused, silent-elsewhere, speaks_to}
-use Rattle.cap_core.proofs.NumberLemmas.{apart_numbers, equal_numbers, lookup-beyond, lookup-passing, made_before, numbered, passing, passing-push, same_number, with-passing, without-none, without-passing}
+use Rattle.cap_core.proofs.NumberLemmas.{apart_numbers, equal_numbers, lookup-beyond, lookup-passing, made_before, numbered, passing, passing-push, same_number, with-passing, without-passing}
+use Rattle.cap_core.proofs.SessionStandLemmas.{with-same}
 use Rattle.cap_core.proofs.FlagLemmas.{attach-here, attach_all-here, compared-here, enabled-here, filter-here, indirect-here, restart-here}
 
 accepted_version : (A : Type 0) (number : ℕ) (report : Option ReportState) → is_accepted {A = A} (version_reply number report) ≡ true
@@ -47,21 +47,24 @@ module _ {A : Type 0} where
   numbered-none : (past : Past A) (number : ℕ) → sessions_made past < number → session_numbered (sessions past) number ≡ None
   numbered-none past number lt = lookup-beyond (is_live past) (session_of past) 1 (sessions_made past) number (omega arith)
 
+  refused-there : (s : State A) (number : ℕ) → session_numbered s.sessions number ≡ None → (other : ℕ) → nat_eq other number ≡ true → (reply : SessionState A → Reply A)
+      → is_accepted (session_answer (session_numbered s.sessions other) reply) ≡ false
+  refused-there s number none other is reply = ap (λ found. is_accepted (session_answer found reply)) (ap (session_numbered s.sessions) (equal_numbers other number is) ∙ none)
+
   unknown-refused : (s : State A) (number : ℕ) → session_numbered s.sessions number ≡ None → (c : Command A) → speaks_to number c ≡ true → is_accepted (answer s c) ≡ false
-  unknown-refused s number none (command.Attach other name) is = ap (λ found. is_accepted (done_reply found)) (ap (session_numbered s.sessions) (equal_numbers other number is) ∙ none)
-  unknown-refused s number none (command.AttachAll other) is = ap (λ found. is_accepted (done_reply found)) (ap (session_numbered s.sessions) (equal_numbers other number is) ∙ none)
-  unknown-refused s number none (command.SetFilter other filter) is = ap (λ found. is_accepted (done_reply found)) (ap (session_numbered s.sessions) (equal_numbers other number is) ∙ none)
-  unknown-refused s number none (command.Enable other asked) is = ap (λ found. is_accepted (enabled_reply asked found)) (ap (session_numbered s.sessions) (equal_numbers other number is) ∙ none)
-  unknown-refused s number none (command.Indirect other asked) is = ap (λ found. is_accepted (indirect_reply asked found)) (ap (session_numbered s.sessions) (equal_numbers other number is) ∙ none)
-  unknown-refused s number none (command.Diff other from name) is =
-      ap (λ found. is_accepted (diff_reply (diff s.main s.saved from name) found)) (ap (session_numbered s.sessions) (equal_numbers other number is) ∙ none)
-  unknown-refused s number none (command.Restart other) is = ap (λ found. is_accepted (capture_reply s.main found)) (ap (session_numbered s.sessions) (equal_numbers other number is) ∙ none)
+  unknown-refused s number none (command.Attach other name) is = refused-there s number none other is (session_reply s (command.Attach other name))
+  unknown-refused s number none (command.AttachAll other) is = refused-there s number none other is (session_reply s (command.AttachAll other))
+  unknown-refused s number none (command.SetFilter other filter) is = refused-there s number none other is (session_reply s (command.SetFilter other filter))
+  unknown-refused s number none (command.Enable other asked) is = refused-there s number none other is (session_reply s (command.Enable other asked))
+  unknown-refused s number none (command.Indirect other asked) is = refused-there s number none other is (session_reply s (command.Indirect other asked))
+  unknown-refused s number none (command.Diff other from name) is = refused-there s number none other is (session_reply s (command.Diff other from name))
+  unknown-refused s number none (command.Restart other) is = refused-there s number none other is (session_reply s (command.Restart other))
   unknown-refused s number none _ is = cc
 
   unknown-stays : (s : State A) (number : ℕ) → session_numbered s.sessions number ≡ None → (c : Command A) → (is_accepted (answer s c) && drops number c) ≡ false
   unknown-stays s number none (command.DropSession other) =
-      elim (nat_eq other number) as (λ b. nat_eq other number ≡ b → (is_accepted (done_reply (session_numbered s.sessions other)) && b) ≡ false) [
-        | true ↦ λ is. ap (λ found. is_accepted (done_reply found) && true) (ap (session_numbered s.sessions) (equal_numbers other number is) ∙ none)
+      elim (nat_eq other number) as (λ b. nat_eq other number ≡ b → (is_accepted (answer s (command.DropSession other)) && b) ≡ false) [
+        | true ↦ λ is. ap (λ b. b && true) (refused-there s number none other is (session_reply s (command.DropSession other)))
         | false ↦ λ _. and_false _
       ] refl
   unknown-stays s number none c = and_false (is_accepted (answer s c))
@@ -145,7 +148,7 @@ module _ {A : Type 0} where
   -- ---- the sessions
 
   next-new_session : (past : Past A) (by : ℕ) → IsLegalPast past
-      → after_new_session (state_after past) ≡ state_after (event_by by command.NewSession (session_reply (state_after past)) ∷ past)
+      → after_new_session (state_after past) ≡ state_after (event_by by command.NewSession (new_session_reply (state_after past)) ∷ past)
   next-new_session past by legal =
       elim (nat_le 64 (length (sessions past))) as (λ b. cond b (one_more (state_after past)) (record (one_more (state_after past)) { sessions_made = sessions_made past + 1; sessions = sessions past ++ (sessions_made past + 1, new_session) ∷ [] })
       ≡ state_after (event_by by command.NewSession (cond b (refusal TooMany) (SessionMade (sessions_made past + 1))) ∷ past)) [
@@ -165,22 +168,6 @@ module _ {A : Type 0} where
             ∙ ap₂ (λ xs x. xs ++ x ∷ []) (sym (sessions-still event past (λ _. refl) refl)) (ap₂ (λ k x. (k, x)) same here)))
       ]
 
-  next-drop : (past : Past A) (by number : ℕ)
-      → after_drop (state_after past) number ≡ state_after (event_by by (command.DropSession number) (done_reply (session_numbered (sessions past) number)) ∷ past)
-  next-drop past by number =
-      elim (session_numbered (sessions past) number) as (λ o. session_numbered (sessions past) number ≡ o → after_drop (state_after past) number ≡ state_after (event_by by (command.DropSession number) (done_reply o) ∷ past)) [
-        | None ↦ λ is.
-            ap (λ live. record (one_more (state_after past)) { sessions = live }) (without-none (sessions past) number is)
-            ∙ after_refusal (event_by by (command.DropSession number) (refusal NoSession)) past refl
-        | Some session ↦ λ is.
-            let event : Event A = event_by by (command.DropSession number) Done in
-            same_state _ _ (add-one (length past)) refl refl refl refl
-            (without-passing (is_live past) (is_live (event ∷ past)) (session_of past) (session_of (event ∷ past)) 1 (sessions_made past) number
-            (ap (λ b. not (b || is_dropped past number)) (same_number number))
-            (λ j apart. sym (ap (λ b. not (b || is_dropped past j)) (apart_numbers number j apart)))
-            (λ j. sym (session-quiet j event past (silent-elsewhere j event past refl) (flags-elsewhere j event past refl) refl)))
-      ] refl
-
   -- ---- one session
 
   -- a command to one session changes it alone
@@ -193,98 +180,79 @@ module _ {A : Type 0} where
       with-passing (is_live past) (session_of past) (session_of (event ∷ past)) 1 (sessions_made past) number (change session) (ap change found.1 ∙ changed)
       (λ j other. sym (session-quiet j event past (silent-elsewhere j event past (apart j other)) (flags-elsewhere j event past (apart j other)) none))
 
-  next-attach : (past : Past A) (by number : ℕ) (name : List ℕ)
-      → changed_session (state_after past) number (option_map (attached name) (session_numbered (sessions past) number)) ≡ state_after (event_by by (command.Attach number name) (done_reply (session_numbered (sessions past) number)) ∷ past)
-  next-attach past by number name =
-      elim (session_numbered (sessions past) number) as (λ o. session_numbered (sessions past) number ≡ o → changed_session (state_after past) number (option_map (attached name) o) ≡ state_after (event_by by (command.Attach number name) (done_reply o) ∷ past)) [
-        | None ↦ λ is. after_refusal (event_by by (command.Attach number name) (refusal NoSession)) past refl
-        | Some session ↦ λ is.
-            let event : Event A = event_by by (command.Attach number name) Done in
-            same_state _ _ (add-one (length past)) refl refl refl refl
-            (changed-sessions past event number session (attached name) (λ j apart. apart_numbers number j apart) refl is (attach-here past by number name))
+  -- what a command to a session leaves where it is there
+  abbrev Leaves : Past A → ℕ → ℕ → Command A → Type 0
+  Leaves past by number c =
+      (session : SessionState A) → session_numbered (sessions past) number ≡ Some session
+      → with_sessions (state_after past) (with_left (sessions past) number (session_left (state_after past) c session)) ≡ state_after (event_by by c (session_reply (state_after past) c session) ∷ past)
+
+  next-told : (past : Past A) (by number : ℕ) (c : Command A) → Leaves past by number c
+      → after_session (state_after past) number (session_numbered (sessions past) number) (session_left (state_after past) c)
+      ≡ state_after (event_by by c (session_answer (session_numbered (sessions past) number) (session_reply (state_after past) c)) ∷ past)
+  next-told past by number c there =
+      let s = state_after past in
+      elim (session_numbered (sessions past) number) as (λ o. session_numbered (sessions past) number ≡ o → after_session s number o (session_left s c) ≡ state_after (event_by by c (session_answer o (session_reply s c)) ∷ past)) [
+        | None ↦ λ is. after_refusal (event_by by c (refusal NoSession)) past refl
+        | Some session ↦ λ is. there session is
       ] refl
 
-  next-attach_all : (past : Past A) (by number : ℕ)
-      → changed_session (state_after past) number (option_map attach_all (session_numbered (sessions past) number)) ≡ state_after (event_by by (command.AttachAll number) (done_reply (session_numbered (sessions past) number)) ∷ past)
-  next-attach_all past by number =
-      elim (session_numbered (sessions past) number) as (λ o. session_numbered (sessions past) number ≡ o → changed_session (state_after past) number (option_map attach_all o) ≡ state_after (event_by by (command.AttachAll number) (done_reply o) ∷ past)) [
-        | None ↦ λ is. after_refusal (event_by by (command.AttachAll number) (refusal NoSession)) past refl
-        | Some session ↦ λ is.
-            let event : Event A = event_by by (command.AttachAll number) Done in
-            same_state _ _ (add-one (length past)) refl refl refl refl
-            (changed-sessions past event number session attach_all (λ j apart. apart_numbers number j apart) refl is (attach_all-here past by number))
-      ] refl
+  leaves-drop : (past : Past A) (by number : ℕ) → Leaves past by number (command.DropSession number)
+  leaves-drop past by number session is =
+      let event : Event A = event_by by (command.DropSession number) Done in
+      same_state _ _ (add-one (length past)) refl refl refl refl
+      (without-passing (is_live past) (is_live (event ∷ past)) (session_of past) (session_of (event ∷ past)) 1 (sessions_made past) number
+      (ap (λ b. not (b || is_dropped past number)) (same_number number))
+      (λ j apart. sym (ap (λ b. not (b || is_dropped past j)) (apart_numbers number j apart)))
+      (λ j. sym (session-quiet j event past (silent-elsewhere j event past refl) (flags-elsewhere j event past refl) refl)))
 
-  next-set_filter : (past : Past A) (by number : ℕ) (filter : Rule)
-      → changed_session (state_after past) number (option_map (set_filter filter) (session_numbered (sessions past) number)) ≡ state_after (event_by by (command.SetFilter number filter) (done_reply (session_numbered (sessions past) number)) ∷ past)
-  next-set_filter past by number filter =
-      elim (session_numbered (sessions past) number) as (λ o. session_numbered (sessions past) number ≡ o → changed_session (state_after past) number (option_map (set_filter filter) o) ≡ state_after (event_by by (command.SetFilter number filter) (done_reply o) ∷ past)) [
-        | None ↦ λ is. after_refusal (event_by by (command.SetFilter number filter) (refusal NoSession)) past refl
-        | Some session ↦ λ is.
-            let event : Event A = event_by by (command.SetFilter number filter) Done in
-            same_state _ _ (add-one (length past)) refl refl refl refl
-            (changed-sessions past event number session (set_filter filter) (λ j apart. apart_numbers number j apart) refl is (filter-here past by number filter))
-      ] refl
+  leaves-attach : (past : Past A) (by number : ℕ) (name : List ℕ) → Leaves past by number (command.Attach number name)
+  leaves-attach past by number name session is =
+      let event : Event A = event_by by (command.Attach number name) Done in
+      same_state _ _ (add-one (length past)) refl refl refl refl
+      (changed-sessions past event number session (attached name) (λ j apart. apart_numbers number j apart) refl is (attach-here past by number name))
 
-  next-enable : (past : Past A) (by number : ℕ) (asked : Option Bool)
-      → changed_session (state_after past) number (option_map (enabled_as asked) (session_numbered (sessions past) number))
-      ≡ state_after (event_by by (command.Enable number asked) (enabled_reply asked (session_numbered (sessions past) number)) ∷ past)
-  next-enable past by number asked =
-      elim (session_numbered (sessions past) number) as (λ o. session_numbered (sessions past) number ≡ o → changed_session (state_after past) number (option_map (enabled_as asked) o) ≡ state_after (event_by by (command.Enable number asked) (enabled_reply asked o) ∷ past)) [
-        | None ↦ λ is. after_refusal (event_by by (command.Enable number asked) (refusal NoSession)) past refl
-        | Some session ↦ λ is.
-            let event : Event A = event_by by (command.Enable number asked) (Flag (unwrap_or asked session.enabled)) in
-            same_state _ _ (add-one (length past)) refl refl refl refl
-            (changed-sessions past event number session (enabled_as asked) (λ j apart. apart_numbers number j apart) refl is (enabled-here past by number asked))
-      ] refl
+  leaves-attach_all : (past : Past A) (by number : ℕ) → Leaves past by number (command.AttachAll number)
+  leaves-attach_all past by number session is =
+      let event : Event A = event_by by (command.AttachAll number) Done in
+      same_state _ _ (add-one (length past)) refl refl refl refl
+      (changed-sessions past event number session attach_all (λ j apart. apart_numbers number j apart) refl is (attach_all-here past by number))
 
-  next-indirect : (past : Past A) (by number : ℕ) (asked : Option Bool)
-      → changed_session (state_after past) number (option_map (indirect_as asked) (session_numbered (sessions past) number))
-      ≡ state_after (event_by by (command.Indirect number asked) (indirect_reply asked (session_numbered (sessions past) number)) ∷ past)
-  next-indirect past by number asked =
-      elim (session_numbered (sessions past) number) as (λ o. session_numbered (sessions past) number ≡ o → changed_session (state_after past) number (option_map (indirect_as asked) o) ≡ state_after (event_by by (command.Indirect number asked) (indirect_reply asked o) ∷ past)) [
-        | None ↦ λ is. after_refusal (event_by by (command.Indirect number asked) (refusal NoSession)) past refl
-        | Some session ↦ λ is.
-            let event : Event A = event_by by (command.Indirect number asked) (Flag (unwrap_or asked session.indirect)) in
-            same_state _ _ (add-one (length past)) refl refl refl refl
-            (changed-sessions past event number session (indirect_as asked) (λ j apart. apart_numbers number j apart) refl is (indirect-here past by number asked))
-      ] refl
+  leaves-filter : (past : Past A) (by number : ℕ) (filter : Rule) → Leaves past by number (command.SetFilter number filter)
+  leaves-filter past by number filter session is =
+      let event : Event A = event_by by (command.SetFilter number filter) Done in
+      same_state _ _ (add-one (length past)) refl refl refl refl
+      (changed-sessions past event number session (set_filter filter) (λ j apart. apart_numbers number j apart) refl is (filter-here past by number filter))
 
-  next-restart : (past : Past A) (by number : ℕ)
-      → changed_session (state_after past) number (option_map restart (session_numbered (sessions past) number)) ≡ state_after (event_by by (command.Restart number) (capture_reply (main past) (session_numbered (sessions past) number)) ∷ past)
-  next-restart past by number =
-      elim (session_numbered (sessions past) number) as (λ o. session_numbered (sessions past) number ≡ o → changed_session (state_after past) number (option_map restart o) ≡ state_after (event_by by (command.Restart number) (capture_reply (main past) o) ∷ past)) [
-        | None ↦ λ is. after_refusal (event_by by (command.Restart number) (refusal NoSession)) past refl
-        | Some session ↦ λ is.
-            let event : Event A = event_by by (command.Restart number) (Capture (session_changes (main past) session)) in
-            same_state _ _ (add-one (length past)) refl refl refl refl
-            (changed-sessions past event number session restart (λ j apart. apart_numbers number j apart) refl is (restart-here past by number))
-      ] refl
+  leaves-enable : (past : Past A) (by number : ℕ) (asked : Option Bool) → Leaves past by number (command.Enable number asked)
+  leaves-enable past by number asked session is =
+      let event : Event A = event_by by (command.Enable number asked) (Flag (unwrap_or asked session.enabled)) in
+      same_state _ _ (add-one (length past)) refl refl refl refl
+      (changed-sessions past event number session (enabled_as asked) (λ j apart. apart_numbers number j apart) refl is (enabled-here past by number asked))
 
-  -- ---- a diff
+  leaves-indirect : (past : Past A) (by number : ℕ) (asked : Option Bool) → Leaves past by number (command.Indirect number asked)
+  leaves-indirect past by number asked session is =
+      let event : Event A = event_by by (command.Indirect number asked) (Flag (unwrap_or asked session.indirect)) in
+      same_state _ _ (add-one (length past)) refl refl refl refl
+      (changed-sessions past event number session (indirect_as asked) (λ j apart. apart_numbers number j apart) refl is (indirect-here past by number asked))
 
-  same-session_there : (past : Past A) (number : ℕ) (session : SessionState A) → session_numbered (sessions past) number ≡ Some session → with_session (sessions past) number session ≡ sessions past
-  same-session_there past number session is =
-      with-passing (is_live past) (session_of past) (session_of past) 1 (sessions_made past) number session (lookup-passing (is_live past) (session_of past) 1 (sessions_made past) number session is).1 (λ j _. refl)
+  leaves-restart : (past : Past A) (by number : ℕ) → Leaves past by number (command.Restart number)
+  leaves-restart past by number session is =
+      let event : Event A = event_by by (command.Restart number) (capture_reply (main past) session) in
+      same_state _ _ (add-one (length past)) refl refl refl refl
+      (changed-sessions past event number session restart (λ j apart. apart_numbers number j apart) refl is (restart-here past by number))
 
-  next-diff : (past : Past A) (by number : ℕ) (from name : List ℕ)
-      → changed_session (state_after past) number (option_map (compared name (diff (main past) (saved past) from name)) (session_numbered (sessions past) number))
-      ≡ state_after (event_by by (command.Diff number from name) (diff_reply (diff (main past) (saved past) from name) (session_numbered (sessions past) number)) ∷ past)
-  next-diff past by number from name =
+  leaves-diff : (past : Past A) (by number : ℕ) (from name : List ℕ) → Leaves past by number (command.Diff number from name)
+  leaves-diff past by number from name session is =
       let result = diff (main past) (saved past) from name in
       let c : Command A = command.Diff number from name in
-      elim (session_numbered (sessions past) number) as (λ o. session_numbered (sessions past) number ≡ o → changed_session (state_after past) number (option_map (compared name result) o) ≡ state_after (event_by by c (diff_reply result o) ∷ past)) [
-        | None ↦ λ is. after_refusal (event_by by c (refusal NoSession)) past refl
-        | Some session ↦ λ is.
-            elim result as (λ r. result ≡ r → changed_session (state_after past) number (Some (compared name r session)) ≡ state_after (event_by by c (diffed r) ∷ past)) [
-              | Err why ↦ λ _.
-                  ap (λ live. record (one_more (state_after past)) { sessions = live }) (same-session_there past number session is)
-                  ∙ after_refusal (event_by by c (refusal why)) past refl
-              | Ok found ↦ λ made.
-                  same_state _ _ (add-one (length past)) refl refl refl refl
-                  (changed-sessions past (event_by by c Done) number session (compared name (Ok found)) (λ j apart. apart_numbers number j apart) refl is
-                  (ap (λ r. compared name r (session_of past number)) (sym made) ∙ compared-here past by number from name))
-            ] refl
+      elim result as (λ r. result ≡ r → with_sessions (state_after past) (with_session (sessions past) number (compared name r session)) ≡ state_after (event_by by c (diffed r) ∷ past)) [
+        | Err why ↦ λ _.
+            ap (with_sessions (state_after past)) (with-same number (sessions past) session is)
+            ∙ after_refusal (event_by by c (refusal why)) past refl
+        | Ok found ↦ λ made.
+            same_state _ _ (add-one (length past)) refl refl refl refl
+            (changed-sessions past (event_by by c Done) number session (compared name (Ok found)) (λ j apart. apart_numbers number j apart) refl is
+            (ap (λ r. compared name r (session_of past number)) (sym made) ∙ compared-here past by number from name))
       ] refl
 
   -- ---- commands that only ask
@@ -294,25 +262,15 @@ module _ {A : Type 0} where
       let event : Event A = event_by by command.Read (Snapshot (snapshot past)) in
       same_state _ _ (add-one (length past)) refl refl refl refl (sessions-still event past (λ _. refl) refl)
 
-  next-is_empty : (past : Past A) (by number : ℕ)
-      → one_more (state_after past) ≡ state_after (event_by by (command.IsEmpty number) (empty_reply (session_numbered (sessions past) number)) ∷ past)
-  next-is_empty past by number =
-      elim (session_numbered (sessions past) number) as (λ o. one_more (state_after past) ≡ state_after (event_by by (command.IsEmpty number) (empty_reply o) ∷ past)) [
-        | None ↦ after_refusal (event_by by (command.IsEmpty number) (refusal NoSession)) past refl
-        | Some session ↦
-            let event : Event A = event_by by (command.IsEmpty number) (empty_reply (Some session)) in
-            same_state _ _ (add-one (length past)) refl refl refl refl (sessions-still event past (λ _. refl) refl)
-      ]
+  leaves-is_empty : (past : Past A) (by number : ℕ) → Leaves past by number (command.IsEmpty number)
+  leaves-is_empty past by number session is =
+      let event : Event A = event_by by (command.IsEmpty number) (Flag (nat_eq (stored session.tables) 0)) in
+      same_state _ _ (add-one (length past)) refl refl refl refl (with-same number (sessions past) session is ∙ sessions-still event past (λ _. refl) refl)
 
-  next-capture : (past : Past A) (by number : ℕ)
-      → one_more (state_after past) ≡ state_after (event_by by (command.Capture number) (capture_reply (main past) (session_numbered (sessions past) number)) ∷ past)
-  next-capture past by number =
-      elim (session_numbered (sessions past) number) as (λ o. one_more (state_after past) ≡ state_after (event_by by (command.Capture number) (capture_reply (main past) o) ∷ past)) [
-        | None ↦ after_refusal (event_by by (command.Capture number) (refusal NoSession)) past refl
-        | Some session ↦
-            let event : Event A = event_by by (command.Capture number) (Capture (session_changes (main past) session)) in
-            same_state _ _ (add-one (length past)) refl refl refl refl (sessions-still event past (λ _. refl) refl)
-      ]
+  leaves-capture : (past : Past A) (by number : ℕ) → Leaves past by number (command.Capture number)
+  leaves-capture past by number session is =
+      let event : Event A = event_by by (command.Capture number) (capture_reply (main past) session) in
+      same_state _ _ (add-one (length past)) refl refl refl refl (with-same number (sessions past) session is ∙ sessions-still event past (λ _. refl) refl)
 
   pub next-is : (past : Past A) (by : ℕ) (c : Command A) → IsLegalPast past → next (state_after past) c ≡ state_after (event_by by c (answer (state_after past) c) ∷ past)
   next-is past by (command.CreateTable name schema) legal = next-write past by (command.CreateTable name schema) (record { writes = refl; makes = refl; saves = refl; drops = λ _. refl; speaks = λ _. refl })
@@ -321,16 +279,16 @@ module _ {A : Type 0} where
   next-is past by command.Read legal = next-read past by
   next-is past by (command.SaveAs name) legal = next-save past by name
   next-is past by command.NewSession legal = next-new_session past by legal
-  next-is past by (command.DropSession number) legal = next-drop past by number
-  next-is past by (command.Attach number name) legal = next-attach past by number name
-  next-is past by (command.AttachAll number) legal = next-attach_all past by number
-  next-is past by (command.SetFilter number filter) legal = next-set_filter past by number filter
-  next-is past by (command.Enable number asked) legal = next-enable past by number asked
-  next-is past by (command.Indirect number asked) legal = next-indirect past by number asked
-  next-is past by (command.IsEmpty number) legal = next-is_empty past by number
-  next-is past by (command.Diff number from name) legal = next-diff past by number from name
-  next-is past by (command.Capture number) legal = next-capture past by number
-  next-is past by (command.Restart number) legal = next-restart past by number
+  next-is past by (command.DropSession number) legal = next-told past by number (command.DropSession number) (leaves-drop past by number)
+  next-is past by (command.Attach number name) legal = next-told past by number (command.Attach number name) (leaves-attach past by number name)
+  next-is past by (command.AttachAll number) legal = next-told past by number (command.AttachAll number) (leaves-attach_all past by number)
+  next-is past by (command.SetFilter number filter) legal = next-told past by number (command.SetFilter number filter) (leaves-filter past by number filter)
+  next-is past by (command.Enable number asked) legal = next-told past by number (command.Enable number asked) (leaves-enable past by number asked)
+  next-is past by (command.Indirect number asked) legal = next-told past by number (command.Indirect number asked) (leaves-indirect past by number asked)
+  next-is past by (command.IsEmpty number) legal = next-told past by number (command.IsEmpty number) (leaves-is_empty past by number)
+  next-is past by (command.Diff number from name) legal = next-told past by number (command.Diff number from name) (leaves-diff past by number from name)
+  next-is past by (command.Capture number) legal = next-told past by number (command.Capture number) (leaves-capture past by number)
+  next-is past by (command.Restart number) legal = next-told past by number (command.Restart number) (leaves-restart past by number)
 
   -- ---- histories, the first event first
 

@@ -6,7 +6,7 @@ use Rattle.std.specs.Prelude.{filter}
 use Rattle.std.specs.List.{range_with_len}
 use Rattle.std.specs.Map.{lookup}
 use Rattle.cap_session.specs.Session.{SessionState}
-use Rattle.cap_session.specs.Sessions.{NumberedSessions, session_numbered, with_session, without_session}
+use Rattle.cap_session.specs.Sessions.{with_session, without_session}
 
 -- ---- lists under numbers
 
@@ -115,16 +115,6 @@ module _ {A : Type 0} (p : ℕ → Bool) where
               | false ↦ later
             ]
       ] refl
-
-module _ {A : Type 0} where
-  -- where the session is not there, nothing is left out
-  pub without-none : (live : NumberedSessions A) (number : ℕ) → session_numbered live number ≡ None → without_session live number ≡ live
-  without-none [] number none = refl
-  without-none (session ∷ live) number none =
-      elim (nat_eq number session.0) as (λ b. cond b (Some session.1) (session_numbered live number) ≡ None → cond b live (session ∷ without_session live number) ≡ session ∷ live) [
-        | true ↦ λ found. cc
-        | false ↦ λ absent. ap (λ rest. session ∷ rest) (without-none live number absent)
-      ] none
 
 pub made_before : (b : Bool) (n number : ℕ) → cond b (n + 1) n < number → n < number
 made_before true n number lt = omega arith

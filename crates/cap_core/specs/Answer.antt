@@ -1,6 +1,7 @@
 -- The state that a history leaves, the reply to a command after it, and which histories are legal.
 use Rattle.std.specs.Prelude.{◌≡◌, ℕ, Option, Some, None, Result, Ok, Err, Bool, List, [], ◌∷◌, ◌+◌, ◌||◌}
-use Rattle.std.specs.Prelude.{length, reverse, is_some, nat_eq, nat_le, nat_lt, if◌then◌else◌}
+use Rattle.std.specs.Prelude.{length, reverse, is_some, option_and_then, nat_eq, nat_le, nat_lt}
+use Rattle.std.specs.Prelude.{if◌then◌else◌}
 use Rattle.std.specs.Option.{unwrap_or}
 use Rattle.cap_value.specs.Bytes.{bytes_cmp}
 use Rattle.cap_value.specs.declared.refusal.Refusal.{Refusal}
@@ -20,7 +21,7 @@ use Rattle.cap_core.specs.declared.reply.Reply.TheVariants.{Done, Written, Appli
 use Rattle.cap_core.specs.declared.reply.Reply.TheVariants.{Capture, Refused}
 use Rattle.cap_core.specs.Capture.{session_changes}
 use Rattle.cap_core.specs.Diff.{diff}
-use Rattle.cap_core.specs.Flags.{sessions_made}
+use Rattle.cap_core.specs.Flags.{session_named, sessions_made}
 use Rattle.cap_core.specs.History.{Databases, main, saved, version}
 use Rattle.cap_core.specs.Outcome.{Effect, Refused as Why, outcome}
 use Rattle.cap_core.specs.Past.{Past}
@@ -63,41 +64,35 @@ module _ {A : Type 0} where
   abbrev pub save_reply : Databases A → List ℕ → Reply A
   save_reply saved name = if has_room_for saved name then Done else refusal TooMany
 
-  abbrev pub session_reply : State A → Reply A
-  session_reply state =
+  abbrev pub new_session_reply : State A → Reply A
+  new_session_reply state =
       if nat_le 64 (length state.sessions) then refusal TooMany
       else Session (state.sessions_made + 1)
-
-  abbrev pub done_reply : Option (SessionState A) → Reply A
-  done_reply None = refusal NoSession
-  done_reply (Some session) = Done
-
-  abbrev pub enabled_reply : Option Bool → Option (SessionState A) → Reply A
-  enabled_reply asked None = refusal NoSession
-  enabled_reply asked (Some session) = Flag (unwrap_or asked session.enabled)
-
-  abbrev pub indirect_reply : Option Bool → Option (SessionState A) → Reply A
-  indirect_reply asked None = refusal NoSession
-  indirect_reply asked (Some session) = Flag (unwrap_or asked session.indirect)
-
-  -- a session is empty where no row was touched, also where each touched row is again as it was
-  abbrev pub empty_reply : Option (SessionState A) → Reply A
-  empty_reply None = refusal NoSession
-  empty_reply (Some session) = Flag (nat_eq (stored session.tables) 0)
 
   abbrev pub diffed : Result (Option (List (Difference A))) Refusal → Reply A
   diffed (Ok found) = Done
   diffed (Err why) = refusal why
 
-  abbrev pub diff_reply : Result (Option (List (Difference A))) Refusal → Option (SessionState A) → Reply A
-  diff_reply found None = refusal NoSession
-  diff_reply found (Some session) = diffed found
+  abbrev pub capture_reply : Tables A → SessionState A → Reply A
+  capture_reply tables session = Capture (session_changes tables session)
 
-  abbrev pub capture_reply : Tables A → Option (SessionState A) → Reply A
-  capture_reply tables None = refusal NoSession
-  capture_reply tables (Some session) = Capture (session_changes tables session)
+  -- The reply to a command by the session that it is to: done, where the command is not named. A session is
+  -- empty where no row was touched, also where each touched row is again as it was.
+  abbrev pub session_reply : State A → Command A → SessionState A → Reply A
+  session_reply state (command.Enable number asked) session = Flag (unwrap_or asked session.enabled)
+  session_reply state (command.Indirect number asked) session = Flag (unwrap_or asked session.indirect)
+  session_reply state (command.IsEmpty number) session = Flag (nat_eq (stored session.tables) 0)
+  session_reply state (command.Diff number from name) session = diffed (diff state.main state.saved from name)
+  session_reply state (command.Capture number) session = capture_reply state.main session
+  session_reply state (command.Restart number) session = capture_reply state.main session
+  session_reply state _ session = Done
 
-  -- the reply to a command in a state
+  -- a command to a session is refused where there is none with the number
+  abbrev pub session_answer : Option (SessionState A) → (SessionState A → Reply A) → Reply A
+  session_answer None reply = refusal NoSession
+  session_answer (Some session) reply = reply session
+
+  -- the reply to a command in a state: the last case is that of the commands to a session
   abbrev pub answer : State A → Command A → Reply A
   answer state (command.CreateTable name schema) =
       write_reply state (outcome (snapshot_of state) (command.CreateTable name schema))
@@ -106,19 +101,10 @@ module _ {A : Type 0} where
       write_reply state (outcome (snapshot_of state) (command.Apply blob policy))
   answer state command.Read = Snapshot (snapshot_of state)
   answer state (command.SaveAs name) = save_reply state.saved name
-  answer state command.NewSession = session_reply state
-  answer state (command.DropSession session) = done_reply (session_numbered state.sessions session)
-  answer state (command.Attach session name) = done_reply (session_numbered state.sessions session)
-  answer state (command.AttachAll session) = done_reply (session_numbered state.sessions session)
-  answer state (command.SetFilter session filter) = done_reply (session_numbered state.sessions session)
-  answer state (command.Enable session asked) = enabled_reply asked (session_numbered state.sessions session)
-  answer state (command.Indirect session asked) =
-      indirect_reply asked (session_numbered state.sessions session)
-  answer state (command.IsEmpty session) = empty_reply (session_numbered state.sessions session)
-  answer state (command.Diff session from name) =
-      diff_reply (diff state.main state.saved from name) (session_numbered state.sessions session)
-  answer state (command.Capture session) = capture_reply state.main (session_numbered state.sessions session)
-  answer state (command.Restart session) = capture_reply state.main (session_numbered state.sessions session)
+  answer state command.NewSession = new_session_reply state
+  answer state command =
+      session_answer (option_and_then (session_numbered state.sessions) (session_named command))
+      (session_reply state command)
 
   -- ---- histories
 

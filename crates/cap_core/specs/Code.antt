@@ -3,3 +3,4 @@ pub mod Grouped
 pub mod Sound
 pub mod CommandOutcome
 pub mod ChangesetBytes
+pub mod SessionChange

@@ -1,8 +1,7 @@
 -- The state after one more command, as a function of the state. Laws relate it to the state after a history,
 -- which is read off all events.
-use Rattle.std.specs.Prelude.{ℕ, Bool, Option, Some, None, Result, Ok, Err, List, [], ◌∷◌, ◌++◌, ◌+◌, length}
+use Rattle.std.specs.Prelude.{ℕ, Option, Some, None, Result, Ok, Err, List, [], ◌∷◌, ◌++◌, ◌+◌, length}
 use Rattle.std.specs.Prelude.{nat_le, if◌then◌else◌}
-use Rattle.std.specs.Option.{option_map}
 use Rattle.cap_value.specs.Bytes.{bytes_cmp}
 use Rattle.cap_value.specs.declared.refusal.Refusal.{Refusal}
 use Rattle.cap_tree.specs.Tree.{put_entry}
@@ -12,11 +11,13 @@ use Rattle.cap_compare.specs.declared.difference.Difference.{Difference}
 use Rattle.cap_session.specs.Note.{note_diff}
 use Rattle.cap_session.specs.Session.{SessionState, attach_all, attached, enabled_as, indirect_as}
 use Rattle.cap_session.specs.Session.{new_session, restart, set_filter}
-use Rattle.cap_session.specs.Sessions.{note_each, session_numbered, with_session, without_session}
+use Rattle.cap_session.specs.Sessions.{NumberedSessions, note_each, session_numbered, with_session}
+use Rattle.cap_session.specs.Sessions.{without_session}
 use Rattle.cap_core.specs.declared.command.Command.{Command}
 use Rattle.cap_core.specs.declared.command.Command.TheVariants as command
 use Rattle.cap_core.specs.Answer.{State, has_room_for, snapshot_of}
 use Rattle.cap_core.specs.Diff.{diff}
+use Rattle.cap_core.specs.Flags.{session_named}
 use Rattle.cap_core.specs.Outcome.{Effect, Refused, outcome}
 
 module _ {A : Type 0} where
@@ -54,15 +55,6 @@ module _ {A : Type 0} where
         sessions = state.sessions ++ (state.sessions_made + 1, new_session) ∷ [];
       }
 
-  abbrev pub after_drop : State A → ℕ → State A
-  after_drop state number = record (one_more state) { sessions = without_session state.sessions number }
-
-  -- replaces the session with the number, if there is one
-  abbrev pub changed_session : State A → ℕ → Option (SessionState A) → State A
-  changed_session state number None = one_more state
-  changed_session state number (Some new) =
-      record (one_more state) { sessions = with_session state.sessions number new }
-
   -- ---- one session
 
   abbrev pub compared : List ℕ → Result (Option (List (Difference A))) Refusal → SessionState A
@@ -70,7 +62,42 @@ module _ {A : Type 0} where
   compared name (Ok (Some differences)) session = note_diff name differences session
   compared name _ session = session
 
-  -- the state after a command: where it is not named it leaves everything but the number of events
+  -- What a command leaves of the session that it is to, or none where it ends the session. A command that is
+  -- not named leaves it as it is.
+  abbrev pub session_left : State A → Command A → SessionState A → Option (SessionState A)
+  session_left state (command.DropSession number) session = None
+  session_left state (command.Attach number name) session = Some (attached name session)
+  session_left state (command.AttachAll number) session = Some (attach_all session)
+  session_left state (command.SetFilter number filter) session = Some (set_filter filter session)
+  session_left state (command.Enable number asked) session = Some (enabled_as asked session)
+  session_left state (command.Indirect number asked) session = Some (indirect_as asked session)
+  session_left state (command.Diff number from name) session =
+      Some (compared name (diff state.main state.saved from name) session)
+  session_left state (command.Restart number) session = Some (restart session)
+  session_left state _ session = Some session
+
+  -- the sessions with what is left of the one with the number
+  abbrev pub with_left : NumberedSessions A → ℕ → Option (SessionState A) → NumberedSessions A
+  with_left sessions number None = without_session sessions number
+  with_left sessions number (Some left) = with_session sessions number left
+
+  abbrev pub with_sessions : State A → NumberedSessions A → State A
+  with_sessions state sessions = record (one_more state) { sessions = sessions }
+
+  -- A command to the session with this number. Where there is none, nothing changes but the number of events.
+  abbrev pub after_session : State A → ℕ → Option (SessionState A)
+      → (SessionState A → Option (SessionState A)) → State A
+  after_session state number None left = one_more state
+  after_session state number (Some session) left =
+      with_sessions state (with_left state.sessions number (left session))
+
+  -- A command to the session with this number, or to none.
+  abbrev pub after_named : State A → Option ℕ → (SessionState A → Option (SessionState A)) → State A
+  after_named state None left = one_more state
+  after_named state (Some number) left =
+      after_session state number (session_numbered state.sessions number) left
+
+  -- the state after a command: the last case is that of the commands to a session, and of `Read`
   abbrev pub next : State A → Command A → State A
   next state (command.CreateTable name schema) =
       after_write state (outcome (snapshot_of state) (command.CreateTable name schema))
@@ -79,21 +106,4 @@ module _ {A : Type 0} where
       after_write state (outcome (snapshot_of state) (command.Apply blob policy))
   next state (command.SaveAs name) = after_save state name
   next state command.NewSession = after_new_session state
-  next state (command.DropSession number) = after_drop state number
-  next state (command.Attach number name) =
-      changed_session state number (option_map (attached name) (session_numbered state.sessions number))
-  next state (command.AttachAll number) =
-      changed_session state number (option_map attach_all (session_numbered state.sessions number))
-  next state (command.SetFilter number filter) =
-      changed_session state number (option_map (set_filter filter) (session_numbered state.sessions number))
-  next state (command.Enable number asked) =
-      changed_session state number (option_map (enabled_as asked) (session_numbered state.sessions number))
-  next state (command.Indirect number asked) =
-      changed_session state number (option_map (indirect_as asked) (session_numbered state.sessions number))
-  next state (command.Diff number from name) =
-      changed_session state number
-      (option_map (compared name (diff state.main state.saved from name))
-      (session_numbered state.sessions number))
-  next state (command.Restart number) =
-      changed_session state number (option_map restart (session_numbered state.sessions number))
-  next state _ = one_more state
+  next state command = after_named state (session_named command) (session_left state command)

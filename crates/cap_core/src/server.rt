@@ -160,20 +160,16 @@ impl<A: AllocHandle> Core<A> {
             Command::Read => self.read(hook),
             Command::SaveAs { database } => self.save_as(database, hook),
             Command::NewSession => self.new_session(hook),
-            Command::DropSession { session } => self.drop_session(*session, hook),
-            Command::Attach { session, table } => self.attach(*session, table, hook),
-            Command::AttachAll { session } => self.attach_all(*session, hook),
-            Command::SetFilter { session, filter } => self.set_filter(*session, filter, hook),
-            Command::Enable { session, enabled } => self.enable(*session, *enabled, hook),
-            Command::Indirect { session, indirect } => self.indirect(*session, *indirect, hook),
-            Command::IsEmpty { session } => self.is_empty(*session, hook),
-            Command::Diff {
-                session,
-                from,
-                table,
-            } => self.diff(*session, from, table, hook),
-            Command::Capture { session } => self.capture(*session, hook),
-            Command::Restart { session } => self.restart(*session, hook),
+            Command::DropSession { session }
+            | Command::Attach { session, .. }
+            | Command::AttachAll { session }
+            | Command::SetFilter { session, .. }
+            | Command::Enable { session, .. }
+            | Command::Indirect { session, .. }
+            | Command::IsEmpty { session }
+            | Command::Diff { session, .. }
+            | Command::Capture { session }
+            | Command::Restart { session } => self.session_command(*session, command, hook),
         }
     }
 

@@ -1,29 +1,30 @@
 //! The commands on sessions. Each computes its reply and reserves all memory, asks the commit hook, and then
 //! changes the session in place.
-ghost use Rattle.std.specs.Prelude.{◌+◌, ◌∷◌, ◌++◌, [], IsTrue};
-ghost use Rattle.std.specs.Option.{option_map};
-ghost use Rattle.cap_core.specs.Answer.{capture_reply, diff_reply, done_reply, empty_reply, enabled_reply};
-ghost use Rattle.cap_core.specs.Answer.{indirect_reply, refusal, session_reply};
+ghost use Rattle.std.specs.Prelude.{◌≡◌, ◌+◌, ◌∷◌, ◌++◌, [], is_some, IfOk, IsTrue};
+ghost use Rattle.cap_core.specs.Answer.{capture_reply, diffed, new_session_reply, session_answer};
+ghost use Rattle.cap_core.specs.Answer.{session_reply};
+ghost use Rattle.cap_core.specs.CanCapture.{session_stands};
 ghost use Rattle.cap_core.specs.Code.Sound.{differences_stand};
 ghost use Rattle.cap_core.specs.Code.CommandOutcome.{Reports};
+ghost use Rattle.cap_core.specs.Code.SessionChange.{changed_session};
 ghost use Rattle.cap_core.specs.Diff.{diff};
+ghost use Rattle.cap_core.specs.Flags.{session_named};
 ghost use Rattle.cap_core.specs.Past.{HasRoom};
-ghost use Rattle.cap_core.specs.Transition.{after_drop, after_new_session, changed_session, compared};
-ghost use Rattle.cap_core.specs.Transition.{one_more};
+ghost use Rattle.cap_core.specs.Transition.{after_new_session, after_session, compared, one_more};
+ghost use Rattle.cap_core.specs.Transition.{session_left, with_sessions};
 ghost use Rattle.cap_session.specs.Note.{note_diff};
-ghost use Rattle.cap_session.specs.Session.{attach_all, attached, changed_by, enabled_as, indirect_as};
-ghost use Rattle.cap_session.specs.Session.{new_session, restart, set_filter};
-ghost use Rattle.cap_session.specs.Sessions.{session_numbered};
+ghost use Rattle.cap_session.specs.Session.{attached, changed_by, new_session, set_filter};
+ghost use Rattle.cap_session.specs.Sessions.{session_numbered, without_session};
 ghost use Rattle.cap_database.specs.Tables.{schema_of};
 
-use crate::capture::changes_of;
 use crate::commit_hook::{ReplyHook, ask};
 use crate::diff::differences;
-use crate::{Capture, CommitHook, Core, Reply, SESSIONS_MAX};
+use crate::{Capture, Command, CommitHook, Core, Reply, SESSIONS_MAX, changes_of};
 use cap_compare::Difference;
+use cap_database::Database;
 use cap_filter::TableFilter;
-use cap_session::SessionChange;
-use cap_value::{AllocHandle, Fault, Name, Refusal};
+use cap_session::{Session, SessionChange};
+use cap_value::{AllocHandle, Fault, Name, OutOfMemory, Refusal};
 
 impl<A: AllocHandle> Core<A> {
     pub(crate) fn new_session<C: CommitHook<A>>(
@@ -31,8 +32,8 @@ impl<A: AllocHandle> Core<A> {
         hook: &mut C,
     ) -> Result<Reply<A>, Fault<C::Refusal>>
         requires room { HasRoom self.old.events }
-        requires can_ask { C.can_ask hook.old (session_reply self.old) }
-        ensures { Reports C.gives (session_reply self.old) (after_new_session self.old)
+        requires can_ask { C.can_ask hook.old (new_session_reply self.old) }
+        ensures { Reports C.gives (new_session_reply self.old) (after_new_session self.old)
             self.old self.new hook.old hook.new result }
     {
         if self.sessions.len() >= SESSIONS_MAX {
@@ -70,21 +71,70 @@ impl<A: AllocHandle> Core<A> {
         }
     }
 
-    pub(crate) fn drop_session<C: CommitHook<A>>(
+    // Carries out a command to the session with this number, if there is one.
+    pub(crate) fn session_command<C: CommitHook<A>>(
+        &mut self,
+        number: u64,
+        command: &Command<A>,
+        hook: &mut C,
+    ) -> Result<Reply<A>, Fault<C::Refusal>>
+        requires room { HasRoom self.old.events }
+        requires named { IsTrue (is_some (session_named command.now)) }
+        requires can_ask { C.can_ask hook.old (session_answer
+            (session_numbered self.old.sessions number) (session_reply self.old command.now)) }
+        ensures { let session = session_numbered self.old.sessions number in
+            Reports C.gives (session_answer session (session_reply self.old command.now))
+            (after_session self.old number session (session_left self.old command.now))
+            self.old self.new hook.old hook.new result }
+    {
+        let Some(session) = self.sessions.get(number) else {
+            let why = Refusal::NoSession;
+            return self.keep(Reply::Refused { at: None, why }, hook);
+        };
+        match command {
+            Command::DropSession { .. } => self.drop_session(number, hook),
+            Command::Attach { table, .. } => self.attach(number, table, hook),
+            Command::AttachAll { .. } => {
+                self.change_session(number, SessionChange::AttachAll, Reply::Done, hook)
+            }
+            Command::SetFilter { filter, .. } => self.set_filter(number, filter, hook),
+            Command::Enable { enabled, .. } => {
+                let reply = Reply::Flag(enabled.unwrap_or(session.is_enabled()));
+                self.change_session(number, SessionChange::Enable(*enabled), reply, hook)
+            }
+            Command::Indirect { indirect, .. } => {
+                let reply = Reply::Flag(indirect.unwrap_or(session.is_indirect()));
+                self.change_session(number, SessionChange::Indirect(*indirect), reply, hook)
+            }
+            Command::IsEmpty { .. } => {
+                let empty = session.is_empty();
+                self.keep(Reply::Flag(empty), hook)
+            }
+            Command::Diff { from, table, .. } => self.diff(number, from, table, hook),
+            Command::Capture { .. } => {
+                let reply = capture_reply(self.alloc, session, &self.main)?;
+                self.keep(reply, hook)
+            }
+            Command::Restart { .. } => {
+                let reply = capture_reply(self.alloc, session, &self.main)?;
+                self.change_session(number, SessionChange::Restart, reply, hook)
+            }
+            _ => unreachable!(),
+        }
+    }
+
+    // Ends the session with this number.
+    fn drop_session<C: CommitHook<A>>(
         &mut self,
         number: u64,
         hook: &mut C,
     ) -> Result<Reply<A>, Fault<C::Refusal>>
         requires room { HasRoom self.old.events }
-        requires can_ask { C.can_ask hook.old
-            (done_reply (session_numbered self.old.sessions number)) }
-        ensures { Reports C.gives (done_reply (session_numbered self.old.sessions number))
-            (after_drop self.old number)
+        requires can_ask { C.can_ask hook.old Reply.Done }
+        ensures { Reports C.gives Reply.Done
+            (with_sessions self.old (without_session self.old.sessions number))
             self.old self.new hook.old hook.new result }
     {
-        if self.sessions.get(number).is_none() {
-            return self.refuse_session(hook);
-        }
         let reply = Reply::Done;
         ask(hook, &reply)?;
         self.sessions.remove(number);
@@ -92,23 +142,18 @@ impl<A: AllocHandle> Core<A> {
         Ok(reply)
     }
 
-    pub(crate) fn attach<C: CommitHook<A>>(
+    // Attaches a table to the session with this number.
+    fn attach<C: CommitHook<A>>(
         &mut self,
         number: u64,
         name: &Name<A>,
         hook: &mut C,
     ) -> Result<Reply<A>, Fault<C::Refusal>>
         requires room { HasRoom self.old.events }
-        requires can_ask { C.can_ask hook.old
-            (done_reply (session_numbered self.old.sessions number)) }
-        ensures { let session = session_numbered self.old.sessions number in
-            Reports C.gives (done_reply session)
-            (changed_session self.old number (option_map (attached name.now) session))
+        requires can_ask { C.can_ask hook.old Reply.Done }
+        ensures { Reports C.gives Reply.Done (changed_session self.old number (attached name.now))
             self.old self.new hook.old hook.new result }
     {
-        if self.sessions.get(number).is_none() {
-            return self.refuse_session(hook);
-        }
         self.sessions.note_attached(number, name)?;
         let reply = Reply::Done;
         ask(hook, &reply)?;
@@ -117,108 +162,24 @@ impl<A: AllocHandle> Core<A> {
         Ok(reply)
     }
 
-    pub(crate) fn attach_all<C: CommitHook<A>>(
-        &mut self,
-        number: u64,
-        hook: &mut C,
-    ) -> Result<Reply<A>, Fault<C::Refusal>>
-        requires room { HasRoom self.old.events }
-        requires can_ask { C.can_ask hook.old
-            (done_reply (session_numbered self.old.sessions number)) }
-        ensures { let session = session_numbered self.old.sessions number in
-            Reports C.gives (done_reply session)
-            (changed_session self.old number (option_map attach_all session))
-            self.old self.new hook.old hook.new result }
-    {
-        if self.sessions.get(number).is_none() {
-            return self.refuse_session(hook);
-        }
-        self.change_session(number, SessionChange::AttachAll, Reply::Done, hook)
-    }
-
-    pub(crate) fn set_filter<C: CommitHook<A>>(
+    // Sets the filter of the session with this number.
+    fn set_filter<C: CommitHook<A>>(
         &mut self,
         number: u64,
         filter: &TableFilter<A>,
         hook: &mut C,
     ) -> Result<Reply<A>, Fault<C::Refusal>>
         requires room { HasRoom self.old.events }
-        requires can_ask { C.can_ask hook.old
-            (done_reply (session_numbered self.old.sessions number)) }
-        ensures { let session = session_numbered self.old.sessions number in
-            Reports C.gives (done_reply session)
-            (changed_session self.old number (option_map (set_filter filter.now) session))
+        requires can_ask { C.can_ask hook.old Reply.Done }
+        ensures { Reports C.gives Reply.Done (changed_session self.old number (set_filter filter.now))
             self.old self.new hook.old hook.new result }
     {
-        if self.sessions.get(number).is_none() {
-            return self.refuse_session(hook);
-        }
         let filter = SessionChange::SetFilter(filter.copy()?);
         self.change_session(number, filter, Reply::Done, hook)
     }
 
-    pub(crate) fn enable<C: CommitHook<A>>(
-        &mut self,
-        number: u64,
-        asked: Option<bool>,
-        hook: &mut C,
-    ) -> Result<Reply<A>, Fault<C::Refusal>>
-        requires room { HasRoom self.old.events }
-        requires can_ask { C.can_ask hook.old
-            (enabled_reply asked (session_numbered self.old.sessions number)) }
-        ensures { let session = session_numbered self.old.sessions number in
-            Reports C.gives (enabled_reply asked session)
-            (changed_session self.old number (option_map (enabled_as asked) session))
-            self.old self.new hook.old hook.new result }
-    {
-        let Some(session) = self.sessions.get(number) else {
-            return self.refuse_session(hook);
-        };
-        let reply = Reply::Flag(asked.unwrap_or(session.is_enabled()));
-        self.change_session(number, SessionChange::Enable(asked), reply, hook)
-    }
-
-    pub(crate) fn indirect<C: CommitHook<A>>(
-        &mut self,
-        number: u64,
-        asked: Option<bool>,
-        hook: &mut C,
-    ) -> Result<Reply<A>, Fault<C::Refusal>>
-        requires room { HasRoom self.old.events }
-        requires can_ask { C.can_ask hook.old
-            (indirect_reply asked (session_numbered self.old.sessions number)) }
-        ensures { let session = session_numbered self.old.sessions number in
-            Reports C.gives (indirect_reply asked session)
-            (changed_session self.old number (option_map (indirect_as asked) session))
-            self.old self.new hook.old hook.new result }
-    {
-        let Some(session) = self.sessions.get(number) else {
-            return self.refuse_session(hook);
-        };
-        let reply = Reply::Flag(asked.unwrap_or(session.is_indirect()));
-        self.change_session(number, SessionChange::Indirect(asked), reply, hook)
-    }
-
-    pub(crate) fn is_empty<C: CommitHook<A>>(
-        &mut self,
-        number: u64,
-        hook: &mut C,
-    ) -> Result<Reply<A>, Fault<C::Refusal>>
-        requires room { HasRoom self.old.events }
-        requires can_ask { C.can_ask hook.old
-            (empty_reply (session_numbered self.old.sessions number)) }
-        ensures { Reports C.gives (empty_reply (session_numbered self.old.sessions number))
-            (one_more self.old)
-            self.old self.new hook.old hook.new result }
-    {
-        let Some(session) = self.sessions.get(number) else {
-            return self.refuse_session(hook);
-        };
-        let empty = session.is_empty();
-        self.keep(Reply::Flag(empty), hook)
-    }
-
-    pub(crate) fn diff<C: CommitHook<A>>(
+    // Records the differences of a table from a saved one in the session with this number.
+    fn diff<C: CommitHook<A>>(
         &mut self,
         number: u64,
         from: &Name<A>,
@@ -227,17 +188,11 @@ impl<A: AllocHandle> Core<A> {
     ) -> Result<Reply<A>, Fault<C::Refusal>>
         requires room { HasRoom self.old.events }
         requires can_ask { C.can_ask hook.old
-            (diff_reply (diff self.old.main self.old.saved from.now name.now)
-            (session_numbered self.old.sessions number)) }
-        ensures { let session = session_numbered self.old.sessions number in
-            let found = diff self.old.main self.old.saved from.now name.now in
-            Reports C.gives (diff_reply found session)
-            (changed_session self.old number (option_map (compared name.now found) session))
+            (diffed (diff self.old.main self.old.saved from.now name.now)) }
+        ensures { let found = diff self.old.main self.old.saved from.now name.now in
+            Reports C.gives (diffed found) (changed_session self.old number (compared name.now found))
             self.old self.new hook.old hook.new result }
     {
-        if self.sessions.get(number).is_none() {
-            return self.refuse_session(hook);
-        }
         match differences(self.alloc, &self.main, &self.saved, from, name) {
             Ok(Some(found)) => self.note_found(number, name, &found, hook),
             Ok(None) => self.keep(Reply::Done, hook),
@@ -257,9 +212,8 @@ impl<A: AllocHandle> Core<A> {
         requires room { HasRoom self.old.events }
         requires stand { IsTrue (differences_stand (schema_of self.old.main name.now) found.now) }
         requires can_ask { C.can_ask hook.old Reply.Done }
-        ensures { let session = session_numbered self.old.sessions number in
-            Reports C.gives Reply.Done
-            (changed_session self.old number (option_map (note_diff name.now found.now) session))
+        ensures { Reports C.gives Reply.Done
+            (changed_session self.old number (note_diff name.now found.now))
             self.old self.new hook.old hook.new result }
     {
         self.sessions.note_diff(number, name, found)?;
@@ -268,46 +222,6 @@ impl<A: AllocHandle> Core<A> {
         self.sessions.publish();
         self.events += 1;
         Ok(reply)
-    }
-
-    pub(crate) fn capture<C: CommitHook<A>>(
-        &mut self,
-        number: u64,
-        hook: &mut C,
-    ) -> Result<Reply<A>, Fault<C::Refusal>>
-        requires room { HasRoom self.old.events }
-        requires can_ask { C.can_ask hook.old
-            (capture_reply self.old.main (session_numbered self.old.sessions number)) }
-        ensures { Reports C.gives (capture_reply self.old.main (session_numbered self.old.sessions number))
-            (one_more self.old)
-            self.old self.new hook.old hook.new result }
-    {
-        let Some(session) = self.sessions.get(number) else {
-            return self.refuse_session(hook);
-        };
-        let changes = changes_of(self.alloc, session.attached(), &self.main)?;
-        self.keep(Reply::Capture(Capture::new(changes)), hook)
-    }
-
-    pub(crate) fn restart<C: CommitHook<A>>(
-        &mut self,
-        number: u64,
-        hook: &mut C,
-    ) -> Result<Reply<A>, Fault<C::Refusal>>
-        requires room { HasRoom self.old.events }
-        requires can_ask { C.can_ask hook.old
-            (capture_reply self.old.main (session_numbered self.old.sessions number)) }
-        ensures { let session = session_numbered self.old.sessions number in
-            Reports C.gives (capture_reply self.old.main session)
-            (changed_session self.old number (option_map restart session))
-            self.old self.new hook.old hook.new result }
-    {
-        let Some(session) = self.sessions.get(number) else {
-            return self.refuse_session(hook);
-        };
-        let changes = changes_of(self.alloc, session.attached(), &self.main)?;
-        let reply = Reply::Capture(Capture::new(changes));
-        self.change_session(number, SessionChange::Restart, reply, hook)
     }
 
     // Changes the session with this number, and answers this.
@@ -320,9 +234,7 @@ impl<A: AllocHandle> Core<A> {
     ) -> Result<Reply<A>, Fault<C::Refusal>>
         requires room { HasRoom self.old.events }
         requires can_ask { C.can_ask hook.old reply }
-        ensures { let session = session_numbered self.old.sessions number in
-            Reports C.gives reply
-            (changed_session self.old number (option_map (changed_by change) session))
+        ensures { Reports C.gives reply (changed_session self.old number (changed_by change))
             self.old self.new hook.old hook.new result }
     {
         ask(hook, &reply)?;
@@ -330,18 +242,17 @@ impl<A: AllocHandle> Core<A> {
         self.events += 1;
         Ok(reply)
     }
+}
 
-    // Refuses a command on a session that does not exist.
-    fn refuse_session<C: CommitHook<A>>(
-        &mut self,
-        hook: &mut C,
-    ) -> Result<Reply<A>, Fault<C::Refusal>>
-        requires room { HasRoom self.old.events }
-        requires can_ask { C.can_ask hook.old (refusal Refusal.NoSession) }
-        ensures { Reports C.gives (refusal Refusal.NoSession) (one_more self.old)
-            self.old self.new hook.old hook.new result }
-    {
-        let why = Refusal::NoSession;
-        self.keep(Reply::Refused { at: None, why }, hook)
-    }
+// What a session captures, as a reply.
+fn capture_reply<A: AllocHandle>(
+    alloc: A,
+    session: &Session<A>,
+    main: &Database<A>,
+) -> Result<Reply<A>, OutOfMemory>
+    requires { IsTrue (session_stands main.now session.now.live) }
+    ensures { IfOk result (λ reply. reply ≡ capture_reply main.now session.now.live) }
+{
+    let changes = changes_of(alloc, session, main)?;
+    Ok(Reply::Capture(Capture::new(changes)))
 }

@@ -22,7 +22,7 @@ use Rattle.cap_core.specs.declared.command.Command.TheVariants.{Capture}
 use Rattle.cap_core.specs.declared.event.Event.{Event}
 use Rattle.cap_core.specs.declared.reply.Reply.{Reply}
 use Rattle.cap_core.specs.declared.reply.Reply.TheVariants as reply
-use Rattle.cap_core.specs.Answer.{IsLegal, answer, capture_reply, event_by, refusal, reply_of, state, state_after}
+use Rattle.cap_core.specs.Answer.{IsLegal, answer, capture_reply, event_by, refusal, reply_of, session_answer, state, state_after}
 use Rattle.cap_core.specs.AppliedCapture.{AppliesWhole, GivesRows, HoldsImages, changes_in}
 use Rattle.cap_core.specs.History.{main}
 use Rattle.cap_core.specs.Past.{Past}
@@ -130,7 +130,7 @@ module _ {A : Type 0} where
 
   -- ---- no capture
 
-  no-capture : (tables : Tables A) (found : Option (SessionState A)) → IsNoCapture (capture_reply tables found) → capture_reply tables found ≡ refusal NoSession
+  no-capture : (tables : Tables A) (found : Option (SessionState A)) → IsNoCapture (session_answer found (capture_reply tables)) → session_answer found (capture_reply tables) ≡ refusal NoSession
   no-capture tables None none = refl
   no-capture tables (Some session) none = absurd none
 
