@@ -1,10 +1,11 @@
 //! The attach list of a session, published and staged.
-ghost use Rattle.std.specs.Prelude.{◌≡◌, ◌<◌, ◌^◌, ◌∷◌, ◌++◌, [], Some, None, length, nat_eq, position, IfOk, OnOk};
-ghost use Rattle.std.specs.List.{IsDistinct};
+ghost use Rattle.std.specs.Prelude.{◌≡◌, ◌<◌, ◌^◌, ◌∷◌, ◌++◌, [], Some, None, length, nat_eq, IfOk, OnOk};
+ghost use Rattle.std.specs.List.{IsDistinct, position};
 ghost use Rattle.std.specs.Map.{keys_of};
 ghost use Rattle.std.specs.Option.{option_copied};
 ghost use Rattle.cap_value.specs.Bytes.{bytes_eq};
-ghost use Rattle.cap_session.specs.Code.AttachList.{IsWhole, attached_of, kept_in, live_in, staged_in, staged_of};
+ghost use Rattle.cap_session.specs.Code.AttachList.{IsWhole, attached_of, kept_in, live_in, staged_in};
+ghost use Rattle.cap_session.specs.Code.AttachList.{staged_of};
 ghost use Rattle.cap_session.specs.Code.Keep.{kept_count, kept_tables};
 ghost use Rattle.cap_session.specs.Code.Staging.{touches_by};
 ghost use Rattle.cap_session.specs.Note.{attach_by, attach_by_rule, touch_table, touch_tables};
@@ -92,8 +93,8 @@ impl<A: AllocHandle> AttachList<A> {
         Ok(())
     }
 
-    // Stages touches of a table after what is staged. The table is looked up once, and attached where the rule
-    // accepts it.
+    // Stages touches of a table after what is staged. The table is looked up once, and attached where the
+    // rule accepts it.
     pub(crate) fn stage_touches(
         &mut self,
         rule: &AutomaticRule<A>,
@@ -103,7 +104,8 @@ impl<A: AllocHandle> AttachList<A> {
     ) -> Result<(), OutOfMemory>
         requires whole { IsWhole self.old }
         ensures kept { attached_of self.new ≡ attached_of self.old }
-        ensures staged { OnOk result (staged_of self.new ≡ touch_table name.now (touches_by indirect touches.entry)
+        ensures staged { OnOk result (staged_of self.new
+            ≡ touch_table name.now (touches_by indirect touches.entry)
             (attach_by rule.now (staged_of self.old) name.now)) }
         ensures whole { IsWhole self.new }
     {

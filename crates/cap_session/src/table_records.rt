@@ -48,7 +48,8 @@ impl<A: AllocHandle> TableRecords<A> {
 
     // Keeps these records.
     pub(crate) fn keep(&mut self, alloc: A, what: Keep)
-        ensures records { self.new.records ≡ kept what self.old.records (unwrap_or self.old.staged self.old.records) }
+        ensures records { self.new.records
+            ≡ kept what self.old.records (unwrap_or self.old.staged self.old.records) }
         ensures none { self.new.staged ≡ None }
     {
         let staged = self.staged.take();
