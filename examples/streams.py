@@ -12,6 +12,8 @@ import time
 
 BLOB = b"5402010074001200010000000000000001030178"
 SHOWN = b"changeset\ngroup t kv\ninsert direct (1,'x')\n"
+INVERTED = b"5402010074000900010000000000000001030178\n"
+PATCHED = b"5002010074001200010000000000000001030178\n"
 
 # More bytes than a program has addresses for.
 STACK = 1 << 47
@@ -124,12 +126,13 @@ def check(count, workload, replies):
         byte_by_byte(count, words, b"# " + b"-" * 2_000 + b"\n" + workload, replies, label)
         byte_by_byte(count, words, b"", b"", label)
     threads_that_cannot_be_started(count, ["run", "--threads", "4"], "run --threads 4")
-    full_output(count, ["show"], BLOB, "show")
-    closed_output(count, ["show"], BLOB, "show")
-    unread_input(count, ["show"], "show")
-    full_error(count, ["show"], b"54zz", "show")
-    byte_by_byte(count, ["show"], BLOB, SHOWN, "show")
-    for words in [["--help"], ["--version"], ["run", "--help"]]:
+    for word, printed in [("show", SHOWN), ("invert", INVERTED), ("patchset", PATCHED)]:
+        full_output(count, [word], BLOB, word)
+        closed_output(count, [word], BLOB, word)
+        unread_input(count, [word], word)
+        full_error(count, [word], b"54zz", word)
+        byte_by_byte(count, [word], BLOB, printed, word)
+    for words in [["--help"], ["--version"], ["run", "--help"], ["invert", "--help"]]:
         full_output(count, words, b"", " ".join(words))
         closed_output(count, words, b"", " ".join(words))
     full_error(count, ["frob"], b"", "frob")

@@ -1,4 +1,6 @@
 pub mod Code
+pub mod Conversion
+pub mod Encoding
 pub mod Hex
 pub mod Options
 pub mod Pieces

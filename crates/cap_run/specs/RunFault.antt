@@ -1,10 +1,10 @@
 -- How a run ends.
-use Rattle.std.specs.Prelude.{◌≡◌, ◌⊎◌, ℕ, Bool, true, false}
+use Rattle.std.specs.Prelude.{◌≡◌, ◌⊎◌, ℕ, Bool, true, false, Result, Ok, Err}
 use Rattle.cap_value.specs.declared.memory.Fault.{Fault}
 use Rattle.cap_value.specs.declared.memory.Fault.TheVariants.{Refused, OutOfMemory}
 use Rattle.cap_run.specs.declared.fault.RunFault.{RunFault}
 use Rattle.cap_run.specs.declared.fault.RunFault.TheVariants.{Script, NotUtf8, NotHex, Blob, Call, Read}
-use Rattle.cap_run.specs.declared.fault.RunFault.TheVariants.{Write, Memory, Close}
+use Rattle.cap_run.specs.declared.fault.RunFault.TheVariants.{Write, Memory, Close, Patchset}
 
 -- the exit status: 1 where the input is refused, and 3 where a call, a read, a write or the closing of the
 -- server failed, or out of memory
@@ -13,6 +13,7 @@ exit_status (Script fault) = 1
 exit_status NotUtf8 = 1
 exit_status NotHex = 1
 exit_status (Blob fault) = 1
+exit_status Patchset = 1
 exit_status (Call fault) = 3
 exit_status Read = 3
 exit_status Write = 3
@@ -45,3 +46,8 @@ IsUnspelled fault = ⊥
 abbrev pub input_fault : Fault RunFault → RunFault
 input_fault (Refused fault) = fault
 input_fault OutOfMemory = Memory
+
+-- what follows from this, or its fault
+abbrev pub after : {X Y : Type 0} → Result X RunFault → (X → Result Y RunFault) → Result Y RunFault
+after (Ok x) next = next x
+after (Err fault) next = Err fault

@@ -2,9 +2,11 @@
 ghost use Rattle.std.specs.Prelude.{IfOk};
 ghost use Rattle.cap_run.specs.Options.{IsInRange};
 
-use crate::{Options, OptionsFault, THREADS_MAX};
+use crate::{Conversion, Encoding, Options, OptionsFault, THREADS_MAX, Target};
+use cap_codec::KeyFlags;
+use clap::builder::ValueParser;
 use clap::error::ErrorKind;
-use clap::{Arg, ArgMatches, Command, Error, value_parser};
+use clap::{Arg, ArgAction, ArgMatches, Command, Error, value_parser};
 use std::alloc::{AllocError, Global};
 
 const ABOUT: &str =
@@ -27,12 +29,25 @@ as a changeset:
     ok version 2
     changeset 5402010074001200010000000000000001030178
 
-`changecap run --help` has every command, and `changecap show` prints what is in those digits.";
+`changecap run --help` has every command. `changecap show` prints what is in those digits, `changecap
+invert` prints the changeset that undoes them, and `changecap patchset` their patchset.";
 
 const RUN_ABOUT: &str = "Run the workload on standard input and print the reply to each command";
 
-const SHOW_ABOUT: &str =
-    "Print what is in the changeset or patchset on standard input, given as hex text";
+const SHOW_ABOUT: &str = "Print what is in the changeset or patchset on standard input";
+
+const INVERT_ABOUT: &str = "Print the inverse of the changeset on standard input";
+
+const PATCHSET_ABOUT: &str = "Print the patchset of the changeset on standard input";
+
+const BINARY_INPUT_HELP: &str = "The input is the bytes themselves, not hex digits";
+
+const BINARY_HELP: &str = "Input and output are the bytes themselves, not hex digits";
+
+const KEY_FLAGS_HELP: &str =
+    "How the output flags key columns: by their places within the key, as SQLite's code does, or by ones";
+
+static KEY_FLAGS: [&str; 2] = ["places", "ones"];
 
 const THREADS_HELP: &str = "How many workers the lines that begin with @K belong to, from 1 to 63";
 
@@ -73,28 +88,28 @@ not F, and(F,..) or or(F,..).
 A line may begin with @K, K from 0 to 63, and then belongs to worker K mod N:
 @1 commit insert t (2,'y'). Replies are printed in the order of the lines.";
 
-const HEX: &str = "The digits may be of either case and end with a line feed. For example
+const SHOW_EXAMPLE: &str = "The digits may be of either case and end with a line feed. For example
     echo 5402010074001200010000000000000001030178 | changecap show
 prints
     changeset
     group t kv
     insert direct (1,'x')";
 
+const INVERT_EXAMPLE: &str = "The digits may be of either case and end with a line feed. For example
+    echo 5402010074001200010000000000000001030178 | changecap invert
+prints
+    5402010074000900010000000000000001030178
+which deletes the row that the changeset inserts. A patchset has no inverse and is refused.";
+
+const PATCHSET_EXAMPLE: &str =
+    "The digits may be of either case and end with a line feed. For example
+    echo 5402010074000900010000000000000001030178 | changecap patchset
+prints
+    5002010074000900010000000000000001
+which deletes the row by its key alone. A patchset is refused.";
+
 // The command line.
 fn command_line<'a>(alloc: Global) -> Result<Command<'a>, AllocError> {
-    let threads = Arg::new(alloc, "threads")
-        .long("threads")
-        .value_name("N")
-        .help(THREADS_HELP)
-        .value_parser(value_parser!(u64).range(1..=THREADS_MAX as i64))
-        .default_value("1");
-    let run = Command::new(alloc, "run")
-        .about(RUN_ABOUT)
-        .after_help(LANGUAGE)
-        .arg(threads)?;
-    let show = Command::new(alloc, "show")
-        .about(SHOW_ABOUT)
-        .after_help(HEX);
     Command::new(alloc, "changecap")
         .version("0.1.0")
         .about(ABOUT)
@@ -102,15 +117,64 @@ fn command_line<'a>(alloc: Global) -> Result<Command<'a>, AllocError> {
         .no_binary_name(true)
         .bin_name("changecap")?
         .subcommand_required(true)
-        .subcommand(run)?
-        .subcommand(show)
+        .subcommand(run_command(alloc)?)?
+        .subcommand(show_command(alloc)?)?
+        .subcommand(convert_command(alloc, "invert", INVERT_ABOUT, INVERT_EXAMPLE)?)?
+        .subcommand(convert_command(alloc, "patchset", PATCHSET_ABOUT, PATCHSET_EXAMPLE)?)
+}
+
+fn run_command<'a>(alloc: Global) -> Result<Command<'a>, AllocError> {
+    let threads = Arg::new(alloc, "threads")
+        .long("threads")
+        .value_name("N")
+        .help(THREADS_HELP)
+        .value_parser(value_parser!(u64).range(1..=THREADS_MAX as i64))
+        .default_value("1");
+    Command::new(alloc, "run")
+        .about(RUN_ABOUT)
+        .after_help(LANGUAGE)
+        .arg(threads)
+}
+
+fn show_command<'a>(alloc: Global) -> Result<Command<'a>, AllocError> {
+    Command::new(alloc, "show")
+        .about(SHOW_ABOUT)
+        .after_help(SHOW_EXAMPLE)
+        .arg(binary(alloc, BINARY_INPUT_HELP))
+}
+
+fn convert_command<'a>(
+    alloc: Global,
+    word: &'a str,
+    about: &'a str,
+    example: &'a str,
+) -> Result<Command<'a>, AllocError> {
+    let key_flags = Arg::new(alloc, "key-flags")
+        .long("key-flags")
+        .value_name("FORM")
+        .help(KEY_FLAGS_HELP)
+        .value_parser(ValueParser::Names(KEY_FLAGS.as_slice()))
+        .default_value("places");
+    Command::new(alloc, word)
+        .about(about)
+        .after_help(example)
+        .arg(binary(alloc, BINARY_HELP))?
+        .arg(key_flags)
+}
+
+fn binary<'a>(alloc: Global, help: &'a str) -> Arg<'a> {
+    Arg::new(alloc, "binary")
+        .long("binary")
+        .help(help)
+        .action(ArgAction::SetTrue)
 }
 
 /// Parses the words after the program's name.
 ///
 /// `run` runs a workload, on N threads with `--threads N`, N from 1 to 63, and otherwise on one. `show` shows
-/// a blob. Other words are refused with a message. `--help` and `--version` give their text as a fault of
-/// status 0.
+/// a blob. `invert` and `patchset` convert one, with key flags by places, or by ones with `--key-flags ones`.
+/// A blob is given and written as hex digits, or with `--binary` as its bytes. Other words are refused with a
+/// message. `--help` and `--version` give their text as a fault of status 0.
 pub fn options(alloc: Global, words: &[String]) -> Result<Options, OptionsFault>
     // The number of threads is in range.
     ensures range { IfOk result IsInRange }
@@ -134,7 +198,35 @@ fn asked_for(matches: &ArgMatches) -> Options
                 threads: threads.clamp(1, THREADS_MAX),
             }
         }
-        _ => Options::Show,
+        Some(("invert", invert)) => Options::Convert(conversion(Target::Inverse, invert)),
+        Some(("patchset", patchset)) => Options::Convert(conversion(Target::Patchset, patchset)),
+        Some((_, show)) => Options::Show {
+            encoding: encoding(show),
+        },
+        // The parser refuses this.
+        None => Options::Show {
+            encoding: Encoding::Hex,
+        },
+    }
+}
+
+fn conversion(target: Target, matches: &ArgMatches) -> Conversion {
+    let key_flags = match matches.get_str("key-flags") {
+        Some("ones") => KeyFlags::Ones,
+        _ => KeyFlags::Places,
+    };
+    Conversion {
+        target,
+        key_flags,
+        encoding: encoding(matches),
+    }
+}
+
+fn encoding(matches: &ArgMatches) -> Encoding {
+    if matches.get_flag("binary") {
+        Encoding::Binary
+    } else {
+        Encoding::Hex
     }
 }
 

@@ -6,7 +6,7 @@ use cap_server::CallFault;
 use cap_value::Fault;
 use thiserror::Error;
 
-/// Why a run ended before its workload did, or why a blob was not shown.
+/// Why a run ended before its workload did, or why a blob was neither shown nor converted.
 #[derive(Clone, Copy, Debug, PartialEq, Eq, Drop, Error)]
 pub enum RunFault {
     /// The text is refused. Nothing was run.
@@ -15,22 +15,25 @@ pub enum RunFault {
     /// The input is not UTF-8. Nothing was run.
     #[error("not UTF-8")]
     NotUtf8,
-    /// The input is not hex. Nothing was shown.
+    /// The input is not hex. Nothing was shown or converted.
     #[error("not hex")]
     NotHex,
-    /// The bytes are neither a changeset nor a patchset. Nothing was shown.
+    /// The bytes are neither a changeset nor a patchset. Nothing was shown or converted.
     #[error("fault {0}")]
     Blob(BlobFault),
+    /// The bytes are a patchset, which has neither an inverse nor a patchset. Nothing was converted.
+    #[error("patchset")]
+    Patchset,
     /// A command has no reply. The replies before it were printed, and then this fault.
     #[error(transparent)]
     Call(CallFault),
-    /// A read failed, or the reader had not ended after 2^40 reads. Nothing was run or shown.
+    /// A read failed, or the reader had not ended after 2^40 reads. Nothing was run, shown or converted.
     #[error("a read failed")]
     Read,
     /// A write failed. A prefix of the output was written.
     #[error("a write failed")]
     Write,
-    /// Out of memory for the input. Nothing was run or shown.
+    /// Out of memory for the input. Nothing was run, shown or converted.
     #[error("no memory for the input")]
     Memory,
     /// The server could not be closed. All lines were run and their replies printed.
@@ -47,7 +50,11 @@ impl RunFault {
         ensures { result ≡ exit_status self.now }
     {
         match self {
-            RunFault::Script(_) | RunFault::NotUtf8 | RunFault::NotHex | RunFault::Blob(_) => 1,
+            RunFault::Script(_)
+            | RunFault::NotUtf8
+            | RunFault::NotHex
+            | RunFault::Blob(_)
+            | RunFault::Patchset => 1,
             RunFault::Call(_)
             | RunFault::Read
             | RunFault::Write

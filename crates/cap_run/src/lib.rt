@@ -1,9 +1,12 @@
 //! Runs a workload: reads its text, calls a server with its commands, and prints the replies. Also shows a
-//! changeset or patchset.
+//! changeset or patchset, and makes the inverse or the patchset of a changeset.
 #![tactic(auto)]
 
 mod block;
 mod command_line;
+mod conversion;
+mod convert;
+mod encoding;
 mod fault;
 mod gate;
 mod input;
@@ -18,6 +21,9 @@ mod worker;
 mod workload;
 
 pub use command_line::options;
+pub use conversion::{Conversion, Target};
+pub use convert::convert_blob;
+pub use encoding::Encoding;
 pub use fault::RunFault;
 pub use gate::{Gate, NoGate};
 pub use limits::THREADS_MAX;

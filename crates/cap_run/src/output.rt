@@ -38,6 +38,17 @@ pub fn write_whole<W: RunOutput>(writer: &mut W, bytes: &[u8]) -> Result<(), Run
     Err(RunFault::Write)
 }
 
+// Writes all of the output and flushes the writer.
+pub(crate) fn write_output<W: RunOutput>(writer: &mut W, output: &[u8]) -> Result<(), RunFault>
+    ensures ok { OnOk result (Appends (W.contents writer.old) (W.contents writer.new) output.now) }
+    ensures err { IfErr result (λ fault. (fault ≡ RunFault.Write)
+        × AppendsFront (W.contents writer.old) (W.contents writer.new) output.now) }
+    ensures reported { EndsWrites W.went W.failed result writer.old writer.new }
+{
+    write_whole(writer, output)?;
+    flush(writer)
+}
+
 // Writes the pending output. Where a write fails it stays pending, though a prefix of it may be written.
 pub(crate) fn write_pending<A: AllocHandle, W: RunOutput>(
     writer: &mut W,
@@ -87,7 +98,7 @@ pub(crate) fn write_ending<W: RunOutput>(
 }
 
 // Flushes the writer.
-pub(crate) fn flush<W: RunOutput>(writer: &mut W) -> Result<(), RunFault>
+fn flush<W: RunOutput>(writer: &mut W) -> Result<(), RunFault>
     ensures bytes { Keeps (W.contents writer.old) (W.contents writer.new) }
     ensures err { IfErr result (λ fault. fault ≡ RunFault.Write) }
     ensures reported { EndsWrites W.went W.failed result writer.old writer.new }

@@ -2,6 +2,8 @@
 ghost use Rattle.std.specs.Prelude.{◌≡◌};
 ghost use Rattle.cap_run.specs.Options.{options_status};
 
+use crate::{Conversion, Encoding};
+
 /// What the program does.
 #[derive(Clone, Copy, Debug, PartialEq, Eq, Drop)]
 pub enum Options {
@@ -11,7 +13,12 @@ pub enum Options {
         threads: u64,
     },
     /// Show the blob on standard input.
-    Show,
+    Show {
+        /// Its encoding.
+        encoding: Encoding,
+    },
+    /// Convert the changeset on standard input.
+    Convert(Conversion),
 }
 
 /// Why the program ends without a run.

@@ -1,11 +1,12 @@
 //! The program `changecap`. `run` runs the workload on standard input and prints the replies; `show` prints
-//! the changes in a blob.
+//! the changes in a blob; `invert` and `patchset` print the inverse and the patchset of a changeset.
 #![tactic(auto)]
 
 ghost use Rattle.cap_run.specs.Options.{IsThreadCount};
 
 use cap_run::{
-    NoGate, Options, OptionsFault, RunFault, options, run_core, run_workload, show_blob,
+    NoGate, Options, OptionsFault, RunFault, convert_blob, options, run_core, run_workload,
+    show_blob,
 };
 use std::alloc::AllocError;
 use std::process::ExitCode;
@@ -84,8 +85,12 @@ fn run_program<R: Input + Print + Eprint + Env + AllocGlobal + Threads + Wait + 
     let words: Vec<String> = arguments.skip(1).collect(alloc)?;
     match options(alloc, words.as_slice()) {
         Ok(Options::Run { threads }) => Ok(run(rt, threads)),
-        Ok(Options::Show) => {
-            let outcome = show_blob(alloc, &mut rt.reader(), &mut io::writer(rt));
+        Ok(Options::Show { encoding }) => {
+            let outcome = show_blob(alloc, encoding, &mut rt.reader(), &mut io::writer(rt));
+            Ok(report(rt, outcome))
+        }
+        Ok(Options::Convert(conversion)) => {
+            let outcome = convert_blob(alloc, conversion, &mut rt.reader(), &mut io::writer(rt));
             Ok(report(rt, outcome))
         }
         Err(fault) => Ok(explain(rt, &fault)),
