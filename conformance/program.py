@@ -47,8 +47,8 @@ class Program:
         """Whether it has a command of this name."""
         return os.path.isfile(self.path) and self.call([word, "--help"], b"")[0] == 0
 
-    def on_blobs(self, word, *blobs):
+    def on_blobs(self, word, *blobs, options=()):
         """The blob that a command makes of blobs, each given in hex on a line of its own."""
         given = "".join(f"{blob.hex()}\n" for blob in blobs)
-        printed = "".join(self.lines([word], given.encode())).strip()
+        printed = "".join(self.lines([word, *options], given.encode())).strip()
         return bytes.fromhex("" if printed == "-" else printed)

@@ -58,10 +58,11 @@ class Commands:
         changesets = [content for content in blobs if content[:1] != b"P"]
         for content in dict.fromkeys(changesets):
             if "invert" not in self.missing:
-                yield from self.differences("invert", content.hex(), sqlite.invert(content), self.made, content)
+                yield from self.differences("invert", content.hex(), sqlite.invert(content), self.made_with_its_flags,
+                                            content)
             if "patchset" not in self.missing:
                 wanted = blob.write(blob.patches(blob.read(content)))
-                yield from self.differences("patchset", content.hex(), wanted, self.made, content)
+                yield from self.differences("patchset", content.hex(), wanted, self.made_with_its_flags, content)
         for first, second in zip(changesets, changesets[1:]):
             if "concat" not in self.missing:
                 yield from self.differences("concat", f"{first.hex()} {second.hex()}", joined(first, second),
@@ -81,6 +82,11 @@ class Commands:
 
     def made(self, word, *blobs):
         return self.program.on_blobs(word, *blobs)
+
+    def made_with_its_flags(self, word, content):
+        """What the command makes of a changeset with the form of key flags that this has: SQLite leaves it as it is."""
+        has_positions = all(group.has_positions() for group in blob.read(content))
+        return self.program.on_blobs(word, content, options=[] if has_positions else ["--key-flags", "ones"])
 
     def made_in_order(self, word, *blobs):
         return blob.in_key_order(self.made(word, *blobs))

@@ -1,5 +1,6 @@
 //! The words of a command line: what they ask for, and those that are refused.
-use cap_run::{Options, OptionsFault, options};
+use cap_codec::KeyFlags;
+use cap_run::{Conversion, Encoding, Options, OptionsFault, Target, options};
 use std::alloc::{AllocError, Global};
 use std::test::Fail;
 
@@ -12,6 +13,22 @@ fn words_of(alloc: Global, line: &str) -> Result<Vec<String>, AllocError> {
     Ok(words)
 }
 
+const HEX: Options = Options::Show {
+    encoding: Encoding::Hex,
+};
+
+const BINARY: Options = Options::Show {
+    encoding: Encoding::Binary,
+};
+
+fn conversion(target: Target, key_flags: KeyFlags, encoding: Encoding) -> Options {
+    Options::Convert(Conversion {
+        target,
+        key_flags,
+        encoding,
+    })
+}
+
 #[test]
 fn what_is_asked_for(rt: HostRuntime) -> Result<(), Fail> {
     let table = [
@@ -19,12 +36,43 @@ fn what_is_asked_for(rt: HostRuntime) -> Result<(), Fail> {
         ("run --threads 1", Options::Run { threads: 1 }),
         ("run --threads 4", Options::Run { threads: 4 }),
         ("run --threads=63", Options::Run { threads: 63 }),
-        ("show", Options::Show),
+        ("show", HEX),
+        ("show --binary", BINARY),
     ];
     for (line, asked) in table {
         let words = words_of(rt.alloc(), line)?;
         let found = options(rt.alloc(), words.as_slice()).map_err(|_| "refused")?;
         assert_eq!(rt; found, asked, "{line}");
+    }
+    Ok(())
+}
+
+// The words behind `invert` and `patchset`.
+#[test]
+fn what_is_converted(rt: HostRuntime) -> Result<(), Fail> {
+    let table = [
+        ("", KeyFlags::Places, Encoding::Hex),
+        ("--binary", KeyFlags::Places, Encoding::Binary),
+        ("--key-flags places", KeyFlags::Places, Encoding::Hex),
+        ("--key-flags ones", KeyFlags::Ones, Encoding::Hex),
+        (
+            "--binary --key-flags=ones",
+            KeyFlags::Ones,
+            Encoding::Binary,
+        ),
+        (
+            "--key-flags ones --binary",
+            KeyFlags::Ones,
+            Encoding::Binary,
+        ),
+    ];
+    for (word, target) in [("invert", Target::Inverse), ("patchset", Target::Patchset)] {
+        for (line, key_flags, encoding) in table {
+            let line = format!(in rt.alloc(); "{word} {line}")?;
+            let words = words_of(rt.alloc(), line.as_str())?;
+            let found = options(rt.alloc(), words.as_slice()).map_err(|_| "refused")?;
+            assert_eq!(rt; found, conversion(target, key_flags, encoding), "{line}");
+        }
     }
     Ok(())
 }
@@ -43,6 +91,14 @@ fn what_is_refused(rt: HostRuntime) -> Result<(), Fail> {
         "run --threads 2 --threads 3",
         "run file",
         "show --threads 2",
+        "show --key-flags ones",
+        "run --binary",
+        "invert file",
+        "invert --threads 2",
+        "invert --key-flags",
+        "invert --key-flags both",
+        "patchset --key-flags Places",
+        "patchset --binary=yes",
     ];
     for line in lines {
         let words = words_of(rt.alloc(), line)?;
@@ -67,6 +123,13 @@ fn help(rt: HostRuntime) -> Result<(), Fail> {
         ("run --help", "commit OP ; OP .."),
         ("help run", "commit OP ; OP .."),
         ("show --help", "hex"),
+        ("invert --help", "| changecap invert"),
+        (
+            "invert --help",
+            "[default: places] [possible values: places, ones]",
+        ),
+        ("patchset --help", "| changecap patchset"),
+        ("help patchset", "--binary"),
     ];
     for (line, part) in table {
         let words = words_of(rt.alloc(), line)?;
