@@ -1,3 +1,8 @@
 pub mod ColumnLemmas
-pub mod FitLemmas
 pub mod KeyLemmas
+pub mod FitLemmas
+pub mod GroupLemmas
+pub mod TableLemmas
+pub mod JoinLemmas
+pub mod RowLemmas
+pub mod AloneLemmas

@@ -1,3 +1,6 @@
 pub mod Record
 pub mod ChangeKey
 pub mod Combined
+pub mod KeyedChanges
+pub mod ChangeGroup
+pub mod Rows

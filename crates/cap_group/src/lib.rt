@@ -1,11 +1,20 @@
-//! What becomes of two changes of one row, when blobs are put together (The Session Extension,
+//! Changegroups: the changes of several blobs together, one for each row (The Session Extension,
 //! "sqlite3changegroup_add").
 #![tactic(auto)]
 
+mod change_group;
 mod change_key;
 mod combine;
 mod combine_changes;
 mod combine_patches;
+mod keyed_changes;
+mod laws;
 mod record;
+mod refusal;
+mod shared;
+mod tables;
 
+pub use change_group::{ChangeGroup, concat};
 pub use combine::Combine;
+pub use laws::{changes_that_follow, each_row_by_itself, one_list_alone};
+pub use refusal::GroupRefusal;

@@ -1,0 +1,158 @@
+-- Changes and groups that are added, one more at a time.
+use Rattle.std.proofs.Common.{◌≡◌, ℕ, suc, ◌+◌, arith, ◌<◌, List, [], ◌∷◌, ◌++◌, length, take, drop, get_or, set, cond, Bool, true, false, Ok, Err, Result, drop-cons, refl, ap, sym, subst, ◌∙◌}
+use Rattle.std.specs.Prelude.{Option, Some, None}
+use Rattle.std.specs.Option.{unwrap_or}
+use Rattle.std.specs.List.{AllByRecursion}
+use Rattle.std.specs.declared.cmp.Ordering.TheVariants.{Less, Equal, Greater}
+use Rattle.std.specs.Ordering.{match_ordering}
+use Rattle.std.specs.BTreeMap.{is_at}
+use Rattle.std.proofs.lemmas.List.{take_more}
+use Rattle.std.proofs.lemmas.List.Sums.{fold-append}
+use Rattle.cap_value.specs.declared.memory.Fault.{Fault}
+use Rattle.cap_value.specs.declared.memory.Fault.TheVariants.{Refused, OutOfMemory}
+use Rattle.cap_value.specs.Memory.{LeavesUnlessMemory, RefusesUnlessMemory}
+use Rattle.cap_row.specs.Fields.{Fields}
+use Rattle.cap_row.specs.Key.{fields_cmp}
+use Rattle.cap_row.specs.Schema.{flags_eq}
+use Rattle.cap_tree.specs.Tree.{get, put_entry, take_entry}
+use Rattle.cap_changes.specs.Entries.{TableEntries}
+use Rattle.cap_codec.specs.Writable.{has_some}
+use Rattle.cap_group.specs.KeyedChanges.{KeyedChanges, change_after, no_changes, set_change, table_at, with_change, with_changes, with_table}
+use Rattle.cap_group.specs.ChangeGroup.{GroupContent, added, all_added, and_then, with_group, with_groups}
+use Rattle.cap_group.specs.declared.refusal.GroupRefusal.{GroupRefusal}
+use Rattle.cap_group.specs.declared.refusal.GroupRefusal.TheVariants.{OtherColumns}
+use Rattle.cap_codec.specs.declared.read.Contents.{Contents}
+
+pub rest : {X : Type 0} (xs : List X) (i : ℕ) (x : X) → i < length xs → x ≡ get_or xs i x → drop i xs ≡ x ∷ drop (i + 1) xs
+rest xs i x within is =
+    let n : suc i ≡ i + 1 = omega arith in
+    drop-cons xs i x within ∙ (λ k. sym is k ∷ drop (n k) xs)
+
+-- what holds of each entry holds after one is put or taken
+module _ {A X : Type 0} (P : Fields A × X → Type 0) (k : Fields A) where
+  pub each_put : (x : X) (es : List (Fields A × X)) → P (k, x) → AllByRecursion P es → AllByRecursion P (put_entry fields_cmp es k x)
+  each_put x [] p h = (p, tt)
+  each_put x (e ∷ es) p h =
+      elim (fields_cmp k e.0) as (λ r. AllByRecursion P (match_ordering r ((k, x) ∷ e ∷ es) ((k, x) ∷ es) (e ∷ put_entry fields_cmp es k x))) [
+        | Less ↦ (p, h)
+        | Equal ↦ (p, h.1)
+        | Greater ↦ (h.0, each_put x es p h.1)
+      ]
+
+  pub each_take : (es : List (Fields A × X)) → AllByRecursion P es → AllByRecursion P (take_entry fields_cmp es k)
+  each_take [] h = tt
+  each_take (e ∷ es) h =
+      elim (is_at (fields_cmp k) e.0) as (λ b. AllByRecursion P (cond b es (e ∷ take_entry fields_cmp es k))) [
+        | true ↦ h.1
+        | false ↦ (h.0, each_take es h.1)
+      ]
+
+module _ {A X : Type 0} (key : List Bool → X → Fields A) (combine : List Bool → X → X → Option X) where
+  pub changes_more : (keyed : KeyedChanges A X) (changes : List X) (i : ℕ) (change : X) → i < length changes → change ≡ get_or changes i change →
+      with_changes key combine keyed (take (i + 1) changes) ≡ with_change key combine (with_changes key combine keyed (take i changes)) change
+  changes_more keyed changes i change within is =
+      ap (with_changes key combine keyed) (take_more changes i change within ∙ ap (λ (c : X). take i changes ++ c ∷ []) (sym is))
+      ∙ fold-append (with_change key combine) keyed (take i changes) (change ∷ [])
+
+  module _ (i : ℕ) (tables : List (KeyedChanges A X)) (groups : List (TableEntries X)) (group : TableEntries X) (within : i < length groups) (is : group ≡ get_or groups i group) where
+    at_group : with_groups key combine i tables (drop i groups) ≡ with_groups key combine i tables (group ∷ drop (i + 1) groups)
+    at_group = ap (with_groups key combine i tables) (rest groups i group within is)
+
+    pub group_more : (next : List (KeyedChanges A X)) → has_some group.changes ≡ true → with_group key combine i tables group ≡ Ok next →
+        with_groups key combine i tables (drop i groups) ≡ with_groups key combine (i + 1) next (drop (i + 1) groups)
+    group_more next some made =
+        at_group
+        ∙ ap (λ b. cond b (and_then (with_group key combine i tables group) (λ more. with_groups key combine (i + 1) more (drop (i + 1) groups))) (with_groups key combine (i + 1) tables (drop (i + 1) groups))) some
+        ∙ ap (λ (r : Result (List (KeyedChanges A X)) GroupRefusal). and_then r (λ more. with_groups key combine (i + 1) more (drop (i + 1) groups))) made
+
+    pub group_refused : (why : GroupRefusal) → has_some group.changes ≡ true → with_group key combine i tables group ≡ Err why →
+        with_groups key combine i tables (drop i groups) ≡ Err why
+    group_refused why some made =
+        at_group
+        ∙ ap (λ b. cond b (and_then (with_group key combine i tables group) (λ more. with_groups key combine (i + 1) more (drop (i + 1) groups))) (with_groups key combine (i + 1) tables (drop (i + 1) groups))) some
+        ∙ ap (λ (r : Result (List (KeyedChanges A X)) GroupRefusal). and_then r (λ more. with_groups key combine (i + 1) more (drop (i + 1) groups))) made
+
+    pub group_empty : has_some group.changes ≡ false → with_groups key combine i tables (drop i groups) ≡ with_groups key combine (i + 1) tables (drop (i + 1) groups)
+    group_empty none =
+        at_group
+        ∙ ap (λ b. cond b (and_then (with_group key combine i tables group) (λ more. with_groups key combine (i + 1) more (drop (i + 1) groups))) (with_groups key combine (i + 1) tables (drop (i + 1) groups))) none
+
+module _ {A : Type 0} (i : ℕ) (group : GroupContent A) (blobs : List (Contents A)) (blob : Contents A) (within : i < length blobs) (is : blob ≡ get_or blobs i blob) where
+  at_blob : all_added group (drop i blobs) ≡ all_added group (blob ∷ drop (i + 1) blobs)
+  at_blob = ap (all_added group) (rest blobs i blob within is)
+
+  pub blob_more : (next : GroupContent A) → added group blob ≡ Ok next → all_added group (drop i blobs) ≡ all_added next (drop (i + 1) blobs)
+  blob_more next made = at_blob ∙ ap (λ (r : Result (GroupContent A) GroupRefusal). and_then r (λ more. all_added more (drop (i + 1) blobs))) made
+
+  pub blob_refused : (why : GroupRefusal) → added group blob ≡ Err why → all_added group (drop i blobs) ≡ Err why
+  blob_refused why made = at_blob ∙ ap (λ (r : Result (GroupContent A) GroupRefusal). and_then r (λ more. all_added more (drop (i + 1) blobs))) made
+
+-- what holds of each change holds of the one at a key
+pub each_found : {A X : Type 0} (P : X → Type 0) (k : Fields A) (es : List (Fields A × X)) (x : X) → AllByRecursion (λ e. P e.1) es → get fields_cmp es k ≡ Some x → P x
+each_found P k [] x h is = absurd (cc)
+each_found P k (e ∷ es) x h is =
+    elim (is_at (fields_cmp k) e.0) as (λ b. cond b (Some e.1) (get fields_cmp es k) ≡ Some x → P x) [
+      | true ↦ λ found. let same : e.1 ≡ x = cc in subst P same h.0
+      | false ↦ λ found. each_found P k es x h.1 found
+    ] is
+
+pub flags_same : (a b : List Bool) → flags_eq a b ≡ true → a ≡ b
+flags_same [] [] e = refl
+flags_same [] (y ∷ b) e = cc
+flags_same (x ∷ a) [] e = cc
+flags_same (true ∷ a) (true ∷ b) e = ap (λ (l : List Bool). true ∷ l) (flags_same a b e)
+flags_same (true ∷ a) (false ∷ b) e = cc
+flags_same (false ∷ a) (true ∷ b) e = cc
+flags_same (false ∷ a) (false ∷ b) e = ap (λ (l : List Bool). false ∷ l) (flags_same a b e)
+
+flags_self : (a : List Bool) → flags_eq a a ≡ true
+flags_self [] = refl
+flags_self (true ∷ a) = flags_self a
+flags_self (false ∷ a) = flags_self a
+
+module _ {A X : Type 0} (key : List Bool → X → Fields A) (combine : List Bool → X → X → Option X) where
+  -- what a change makes of the changes of its table
+  pub added-is : (keyed : KeyedChanges A X) (k : Fields A) (change : X) (one : Option X) (after : List (Fields A × X)) → k ≡ key keyed.schema change →
+      one ≡ change_after combine keyed.schema (get fields_cmp keyed.changes k) change → after ≡ set_change keyed.changes k one →
+      record { table = keyed.table; schema = keyed.schema; changes = after } ≡ with_change key combine keyed change
+  added-is keyed k change one after is made put =
+      let all : after ≡ set_change keyed.changes (key keyed.schema change) (change_after combine keyed.schema (get fields_cmp keyed.changes (key keyed.schema change)) change) =
+      put ∙ ap (set_change keyed.changes k) made ∙ ap (λ (at : Fields A). set_change keyed.changes at (change_after combine keyed.schema (get fields_cmp keyed.changes at) change)) is in
+      λ i. record { table = keyed.table; schema = keyed.schema; changes = all i }
+
+  pub kept_table : (keyed : KeyedChanges A X) (changes : List X) → (with_changes key combine keyed changes).table ≡ keyed.table
+  kept_table keyed [] = refl
+  kept_table keyed (change ∷ changes) = kept_table (with_change key combine keyed change) changes
+
+  module _ (place : ℕ) (tables : List (KeyedChanges A X)) (group : TableEntries X) where
+    -- the group of a table that is there
+    pub group_at : (u after : KeyedChanges A X) (index : ℕ) → table_at tables group.table ≡ Some u → flags_eq u.schema group.schema ≡ true → after ≡ with_changes key combine u group.changes →
+        ((t : KeyedChanges A X) → t.table ≡ group.table → with_table tables t ≡ set tables index t) → u.table ≡ group.table →
+        with_group key combine place tables group ≡ Ok (set tables index after)
+    group_at u after index at same made put named =
+        ap (λ (o : Option (KeyedChanges A X)). let t = unwrap_or o (no_changes group.table group.schema) in
+        cond (flags_eq t.schema group.schema) (Ok (with_table tables (with_changes key combine t group.changes))) (Err (OtherColumns place))) at
+        ∙ ap (λ b. cond b (Ok (with_table tables (with_changes key combine u group.changes))) (Err (OtherColumns place))) same
+        ∙ ap (λ (ts : List (KeyedChanges A X)). Ok ts) (put (with_changes key combine u group.changes) (kept_table u group.changes ∙ named) ∙ ap (set tables index) (sym made))
+
+    -- one that is refused
+    pub group_other : (u : KeyedChanges A X) → table_at tables group.table ≡ Some u → flags_eq u.schema group.schema ≡ false → with_group key combine place tables group ≡ Err (OtherColumns place)
+    group_other u at other =
+        ap (λ (o : Option (KeyedChanges A X)). let t = unwrap_or o (no_changes group.table group.schema) in
+        cond (flags_eq t.schema group.schema) (Ok (with_table tables (with_changes key combine t group.changes))) (Err (OtherColumns place))) at
+        ∙ ap (λ b. cond b (Ok (with_table tables (with_changes key combine u group.changes))) (Err (OtherColumns place))) other
+
+    -- the group of a table that is not there yet
+    pub group_new : (after : KeyedChanges A X) → table_at tables group.table ≡ None → after ≡ with_changes key combine (no_changes group.table group.schema) group.changes →
+        ((t : KeyedChanges A X) → t.table ≡ group.table → with_table tables t ≡ tables ++ t ∷ []) → with_group key combine place tables group ≡ Ok (tables ++ after ∷ [])
+    group_new after at made push =
+        ap (λ (o : Option (KeyedChanges A X)). let t = unwrap_or o (no_changes group.table group.schema) in
+        cond (flags_eq t.schema group.schema) (Ok (with_table tables (with_changes key combine t group.changes))) (Err (OtherColumns place))) at
+        ∙ ap (λ b. cond b (Ok (with_table tables (with_changes key combine (no_changes group.table group.schema) group.changes))) (Err (OtherColumns place))) (flags_self group.schema)
+        ∙ ap (λ (ts : List (KeyedChanges A X)). Ok ts) (push (with_changes key combine (no_changes group.table group.schema) group.changes) (kept_table (no_changes group.table group.schema) group.changes) ∙ ap (λ (t : KeyedChanges A X). tables ++ t ∷ []) (sym made))
+
+-- a refusal, or out of memory, in what comes first is that of the whole
+pub leaves_err : {X Y E : Type 0} (fault : Fault E) (answer : Result X E) (next : X → Result Y E) (left : Y) → RefusesUnlessMemory fault answer →
+    LeavesUnlessMemory {X = Unit {0}} (Err fault) (and_then answer next) left
+leaves_err (Refused why) answer next left is = ap (λ (r : Result _ _). and_then r next) is
+leaves_err OutOfMemory answer next left is = tt

@@ -1,0 +1,10 @@
+use Rattle.std.proofs.lemmas.List.Elements.{recursion_from_All}
+use Rattle.cap_group.proofs.JoinLemmas.{followed, followed_marked}
+use Rattle.cap_group.proofs.laws.changes_that_follow.Goals as goal
+
+pub returns-clause-change : goal.returns-clause-change
+returns-clause-change g c = followed
+
+pub returns-clause-flag : goal.returns-clause-flag
+returns-clause-flag g c =
+    λ flags key indirect first changes last f h marks. followed_marked flags key indirect first changes last f h (recursion_from_All _ changes marks)

@@ -1,0 +1,161 @@
+//! Changegroups, and the concatenation of blobs.
+ghost use Rattle.std.specs.Prelude.{◌≡◌, IfOk, OnErr, Some, None, if◌then◌else◌};
+ghost use Rattle.cap_group.specs.declared.refusal.GroupRefusal.TheVariants.{OtherKind};
+ghost use Rattle.cap_value.specs.Memory.{AnswersUnlessMemory, LeavesUnlessMemory, RefusesFirst};
+ghost use Rattle.cap_codec.specs.declared.read.Contents.TheVariants.{Changes, Patches};
+ghost use Rattle.cap_group.specs.ChangeGroup.{added, added_unless, all_added, concat_of, contents_of};
+ghost use Rattle.cap_group.specs.ChangeGroup.{empty_group, has_changes, refused_kind};
+
+use crate::keyed_changes::KeyedChanges;
+use crate::tables::{groups_of, with_groups};
+use crate::{Combine, GroupRefusal};
+use cap_changes::{ChangeList, Patch, PatchList, RowChange, TableGroup};
+use cap_codec::Contents;
+use cap_value::{AllocHandle, Fault, OutOfMemory};
+use std::marker::Model;
+
+/// The changes of several blobs together, one for each row (The Session Extension, "sqlite3changegroup").
+///
+/// Changesets or patchsets are added in the order in which their changes were made. Tables are in the order
+/// of their first change, and the changes of a table in the order of their keys.
+pub struct ChangeGroup<A: AllocHandle> {
+    alloc: A,
+    changes: Vec<KeyedChanges<RowChange<A>, A>, A>,
+    patches: Vec<KeyedChanges<Patch<A>, A>, A>,
+}
+
+impl<A: AllocHandle> Model for ChangeGroup<A> {
+    ghost use Rattle.cap_group.specs.ChangeGroup.{GroupContent};
+
+    ghost Value = { GroupContent A };
+
+    ghost view = { λ g. record { changes = g.changes.items; patches = g.patches.items } };
+}
+
+// A derived `Drop` would be opened in each caller's loop.
+impl<A: AllocHandle> Drop for ChangeGroup<A> {
+    fn drop(self) {
+        let ChangeGroup {
+            alloc: _,
+            changes: _,
+            patches: _,
+        } = self;
+    }
+}
+
+impl<A: AllocHandle> ChangeGroup<A> {
+    /// A changegroup without changes. Takes no memory.
+    pub fn new(alloc: A) -> Self
+        ensures { result ≡ empty_group }
+    {
+        ChangeGroup {
+            alloc,
+            changes: Vec::new(alloc),
+            patches: Vec::new(alloc),
+        }
+    }
+
+    /// Adds the changes of a blob, each to what there is of its row.
+    ///
+    /// Refused with `OtherKind` where it has changes of one kind, changeset or patchset, and the changegroup
+    /// has had those of the other, and then with `OtherColumns` at the first group whose table had other
+    /// columns or another key. A group without changes adds nothing. On an error the changegroup is as before.
+    pub fn add(&mut self, blob: &Contents<A>) -> Result<(), Fault<GroupRefusal>>
+        ensures content { LeavesUnlessMemory result (added self.old blob.now) self.new }
+        ensures kept { OnErr result (self.new ≡ self.old) }
+        ensures first { RefusesFirst (refused_kind self.old blob.now) result }
+    {
+        if self.refuses_kind_of(blob) {
+            return Err(Fault::Refused(GroupRefusal::OtherKind));
+        }
+        match blob {
+            Contents::Changes(list) => self.add_changes(list),
+            Contents::Patches(list) => self.add_patches(list),
+        }
+    }
+
+    fn add_changes(&mut self, list: &ChangeList<A>) -> Result<(), Fault<GroupRefusal>>
+        ensures content { LeavesUnlessMemory result (added_unless None self.old (Changes list.now)) self.new }
+        ensures kept { OnErr result (self.new ≡ self.old) }
+    {
+        match with_groups(self.alloc, &self.changes, list.groups()) {
+            Ok(tables) => {
+                self.changes = tables;
+                Ok(())
+            }
+            Err(fault) => Err(fault),
+        }
+    }
+
+    fn add_patches(&mut self, list: &PatchList<A>) -> Result<(), Fault<GroupRefusal>>
+        ensures content { LeavesUnlessMemory result (added_unless None self.old (Patches list.now)) self.new }
+        ensures kept { OnErr result (self.new ≡ self.old) }
+    {
+        match with_groups(self.alloc, &self.patches, list.groups()) {
+            Ok(tables) => {
+                self.patches = tables;
+                Ok(())
+            }
+            Err(fault) => Err(fault),
+        }
+    }
+
+    fn refuses_kind_of(&self, blob: &Contents<A>) -> bool
+        ensures { (if result then Some OtherKind else None) ≡ refused_kind self.now blob.now }
+    {
+        match blob {
+            Contents::Changes(list) => has_changes(list.groups()) && !self.patches.is_empty(),
+            Contents::Patches(list) => has_changes(list.groups()) && !self.changes.is_empty(),
+        }
+    }
+
+    /// The changes as a blob, without empty groups: a patchset where there are patches, else a changeset.
+    pub fn contents(&self) -> Result<Contents<A>, OutOfMemory>
+        ensures { IfOk result (λ blob. blob ≡ contents_of self.now) }
+    {
+        let patches = groups_of(self.alloc, &self.patches)?;
+        if patches.groups().is_empty() {
+            Ok(Contents::Changes(groups_of(self.alloc, &self.changes)?))
+        } else {
+            Ok(Contents::Patches(patches))
+        }
+    }
+}
+
+// Whether there is a change.
+fn has_changes<C: Combine<A> + Drop, A: AllocHandle>(groups: &[TableGroup<C, A>]) -> bool
+    ensures { result ≡ has_changes groups.now }
+{
+    for group in groups {
+        if !group.changes().is_empty() {
+            return true;
+        }
+    }
+    false
+}
+
+/// The changes of blobs together, in their order (The Session Extension, "sqlite3changeset_concat"), with the
+/// refusals of `ChangeGroup::add`.
+pub fn concat<A: AllocHandle>(
+    alloc: A,
+    blobs: &[Contents<A>],
+) -> Result<Contents<A>, Fault<GroupRefusal>>
+    ensures { AnswersUnlessMemory result (concat_of blobs.now) }
+{
+    let mut group = ChangeGroup::new(alloc);
+    add_all(&mut group, blobs)?;
+    Ok(group.contents()?)
+}
+
+// Adds blobs, one after the other.
+fn add_all<A: AllocHandle>(
+    group: &mut ChangeGroup<A>,
+    blobs: &[Contents<A>],
+) -> Result<(), Fault<GroupRefusal>>
+    ensures { LeavesUnlessMemory result (all_added group.old blobs.now) group.new }
+{
+    for blob in blobs {
+        group.add(blob)?;
+    }
+    Ok(())
+}
