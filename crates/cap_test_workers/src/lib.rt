@@ -11,4 +11,4 @@ mod watched;
 #[cfg(test)]
 mod workers;
 
-pub use watched::{Watched, run_watched, serve_watched, show_watched};
+pub use watched::{Watched, convert_watched, run_watched, serve_watched, show_watched};

@@ -1,6 +1,6 @@
 //! Each request for memory refused in turn.
-use crate::rows::{CHANGESET, SHOWN, WORKLOADS};
-use cap_run::{NoGate, RunFault, run_core, run_workload, show_blob};
+use crate::rows::{CHANGESET, INVERSE, PATCHSET, SHOWN, TO_INVERSE, TO_PATCHSET, WORKLOADS};
+use cap_run::{Encoding, NoGate, RunFault, convert_blob, run_core, run_workload, show_blob};
 use cap_server::CallFault;
 use cap_test_support::Memory;
 use std::alloc::Global;
@@ -86,7 +86,12 @@ fn out_of_memory_for_a_blob(rt: HostRuntime) -> Result<(), Fail> {
     for number in 1..REQUESTS_MAX {
         memory.refuse(number);
         let mut written = Vec::new(rt.alloc());
-        match show_blob(&memory, &mut CHANGESET.as_bytes(), &mut written) {
+        match show_blob(
+            &memory,
+            Encoding::Hex,
+            &mut CHANGESET.as_bytes(),
+            &mut written,
+        ) {
             Ok(()) => assert!(rt; written.as_slice() == SHOWN.as_bytes()),
             Err(fault) => {
                 assert_eq!(rt; fault, RunFault::Memory, "{number}");
@@ -99,5 +104,30 @@ fn out_of_memory_for_a_blob(rt: HostRuntime) -> Result<(), Fail> {
         }
     }
     assert!(rt; ended > 10 && !memory.has_refused());
+    Ok(())
+}
+
+#[test]
+fn out_of_memory_for_a_conversion(rt: HostRuntime) -> Result<(), Fail> {
+    let memory = Memory::new(rt.alloc());
+    for (conversion, output) in [(TO_INVERSE, INVERSE), (TO_PATCHSET, PATCHSET)] {
+        let mut ended = 0u64;
+        for number in 1..REQUESTS_MAX {
+            memory.refuse(number);
+            let mut written = Vec::new(rt.alloc());
+            match convert_blob(&memory, conversion, &mut CHANGESET.as_bytes(), &mut written) {
+                Ok(()) => assert!(rt; written.as_slice() == output.as_bytes()),
+                Err(fault) => {
+                    assert_eq!(rt; fault, RunFault::Memory, "{number}");
+                    assert!(rt; written.is_empty(), "{number}");
+                    ended = ended.saturating_add(1);
+                }
+            }
+            if !memory.has_refused() {
+                break;
+            }
+        }
+        assert!(rt; ended > 10 && !memory.has_refused());
+    }
     Ok(())
 }

@@ -1,4 +1,6 @@
-//! Workloads with what they print, and a blob with what is shown of it.
+//! Workloads with what they print, and a blob with what is shown of it and what it is converted to.
+use cap_codec::KeyFlags;
+use cap_run::{Conversion, Encoding, Target};
 
 // A session captures an insert.
 const INSERT: (&str, &str) = (
@@ -46,3 +48,23 @@ pub(crate) const CHANGESET: &str =
 /// That changeset as text.
 pub(crate) const SHOWN: &str =
     "changeset\ngroup t kvv\ninsert indirect (300,x'',null)\ninsert direct (-9223372036854775808,'',9223372036854775807)\nupdate direct old (1,'old',-) new (-,'it''s new',-)\ndelete direct (2,'gone',x'00ff')\ngroup größe kvk\nupdate indirect old ('k',-1,9) new (-,0,-)\n";
+
+/// Its inverse, as SQLite 3.40 makes it.
+pub(crate) const INVERSE: &str =
+    "54030100007400090101000000000000012c04000509000180000000000000000300017fffffffffffffff1700010000000000000001030869742773206e6577000003036f6c640012000100000000000000020304676f6e65040200ff54030200016772c3b6c39f6500170103016b0100000000000000000100000000000000090001ffffffffffffffff00\n";
+
+/// Its patchset.
+pub(crate) const PATCHSET: &str =
+    "50030100007400120101000000000000012c04000512000180000000000000000300017fffffffffffffff1700010000000000000001030869742773206e657700090001000000000000000250030200016772c3b6c39f6500170103016b010000000000000000010000000000000009\n";
+
+pub(crate) const TO_INVERSE: Conversion = Conversion {
+    target: Target::Inverse,
+    key_flags: KeyFlags::Places,
+    encoding: Encoding::Hex,
+};
+
+pub(crate) const TO_PATCHSET: Conversion = Conversion {
+    target: Target::Patchset,
+    key_flags: KeyFlags::Places,
+    encoding: Encoding::Hex,
+};

@@ -4,7 +4,10 @@ ghost use Rattle.std.specs.IoError.{error_kind};
 ghost use Rattle.std.specs.declared.io.ErrorKind.TheVariants.{Interrupted};
 
 use cap_codec::Source;
-use cap_run::{NoGate, RunFault, RunOutput, run_core, run_workload, show_blob};
+use cap_run::{
+    Conversion, Encoding, NoGate, RunFault, RunOutput, convert_blob, run_core, run_workload,
+    show_blob,
+};
 use std::alloc::Global;
 use std::io;
 use std::io::{ErrorKind, Read, Write};
@@ -136,5 +139,20 @@ pub fn show_watched<R: Read, W: Write>(
     ensures read { reader.new.has_failed ≡ true → result ≡ Err RunFault.Read }
     ensures write { writer.new.has_failed ≡ true → result ≡ Err RunFault.Write }
 {
-    show_blob(alloc, reader, writer)
+    show_blob(alloc, Encoding::Hex, reader, writer)
+}
+
+/// Converts a changeset. A call of the streams that failed is what the run reports.
+pub fn convert_watched<R: Read, W: Write>(
+    alloc: Global,
+    conversion: Conversion,
+    reader: &mut Watched<R>,
+    writer: &mut Watched<W>,
+) -> Result<(), RunFault>
+    requires reader { reader.old.has_failed ≡ false }
+    requires writer { writer.old.has_failed ≡ false }
+    ensures read { reader.new.has_failed ≡ true → result ≡ Err RunFault.Read }
+    ensures write { writer.new.has_failed ≡ true → result ≡ Err RunFault.Write }
+{
+    convert_blob(alloc, conversion, reader, writer)
 }
