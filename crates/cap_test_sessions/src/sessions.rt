@@ -163,14 +163,17 @@ enum Call {
     Copy,
 }
 
-// Each with the number of tables that are attached afterwards, and of images that are held. Before it one
-// table is attached and one image held.
+// Each with the number of tables that are attached afterwards, and of images that are held. Before it nine
+// tables are attached and one image held.
 const CALLS: [(Call, usize, u128); 4] = [
-    (Call::Attach, 2, 1),
-    (Call::Note, 2, 4),
-    (Call::NoteDiff, 2, 3),
-    (Call::Copy, 1, 1),
+    (Call::Attach, 10, 1),
+    (Call::Note, 10, 4),
+    (Call::NoteDiff, 10, 3),
+    (Call::Copy, 9, 1),
 ];
+
+// The tables that are attached beside t. A copy of the session has no room for another one.
+const OTHERS: [&str; 8] = ["a", "b", "c", "d", "e", "f", "g", "h"];
 
 // What they are made with: a table, a database, and what a commit made of it that changes one row of t and
 // two of u.
@@ -226,10 +229,13 @@ fn given<A: AllocHandle>(alloc: A, before: Database<A>) -> Result<Arguments<A>, 
     })
 }
 
-// A database with tables t and u, and a session that attaches t and has one image of it.
+// A database with tables t and u, and a session that attaches t, of which it has one image, and the others.
 fn noted<A: AllocHandle>(alloc: A) -> Result<(Database<A>, Session<A>), Fault<Refusal>> {
     let mut database = with_tables(alloc, &["t", "u"])?;
     let mut session = attached(alloc, "t")?;
+    for name in OTHERS {
+        session.attach(&Name::new(alloc, name)?)?;
+    }
     session.attach_all();
     let mut ops = Vec::new(alloc);
     if ops.push(insert(alloc, "t", 1, "x")?).is_err() {
@@ -260,7 +266,7 @@ fn with_a_request_refused<A: AllocHandle>(
         return None;
     }
     if !is_made {
-        if held(&copy) != (1, 1) {
+        if held(&copy) != (9, 1) {
             return None;
         }
         made_call(&mut copy, call, given).ok()?;
