@@ -1,0 +1,297 @@
+/*
+ * Tests of the calls of changecap.h: test_changecap BLOBS COUNT
+ *
+ * Each line of the file BLOBS is 'HEX KIND AT', the bytes of a blob and its fault, or 'HEX 0 0' where it has none. Then
+ * COUNT damaged blobs are made of those, always the same ones. Each call gets buffers that are exactly as long as it is
+ * told, so that a sanitizer sees what goes beyond. The last line is 'N passed, M failed'.
+ *
+ * It is linked with -Wl,--wrap=malloc,--wrap=realloc, to refuse memory.
+ */
+#include "changecap.h"
+
+#include <stdio.h>
+#include <stdlib.h>
+#include <string.h>
+
+/* ---- Memory that can be refused ---- */
+
+void *__real_malloc(size_t n);
+void *__real_realloc(void *at, size_t n);
+
+static long refused_at = -1; /* how many requests are still granted; none is refused while it is negative */
+
+static int is_refused(void){
+  return refused_at >= 0 && refused_at-- == 0;
+}
+
+void *__wrap_malloc(size_t n){
+  return is_refused() ? NULL : __real_malloc(n);
+}
+
+void *__wrap_realloc(void *at, size_t n){
+  return is_refused() ? NULL : __real_realloc(at, n);
+}
+
+/* ---- Counting ---- */
+
+static long passed, failed;
+
+static void count(int holds, const char *what, int line){
+  if( holds ){
+    passed++;
+  }else{
+    failed++;
+    printf("line %d: %s\n", line, what);
+  }
+}
+
+#define CHECK(holds) count((holds) != 0, #holds, __LINE__)
+
+/* ---- Bytes ---- */
+
+typedef struct bytes {
+  uint8_t *at;
+  size_t n;
+} bytes;
+
+static bytes copy_of(const uint8_t *at, size_t n){
+  bytes copy = { __real_malloc(n ? n : 1), n };
+  if( n ) memcpy(copy.at, at, n);
+  return copy;
+}
+
+static int digit(char c){
+  return c <= '9' ? c - '0' : (c | 32) - 'a' + 10;
+}
+
+static bytes of_hex(const char *hex, size_t digits){
+  bytes made = { __real_malloc(digits / 2 + 1), digits / 2 };
+  for(size_t i = 0; i < made.n; i++) made.at[i] = (uint8_t)(digit(hex[2 * i]) << 4 | digit(hex[2 * i + 1]));
+  return made;
+}
+
+static int is_hex(bytes is, const char *hex){
+  bytes wanted = of_hex(hex, strlen(hex));
+  int same = is.n == wanted.n && memcmp(is.at, wanted.at, is.n) == 0;
+  free(wanted.at);
+  return same;
+}
+
+/* ---- The calls on whole blobs ---- */
+
+typedef uint32_t (*convert)(const uint8_t *, size_t, uint32_t, uint8_t *, size_t, size_t *, changecap_fault *);
+
+/* What a call makes of a blob: first it is told the length, then it gets a buffer that is just as long. */
+static uint32_t made_by(convert call, bytes blob, uint32_t key_flags, bytes *made, changecap_fault *fault){
+  size_t len = 12345;
+  uint8_t none = 0xaa;
+  uint32_t status = call(blob.at, blob.n, key_flags, &none, 0, &len, fault);
+  *made = copy_of(&none, 0);
+  CHECK(none == 0xaa);
+  if( status == CHANGECAP_OK ) CHECK(len == 0);
+  if( status != CHANGECAP_ROOM ) return status;
+  free(made->at);
+  made->n = len;
+  made->at = __real_malloc(len);
+  len = 0;
+  status = call(blob.at, blob.n, key_flags, made->at, made->n, &len, fault);
+  CHECK(status == CHANGECAP_OK && len == made->n);
+  return status;
+}
+
+static void worked_values(void){
+  const char *insert = "5402010074001200010000000000000001030178";
+  const char *delete = "5402010074000900010000000000000001030178";
+  const char *two_keys = "540300010174001200030178010000000000000002010000000000000001";
+  bytes blob = of_hex(insert, strlen(insert)), made;
+  changecap_fault fault = { 77, 77 };
+  CHECK(changecap_check(blob.at, blob.n, &fault) == CHANGECAP_OK && fault.kind == 77 && fault.at == 77);
+  CHECK(made_by(changecap_invert, blob, CHANGECAP_KEYS_ONES, &made, &fault) == CHANGECAP_OK && is_hex(made, delete));
+  free(made.at);
+  CHECK(made_by(changecap_patchset, blob, CHANGECAP_KEYS_ONES, &made, &fault) == CHANGECAP_OK);
+  CHECK(is_hex(made, "5002010074001200010000000000000001030178"));
+  CHECK(fault.kind == 77 && fault.at == 77);
+  blob.at[0] = 0x50;
+  size_t len = 99;
+  CHECK(changecap_invert(blob.at, blob.n, 0, made.at, made.n, &len, &fault) == CHANGECAP_PATCHSET && len == 99);
+  CHECK(changecap_patchset(blob.at, blob.n, 0, made.at, made.n, &len, &fault) == CHANGECAP_PATCHSET && len == 99);
+  CHECK(changecap_invert(blob.at, blob.n, 2, made.at, made.n, &len, &fault) == CHANGECAP_MISUSE);
+  CHECK(changecap_patchset(blob.at, blob.n, 9, made.at, made.n, &len, &fault) == CHANGECAP_MISUSE);
+  CHECK(is_hex(made, "5002010074001200010000000000000001030178"));
+  free(made.at);
+  free(blob.at);
+  blob = of_hex(two_keys, strlen(two_keys));
+  CHECK(made_by(changecap_invert, blob, CHANGECAP_KEYS_PLACES, &made, &fault) == CHANGECAP_OK);
+  CHECK(is_hex(made, "540300010274000900030178010000000000000002010000000000000001"));
+  free(made.at);
+  CHECK(made_by(changecap_patchset, blob, CHANGECAP_KEYS_PLACES, &made, &fault) == CHANGECAP_OK);
+  CHECK(is_hex(made, "500300010274001200030178010000000000000002010000000000000001"));
+  free(made.at);
+  free(blob.at);
+  len = 99;
+  CHECK(changecap_check(changecap_bytes(NULL), 0, &fault) == CHANGECAP_OK);
+  uint8_t none;
+  CHECK(changecap_invert(changecap_bytes(NULL), 0, 1, &none, 0, &len, &fault) == CHANGECAP_OK && len == 0);
+}
+
+/* Each request for memory is refused in turn. The call says so and changes nothing, or it did without that request. */
+static void refused_memory(bytes blob, convert call){
+  bytes out = copy_of(blob.at, blob.n), before = copy_of(blob.at, blob.n), made;
+  changecap_fault none = { 0, 0 };
+  CHECK(made_by(call, blob, 1, &made, &none) == CHANGECAP_OK);
+  for(long at = 0, granted = 0; !granted; at++){
+    size_t len = 99;
+    changecap_fault fault = { 77, 77 };
+    refused_at = at;
+    uint32_t status = call(blob.at, blob.n, 1, out.at, out.n, &len, &fault);
+    granted = refused_at >= 0;
+    refused_at = -1;
+    CHECK(fault.kind == 77 && fault.at == 77);
+    if( status == CHANGECAP_NOMEM ){
+      CHECK(!granted && len == 99 && !memcmp(out.at, before.at, out.n));
+    }else{
+      CHECK(status == CHANGECAP_OK && len == made.n && !memcmp(out.at, made.at, made.n));
+      if( before.n ) memcpy(out.at, before.at, before.n);
+    }
+  }
+  free(out.at);
+  free(before.at);
+  free(made.at);
+}
+
+static void refused_check(bytes blob){
+  for(long at = 0, granted = 0; !granted; at++){
+    changecap_fault fault = { 77, 77 };
+    refused_at = at;
+    uint32_t status = changecap_check(blob.at, blob.n, &fault);
+    granted = refused_at >= 0;
+    refused_at = -1;
+    CHECK(status == CHANGECAP_OK || (status == CHANGECAP_NOMEM && !granted));
+    CHECK(fault.kind == 77 && fault.at == 77);
+  }
+}
+
+/* What holds of the calls on any bytes. */
+static void calls_agree(bytes blob){
+  changecap_fault fault = { 0, 0 }, other = { 0, 0 };
+  uint32_t status = changecap_check(blob.at, blob.n, &fault);
+  bytes once, twice, thrice, patchset;
+  uint32_t inverted = made_by(changecap_invert, blob, 0, &once, &other);
+  uint32_t patched = made_by(changecap_patchset, blob, 0, &patchset, &other);
+  CHECK(inverted == patched);
+  if( status == CHANGECAP_MALFORMED ){
+    CHECK(inverted == status && fault.kind == other.kind && fault.at == other.at);
+    CHECK(fault.kind >= 1 && fault.kind <= 10 && fault.at <= blob.n);
+  }else{
+    CHECK(status == CHANGECAP_OK);
+    CHECK(inverted == (blob.n && blob.at[0] == 0x50 ? CHANGECAP_PATCHSET : CHANGECAP_OK));
+  }
+  if( inverted == CHANGECAP_OK ){
+    CHECK(once.n <= blob.n && patchset.n <= once.n);
+    CHECK(changecap_check(patchset.at, patchset.n, &fault) == CHANGECAP_OK);
+    CHECK(made_by(changecap_invert, once, 0, &twice, &fault) == CHANGECAP_OK);
+    CHECK(made_by(changecap_invert, twice, 0, &thrice, &fault) == CHANGECAP_OK);
+    CHECK(once.n == thrice.n && !memcmp(once.at, thrice.at, once.n));
+    free(twice.at);
+    free(thrice.at);
+  }
+  free(once.at);
+  free(patchset.at);
+}
+
+/* ---- Blobs of a file, and damaged ones ---- */
+
+typedef struct known {
+  bytes blob;
+  changecap_fault fault;
+} known;
+
+static known *all;
+static size_t number;
+
+static void read_known(const char *path){
+  FILE *file = fopen(path, "r");
+  char *line = NULL;
+  size_t room = 0;
+  ssize_t n;
+  while( file && (n = getline(&line, &room, file)) > 0 ){
+    size_t digits = strspn(line, "0123456789abcdefABCDEF");
+    unsigned kind;
+    size_t at;
+    if( sscanf(line + digits, " %u %zu", &kind, &at) != 2 ) continue;
+    all = __real_realloc(all, (number + 1) * sizeof *all);
+    all[number++] = (known){ of_hex(line, digits), { kind, at } };
+  }
+  free(line);
+  CHECK(file != NULL && number > 0);
+  if( file ) fclose(file);
+}
+
+static void known_faults(void){
+  for(size_t i = 0; i < number; i++){
+    changecap_fault fault = { 0, 0 };
+    uint32_t status = changecap_check(all[i].blob.at, all[i].blob.n, &fault);
+    CHECK(status == (all[i].fault.kind ? CHANGECAP_MALFORMED : CHANGECAP_OK));
+    CHECK(fault.kind == all[i].fault.kind && fault.at == all[i].fault.at);
+    calls_agree(all[i].blob);
+  }
+}
+
+static uint64_t state = 88172645463325252u;
+
+static uint64_t random_below(uint64_t limit){
+  state ^= state << 13;
+  state ^= state >> 7;
+  state ^= state << 17;
+  return limit ? state % limit : 0;
+}
+
+static bytes damaged(bytes blob){
+  bytes made = { __real_malloc(blob.n + 16), blob.n };
+  if( blob.n ) memcpy(made.at, blob.at, blob.n);
+  for(uint64_t times = 1 + random_below(3); times; times--){
+    size_t at = random_below(made.n);
+    switch( random_below(4) ){
+      case 0: if( made.n ) made.at[at] = (uint8_t)random_below(256); break;
+      case 1: if( made.n ) made.at[at] ^= (uint8_t)(1u << random_below(8)); break;
+      case 2: made.n = at; break;
+      default:
+        memmove(made.at + at + 1, made.at + at, made.n - at);
+        made.at[at] = (uint8_t)(random_below(2) ? random_below(6) : random_below(256));
+        made.n++;
+    }
+  }
+  bytes exact = copy_of(made.at, made.n);
+  free(made.at);
+  return exact;
+}
+
+static void damage(long times){
+  for(long i = 0; i < times; i++){
+    bytes blob = damaged(all[random_below(number)].blob);
+    calls_agree(blob);
+    free(blob.at);
+  }
+}
+
+int main(int words, char **word){
+  if( words != 3 ){
+    fputs("test_changecap BLOBS COUNT\n", stderr);
+    return 2;
+  }
+  worked_values();
+  read_known(word[1]);
+  known_faults();
+  for(size_t i = 0; i < number; i++){
+    if( all[i].fault.kind ) continue;
+    refused_check(all[i].blob);
+    if( all[i].blob.n && all[i].blob.at[0] == 0x50 ) continue;
+    refused_memory(all[i].blob, changecap_invert);
+    refused_memory(all[i].blob, changecap_patchset);
+  }
+  damage(atol(word[2]));
+  for(size_t i = 0; i < number; i++) free(all[i].blob.at);
+  free(all);
+  printf("%ld passed, %ld failed\n", passed, failed);
+  return failed != 0;
+}

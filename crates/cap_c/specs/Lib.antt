@@ -1,0 +1,4 @@
+pub mod Fault
+pub mod KeyFlags
+pub mod Status
+pub mod Told
