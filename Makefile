@@ -5,10 +5,15 @@ TIMES = crates/cap_bench_times/out/cap_bench_times
 CASES = 500
 ROUNDS = 3
 
-# The code that the program may be made of: that of every crate but those that test or measure it.
-SOURCES = $(filter-out crates/cap_test_% crates/cap_bench_%, $(wildcard crates/*/src))
+# The code that the program may be made of: that of every crate but those that test or measure it, and the one for C.
+SOURCES = $(filter-out crates/cap_test_% crates/cap_bench_% crates/cap_c/%, $(wildcard crates/*/src))
 
-.PHONY: run build test format clean conformance bench
+# Where `make lib` leaves the library for C, and where `make install` puts it and the program.
+OUT = bindings/out
+PREFIX = /usr/local
+DESTDIR =
+
+.PHONY: run build test format clean conformance bench lib install uninstall test-bindings
 
 # The replies to the first example, by the optimised program where `make build` or `make test` left one. Else the sources
 # run before any proof, with checks in place of the proofs, and what `rt try` says of that is shown where it fails.
@@ -44,7 +49,7 @@ format:
 	@for crate in crates/*/; do (cd $$crate && rt fmt) || exit 1; done
 
 clean:
-	rm -rf crates/*/out
+	rm -rf crates/*/out $(OUT)
 
 # The program beside SQLite's session extension, which the gate does without.
 conformance:
@@ -53,3 +58,18 @@ conformance:
 # How long the libraries and the program take beside SQLite: a table of ratios.
 bench:
 	@bench/run $(PROGRAM) $(TIMES) $(ROUNDS)
+
+# The library for C, over what `make test` proved; cap_c itself is proved here.
+lib:
+	@bindings/library $(OUT)
+
+# The program and the library where others find them.
+install:
+	@bindings/install $(PROGRAM) $(OUT) "$(DESTDIR)" "$(PREFIX)"
+
+uninstall:
+	@bindings/install --remove "$(DESTDIR)" "$(PREFIX)"
+
+# The library's calls from C, Rust and Python.
+test-bindings:
+	@bindings/test $(OUT)

@@ -46,6 +46,11 @@ extern "C" {
 #define CHANGECAP_NOMEM     3 /* out of memory */
 #define CHANGECAP_PATCHSET  4 /* a patchset, where only a changeset serves */
 #define CHANGECAP_MISUSE    5 /* an argument that the call has no meaning for */
+#define CHANGECAP_REFUSED   6 /* the server refuses the command: its reply says why */
+#define CHANGECAP_COMMAND   7 /* the text is not one command: the fault is told */
+#define CHANGECAP_FULL      8 /* the server has answered 2^63 - 1 commands */
+#define CHANGECAP_ROW     100 /* the iterator is at a change */
+#define CHANGECAP_DONE    101 /* the iterator is behind the last change */
 
 /* ---- Faults of blobs ---- */
 
@@ -97,6 +102,126 @@ uint32_t changecap_invert(const uint8_t *blob, size_t n, uint32_t key_flags, uin
  *   The rest as of changecap_invert. */
 uint32_t changecap_patchset(const uint8_t *blob, size_t n, uint32_t key_flags, uint8_t *out, size_t room, size_t *len,
                             changecap_fault *fault);
+
+/* ---- Changes of a blob ---- */
+
+/* An iterator over the changes of a changeset or a patchset. It owns what it has read, not the blob. One call at a time
+ * may have it; it may go to another thread between two calls that are ordered, as by a lock.
+ *
+ *     changecap_iter it = CHANGECAP_CLOSED;
+ *     changecap_change change;
+ *     changecap_value value;
+ *     if( changecap_iter_open(blob, n, &it, &fault) == CHANGECAP_OK ){
+ *       while( changecap_iter_next(&it) == CHANGECAP_ROW ){
+ *         changecap_iter_op(&it, &change);
+ *         for(size_t column = 0; column < change.columns; column++){
+ *           changecap_iter_new(&it, column, &value);
+ *           if( value.type == CHANGECAP_INTEGER ) printf("%lld\n", (long long)value.number);
+ *         }
+ *       }
+ *       changecap_iter_close(&it);
+ *     }
+ */
+typedef struct changecap_iter {
+  void *at; /* NULL while it is closed. Nothing of it is for the caller. */
+} changecap_iter;
+
+#define CHANGECAP_CLOSED { NULL }
+
+typedef struct changecap_change {
+  uint32_t op;       /* SQLite's numbers: 18 INSERT, 23 UPDATE, 9 DELETE */
+  uint32_t indirect; /* 0 or 1 */
+  uint32_t patchset; /* 0 or 1 */
+  size_t columns;    /* of its table */
+} changecap_change;
+
+#define CHANGECAP_DELETE  9
+#define CHANGECAP_INSERT 18
+#define CHANGECAP_UPDATE 23
+
+typedef struct changecap_value {
+  uint32_t type;  /* SQLite's numbers, or 0 where the field is undefined */
+  int64_t number; /* of an INTEGER, else 0 */
+  size_t len;     /* bytes of a TEXT or a BLOB, else 0 */
+} changecap_value;
+
+#define CHANGECAP_UNDEFINED 0
+#define CHANGECAP_INTEGER   1
+#define CHANGECAP_TEXT      3 /* UTF-8, without a zero byte at its end */
+#define CHANGECAP_BLOB      4
+#define CHANGECAP_NULL      5
+
+/* Opens a closed iterator before the first change of the blob, all of which is read.
+ *   OK, MALFORMED (*fault), NOMEM. Unless the status is OK the iterator stays closed. */
+uint32_t changecap_iter_open(const uint8_t *blob, size_t n, changecap_iter *it, changecap_fault *fault);
+
+/* Goes to the next change. The rest takes an open iterator too.
+ *   ROW, or DONE behind the last change, and from then on. */
+uint32_t changecap_iter_next(changecap_iter *it);
+
+/* Tells what the change is.
+ *   OK, MISUSE (there is no change: before the first, behind the last). */
+uint32_t changecap_iter_op(changecap_iter *it, changecap_change *change);
+
+/* Writes the name of the change's table, 1 to 255 bytes of UTF-8, without a zero byte at its end.
+ *   OK (*len), ROOM (*len), MISUSE. */
+uint32_t changecap_iter_table(changecap_iter *it, uint8_t *out, size_t room, size_t *len);
+
+/* Tells whether a column, from 0 on, is in the key of the change's table: 0 or 1.
+ *   OK, MISUSE (there is no change, or no such column). */
+uint32_t changecap_iter_key(changecap_iter *it, size_t column, uint32_t *is_key);
+
+/* Tells the value of a column before or after the change, as sqlite3changeset_old and sqlite3changeset_new. In a patchset
+ * an UPDATE has its key columns before, and its modified columns after.
+ *   OK, MISUSE. */
+uint32_t changecap_iter_old(changecap_iter *it, size_t column, changecap_value *value);
+uint32_t changecap_iter_new(changecap_iter *it, size_t column, changecap_value *value);
+
+/* Writes the bytes of a TEXT or a BLOB; any other value has none.
+ *   OK (*len), ROOM (*len), MISUSE. */
+uint32_t changecap_iter_old_bytes(changecap_iter *it, size_t column, uint8_t *out, size_t room, size_t *len);
+uint32_t changecap_iter_new_bytes(changecap_iter *it, size_t column, uint8_t *out, size_t room, size_t *len);
+
+/* Closes the iterator and frees what it has. */
+void changecap_iter_close(changecap_iter *it);
+
+/* ---- A server ---- */
+
+/* A table server in memory. One call at a time may have it; callers of several threads share it behind a lock.
+ *
+ *     changecap_server server = CHANGECAP_CLOSED;
+ *     if( changecap_server_open(&server) == CHANGECAP_OK ){
+ *       const char *text = "create t kv";
+ *       uint32_t status = changecap_server_call(&server, (const uint8_t *)text, strlen(text), &fault);
+ *       uint8_t reply[256];
+ *       size_t len;
+ *       if( status == CHANGECAP_OK && changecap_server_reply(&server, reply, sizeof reply, &len) == CHANGECAP_OK )
+ *         fwrite(reply, 1, len, stdout);
+ *       changecap_server_close(&server);
+ *     }
+ */
+typedef struct changecap_server {
+  void *at; /* NULL while it is closed. Nothing of it is for the caller. */
+} changecap_server;
+
+/* Opens a closed server, which is empty.
+ *   OK, NOMEM. */
+uint32_t changecap_server_open(changecap_server *server);
+
+/* Carries out the one command that the n bytes are, in the language of docs/FORMAT.md ("Workload text"), and keeps the
+ * text of its reply until the next call. The rest takes an open server too.
+ *   OK, REFUSED (the reply says why), COMMAND (*fault), NOMEM, FULL.
+ * Of a fault, kind is 1 where a token does not fit, 2 where a limit is passed, 3 where the bytes to apply are no blob, and
+ * 0 where the text is not UTF-8 or not just one command; at is the offset in the line, or in the bytes to apply.
+ * Unless the status is OK or REFUSED, the server is as it was. */
+uint32_t changecap_server_call(changecap_server *server, const uint8_t *text, size_t n, changecap_fault *fault);
+
+/* Writes the text of the last reply, as docs/FORMAT.md has it, without a line feed at its end.
+ *   OK (*len), ROOM (*len). */
+uint32_t changecap_server_reply(changecap_server *server, uint8_t *out, size_t room, size_t *len);
+
+/* Ends the server and frees what it has. */
+void changecap_server_close(changecap_server *server);
 
 #ifdef __cplusplus
 }

@@ -171,6 +171,220 @@ static void refused_check(bytes blob){
   }
 }
 
+/* ---- The calls on an iterator ---- */
+
+typedef uint32_t (*bytes_of)(changecap_iter *, size_t, uint8_t *, size_t, size_t *);
+
+/* The bytes of a field, in a buffer that is just as long. A shorter one is left as it was. */
+static bytes field_bytes(changecap_iter *it, size_t column, size_t n, bytes_of call){
+  bytes made = { __real_malloc(n ? n : 1), n };
+  size_t len = 99;
+  if( n ){
+    made.at[0] = 0xaa;
+    CHECK(call(it, column, made.at, n - 1, &len) == CHANGECAP_ROOM && len == n && made.at[0] == 0xaa);
+  }
+  CHECK(call(it, column, made.at, n, &len) == CHANGECAP_OK && len == n);
+  return made;
+}
+
+static void read_field(changecap_iter *it, size_t column, changecap_value value, bytes_of call){
+  CHECK(value.type <= 5 && value.type != 2);
+  CHECK(value.type == CHANGECAP_INTEGER || value.number == 0);
+  CHECK(value.type == CHANGECAP_TEXT || value.type == CHANGECAP_BLOB || value.len == 0);
+  free(field_bytes(it, column, value.len, call).at);
+}
+
+/* Reads all of a change. Which fields are defined is as the operation has it. */
+static void read_change(changecap_iter *it){
+  changecap_change change;
+  CHECK(changecap_iter_op(it, &change) == CHANGECAP_OK);
+  uint8_t name[255];
+  size_t len = 99, keys = 0;
+  CHECK(changecap_iter_table(it, name, 0, &len) == CHANGECAP_ROOM && len >= 1 && len <= 255);
+  CHECK(changecap_iter_table(it, name, sizeof name, &len) == CHANGECAP_OK);
+  for(size_t column = 0; column < change.columns; column++){
+    changecap_value old, new;
+    uint32_t is_key = 9;
+    CHECK(changecap_iter_key(it, column, &is_key) == CHANGECAP_OK && is_key <= 1);
+    keys += is_key;
+    CHECK(changecap_iter_old(it, column, &old) == CHANGECAP_OK);
+    CHECK(changecap_iter_new(it, column, &new) == CHANGECAP_OK);
+    read_field(it, column, old, changecap_iter_old_bytes);
+    read_field(it, column, new, changecap_iter_new_bytes);
+    int has_old = change.op == CHANGECAP_DELETE ? !change.patchset || is_key : change.op == CHANGECAP_UPDATE && is_key;
+    if( has_old ) CHECK(old.type != CHANGECAP_UNDEFINED);
+    if( change.op == CHANGECAP_INSERT ) CHECK(old.type == CHANGECAP_UNDEFINED && new.type != CHANGECAP_UNDEFINED);
+    if( change.op == CHANGECAP_DELETE ) CHECK(new.type == CHANGECAP_UNDEFINED);
+    if( change.op == CHANGECAP_UPDATE && is_key ) CHECK(new.type == CHANGECAP_UNDEFINED);
+  }
+  CHECK(keys > 0);
+  changecap_value value = { 77, 77, 77 };
+  uint32_t is_key = 77;
+  CHECK(changecap_iter_old(it, change.columns, &value) == CHANGECAP_MISUSE && value.type == 77);
+  CHECK(changecap_iter_new(it, change.columns, &value) == CHANGECAP_MISUSE && value.type == 77);
+  CHECK(changecap_iter_key(it, change.columns, &is_key) == CHANGECAP_MISUSE && is_key == 77);
+  CHECK(changecap_iter_old_bytes(it, change.columns, name, sizeof name, &len) == CHANGECAP_MISUSE);
+  CHECK(changecap_iter_new_bytes(it, change.columns, name, sizeof name, &len) == CHANGECAP_MISUSE);
+}
+
+/* Where there is no change, nothing is told. */
+static void reads_nothing(changecap_iter *it){
+  changecap_change change = { 77, 77, 77, 77 };
+  changecap_value value = { 77, 77, 77 };
+  uint32_t is_key = 77;
+  uint8_t none = 0xaa;
+  size_t len;
+  CHECK(changecap_iter_op(it, &change) == CHANGECAP_MISUSE && change.op == 77);
+  CHECK(changecap_iter_table(it, &none, 1, &len) == CHANGECAP_MISUSE);
+  CHECK(changecap_iter_key(it, 0, &is_key) == CHANGECAP_MISUSE && is_key == 77);
+  CHECK(changecap_iter_old(it, 0, &value) == CHANGECAP_MISUSE);
+  CHECK(changecap_iter_new(it, 0, &value) == CHANGECAP_MISUSE && value.type == 77);
+  CHECK(changecap_iter_old_bytes(it, 0, &none, 1, &len) == CHANGECAP_MISUSE);
+  CHECK(changecap_iter_new_bytes(it, 0, &none, 1, &len) == CHANGECAP_MISUSE && none == 0xaa);
+}
+
+/* How many changes there are, each read whole; or none where the blob has a fault. */
+static size_t iterated(bytes blob, uint32_t status){
+  changecap_iter it = CHANGECAP_CLOSED;
+  changecap_fault fault;
+  size_t changes = 0;
+  CHECK(changecap_iter_open(blob.at, blob.n, &it, &fault) == status);
+  if( status != CHANGECAP_OK ){
+    CHECK(it.at == NULL);
+    return 0;
+  }
+  CHECK(it.at != NULL);
+  reads_nothing(&it);
+  while( changecap_iter_next(&it) == CHANGECAP_ROW ){
+    read_change(&it);
+    changes++;
+  }
+  reads_nothing(&it);
+  CHECK(changecap_iter_next(&it) == CHANGECAP_DONE);
+  changecap_iter_close(&it);
+  CHECK(it.at == NULL);
+  return changes;
+}
+
+static void worked_iterator(void){
+  const char *hex = "540201007400540201007500"
+                    "170101000000000000000703012d0003022b2b"
+                    "540301000162001200040200ff050301610900040100050100000000000000ff";
+  bytes blob = of_hex(hex, strlen(hex));
+  changecap_iter it = CHANGECAP_CLOSED;
+  changecap_fault fault;
+  changecap_change change;
+  changecap_value value;
+  uint8_t out[8];
+  size_t len;
+  CHECK(changecap_iter_open(blob.at, blob.n, &it, &fault) == CHANGECAP_OK);
+  memset(blob.at, 0, blob.n);
+  free(blob.at);
+  CHECK(changecap_iter_next(&it) == CHANGECAP_ROW);
+  CHECK(changecap_iter_op(&it, &change) == CHANGECAP_OK);
+  CHECK(change.op == CHANGECAP_UPDATE && change.indirect == 1 && change.patchset == 0 && change.columns == 2);
+  CHECK(changecap_iter_table(&it, out, 8, &len) == CHANGECAP_OK && len == 1 && out[0] == 'u');
+  CHECK(changecap_iter_old(&it, 0, &value) == CHANGECAP_OK && value.type == CHANGECAP_INTEGER && value.number == 7);
+  CHECK(changecap_iter_old(&it, 1, &value) == CHANGECAP_OK && value.type == CHANGECAP_TEXT && value.len == 1);
+  CHECK(changecap_iter_old_bytes(&it, 1, out, 8, &len) == CHANGECAP_OK && len == 1 && out[0] == '-');
+  CHECK(changecap_iter_new(&it, 0, &value) == CHANGECAP_OK && value.type == CHANGECAP_UNDEFINED);
+  CHECK(changecap_iter_new_bytes(&it, 1, out, 8, &len) == CHANGECAP_OK && len == 2 && !memcmp(out, "++", 2));
+  CHECK(changecap_iter_next(&it) == CHANGECAP_ROW);
+  CHECK(changecap_iter_op(&it, &change) == CHANGECAP_OK && change.op == CHANGECAP_INSERT && change.columns == 3);
+  CHECK(changecap_iter_new(&it, 0, &value) == CHANGECAP_OK && value.type == CHANGECAP_BLOB && value.len == 2);
+  CHECK(changecap_iter_new_bytes(&it, 0, out, 8, &len) == CHANGECAP_OK && len == 2 && out[0] == 0 && out[1] == 0xff);
+  CHECK(changecap_iter_new(&it, 1, &value) == CHANGECAP_OK && value.type == CHANGECAP_NULL);
+  CHECK(changecap_iter_next(&it) == CHANGECAP_ROW);
+  CHECK(changecap_iter_op(&it, &change) == CHANGECAP_OK && change.op == CHANGECAP_DELETE && change.indirect == 0);
+  CHECK(changecap_iter_old(&it, 2, &value) == CHANGECAP_OK && value.number == 255);
+  CHECK(changecap_iter_next(&it) == CHANGECAP_DONE);
+  changecap_iter_close(&it);
+}
+
+static void refused_iterator(bytes blob){
+  for(long at = 0, granted = 0; !granted; at++){
+    changecap_iter it = CHANGECAP_CLOSED;
+    changecap_fault fault;
+    refused_at = at;
+    uint32_t status = changecap_iter_open(blob.at, blob.n, &it, &fault);
+    granted = refused_at >= 0;
+    refused_at = -1;
+    CHECK(status == CHANGECAP_OK ? it.at != NULL : status == CHANGECAP_NOMEM && it.at == NULL && !granted);
+    if( status == CHANGECAP_OK ) changecap_iter_close(&it);
+  }
+}
+
+/* ---- The calls on a server ---- */
+
+static uint32_t called(changecap_server *server, const char *text, changecap_fault *fault){
+  bytes exact = copy_of((const uint8_t *)text, strlen(text));
+  uint32_t status = changecap_server_call(server, exact.at, exact.n, fault);
+  free(exact.at);
+  return status;
+}
+
+static int replies(changecap_server *server, const char *text){
+  size_t n = strlen(text), len = 99;
+  bytes made = { __real_malloc(n + 1), n };
+  int same = changecap_server_reply(server, made.at, n, &len) == CHANGECAP_OK && len == n && !memcmp(made.at, text, n);
+  if( n ) CHECK(changecap_server_reply(server, made.at, n - 1, &len) == CHANGECAP_ROOM && len == n);
+  free(made.at);
+  return same;
+}
+
+static void worked_server(void){
+  changecap_server server = CHANGECAP_CLOSED;
+  changecap_fault fault = { 77, 77 };
+  CHECK(changecap_server_open(&server) == CHANGECAP_OK && server.at != NULL);
+  CHECK(replies(&server, ""));
+  CHECK(called(&server, "create t kv", &fault) == CHANGECAP_OK && replies(&server, "ok version 1"));
+  CHECK(called(&server, "session", &fault) == CHANGECAP_OK && replies(&server, "session 1"));
+  CHECK(called(&server, "attach 1 t", &fault) == CHANGECAP_OK && replies(&server, "ok"));
+  CHECK(called(&server, "commit insert t (1,'x')\n", &fault) == CHANGECAP_OK && replies(&server, "ok version 2"));
+  CHECK(called(&server, "# a comment\nchangeset 1", &fault) == CHANGECAP_OK);
+  CHECK(replies(&server, "changeset 5402010074001200010000000000000001030178"));
+  CHECK(called(&server, "create t kv", &fault) == CHANGECAP_REFUSED && replies(&server, "refused: E9 TableExists"));
+  CHECK(fault.kind == 77 && fault.at == 77);
+  CHECK(called(&server, "frob", &fault) == CHANGECAP_COMMAND && fault.kind == 1 && fault.at == 0);
+  CHECK(called(&server, "attach 1 ;", &fault) == CHANGECAP_COMMAND && fault.kind == 1 && fault.at == 9);
+  CHECK(called(&server, "apply x'5480' omit omit omit", &fault) == CHANGECAP_COMMAND && fault.kind == 3 && fault.at == 1);
+  CHECK(called(&server, "", &fault) == CHANGECAP_COMMAND && fault.kind == 0);
+  CHECK(called(&server, "session\nsession", &fault) == CHANGECAP_COMMAND && fault.kind == 0);
+  CHECK(called(&server, "create \xff k", &fault) == CHANGECAP_COMMAND && fault.kind == 0);
+  CHECK(called(&server, "isempty 1", &fault) == CHANGECAP_OK && replies(&server, "false"));
+  changecap_server_close(&server);
+  CHECK(server.at == NULL);
+}
+
+/* Each request for memory is refused in turn: a command that was not carried out is carried out when it comes again. */
+static void refused_server(void){
+  static const char *const command[] = {
+    "create t kv", "session", "attach 1 t", "commit insert t (1,'x') ; insert t (2,null)",
+    "commit update t key(1) set 1 = 'y'", "changeset 1 places", "restart 1", "scan t",
+  };
+  static const char *const reply[] = {
+    "ok version 1", "session 1", "ok", "ok version 2", "ok version 3",
+    "changeset 54020100740012000100000000000000010301791200010000000000000002" "05",
+    "changeset 54020100740012000100000000000000010301791200010000000000000002" "05",
+    "rows 2\n(1,'y')\n(2,null)",
+  };
+  for(long at = 0, granted = 0; !granted; at++){
+    changecap_server server = CHANGECAP_CLOSED;
+    changecap_fault fault;
+    refused_at = at;
+    granted = 1;
+    while( changecap_server_open(&server) == CHANGECAP_NOMEM ) granted = 0;
+    for(size_t i = 0; i < sizeof command / sizeof *command; i++){
+      uint32_t status;
+      while( (status = called(&server, command[i], &fault)) == CHANGECAP_NOMEM ) granted = 0;
+      CHECK(status == CHANGECAP_OK && replies(&server, reply[i]));
+    }
+    granted = granted && refused_at >= 0;
+    refused_at = -1;
+    changecap_server_close(&server);
+  }
+}
+
 /* What holds of the calls on any bytes. */
 static void calls_agree(bytes blob){
   changecap_fault fault = { 0, 0 }, other = { 0, 0 };
@@ -179,6 +393,7 @@ static void calls_agree(bytes blob){
   uint32_t inverted = made_by(changecap_invert, blob, 0, &once, &other);
   uint32_t patched = made_by(changecap_patchset, blob, 0, &patchset, &other);
   CHECK(inverted == patched);
+  size_t changes = iterated(blob, status);
   if( status == CHANGECAP_MALFORMED ){
     CHECK(inverted == status && fault.kind == other.kind && fault.at == other.at);
     CHECK(fault.kind >= 1 && fault.kind <= 10 && fault.at <= blob.n);
@@ -188,6 +403,7 @@ static void calls_agree(bytes blob){
   }
   if( inverted == CHANGECAP_OK ){
     CHECK(once.n <= blob.n && patchset.n <= once.n);
+    CHECK(iterated(once, CHANGECAP_OK) == changes && iterated(patchset, CHANGECAP_OK) == changes);
     CHECK(changecap_check(patchset.at, patchset.n, &fault) == CHANGECAP_OK);
     CHECK(made_by(changecap_invert, once, 0, &twice, &fault) == CHANGECAP_OK);
     CHECK(made_by(changecap_invert, twice, 0, &thrice, &fault) == CHANGECAP_OK);
@@ -280,11 +496,15 @@ int main(int words, char **word){
     return 2;
   }
   worked_values();
+  worked_iterator();
+  worked_server();
+  refused_server();
   read_known(word[1]);
   known_faults();
   for(size_t i = 0; i < number; i++){
     if( all[i].fault.kind ) continue;
     refused_check(all[i].blob);
+    refused_iterator(all[i].blob);
     if( all[i].blob.n && all[i].blob.at[0] == 0x50 ) continue;
     refused_memory(all[i].blob, changecap_invert);
     refused_memory(all[i].blob, changecap_patchset);

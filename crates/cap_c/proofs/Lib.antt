@@ -1,0 +1,3 @@
+mod IterAsBox
+mod PlaceLemmas
+mod ServerAsBox

@@ -1,4 +1,12 @@
+pub mod Bits
 pub mod Fault
+pub mod Fields
+pub mod Iter
+pub mod IterHandle
+pub mod IterTold
 pub mod KeyFlags
+pub mod Places
+pub mod Server
+pub mod ServerHandle
 pub mod Status
 pub mod Told

@@ -1,10 +1,14 @@
 -- What a call leaves with its caller, by its status.
-use Rattle.std.specs.Prelude.{◌≡◌, ℕ, List, ◌++◌, drop, length, Result, Ok, Err}
+use Rattle.std.specs.Prelude.{◌≡◌, ℕ, pos, List, [], ◌++◌, drop, length, Option, Some, None, Result, Ok, Err}
+use Rattle.cap_value.specs.declared.value.Value.{Value}
+use Rattle.cap_value.specs.declared.value.Value.TheVariants.{Null, Int, Text, Blob}
 use Rattle.cap_blob.specs.declared.refusal.BytesRefusal.{BytesRefusal}
 use Rattle.cap_blob.specs.declared.refusal.BytesRefusal.TheVariants.{Malformed, Patchset}
 use Rattle.cap_c.specs.Fault.{placed}
+use Rattle.cap_c.specs.Status.{room_status}
+use Rattle.cap_c.specs.declared.change_info.FieldValue.{FieldValue}
 use Rattle.cap_c.specs.declared.fault.PlacedFault.{PlacedFault}
-use Rattle.cap_c.specs.declared.status.TheConstants.{DONE}
+use Rattle.cap_c.specs.declared.status.TheConstants.{DONE, MISUSE}
 
 -- The bytes are at the beginning of the buffer, and what was behind them is still there.
 abbrev pub begins_with : List ℕ → List ℕ → List ℕ
@@ -21,3 +25,31 @@ abbrev pub Tells : Result (List ℕ) BytesRefusal → ℕ → List ℕ → List 
 Tells (Ok bytes) status old new len fault = Writes bytes status old new len
 Tells (Err (Malformed wrong)) status old new len fault = (new ≡ old) × (fault ≡ placed wrong)
 Tells (Err Patchset) status old new len fault = new ≡ old
+
+-- what was asked for is told, or there is none and that is misuse
+abbrev pub TellsFound : {X : Type 0} → Option X → ℕ → X → X → Type 0
+TellsFound (Some found) status old new = (status ≡ DONE) × (new ≡ found)
+TellsFound None status old new = (status ≡ MISUSE) × (new ≡ old)
+
+-- the same of bytes
+abbrev pub TellsBytes : Option (List ℕ) → ℕ → List ℕ → List ℕ → ℕ → Type 0
+TellsBytes (Some bytes) status old new len =
+    (status ≡ room_status (length bytes) (length old)) × Writes bytes status old new len
+TellsBytes None status old new len = (status ≡ MISUSE) × (new ≡ old)
+
+module _ {A : Type 0} where
+  -- a field, by SQLite's numbers of storage classes
+  abbrev pub value_told : Option (Value A) → FieldValue
+  value_told None = record { kind = 0; number = pos 0; len = 0 }
+  value_told (Some (Int number)) = record { kind = 1; number = number; len = 0 }
+  value_told (Some (Text text)) = record { kind = 3; number = pos 0; len = length text }
+  value_told (Some (Blob blob)) = record { kind = 4; number = pos 0; len = length blob }
+  value_told (Some Null) = record { kind = 5; number = pos 0; len = 0 }
+
+  -- the bytes of a text or a blob
+  abbrev pub value_bytes : Option (Value A) → List ℕ
+  value_bytes None = []
+  value_bytes (Some (Int number)) = []
+  value_bytes (Some (Text text)) = text
+  value_bytes (Some (Blob blob)) = blob
+  value_bytes (Some Null) = []

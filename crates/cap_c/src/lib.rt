@@ -1,11 +1,25 @@
-//! The calls for C, and for what calls C: whole blobs as bytes.
+//! The calls for C, and for what calls C: whole blobs as bytes, an iterator over the changes of one, and a server.
 //!
 //! A call answers a status. What it makes is written to the caller's buffer, and nothing of the caller's is kept after
 //! it. `include/changecap.h` declares each call as C sees it.
 #![tactic(auto)]
 
 mod blobs;
+mod change_info;
 mod fault;
+mod iter;
+mod iter_calls;
+mod iter_fields;
+mod iter_handle;
+mod iter_place;
+mod iter_told;
 mod key_flags;
+mod one_line;
 mod output;
+mod parts;
+mod printer;
+mod server;
+mod server_calls;
+mod server_handle;
 mod status;
+mod travels;

@@ -12,3 +12,13 @@ pub(crate) const NO_MEMORY: u32 = 3;
 pub(crate) const PATCHSET: u32 = 4;
 /// An argument is none that the call has a meaning for.
 pub(crate) const MISUSE: u32 = 5;
+/// The server refuses the command. The reply says why.
+pub(crate) const REFUSED: u32 = 6;
+/// The text is not one command. The fault tells why, and where.
+pub(crate) const NO_COMMAND: u32 = 7;
+/// The server has answered as many commands as it can.
+pub(crate) const FULL: u32 = 8;
+/// The iterator is at a change.
+pub(crate) const ROW: u32 = 100;
+/// The iterator is behind the last change.
+pub(crate) const END: u32 = 101;

@@ -1,0 +1,255 @@
+"""Changesets and patchsets of SQLite's session extension, and a table server that captures them.
+
+The calls of changecap.h by ctypes. The shared object is the one that the environment variable CHANGECAP_LIBRARY names,
+else libchangecap.so of ../out beside this file, else the system's.
+
+    inverse = changecap.invert(changeset)
+    for change in changecap.iterate(changeset):
+        print(change.table, change.operation, change.old, change.new)
+
+    with changecap.Server() as server:
+        server.call("create t kv")
+        session = int(server.call("session").split()[1])
+
+A value is None, int, str (TEXT) or bytes (BLOB).
+"""
+import ctypes
+import ctypes.util
+import os
+import threading
+from ctypes import POINTER, byref, c_int64, c_size_t, c_uint32, c_void_p
+from dataclasses import dataclass
+
+OK, MALFORMED, ROOM, NOMEM, PATCHSET, MISUSE, REFUSED, COMMAND, FULL, ROW, DONE = 0, 1, 2, 3, 4, 5, 6, 7, 8, 100, 101
+KEYS_ONES, KEYS_PLACES = 0, 1
+UNDEFINED, INTEGER, TEXT, BLOB, NULL = 0, 1, 3, 4, 5
+OPERATIONS = {18: "insert", 23: "update", 9: "delete"}
+
+
+class Error(Exception):
+    """A call that did not succeed. Its `status` is that of changecap.h."""
+
+    def __init__(self, status, message):
+        super().__init__(message)
+        self.status = status
+
+
+class Malformed(Error):
+    """Bytes that are no blob: the number of the fault, as in D1, and its offset."""
+
+    def __init__(self, fault):
+        super().__init__(MALFORMED, f"fault D{fault.kind} at {fault.at}")
+        self.kind, self.at = fault.kind, fault.at
+
+
+class NotOneCommand(Error):
+    """A text that is not one command: the number of the fault, as in G1, or 0, and its offset."""
+
+    def __init__(self, fault):
+        super().__init__(COMMAND, f"not one command: G{fault.kind} at {fault.at}")
+        self.kind, self.at = fault.kind, fault.at
+
+
+class Refused(Error):
+    """A command that the server refuses. The text is its reply."""
+
+    def __init__(self, reply):
+        super().__init__(REFUSED, reply)
+
+
+@dataclass
+class Change:
+    """A change of a blob. A column that is undefined has no entry in `old` or `new`."""
+
+    table: str
+    key: list
+    operation: str
+    indirect: bool
+    patchset: bool
+    old: dict
+    new: dict
+
+
+class _Fault(ctypes.Structure):
+    _fields_ = [("kind", c_uint32), ("at", c_size_t)]
+
+
+class _Change(ctypes.Structure):
+    _fields_ = [("op", c_uint32), ("indirect", c_uint32), ("patchset", c_uint32), ("columns", c_size_t)]
+
+
+class _Field(ctypes.Structure):
+    _fields_ = [("kind", c_uint32), ("number", c_int64), ("len", c_size_t)]
+
+
+class _Handle(ctypes.Structure):
+    _fields_ = [("at", c_void_p)]
+
+
+_BYTES, _LEN, _OUT = ctypes.c_char_p, c_size_t, c_void_p
+_CALLS = {
+    "check": [_BYTES, _LEN, POINTER(_Fault)],
+    "invert": [_BYTES, _LEN, c_uint32, _OUT, _LEN, POINTER(c_size_t), POINTER(_Fault)],
+    "patchset": [_BYTES, _LEN, c_uint32, _OUT, _LEN, POINTER(c_size_t), POINTER(_Fault)],
+    "iter_open": [_BYTES, _LEN, POINTER(_Handle), POINTER(_Fault)],
+    "iter_next": [POINTER(_Handle)],
+    "iter_op": [POINTER(_Handle), POINTER(_Change)],
+    "iter_table": [POINTER(_Handle), _OUT, _LEN, POINTER(c_size_t)],
+    "iter_key": [POINTER(_Handle), _LEN, POINTER(c_uint32)],
+    "iter_old": [POINTER(_Handle), _LEN, POINTER(_Field)],
+    "iter_new": [POINTER(_Handle), _LEN, POINTER(_Field)],
+    "iter_old_bytes": [POINTER(_Handle), _LEN, _OUT, _LEN, POINTER(c_size_t)],
+    "iter_new_bytes": [POINTER(_Handle), _LEN, _OUT, _LEN, POINTER(c_size_t)],
+    "iter_close": [POINTER(_Handle)],
+    "server_open": [POINTER(_Handle)],
+    "server_call": [POINTER(_Handle), _BYTES, _LEN, POINTER(_Fault)],
+    "server_reply": [POINTER(_Handle), _OUT, _LEN, POINTER(c_size_t)],
+    "server_close": [POINTER(_Handle)],
+}
+
+
+class _Library:
+    """The loaded library, with each call under its name without the prefix."""
+
+    def __init__(self):
+        here = os.path.join(os.path.dirname(os.path.abspath(__file__)), "..", "out", "libchangecap.so")
+        name = os.environ.get("CHANGECAP_LIBRARY") or (here if os.path.exists(here) else ctypes.util.find_library("changecap"))
+        if not name:
+            raise ImportError("libchangecap.so is not there: make lib, or set CHANGECAP_LIBRARY")
+        calls = ctypes.CDLL(name)
+        for call, types in _CALLS.items():
+            made = getattr(calls, f"changecap_{call}")
+            made.argtypes = types
+            made.restype = None if call.endswith("_close") else c_uint32
+            setattr(self, call, made)
+
+
+_library = _Library()
+
+
+def _check(status, fault=None):
+    if status == MALFORMED:
+        raise Malformed(fault)
+    if status == COMMAND:
+        raise NotOneCommand(fault)
+    if status == NOMEM:
+        raise MemoryError
+    if status != OK:
+        raise Error(status, {PATCHSET: "a patchset, where only a changeset serves", MISUSE: "misuse", FULL: "history full"}
+                    .get(status, f"status {status}"))
+
+
+def _taken(call, room=256):
+    """The bytes that a call writes, which gets a buffer of this length first."""
+    while True:
+        out, length = ctypes.create_string_buffer(room or 1), c_size_t()
+        status = call(out, room, byref(length))
+        if status != ROOM:
+            _check(status)
+            return out.raw[:length.value]
+        room = length.value
+
+
+def _converted(call, blob, key_flags):
+    fault = _Fault()
+    out, length = ctypes.create_string_buffer(len(blob) or 1), c_size_t()
+    status = call(bytes(blob), len(blob), key_flags, out, len(blob), byref(length), byref(fault))
+    _check(status, fault)
+    return out.raw[:length.value]
+
+
+def check(blob):
+    """Raises Malformed unless the bytes are a changeset or a patchset."""
+    fault = _Fault()
+    _check(_library.check(bytes(blob), len(blob), byref(fault)), fault)
+
+
+def invert(changeset, key_flags=KEYS_PLACES):
+    """The inverse of a changeset."""
+    return _converted(_library.invert, changeset, key_flags)
+
+
+def patchset(changeset, key_flags=KEYS_PLACES):
+    """The patchset of a changeset."""
+    return _converted(_library.patchset, changeset, key_flags)
+
+
+def _value(handle, column, field_of, bytes_of):
+    field = _Field()
+    _check(field_of(byref(handle), column, byref(field)))
+    if field.kind in (TEXT, BLOB):
+        content = _taken(lambda *out: bytes_of(byref(handle), column, *out), field.len)
+        return True, content.decode() if field.kind == TEXT else content
+    return field.kind != UNDEFINED, field.number if field.kind == INTEGER else None
+
+
+def _fields(handle, columns, field_of, bytes_of):
+    values = (_value(handle, column, field_of, bytes_of) for column in range(columns))
+    return {column: value for column, (is_defined, value) in enumerate(values) if is_defined}
+
+
+def _change(handle):
+    info, flag = _Change(), c_uint32()
+    _check(_library.iter_op(byref(handle), byref(info)))
+    key = []
+    for column in range(info.columns):
+        _check(_library.iter_key(byref(handle), column, byref(flag)))
+        key.append(bool(flag.value))
+    return Change(
+        table=_taken(lambda *out: _library.iter_table(byref(handle), *out)).decode(),
+        key=key,
+        operation=OPERATIONS[info.op],
+        indirect=bool(info.indirect),
+        patchset=bool(info.patchset),
+        old=_fields(handle, info.columns, _library.iter_old, _library.iter_old_bytes),
+        new=_fields(handle, info.columns, _library.iter_new, _library.iter_new_bytes),
+    )
+
+
+def iterate(blob):
+    """Each change of a changeset or a patchset, in order."""
+    handle, fault = _Handle(), _Fault()
+    _check(_library.iter_open(bytes(blob), len(blob), byref(handle), byref(fault)), fault)
+    try:
+        while _library.iter_next(byref(handle)) == ROW:
+            yield _change(handle)
+    finally:
+        _library.iter_close(byref(handle))
+
+
+class Server:
+    """A table server in memory. Calls of several threads wait for each other."""
+
+    def __init__(self):
+        self._lock, self._handle = threading.Lock(), _Handle()
+        _check(_library.server_open(byref(self._handle)))
+
+    def call(self, command):
+        """The text of the reply to one command of the workload language (docs/FORMAT.md)."""
+        text, fault = command.encode(), _Fault()
+        with self._lock:
+            if not self._handle.at:
+                raise ValueError("the server is closed")
+            status = _library.server_call(byref(self._handle), text, len(text), byref(fault))
+            if status not in (OK, REFUSED):
+                _check(status, fault)
+            reply = _taken(lambda *out: _library.server_reply(byref(self._handle), *out)).decode()
+        if status == REFUSED:
+            raise Refused(reply)
+        return reply
+
+    def close(self):
+        """Ends the server. Closing it again does nothing."""
+        with self._lock:
+            if self._handle.at:
+                _library.server_close(byref(self._handle))
+
+    def __enter__(self):
+        return self
+
+    def __exit__(self, *_):
+        self.close()
+
+    def __del__(self):
+        if getattr(self, "_handle", None):
+            self.close()

@@ -1,0 +1,148 @@
+"""Each call, beside worked values, the table of blobs that CHANGECAP_BLOBS names, and SQLite where it is there."""
+import os
+import random
+import sys
+import threading
+import unittest
+
+sys.dont_write_bytecode = True
+HERE = os.path.dirname(os.path.abspath(__file__))
+sys.path[:0] = [HERE, os.path.join(HERE, "..", "..", "conformance")]
+import changecap  # noqa: E402
+
+try:
+    import sqlite
+    sqlite.library()
+except Exception:  # noqa: BLE001 - no SQLite with the session extension, whatever the reason
+    sqlite = None
+
+INSERT = bytes.fromhex("5402010074001200010000000000000001030178")
+DELETE = bytes.fromhex("5402010074000900010000000000000001030178")
+
+
+class Blobs(unittest.TestCase):
+    def test_whole_blobs(self):
+        self.assertEqual(changecap.invert(INSERT), DELETE)
+        self.assertEqual(changecap.patchset(INSERT), b"P" + INSERT[1:])
+        self.assertEqual(changecap.invert(b""), b"")
+        two_keys = bytes.fromhex("540300010174001200030178010000000000000002010000000000000001")
+        self.assertEqual(changecap.patchset(two_keys, changecap.KEYS_ONES), b"P" + two_keys[1:])
+        self.assertEqual(changecap.invert(two_keys)[:6].hex(), "540300010274")
+        for call in changecap.invert, changecap.patchset:
+            with self.assertRaises(changecap.Error) as raised:
+                call(b"P" + INSERT[1:])
+            self.assertEqual(raised.exception.status, changecap.PATCHSET)
+            with self.assertRaises(changecap.Error) as raised:
+                call(INSERT, 7)
+            self.assertEqual(raised.exception.status, changecap.MISUSE)
+        with self.assertRaises(changecap.Malformed) as raised:
+            changecap.check(b"T\x80")
+        self.assertEqual((raised.exception.kind, raised.exception.at), (3, 1))
+
+    def test_changes(self):
+        blob = bytes.fromhex("540201007500170101000000000000000703012d0003022b2b540301000062001200040200ff05030161")
+        update, insert = changecap.iterate(blob)
+        self.assertEqual((update.table, update.key, update.operation, update.indirect), ("u", [True, False], "update", True))
+        self.assertEqual((update.old, update.new), ({0: 7, 1: "-"}, {1: "++"}))
+        self.assertEqual((insert.operation, insert.new), ("insert", {0: b"\0\xff", 1: None, 2: "a"}))
+        self.assertEqual(list(changecap.iterate(b"")), [])
+        with self.assertRaises(changecap.Malformed):
+            next(changecap.iterate(b"T"))
+
+    def test_known_faults(self):
+        path = os.environ.get("CHANGECAP_BLOBS")
+        if not path:
+            self.skipTest("no CHANGECAP_BLOBS")
+        with open(path, encoding="ascii") as file:
+            for line in file:
+                digits, kind, at = line.rstrip("\n").split(" ")
+                try:
+                    changecap.check(bytes.fromhex(digits))
+                    found = (0, 0)
+                except changecap.Malformed as fault:
+                    found = (fault.kind, fault.at)
+                self.assertEqual(found, (int(kind), int(at)), line)
+
+    def test_beside_sqlite(self):
+        if not sqlite:
+            self.skipTest("no SQLite with the session extension")
+        for number in range(60):
+            changeset, patchset = captured(random.Random(number))
+            self.assertEqual(changecap.invert(changeset), sqlite.invert(changeset))
+            self.assertEqual(changecap.patchset(changeset), patchset)
+            for blob in changeset, patchset:
+                ours, theirs = list(changecap.iterate(blob)), list(sqlite.iterate(blob))
+                self.assertEqual(len(ours), len(theirs))
+                for our, their in zip(ours, theirs):
+                    self.assertEqual((our.table, our.operation, our.old, our.new),
+                                     (their.table, their.operation, their.old, their.new))
+                    self.assertEqual((our.key, our.indirect), ([bool(it) for it in their.key], bool(their.indirect)))
+
+
+def captured(chance):
+    """A changeset and a patchset of SQLite, of some random statements."""
+    connection = sqlite.Connection()
+    connection.execute("CREATE TABLE t(a, b, c, PRIMARY KEY(a, b))")
+    connection.execute("CREATE TABLE u(a PRIMARY KEY, b)")
+    values = [None, 0, 1, -5, 2**62, "", "x", "it's", b"", b"\0\xff", "y" * 300]
+
+    def change():
+        a, b, c = chance.choice(values[1:]), chance.choice(values[1:]), chance.choice(values)
+        word = chance.choice(("insert", "update", "delete"))
+        if word == "insert":
+            connection.execute("INSERT OR REPLACE INTO t VALUES(?, ?, ?)", (a, b, c))
+            connection.execute("INSERT OR REPLACE INTO u VALUES(?, ?)", (a, c))
+        elif word == "update":
+            connection.execute("UPDATE t SET c = ? WHERE a = ?", (c, a))
+            connection.execute("UPDATE u SET b = ? WHERE a > ?", (c, a))
+        else:
+            connection.execute("DELETE FROM t WHERE b = ?", (b,))
+            connection.execute("DELETE FROM u WHERE a = ?", (a,))
+
+    for _ in range(20):
+        change()
+    session = connection.session()
+    session.attach()
+    for _ in range(20):
+        session.indirect(chance.randrange(2))
+        change()
+    made = session.changeset(), session.patchset()
+    session.delete()
+    connection.close()
+    return made
+
+
+class Servers(unittest.TestCase):
+    def test_replies(self):
+        with changecap.Server() as server:
+            replies = [server.call(it) for it in
+                       ("create t kv", "session", "attach 1 t", "commit insert t (1,'x')", "changeset 1")]
+            self.assertEqual(replies, ["ok version 1", "session 1", "ok", "ok version 2", f"changeset {INSERT.hex()}"])
+            with self.assertRaises(changecap.Refused) as raised:
+                server.call("create t kv")
+            self.assertEqual(str(raised.exception), "refused: E9 TableExists")
+            with self.assertRaises(changecap.NotOneCommand) as raised:
+                server.call("attach 1 ;")
+            self.assertEqual((raised.exception.kind, raised.exception.at), (1, 9))
+        with self.assertRaises(ValueError):
+            server.call("scan t")
+        server.close()
+
+    def test_threads_wait_for_each_other(self):
+        with changecap.Server() as server:
+            server.call("create t kv")
+
+            def commit(first):
+                for number in range(first, first + 200):
+                    server.call(f"commit insert t ({number},'x')")
+
+            threads = [threading.Thread(target=commit, args=(1000 * it,)) for it in range(4)]
+            for thread in threads:
+                thread.start()
+            for thread in threads:
+                thread.join()
+            self.assertEqual(server.call("scan t").split("\n")[0], "rows 800")
+
+
+if __name__ == "__main__":
+    unittest.main()

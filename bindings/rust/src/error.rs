@@ -1,0 +1,68 @@
+//! Why a call failed.
+use crate::ffi;
+use std::{fmt, io};
+
+/// The first fault of bytes that are no blob: its number, as in `D1`, and its offset.
+#[derive(Clone, Copy, Debug, PartialEq, Eq)]
+pub struct Fault {
+    pub kind: u32,
+    pub at: usize,
+}
+
+#[derive(Debug)]
+#[non_exhaustive]
+pub enum Error {
+    /// The bytes are no changeset and no patchset.
+    Malformed(Fault),
+    /// A patchset, where only a changeset serves.
+    Patchset,
+    OutOfMemory,
+    /// There is no such column, or no change.
+    Misuse,
+    /// The server refuses the command: its reply.
+    Refused(String),
+    /// The text is not one command: the number of the fault, as in `G1`, or 0, and its offset.
+    Command(Fault),
+    /// The server has answered as many commands as it can.
+    HistoryFull,
+    Io(io::Error),
+}
+
+pub type Result<T> = std::result::Result<T, Error>;
+
+impl Error {
+    pub(crate) fn of(status: u32, fault: ffi::Fault) -> Error {
+        let fault = Fault { kind: fault.kind, at: fault.at };
+        match status {
+            ffi::MALFORMED => Error::Malformed(fault),
+            ffi::NOMEM => Error::OutOfMemory,
+            ffi::PATCHSET => Error::Patchset,
+            ffi::COMMAND => Error::Command(fault),
+            ffi::FULL => Error::HistoryFull,
+            _ => Error::Misuse,
+        }
+    }
+}
+
+impl fmt::Display for Error {
+    fn fmt(&self, f: &mut fmt::Formatter<'_>) -> fmt::Result {
+        match self {
+            Error::Malformed(fault) => write!(f, "fault D{} at {}", fault.kind, fault.at),
+            Error::Patchset => f.write_str("a patchset, where only a changeset serves"),
+            Error::OutOfMemory => f.write_str("out of memory"),
+            Error::Misuse => f.write_str("no such column, or no change"),
+            Error::Refused(reply) => f.write_str(reply),
+            Error::Command(fault) => write!(f, "not one command: G{} at {}", fault.kind, fault.at),
+            Error::HistoryFull => f.write_str("history full"),
+            Error::Io(error) => error.fmt(f),
+        }
+    }
+}
+
+impl std::error::Error for Error {}
+
+impl From<io::Error> for Error {
+    fn from(error: io::Error) -> Error {
+        Error::Io(error)
+    }
+}

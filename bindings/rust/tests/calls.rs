@@ -1,0 +1,107 @@
+//! Each call, beside worked values.
+use changecap::*;
+
+fn of_hex(hex: &str) -> Vec<u8> {
+    (0..hex.len() / 2).map(|at| u8::from_str_radix(&hex[2 * at..2 * at + 2], 16).unwrap()).collect()
+}
+
+const INSERT: &str = "5402010074001200010000000000000001030178";
+const DELETE: &str = "5402010074000900010000000000000001030178";
+
+#[test]
+fn whole_blobs() {
+    let changeset = Changeset::from_bytes(&of_hex(INSERT)).unwrap();
+    assert_eq!(changeset.invert(KeyFlags::Places).unwrap().as_bytes(), of_hex(DELETE));
+    let patchset = changeset.patchset(KeyFlags::Ones).unwrap();
+    assert_eq!(patchset.as_bytes(), of_hex("5002010074001200010000000000000001030178"));
+    assert!(matches!(Changeset::from_bytes(patchset.as_bytes()), Err(Error::Patchset)));
+    assert_eq!(Patchset::from_bytes(patchset.as_bytes()).unwrap(), patchset);
+    assert!(matches!(check(&of_hex("5480")), Err(Error::Malformed(Fault { kind: 3, at: 1 }))));
+    assert!(check(&[]).is_ok());
+    let two_keys = Changeset::from_bytes(&of_hex("540300010174001200030178010000000000000002010000000000000001")).unwrap();
+    assert_eq!(
+        two_keys.patchset(KeyFlags::Places).unwrap().as_bytes(),
+        of_hex("500300010274001200030178010000000000000002010000000000000001")
+    );
+    let mut inverse = Vec::new();
+    invert_strm(&mut &of_hex(INSERT)[..], &mut inverse).unwrap();
+    assert_eq!(inverse, of_hex(DELETE));
+    assert!(matches!(invert_strm(&mut &b"P"[..], &mut inverse), Err(Error::Malformed(Fault { kind: 1, at: 1 }))));
+    assert!(matches!(invert_strm(&mut patchset.as_bytes(), &mut inverse), Err(Error::Patchset)));
+}
+
+#[test]
+fn changes_of_a_blob() {
+    let hex = "540201000175001701010000000000000007030130003";
+    assert!(ChangesetIter::start(&of_hex(hex)).is_err());
+    let blob = of_hex("540201007500170101000000000000000703012d0003022b2b540301000062001200040200ff05030161");
+    let mut changes = ChangesetIter::start_strm(&mut &blob[..]).unwrap();
+    {
+        let change = changes.next().unwrap().unwrap();
+        let operation = change.op().unwrap();
+        assert_eq!((operation.table_name(), operation.number_of_columns()), ("u", 2));
+        assert_eq!((operation.code(), operation.indirect()), (Action::Update, true));
+        assert_eq!(change.pk().unwrap(), [true, false]);
+        assert_eq!(change.old_value(0).unwrap(), Some(Value::Integer(7)));
+        assert_eq!(change.new_value(0).unwrap(), None);
+        assert_eq!(change.old_value(1).unwrap(), Some(Value::Text("-".into())));
+        assert_eq!(change.new_value(1).unwrap(), Some(Value::Text("++".into())));
+        assert!(matches!(change.new_value(2), Err(Error::Misuse)));
+    }
+    let change = changes.next().unwrap().unwrap();
+    assert_eq!(change.op().unwrap().code(), Action::Insert);
+    assert_eq!(change.new_value(0).unwrap(), Some(Value::Blob(vec![0, 255])));
+    assert_eq!(change.new_value(1).unwrap(), Some(Value::Null));
+    assert!(changes.next().unwrap().is_none());
+    assert!(changes.next().unwrap().is_none());
+}
+
+#[test]
+fn an_iterator_goes_to_another_thread() {
+    let mut changes = ChangesetIter::start(&of_hex(INSERT)).unwrap();
+    let here = std::thread::spawn(move || changes.next().unwrap().is_some()).join().unwrap();
+    assert!(here);
+}
+
+#[test]
+fn a_server_and_its_sessions() {
+    let source = Connection::open_in_memory().unwrap();
+    assert_eq!(source.execute("create t kv").unwrap(), "ok version 1");
+    let mut session = Session::new(&source).unwrap();
+    session.attach(Some("t")).unwrap();
+    assert!(session.is_empty().unwrap());
+    source.execute("commit insert t (1,'x')").unwrap();
+    assert!(!session.is_empty().unwrap());
+    let changeset = session.changeset(KeyFlags::Places).unwrap();
+    assert_eq!(changeset.as_bytes(), of_hex(INSERT));
+    let mut bytes = Vec::new();
+    session.changeset_strm(&mut bytes).unwrap();
+    assert_eq!(bytes, of_hex(INSERT));
+    assert_eq!(session.patchset(KeyFlags::Places).unwrap(), changeset.patchset(KeyFlags::Places).unwrap());
+    session.set_indirect(true).unwrap();
+    session.set_enabled(false).unwrap();
+    drop(session);
+    assert!(matches!(source.execute("isempty 1"), Err(Error::Refused(reply)) if reply == "refused: E18 NoSession"));
+    assert!(matches!(source.execute("frob"), Err(Error::Command(Fault { kind: 1, at: 0 }))));
+    let target = Connection::open_in_memory().unwrap();
+    target.execute("create t kv").unwrap();
+    let policy = (ConflictAction::Omit, ConflictAction::Abort, ConflictAction::Replace);
+    let reply = target.apply(changeset.as_bytes(), policy.0, policy.1, policy.2).unwrap();
+    assert_eq!(reply, "ok version 2, applied 1, omitted 0, skipped 0");
+    assert_eq!(std::thread::spawn(move || target.execute("scan t").unwrap()).join().unwrap(), "rows 1\n(1,'x')");
+}
+
+/// The blobs of the file that CHANGECAP_BLOBS names: 'HEX KIND AT' a line.
+#[test]
+fn known_faults() {
+    let Ok(path) = std::env::var("CHANGECAP_BLOBS") else { return };
+    for line in std::fs::read_to_string(path).unwrap().lines() {
+        let words: Vec<&str> = line.split(' ').collect();
+        let (kind, at) = (words[1].parse().unwrap(), words[2].parse().unwrap());
+        match check(&of_hex(words[0])) {
+            Ok(()) => assert_eq!(kind, 0, "{line}"),
+            Err(Error::Malformed(fault)) => assert_eq!(fault, Fault { kind, at }, "{line}"),
+            Err(error) => panic!("{line}: {error}"),
+        }
+    }
+}

@@ -1,0 +1,35 @@
+-- A server that takes commands as text.
+use Rattle.std.specs.Prelude.{◌≡◌, ◌⊎◌, ℕ, List, [], ◌∷◌}
+use Rattle.std.specs.Global.{Global}
+use Rattle.cap_core.specs.Answer.{answer, state}
+use Rattle.cap_core.specs.Transition.{next}
+use Rattle.cap_core.specs.declared.reply.Reply.{Reply}
+use Rattle.cap_core.specs.declared.reply.Reply.TheVariants as reply
+use Rattle.cap_script.specs.ReplyText.{reply_text}
+use Rattle.cap_script.specs.Script.{SpellsScript}
+use Rattle.cap_script.specs.declared.line.Line.{Line}
+use Rattle.cap_c.specs.declared.server.TextServer.{TextServer}
+use Rattle.cap_c.specs.declared.status.TheConstants.{DONE, REFUSED}
+
+-- without tables, sessions and events, and before any reply
+pub record IsNew (server : TextServer) : Type 0 where
+  pub core : server.core ≡ state []
+  pub output : server.output.items ≡ []
+
+-- the command has a reply
+abbrev pub IsAnswered : ℕ → Type 0
+IsAnswered status = (status ≡ DONE) ⊎ (status ≡ REFUSED)
+
+abbrev pub reply_status : {A : Type 0} → Reply A → ℕ
+reply_status (reply.Refused at why) = REFUSED
+reply_status said = DONE
+
+-- The line's command was carried out, as `next` and `answer` say, and its reply is printed.
+pub record RunsLine (old new : TextServer) (line : Line Global) (status : ℕ) : Type 0 where
+  pub core : new.core ≡ next old.core line.command
+  pub output : new.output.items ≡ reply_text line (answer old.core line.command)
+  pub status_is : status ≡ reply_status (answer old.core line.command)
+
+-- The text is one command, which was carried out.
+abbrev pub Ran : TextServer → TextServer → List ℕ → ℕ → Type 0
+Ran old new text status = (line : Line Global) × SpellsScript (line ∷ []) text × RunsLine old new line status

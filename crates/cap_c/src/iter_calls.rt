@@ -1,0 +1,216 @@
+//! The calls on an iterator over the changes of a blob, as SQLite's `sqlite3changeset_start` and what follows it.
+ghost use Rattle.std.specs.Prelude.{◌≡◌, true, false, None, Some, Err, Ok, IsSome};
+ghost use Rattle.cap_codec.specs.BlobReading.{blob_at};
+ghost use Rattle.cap_codec.specs.Spelling.{Spells};
+ghost use Rattle.cap_codec.specs.declared.fault.BlobFault.{BlobFault as Wrong};
+ghost use Rattle.cap_codec.specs.declared.read.Contents.{Contents as Spelled};
+ghost use Rattle.cap_c.specs.Fault.{placed};
+ghost use Rattle.cap_c.specs.Iter.{Steps, begin, info_of, table_of};
+ghost use Rattle.cap_c.specs.IterTold.{key_told, new_bytes, new_told, old_bytes, old_told};
+ghost use Rattle.cap_c.specs.Status.{IsUnlessMemory, read_status};
+ghost use Rattle.cap_c.specs.Told.{TellsBytes, TellsFound};
+ghost use Rattle.cap_c.specs.declared.iter.BlobIter.{BlobIter as Iter};
+ghost use Rattle.cap_c.specs.declared.status.TheConstants.{DONE, MALFORMED, ROW, END};
+
+use crate::change_info::{ChangeInfo, FieldValue};
+use crate::fault::PlacedFault;
+use crate::iter::BlobIter;
+use crate::iter_handle::{IterHandle, put, take};
+use crate::iter_told::{
+    tell_info, tell_key, tell_new, tell_new_bytes, tell_old, tell_old_bytes, tell_table,
+};
+use crate::status::{DONE, END, MALFORMED, NO_MEMORY, ROW};
+use cap_codec::read_blob;
+use cap_value::Fault;
+use std::alloc::Global;
+
+/// Opens an iterator over the changes of a blob, before the first. The whole blob is read.
+#[unsafe(no_mangle)]
+pub extern "C" fn changecap_iter_open(
+    alloc: Global,
+    blob: &[u8],
+    handle: &mut IterHandle,
+    fault: &mut PlacedFault,
+) -> u32
+    requires closed { handle.old.value ≡ None }
+    ensures status { IsUnlessMemory result (read_status (blob_at {A = Global} blob.now)) }
+    // It goes over what the bytes spell.
+    ensures opened { result ≡ DONE → (contents : Spelled Global) × Spells contents blob.now
+        × (blob_at blob.now ≡ Ok contents) × (handle.new.value ≡ Some (begin contents)) }
+    ensures fault { result ≡ MALFORMED →
+        (wrong : Wrong) × (blob_at {A = Global} blob.now ≡ Err wrong) × (fault.new ≡ placed wrong) }
+    ensures kept { ¬ (result ≡ DONE) → handle.new.value ≡ None }
+    ensures same_fault { ¬ (result ≡ MALFORMED) → fault.new ≡ fault.old }
+{
+    match read_blob(alloc, blob) {
+        Ok(contents) => match Box::new(alloc, BlobIter::new(contents)) {
+            Ok(it) => {
+                put(handle, it);
+                DONE
+            }
+            Err(_) => NO_MEMORY,
+        },
+        Err(Fault::Refused(wrong)) => {
+            *fault = PlacedFault::of(wrong);
+            MALFORMED
+        }
+        Err(Fault::OutOfMemory) => NO_MEMORY,
+    }
+}
+
+/// Goes to the next change.
+#[unsafe(no_mangle)]
+pub extern "C" fn changecap_iter_next(alloc: Global, handle: &mut IterHandle) -> u32
+    requires opened { IsSome handle.old.value }
+    ensures row { result ≡ ROW → (old : Iter) × (new : Iter) × (handle.old.value ≡ Some old)
+        × (handle.new.value ≡ Some new) × Steps old new true }
+    ensures end { ¬ (result ≡ ROW) → (old : Iter) × (new : Iter) × (result ≡ END)
+        × (handle.old.value ≡ Some old) × (handle.new.value ≡ Some new) × Steps old new false }
+{
+    let mut it = take(alloc, handle);
+    let is_row = it.step();
+    put(handle, it);
+    if is_row { ROW } else { END }
+}
+
+/// Tells what the change is.
+#[unsafe(no_mangle)]
+pub extern "C" fn changecap_iter_op(
+    alloc: Global,
+    handle: &mut IterHandle,
+    info: &mut ChangeInfo,
+) -> u32
+    requires opened { IsSome handle.old.value }
+    ensures same { handle.new.value ≡ handle.old.value }
+    ensures told { (it : Iter) → handle.old.value ≡ Some it → TellsFound (info_of it) result info.old info.new }
+{
+    let it = take(alloc, handle);
+    let status = tell_info(&it, info);
+    put(handle, it);
+    status
+}
+
+/// Writes the name of the change's table.
+#[unsafe(no_mangle)]
+pub extern "C" fn changecap_iter_table(
+    alloc: Global,
+    handle: &mut IterHandle,
+    out: &mut [u8],
+    len: &mut usize,
+) -> u32
+    requires opened { IsSome handle.old.value }
+    ensures same { handle.new.value ≡ handle.old.value }
+    ensures told { (it : Iter) → handle.old.value ≡ Some it →
+        TellsBytes (table_of it) result out.old out.new len.new }
+{
+    let it = take(alloc, handle);
+    let status = tell_table(&it, out, len);
+    put(handle, it);
+    status
+}
+
+/// Tells whether a column of the change's table is in its key.
+#[unsafe(no_mangle)]
+pub extern "C" fn changecap_iter_key(
+    alloc: Global,
+    handle: &mut IterHandle,
+    column: usize,
+    is_key: &mut u32,
+) -> u32
+    requires opened { IsSome handle.old.value }
+    ensures same { handle.new.value ≡ handle.old.value }
+    ensures told { (it : Iter) → handle.old.value ≡ Some it →
+        TellsFound (key_told it column) result is_key.old is_key.new }
+{
+    let it = take(alloc, handle);
+    let status = tell_key(&it, column, is_key);
+    put(handle, it);
+    status
+}
+
+/// Tells the value of a column before the change.
+#[unsafe(no_mangle)]
+pub extern "C" fn changecap_iter_old(
+    alloc: Global,
+    handle: &mut IterHandle,
+    column: usize,
+    value: &mut FieldValue,
+) -> u32
+    requires opened { IsSome handle.old.value }
+    ensures same { handle.new.value ≡ handle.old.value }
+    ensures told { (it : Iter) → handle.old.value ≡ Some it →
+        TellsFound (old_told it column) result value.old value.new }
+{
+    let it = take(alloc, handle);
+    let status = tell_old(&it, column, value);
+    put(handle, it);
+    status
+}
+
+/// Tells the value of a column after the change.
+#[unsafe(no_mangle)]
+pub extern "C" fn changecap_iter_new(
+    alloc: Global,
+    handle: &mut IterHandle,
+    column: usize,
+    value: &mut FieldValue,
+) -> u32
+    requires opened { IsSome handle.old.value }
+    ensures same { handle.new.value ≡ handle.old.value }
+    ensures told { (it : Iter) → handle.old.value ≡ Some it →
+        TellsFound (new_told it column) result value.old value.new }
+{
+    let it = take(alloc, handle);
+    let status = tell_new(&it, column, value);
+    put(handle, it);
+    status
+}
+
+/// Writes the bytes of a text or a blob that a column was before the change.
+#[unsafe(no_mangle)]
+pub extern "C" fn changecap_iter_old_bytes(
+    alloc: Global,
+    handle: &mut IterHandle,
+    column: usize,
+    out: &mut [u8],
+    len: &mut usize,
+) -> u32
+    requires opened { IsSome handle.old.value }
+    ensures same { handle.new.value ≡ handle.old.value }
+    ensures told { (it : Iter) → handle.old.value ≡ Some it →
+        TellsBytes (old_bytes it column) result out.old out.new len.new }
+{
+    let it = take(alloc, handle);
+    let status = tell_old_bytes(&it, column, out, len);
+    put(handle, it);
+    status
+}
+
+/// Writes the bytes of a text or a blob that a column is after the change.
+#[unsafe(no_mangle)]
+pub extern "C" fn changecap_iter_new_bytes(
+    alloc: Global,
+    handle: &mut IterHandle,
+    column: usize,
+    out: &mut [u8],
+    len: &mut usize,
+) -> u32
+    requires opened { IsSome handle.old.value }
+    ensures same { handle.new.value ≡ handle.old.value }
+    ensures told { (it : Iter) → handle.old.value ≡ Some it →
+        TellsBytes (new_bytes it column) result out.old out.new len.new }
+{
+    let it = take(alloc, handle);
+    let status = tell_new_bytes(&it, column, out, len);
+    put(handle, it);
+    status
+}
+
+/// Closes the iterator, and frees what it has.
+#[unsafe(no_mangle)]
+pub extern "C" fn changecap_iter_close(alloc: Global, handle: &mut IterHandle)
+    requires opened { IsSome handle.old.value }
+    ensures closed { handle.new.value ≡ None }
+{
+    drop(take(alloc, handle));
+}

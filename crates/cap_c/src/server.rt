@@ -1,0 +1,86 @@
+//! A server that takes commands as text, one after the other.
+ghost use Rattle.std.specs.Prelude.{◌≡◌, ◌+◌, ◌<◌, ◌^◌};
+ghost use Rattle.cap_c.specs.Server.{IsAnswered, IsNew, Ran, RunsLine, reply_status};
+ghost use Rattle.cap_c.specs.declared.status.TheConstants.{FULL};
+
+use crate::fault::PlacedFault;
+use crate::one_line::one_line;
+use crate::printer::Printer;
+use crate::status::{DONE, FULL, NO_COMMAND, NO_MEMORY, REFUSED};
+use cap_core::{Core, EVENTS_MAX, Reply};
+use cap_script::Line;
+use cap_value::Fault;
+use std::alloc::Global;
+
+/// A server, and the text of its last reply.
+#[derive(Drop)]
+pub struct TextServer {
+    core: Core<Global>,
+    output: Vec<u8, Global>,
+}
+
+impl TextServer {
+    /// An empty server.
+    pub(crate) fn new(alloc: Global) -> Self
+        ensures { IsNew result }
+    {
+        TextServer {
+            core: Core::new(alloc),
+            output: Vec::new(alloc),
+        }
+    }
+
+    /// The text of the last reply.
+    pub(crate) fn output(&self) -> &[u8]
+        ensures { result.now ≡ self.now.output.items }
+    {
+        self.output.as_slice()
+    }
+
+    /// Carries out the command that the text is, and keeps the text of its reply.
+    pub(crate) fn call(&mut self, alloc: Global, text: &[u8], fault: &mut PlacedFault) -> u32
+        ensures ran { IsAnswered result → Ran self.old self.new text.now result }
+        ensures kept { ¬ (IsAnswered result) → self.new ≡ self.old }
+        ensures full { result ≡ FULL → ¬ (self.old.core.events + 1 < 2 ^ 63) }
+    {
+        let line = match one_line(alloc, text) {
+            Ok(line) => line,
+            Err(Fault::Refused(why)) => {
+                *fault = why;
+                return NO_COMMAND;
+            }
+            Err(Fault::OutOfMemory) => return NO_MEMORY,
+        };
+        if self.core.events() >= EVENTS_MAX {
+            return FULL;
+        }
+        self.run(alloc, &line)
+    }
+
+    fn run(&mut self, alloc: Global, line: &Line<Global>) -> u32
+        requires room { self.old.core.events + 1 < 2 ^ 63 }
+        ensures ran { IsAnswered result → RunsLine self.old self.new line.now result }
+        ensures kept { ¬ (IsAnswered result) → self.new ≡ self.old }
+        ensures full { ¬ (result ≡ FULL) }
+    {
+        let mut printer = Printer {
+            alloc,
+            line,
+            output: &mut self.output,
+        };
+        match self.core.step(&line.command, &mut printer) {
+            Ok(reply) => reply_status(&reply),
+            Err(_) => NO_MEMORY,
+        }
+    }
+}
+
+fn reply_status(reply: &Reply<Global>) -> u32
+    ensures status { result ≡ reply_status reply.now }
+    ensures answered { IsAnswered result }
+{
+    match reply {
+        Reply::Refused { .. } => REFUSED,
+        _ => DONE,
+    }
+}

@@ -1,0 +1,9 @@
+//! What a handle owns may go from one thread to another.
+
+use crate::iter::BlobIter;
+
+fn travels<T: Send>(_owned: &T) {}
+
+pub(crate) fn iter_travels(it: &BlobIter) {
+    travels(it);
+}
