@@ -1,6 +1,6 @@
 -- What is at a place of a blob: the table, the change, and its fields (The Session Extension, "sqlite3changeset_op",
 -- "sqlite3changeset_old" and "sqlite3changeset_new").
-use Rattle.std.specs.Prelude.{◌≡◌, ℕ, Bool, false, List, Option, Some, None, slice_get, slice_index_or}
+use Rattle.std.specs.Prelude.{ℕ, Bool, false, List, Option, Some, None, slice_get, slice_index_or}
 use Rattle.std.specs.Prelude.{if◌then◌else◌}
 use Rattle.std.specs.Option.{option_and_then, option_flatten, option_map}
 use Rattle.cap_value.specs.declared.value.Value.{Value}

@@ -1,5 +1,5 @@
 use Rattle.std.proofs.Common.{arith}
-use Rattle.cap_c.specs.Places.{IsFirstFrom, counts}
+use Rattle.cap_c.specs.Places.{counts}
 use Rattle.cap_c.proofs.PlaceLemmas.{from_itself, from_next, later_group, no_later}
 use Rattle.cap_c.proofs.iter_place.first_from.Goals as goal
 
