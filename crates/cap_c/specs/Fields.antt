@@ -1,5 +1,5 @@
--- What is at a place of a blob: the table, the change, and its fields (The Session Extension, "sqlite3changeset_op",
--- "sqlite3changeset_old" and "sqlite3changeset_new").
+-- What is at a place of a blob: the table, the change, and its fields (The Session Extension,
+-- "sqlite3changeset_op", "sqlite3changeset_old" and "sqlite3changeset_new").
 use Rattle.std.specs.Prelude.{ℕ, Bool, false, List, Option, Some, None, slice_get, slice_index_or}
 use Rattle.std.specs.Prelude.{if◌then◌else◌}
 use Rattle.std.specs.Option.{option_and_then, option_flatten, option_map}
@@ -20,7 +20,8 @@ abbrev pub in_group : {X Y : Type 0} → (TableEntries X → Y) → List (TableE
 in_group read groups group = option_map read (slice_get groups group)
 
 -- what a change says, where there is one
-abbrev pub entry_at : {X Y : Type 0} → (TableEntries X → X → Option Y) → List (TableEntries X) → Place → Option Y
+abbrev pub entry_at : {X Y : Type 0} → (TableEntries X → X → Option Y) → List (TableEntries X) → Place →
+    Option Y
 entry_at read groups place = option_and_then
     (λ group. option_and_then (λ entry. read group entry) (slice_get group.changes place.change))
     (slice_get groups place.group)
@@ -82,8 +83,10 @@ module _ {A : Type 0} where
 
   abbrev pub old_at : Contents A → Place → ℕ → Option (Value A)
   old_at (Changes list) place column = entry_at (λ group change. change_old change column) list place
-  old_at (Patches list) place column = entry_at (λ group patch. patch_old group.schema patch column) list place
+  old_at (Patches list) place column =
+      entry_at (λ group patch. patch_old group.schema patch column) list place
 
   abbrev pub new_at : Contents A → Place → ℕ → Option (Value A)
   new_at (Changes list) place column = entry_at (λ group change. change_new change column) list place
-  new_at (Patches list) place column = entry_at (λ group patch. patch_new group.schema patch column) list place
+  new_at (Patches list) place column =
+      entry_at (λ group patch. patch_new group.schema patch column) list place

@@ -1,5 +1,6 @@
 -- An iterator over the changes of a blob, and what is told of the change at which it stands.
-use Rattle.std.specs.Prelude.{◌≡◌, ℕ, ◌+◌, Bool, true, false, List, length, Option, Some, None, slice_index_or}
+use Rattle.std.specs.Prelude.{◌≡◌, ℕ, ◌+◌, Bool, true, false, List, length, Option, Some, None}
+use Rattle.std.specs.Prelude.{slice_index_or}
 use Rattle.std.specs.Option.{option_and_then, option_map_or}
 use Rattle.std.specs.Global.{Global}
 use Rattle.cap_value.specs.declared.value.Value.{Value}
@@ -20,7 +21,8 @@ begin contents = record { contents = contents; current = None; next = record { g
 abbrev pub behind : Place → Place
 behind place = record { group = place.group; change = place.change + 1 }
 
--- It goes to the first change from where the next one is looked for. Where there is none it stands at no change.
+-- It goes to the first change from where the next one is looked for. Where there is none it stands at no
+-- change.
 abbrev pub Steps : BlobIter → BlobIter → Bool → Type 0
 Steps old new true = (place : Place) × IsFirstFrom (counts old.contents) old.next place
     × (new ≡ record { contents = old.contents; current = Some place; next = behind place })

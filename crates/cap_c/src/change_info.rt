@@ -16,8 +16,8 @@ pub struct ChangeInfo {
     pub columns: usize,
 }
 
-/// What a field is. The kind is SQLite's number of a storage class, or 0 where the field is undefined. The number is that
-/// of an integer, the length that of a text or a blob; elsewhere both are 0.
+/// What a field is. The kind is SQLite's number of a storage class, or 0 where the field is undefined. The
+/// number is that of an integer, the length that of a text or a blob; elsewhere both are 0.
 #[repr(C)]
 #[derive(Clone, Copy, Drop)]
 pub struct FieldValue {

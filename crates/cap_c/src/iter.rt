@@ -1,7 +1,8 @@
 //! An iterator over the changes of a blob.
 ghost use Rattle.std.specs.Prelude.{◌≡◌};
 ghost use Rattle.std.specs.Option.{option_copied};
-ghost use Rattle.cap_c.specs.Iter.{Steps, begin, columns_of, info_of, is_key, is_patchset, new_of, old_of, table_of};
+ghost use Rattle.cap_c.specs.Iter.{Steps, begin, columns_of, info_of, is_key, is_patchset};
+ghost use Rattle.cap_c.specs.Iter.{new_of, old_of, table_of};
 
 use crate::change_info::ChangeInfo;
 use crate::iter_fields::{new_at, old_at, operation_at, schema_at, table_at};
@@ -10,7 +11,8 @@ use cap_codec::Contents;
 use cap_value::{Name, Value};
 use std::alloc::Global;
 
-/// The contents of a blob, the change at which the iterator stands, and from where the next one is looked for.
+/// The contents of a blob, the change at which the iterator stands, and from where the next one is looked
+/// for.
 #[derive(Drop)]
 pub struct BlobIter {
     contents: Contents<Global>,

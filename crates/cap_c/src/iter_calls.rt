@@ -1,4 +1,4 @@
-//! The calls on an iterator over the changes of a blob, as SQLite's `sqlite3changeset_start` and what follows it.
+//! The calls on an iterator over the changes of a blob, as `sqlite3changeset_start` and what follows it.
 ghost use Rattle.std.specs.Prelude.{◌≡◌, true, false, None, Some, Err, Ok, IsSome};
 ghost use Rattle.cap_codec.specs.BlobReading.{blob_at};
 ghost use Rattle.cap_codec.specs.Spelling.{Spells};
@@ -82,7 +82,8 @@ pub extern "C" fn changecap_iter_op(
 ) -> u32
     requires opened { IsSome handle.old.value }
     ensures same { handle.new.value ≡ handle.old.value }
-    ensures told { (it : Iter) → handle.old.value ≡ Some it → TellsFound (info_of it) result info.old info.new }
+    ensures told { (it : Iter) → handle.old.value ≡ Some it →
+        TellsFound (info_of it) result info.old info.new }
 {
     let it = take(alloc, handle);
     let status = tell_info(&it, info);

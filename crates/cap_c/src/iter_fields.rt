@@ -2,7 +2,8 @@
 ghost use Rattle.std.specs.Prelude.{◌≡◌};
 ghost use Rattle.std.specs.Option.{option_copied};
 ghost use Rattle.cap_c.specs.Fields.{change_new, change_old, entry_at, new_at, old_at};
-ghost use Rattle.cap_c.specs.Fields.{operation_at, operation_of_change, operation_of_patch, patch_new, patch_old};
+ghost use Rattle.cap_c.specs.Fields.{operation_at, operation_of_change, operation_of_patch};
+ghost use Rattle.cap_c.specs.Fields.{patch_new, patch_old};
 ghost use Rattle.cap_c.specs.Fields.{schema_at, table_at};
 
 use crate::iter_place::Place;
@@ -170,7 +171,8 @@ fn new_in_changes(list: &ChangeList<Global>, place: Place, column: usize) -> Opt
 }
 
 fn old_in_patches(list: &PatchList<Global>, place: Place, column: usize) -> Option<&Value<Global>>
-    ensures { option_copied result ≡ entry_at (λ group patch. patch_old group.schema patch column) list.now place }
+    ensures { option_copied result
+        ≡ entry_at (λ group patch. patch_old group.schema patch column) list.now place }
 {
     match list.groups().get(place.group) {
         Some(group) => match group.changes().get(place.change) {
@@ -182,7 +184,8 @@ fn old_in_patches(list: &PatchList<Global>, place: Place, column: usize) -> Opti
 }
 
 fn new_in_patches(list: &PatchList<Global>, place: Place, column: usize) -> Option<&Value<Global>>
-    ensures { option_copied result ≡ entry_at (λ group patch. patch_new group.schema patch column) list.now place }
+    ensures { option_copied result
+        ≡ entry_at (λ group patch. patch_new group.schema patch column) list.now place }
 {
     match list.groups().get(place.group) {
         Some(group) => match group.changes().get(place.change) {

@@ -44,7 +44,8 @@ pub extern "C" fn changecap_server_call(
         × (handle.new.value ≡ Some new) × Ran old new text.now result }
     ensures kept { ¬ (IsAnswered result) → handle.new.value ≡ handle.old.value }
     // The history is full only where it is.
-    ensures full { (old : Text) → handle.old.value ≡ Some old → result ≡ FULL → ¬ (old.core.events + 1 < 2 ^ 63) }
+    ensures full { (old : Text) → handle.old.value ≡ Some old → result ≡ FULL →
+        ¬ (old.core.events + 1 < 2 ^ 63) }
 {
     let mut server = take(alloc, handle);
     let status = server.call(alloc, text, fault);
