@@ -1,8 +1,5 @@
-//! The calls for C, and for what calls C: whole blobs as bytes, an iterator over the changes of one, and a
-//! server.
-//!
-//! A call answers a status. What it makes is written to the caller's buffer, and nothing of the caller's is
-//! kept after it. `include/changecap.h` declares each call as C sees it.
+//! The calls for C: whole blobs as bytes, an iterator over the changes of one, and a server. A call answers a
+//! status and keeps nothing of the caller's. `include/changecap.h` declares each as C sees it.
 #![tactic(auto)]
 
 mod blobs;
