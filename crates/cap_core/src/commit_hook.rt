@@ -4,6 +4,10 @@ ghost use Rattle.cap_core.specs.declared.reply.Reply.{Reply};
 ghost use Rattle.cap_value.specs.Memory.{MatchFault};
 
 use crate::Reply;
+use cap_database::Op;
+use cap_row::{Key, Row};
+use cap_session::Sessions;
+use cap_tree::Hook;
 use cap_value::{AllocHandle, Fault};
 
 /// A commit hook (sqlite3_commit_hook): asked before a command takes effect, when its reply is computed and
@@ -62,24 +66,60 @@ pub(crate) fn ask<A: AllocHandle, C: CommitHook<A>>(
     }
 }
 
-// The hook as a tree asks it, with the reply to the command.
+// The commit hook as a tree or the sessions ask it, with the reply to the command.
 #[derive(Drop)]
 pub(crate) struct ReplyHook<'a, 'b, A: AllocHandle, C: CommitHook<A>> {
     pub(crate) reply: &'a Reply<A>,
     pub(crate) hook: &'b mut C,
 }
 
-impl<'a, 'b, A: AllocHandle, C: CommitHook<A>> cap_tree::CommitHook for ReplyHook<'a, 'b, A, C> {
+impl<'a, 'b, V, A: AllocHandle, C: CommitHook<A>> Hook<V> for ReplyHook<'a, 'b, A, C> {
     type Refusal = C::Refusal;
 
     ghost use Rattle.std.specs.Prelude.{◌≡◌};
 
-    ghost can_ask = { λ own. C.can_ask own.hook.now own.reply.now };
+    ghost can_ask = { λ own present next. C.can_ask own.hook.now own.reply.now };
 
-    ghost gives = { λ old answer new. (new.hook.ghost_name ≡ old.hook.ghost_name)
+    ghost gives = { λ old present next answer new. (new.hook.ghost_name ≡ old.hook.ghost_name)
         × C.gives old.hook.now old.reply.now answer new.hook.now };
 
-    fn before_commit(&mut self) -> Result<(), C::Refusal> {
+    fn before_change(&mut self, _present: Option<&V>, _next: Option<&V>) -> Result<(), C::Refusal> {
         self.hook.before_commit(self.reply)
+    }
+}
+
+// The commit hook as a row's tree asks it about one operation: the row before it is staged in each session first.
+#[derive(Drop)]
+pub(crate) struct NotingHook<'a, 'b, 'c, A: AllocHandle, C: CommitHook<A>> {
+    pub(crate) sessions: &'a mut Sessions<A>,
+    pub(crate) op: &'b Op<A>,
+    pub(crate) key: &'b Key<A>,
+    pub(crate) reply: &'b Reply<A>,
+    pub(crate) hook: &'c mut C,
+}
+
+impl<'a, 'b, 'c, A: AllocHandle, C: CommitHook<A>> Hook<Row<A>> for NotingHook<'a, 'b, 'c, A, C> {
+    type Refusal = Fault<C::Refusal>;
+
+    ghost use Rattle.std.specs.Prelude.{◌≡◌};
+    ghost use Rattle.cap_session.specs.Sessions.{note_key_each};
+    ghost use Rattle.cap_core.specs.Code.CommandOutcome.{GivesNoted};
+
+    ghost can_ask = { λ own present next. C.can_ask own.hook.now own.reply.now };
+
+    ghost gives = { λ old present next answer new. (new.hook.ghost_name ≡ old.hook.ghost_name)
+        × (new.sessions.ghost_name ≡ old.sessions.ghost_name)
+        × GivesNoted C.gives old.reply.now old.sessions.now.live
+        (note_key_each old.op.now.table old.key.now old.op.now.cause present old.sessions.now.live)
+        new.sessions.now old.hook.now new.hook.now answer };
+
+    fn before_change(
+        &mut self,
+        present: Option<&Row<A>>,
+        _next: Option<&Row<A>>,
+    ) -> Result<(), Fault<C::Refusal>> {
+        self.sessions
+            .note_key(&self.op.table, self.key, self.op.cause, present)?;
+        ask(self.hook, self.reply)
     }
 }

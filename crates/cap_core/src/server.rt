@@ -248,7 +248,7 @@ impl<A: AllocHandle> Core<A> {
             reply: &reply,
             hook,
         };
-        match self.saved.insert_with_hook(name, database, &mut reply_hook) {
+        match self.saved.insert_hooked(name, database, &mut reply_hook) {
             Ok(_replaced) => {
                 self.events += 1;
                 Ok(reply)

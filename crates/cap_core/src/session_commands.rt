@@ -61,7 +61,7 @@ impl<A: AllocHandle> Core<A> {
             reply: &reply,
             hook,
         };
-        match self.sessions.add_with_hook(number, &mut reply_hook) {
+        match self.sessions.add_hooked(number, &mut reply_hook) {
             Ok(()) => {
                 self.sessions_made = number;
                 self.events += 1;

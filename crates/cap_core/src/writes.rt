@@ -1,6 +1,8 @@
 //! The commands that write: a new table, a transaction, and a blob that is applied.
-ghost use Rattle.std.specs.Prelude.{◌≡◌, ◌+◌, ◌∷◌, [], Ok};
-ghost use Rattle.cap_database.specs.Operation.{run, step};
+ghost use Rattle.std.specs.Prelude.{◌≡◌, ◌+◌, ◌∷◌, [], Ok, OnErr, OnOk, Some};
+ghost use Rattle.cap_table.specs.WithHook.{LeavesOnceAllowed};
+ghost use Rattle.cap_database.specs.KeptKey.{kept_key};
+ghost use Rattle.cap_database.specs.Operation.{changes, run, step};
 ghost use Rattle.cap_database.specs.Tables.{Tables, create};
 ghost use Rattle.cap_apply.specs.Apply.{apply};
 ghost use Rattle.cap_core.specs.Answer.{snapshot_of, write_reply};
@@ -10,14 +12,16 @@ ghost use Rattle.cap_core.specs.Outcome.{applied, change_refused, commit_unless,
 ghost use Rattle.cap_txn.specs.Stale.{stale};
 ghost use Rattle.cap_core.specs.Past.{HasRoom};
 ghost use Rattle.cap_core.specs.Transition.{after_write, written};
-ghost use Rattle.cap_value.specs.Memory.{AnswersUnlessMemory};
+ghost use Rattle.cap_session.specs.Sessions.{note_each};
+ghost use Rattle.cap_value.specs.Memory.{AnswersUnlessMemory, MatchFault};
 
-use crate::commit_hook::{ReplyHook, ask};
+use crate::commit_hook::{NotingHook, ask};
 use crate::{CommitHook, Core, Reply};
 use cap_apply::{Applied, Policy, applied_blobs_keep_columns};
 use cap_codec::Contents;
 use cap_database::{Change, Database, Op, Outcome, run_ops, tables_keep_columns};
-use cap_row::Schema;
+use cap_row::{Key, Schema};
+use cap_session::{Sessions, changes_of_a_key_are_one_touch};
 use cap_table::NotMade;
 use cap_txn::Batch;
 use cap_value::{AllocHandle, Fault, Name, Refusal};
@@ -69,7 +73,8 @@ impl<A: AllocHandle> Core<A> {
         }
     }
 
-    // Commits operations on the present version: one alone in place, several on a snapshot.
+    // Commits operations on the present version: one alone in place where its row has a key and keeps it, and
+    // else on a snapshot.
     fn commit_now<C: CommitHook<A>>(
         &mut self,
         ops: &[Op<A>],
@@ -83,7 +88,10 @@ impl<A: AllocHandle> Core<A> {
             self.old self.new hook.old hook.new result }
     {
         match ops {
-            [op] => self.commit_one(op, hook),
+            [op] => match self.main.kept_key(op)? {
+                Some(key) => self.commit_one(op, &key, hook),
+                None => self.commit_ops(ops, hook),
+            },
             _ => self.commit_ops(ops, hook),
         }
     }
@@ -113,21 +121,22 @@ impl<A: AllocHandle> Core<A> {
         }
     }
 
-    // Commits one operation, in place.
+    // Commits one operation on a row that keeps this key, in place.
     fn commit_one<C: CommitHook<A>>(
         &mut self,
         op: &Op<A>,
+        key: &Key<A>,
         hook: &mut C,
     ) -> Result<Reply<A>, Fault<C::Refusal>>
         requires room { HasRoom self.old.events }
+        requires key { kept_key self.old.main op.now ≡ Some key.now }
         requires can_ask { C.can_ask hook.old
             (write_reply self.old (made (run self.old.main (op.now ∷ [])))) }
         ensures { let effect = made (run self.old.main (op.now ∷ [])) in
             Reports C.gives (write_reply self.old effect) (after_write self.old effect)
             self.old self.new hook.old hook.new result }
     {
-        let changes = self.main.changes_of(op)?;
-        match self.make(op, changes.as_slice(), hook) {
+        match self.make(op, key, hook) {
             Ok(reply) => Ok(reply),
             Err(NotMade::Refused(why)) => self.keep(Reply::Refused { at: Some(0), why }, hook),
             Err(NotMade::OutOfMemory) => Err(Fault::OutOfMemory),
@@ -135,32 +144,25 @@ impl<A: AllocHandle> Core<A> {
         }
     }
 
-    // Makes one operation in place, and records its changes in each session.
+    // Makes one operation in place, and records it in each session.
     fn make<C: CommitHook<A>>(
         &mut self,
         op: &Op<A>,
-        changes: &[Change<A>],
+        key: &Key<A>,
         hook: &mut C,
     ) -> Result<Reply<A>, NotMade<C::Refusal>>
         requires room { HasRoom self.old.events }
+        requires key { kept_key self.old.main op.now ≡ Some key.now }
         requires can_ask { (after : Tables A) → step self.old.main op.now ≡ Ok after
             → C.can_ask hook.old (Reply.Written (self.old.version + 1)) }
-        ensures { ReportsStep C.gives op.now changes.now self.old self.new hook.old hook.new result }
+        ensures { ReportsStep C.gives op.now self.old self.new hook.old hook.new result }
     {
         tables_keep_columns::<A>();
         self.main.rows_stand();
-        match self.sessions.note(&self.main, changes) {
-            Ok(()) => {}
-            Err(_) => return Err(NotMade::OutOfMemory),
-        }
         let reply = Reply::Written {
             version: self.version + 1,
         };
-        let mut reply_hook = ReplyHook {
-            reply: &reply,
-            hook,
-        };
-        match self.main.step_with_hook(op, &mut reply_hook) {
+        match step_and_note(&mut self.main, &mut self.sessions, op, key, &reply, hook) {
             Ok(()) => {
                 self.sessions.publish();
                 self.version += 1;
@@ -264,6 +266,50 @@ impl<A: AllocHandle> Core<A> {
         self.version += 1;
         self.events += 1;
         Ok(reply)
+    }
+}
+
+// Makes one operation on a row that keeps this key, in place. Before it takes effect it is staged in each session,
+// and the hook is asked.
+fn step_and_note<A: AllocHandle, C: CommitHook<A>>(
+    main: &mut Database<A>,
+    sessions: &mut Sessions<A>,
+    op: &Op<A>,
+    key: &Key<A>,
+    reply: &Reply<A>,
+    hook: &mut C,
+) -> Result<(), NotMade<C::Refusal>>
+    requires key { kept_key main.old op.now ≡ Some key.now }
+    requires can_ask { (after : Tables A) → step main.old op.now ≡ Ok after → C.can_ask hook.old reply.now }
+    ensures tables { LeavesOnceAllowed result (step main.old op.now) main.new
+        (hook.new ≡ hook.old) (λ answer. C.gives hook.old reply.now answer hook.new) }
+    ensures kept { OnErr result (main.new ≡ main.old) }
+    ensures live { sessions.new.live ≡ sessions.old.live }
+    ensures staged { OnOk result (sessions.new.staged
+        ≡ note_each main.old (changes main.old op.now) sessions.old.live) }
+{
+    changes_of_a_key_are_one_touch::<A>();
+    let mut noting = NotingHook {
+        sessions,
+        op,
+        key,
+        reply,
+        hook,
+    };
+    match main.step_keyed(op, key, &mut noting) {
+        Ok(()) => Ok(()),
+        Err(NotMade::Refused(why)) => Err(NotMade::Refused(why)),
+        Err(NotMade::OutOfMemory) => Err(NotMade::OutOfMemory),
+        Err(NotMade::Vetoed(fault)) => Err(not_made(fault)),
+    }
+}
+
+fn not_made<E>(fault: Fault<E>) -> NotMade<E>
+    ensures memory { MatchFault fault (result ≡ NotMade.OutOfMemory) (λ why. result ≡ NotMade.Vetoed why) }
+{
+    match fault {
+        Fault::OutOfMemory => NotMade::OutOfMemory,
+        Fault::Refused(why) => NotMade::Vetoed(why),
     }
 }
 

@@ -25,7 +25,7 @@ use Rattle.cap_database.proofs.UndoneLemmas.{put-found}
 
 module _ {K V : Type 0} (R : K → K → Ordering) (o : IsTotalOrder R) where
   -- the last of two puts at a key stands
-  again : (es : List (K × V)) (k : K) (v w : V) → put_entry R (put_entry R es k w) k v ≡ put_entry R es k v
+  pub again : (es : List (K × V)) (k : K) (v w : V) → put_entry R (put_entry R es k w) k v ≡ put_entry R es k v
   again [] k v w = ap (λ r. match_ordering r ((k, v) ∷ (k, w) ∷ []) ((k, v) ∷ []) ((k, w) ∷ (k, v) ∷ [])) (tied_itself o k)
   again (e ∷ es) k v w =
       elim (R k e.0) as (λ r. R k e.0 ≡ r → put_entry R (match_ordering r ((k, w) ∷ e ∷ es) ((k, w) ∷ es) (e ∷ put_entry R es k w)) k v ≡ match_ordering r ((k, v) ∷ e ∷ es) ((k, v) ∷ es) (e ∷ put_entry R es k v)) [

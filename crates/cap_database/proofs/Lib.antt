@@ -4,6 +4,7 @@ pub mod BatchesLemmas
 pub mod CommuteLemmas
 pub mod FrontLemmas
 pub mod IdLemmas
+pub mod KeptKeyLemmas
 pub mod KeptLemmas
 pub mod PlaceLemmas
 pub mod PlanLemmas

@@ -9,3 +9,4 @@ pub mod Outcome
 pub mod Read
 pub mod Snapshot
 pub mod Tables
+pub mod KeptKey

@@ -1,14 +1,14 @@
 -- Operations on a database, one after another: all of them, or none.
-use Rattle.std.specs.Prelude.{ℕ, ◌+◌, ◌^◌, Bool, is_some, nat_lt, not, Option, Some, None, option_and_then}
+use Rattle.std.specs.Prelude.{ℕ, ◌+◌, Option, Some, None}
 use Rattle.std.specs.Prelude.{Result, Ok, Err, List, [], ◌∷◌, ◌++◌}
 use Rattle.std.specs.Option.{option_to_list}
 use Rattle.cap_value.specs.Bytes.{bytes_cmp}
 use Rattle.cap_value.specs.declared.refusal.Refusal.{Refusal}
 use Rattle.cap_value.specs.declared.refusal.Refusal.TheVariants.{NoTable}
 use Rattle.cap_row.specs.Fields.{Fields}
-use Rattle.cap_row.specs.Key.{fields_cmp, key_of}
+use Rattle.cap_row.specs.Key.{key_of}
 use Rattle.cap_row.specs.Row.{row_with}
-use Rattle.cap_tree.specs.Tree.{get, put_entry}
+use Rattle.cap_tree.specs.Tree.{put_entry}
 use Rattle.cap_table.specs.Table.{TableState}
 use Rattle.cap_table.specs.Operation.{insert_row, update_row, delete_row, row_of, key_of_name, refused_insert}
 use Rattle.cap_table.specs.Operation.{refused_update, refused_delete}
@@ -43,11 +43,6 @@ module _ {A : Type 0} where
   changed_keys table (Insert row) = key_of table.schema row ∷ []
   changed_keys table (Update name fields) = updated_keys table name fields (row_of table name)
   changed_keys table (Delete name) = key_of_name name ∷ []
-
-  -- whether another row has the key, or where there is none, the last id was given
-  abbrev pub is_taken : TableState A → Option (Fields A) → Bool
-  is_taken table (Some key) = is_some (get fields_cmp table.keyed key)
-  is_taken table None = not (nat_lt table.next_id (2 ^ 63))
 
   abbrev pub changes_to : List ℕ → Cause → List (Option (Fields A)) → List (Change A)
   changes_to table cause [] = []

@@ -9,16 +9,17 @@ ghost use Rattle.cap_value.specs.Memory.{LeavesUnlessMemory, RefusesFirst};
 ghost use Rattle.cap_database.specs.Tables.{EachRises, Tables, create, refused_create, table_of};
 ghost use Rattle.cap_table.specs.NotMade.{RefusesAtOnce};
 ghost use Rattle.cap_database.specs.Operation.{step, changes_made, changes, refused_step};
+ghost use Rattle.cap_database.specs.KeptKey.{AreOfKey, kept_key, row_left};
 ghost use Rattle.cap_database.specs.Keyed.{GoesBack, IsOwnRow, row_set};
 ghost use Rattle.cap_database.specs.Read.{read, row_at, rows_of, Lends};
 
-use crate::expected_changes::changes_in;
+use crate::kept_key::kept_in;
 use crate::keyed::{put_under, take_under};
-use crate::place::{copies, place_of, put_at, step_at, step_at_with_hook};
-use crate::{Change, Effect, Op};
+use crate::place::{copies, place_of, put_at, step_at, step_keyed_at};
+use crate::{Effect, Op};
 use cap_row::{Key, Row, Schema};
 use cap_table::{NotMade, RowRef, Scan, Table, operations_keep_tables};
-use cap_tree::CommitHook;
+use cap_tree::Hook;
 use cap_value::{AllocHandle, Exact, Fault, Name, OutOfMemory, Refusal};
 use std::marker::Model;
 
@@ -123,24 +124,42 @@ impl<A: AllocHandle> Database<A> {
         }
     }
 
-    /// Makes one operation if the commit hook allows it, with `step`'s refusals. The hook is asked once, after all
-    /// memory is reserved, and only if the rules accept the operation. On an error the database is as before.
-    pub fn step_with_hook<C: CommitHook>(
+    /// The key of the row that an operation adds, takes out, or changes outside its key: of a row that has one and
+    /// keeps it. None of any other operation, and where no table has the name.
+    pub fn kept_key(&self, op: &Op<A>) -> Result<Option<Key<A>>, OutOfMemory>
+        ensures { IfOk result (λ key. key ≡ kept_key self.now op.now) }
+    {
+        match self.table(&op.table) {
+            Some(table) => kept_in(table, &op.action),
+            None => Ok(None),
+        }
+    }
+
+    /// Makes an operation on a row that keeps this key, by one search, if the hook allows it, with `step`'s refusals. The hook
+    /// is asked once, after all memory is reserved, and only if the rules accept the operation. It is shown the row
+    /// under the key before and after. On an error the database is as before.
+    pub fn step_keyed<H: Hook<Row<A>>>(
         &mut self,
         op: &Op<A>,
-        hook: &mut C,
-    ) -> Result<(), NotMade<C::Refusal>>
-        requires { (after : Tables A) → step self.old op.now ≡ Ok after → C.can_ask hook.old }
-        ensures tables { LeavesOnceAllowed result (step self.old op.now) self.new
-            (hook.new ≡ hook.old) (λ answer. C.gives hook.old answer hook.new) }
+        key: &Key<A>,
+        hook: &mut H,
+    ) -> Result<(), NotMade<H::Refusal>>
+        requires key { kept_key self.old op.now ≡ Some key.now }
+        requires can_ask { (after : Tables A) → step self.old op.now ≡ Ok after
+            → H.can_ask hook.old (row_at self.old op.now.table key.now)
+            (row_left op.now.action (row_at self.old op.now.table key.now)) }
+        ensures tables { LeavesOnceAllowed result (step self.old op.now) self.new (hook.new ≡ hook.old)
+            (λ answer. H.gives hook.old (row_at self.old op.now.table key.now)
+            (row_left op.now.action (row_at self.old op.now.table key.now)) answer hook.new) }
         ensures kept { OnErr result (self.new ≡ self.old) }
+        ensures changes { OnOk result (AreOfKey op.now key.now (changes self.old op.now)) }
         ensures first { RefusesAtOnce (refused_step self.old op.now) result }
     {
         operations_keep_tables::<A>();
-        match place_of(&self.tables, &op.table) {
-            Ok(place) => step_at_with_hook(&mut self.tables, place, op, hook),
-            Err(_) => Err(NotMade::Refused(Refusal::NoTable)),
-        }
+        let Ok(place) = place_of(&self.tables, &op.table) else {
+            unreachable!()
+        };
+        step_keyed_at(&mut self.tables, place, op, key, hook)
     }
 
     /// Puts a row under its own key in the table of this name, and answers the row that was there, if any, which may go
@@ -174,20 +193,6 @@ impl<A: AllocHandle> Database<A> {
             IfSome before (GoesBack self.old self.new table.now key.now)) }
     {
         take_under(&mut self.tables, table, key)
-    }
-
-    /// The changes that an operation makes, in order: none where it is refused.
-    pub fn changes_of(&self, op: &Op<A>) -> Result<Vec<Change<A>, A>, OutOfMemory>
-        ensures changes { (after : Tables A) → step self.now op.now ≡ Ok after →
-            IfOk result (λ all. all.items ≡ changes self.now op.now) }
-        ensures refused { (why : Refusal) → step self.now op.now ≡ Err why →
-            IfOk result (λ all. all.items ≡ []) }
-    {
-        let alloc = *self.tables.allocator();
-        match self.table(&op.table) {
-            Some(table) => changes_in(alloc, table, op),
-            None => Ok(Vec::new(alloc)),
-        }
     }
 
     /// The row of this name in a table, or its absence. Refused with `NoTable` where no table has the name.

@@ -6,7 +6,7 @@ mod cause;
 mod change;
 mod database;
 mod effect;
-mod expected_changes;
+mod kept_key;
 mod keyed;
 mod laws;
 mod op;

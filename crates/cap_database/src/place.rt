@@ -7,14 +7,16 @@ ghost use Rattle.cap_table.specs.WithHook.{LeavesOnceAllowed};
 ghost use Rattle.cap_database.specs.Tables.{Tables};
 ghost use Rattle.cap_value.specs.Memory.{LeavesUnlessMemory, RefusesFirst};
 ghost use Rattle.cap_table.specs.NotMade.{RefusesAtOnce};
-ghost use Rattle.cap_table.specs.Operation.{insert_row, refused_insert};
 ghost use Rattle.cap_table.specs.Table.{TableState};
-ghost use Rattle.cap_database.specs.Operation.{act, step, changes_made, changes, refused_act, refused_step};
+ghost use Rattle.cap_database.specs.KeptKey.{kept_key, row_left};
+ghost use Rattle.cap_database.specs.Operation.{step, changes_made, changes, refused_step};
+ghost use Rattle.cap_database.specs.Read.{row_at};
 
-use crate::{Action, Effect, Op};
-use cap_row::Row;
+use crate::kept_key::act_keyed;
+use crate::{Effect, Op};
+use cap_row::{Key, Row};
 use cap_table::{NotMade, Table};
-use cap_tree::CommitHook;
+use cap_tree::Hook;
 use cap_value::{AllocHandle, Fault, Name, OutOfMemory, Refusal};
 use std::cmp::Ordering;
 
@@ -86,68 +88,33 @@ pub(crate) fn step_at<A: AllocHandle>(
     Effect::make(table, op)
 }
 
-// Makes an operation on the table at the index of its name, if the commit hook allows it.
-pub(crate) fn step_at_with_hook<A: AllocHandle, C: CommitHook>(
+// Makes an operation on a row that keeps this key, on the table at the index of its name, if the hook allows it.
+pub(crate) fn step_keyed_at<A: AllocHandle, H: Hook<Row<A>>>(
     tables: &mut [(Name<A>, Table<A>)],
     place: usize,
     op: &Op<A>,
-    hook: &mut C,
-) -> Result<(), NotMade<C::Refusal>>
+    key: &Key<A>,
+    hook: &mut H,
+) -> Result<(), NotMade<H::Refusal>>
     requires within { place < length tables.old }
     requires get { (d : List ℕ × TableState A) → get bytes_cmp tables.old op.now.table ≡ Some
         (slice_index_or tables.old place d).1 }
     requires put { (d : List ℕ × TableState A) (t : TableState A)
         → put_entry bytes_cmp tables.old op.now.table t
         ≡ slice_set tables.old place ((slice_index_or tables.old place d).0, t) }
+    requires key { kept_key tables.old op.now ≡ Some key.now }
     requires can_ask { (after : Tables A) → step tables.old op.now ≡ Ok after
-        → C.can_ask hook.old }
-    ensures tables { LeavesOnceAllowed result (step tables.old op.now) tables.new
-        (hook.new ≡ hook.old) (λ answer. C.gives hook.old answer hook.new) }
+        → H.can_ask hook.old (row_at tables.old op.now.table key.now)
+        (row_left op.now.action (row_at tables.old op.now.table key.now)) }
+    ensures tables { LeavesOnceAllowed result (step tables.old op.now) tables.new (hook.new ≡ hook.old)
+        (λ answer. H.gives hook.old (row_at tables.old op.now.table key.now)
+        (row_left op.now.action (row_at tables.old op.now.table key.now)) answer hook.new) }
     ensures kept { OnErr result (tables.new ≡ tables.old) }
     ensures first { RefusesAtOnce (refused_step tables.old op.now) result }
     ensures ordered { IsOrdered bytes_cmp tables.old → IsOrdered bytes_cmp tables.new }
 {
     let (_, table) = &mut tables[place];
-    act_with_hook(table, &op.action, hook)
-}
-
-// Makes what an operation does to its table, if the commit hook allows it.
-fn act_with_hook<A: AllocHandle, C: CommitHook>(
-    table: &mut Table<A>,
-    action: &Action<A>,
-    hook: &mut C,
-) -> Result<(), NotMade<C::Refusal>>
-    requires { (after : TableState A) → act table.old action.now ≡ Ok after → C.can_ask hook.old }
-    ensures table { LeavesOnceAllowed result (act table.old action.now) table.new
-        (hook.new ≡ hook.old) (λ answer. C.gives hook.old answer hook.new) }
-    ensures kept { OnErr result (table.new ≡ table.old) }
-    ensures first { RefusesAtOnce (refused_act table.old action.now) result }
-{
-    match action {
-        Action::Insert(row) => insert_with_hook(table, row, hook),
-        Action::Update(name, fields) => table.update_with_hook(name, fields.fields(), hook),
-        Action::Delete(name) => table.delete_with_hook(name, hook),
-    }
-}
-
-fn insert_with_hook<A: AllocHandle, C: CommitHook>(
-    table: &mut Table<A>,
-    row: &Row<A>,
-    hook: &mut C,
-) -> Result<(), NotMade<C::Refusal>>
-    requires { (after : TableState A) → insert_row table.old row.now ≡ Ok after → C.can_ask hook.old }
-    ensures table { LeavesOnceAllowed result (insert_row table.old row.now) table.new
-        (hook.new ≡ hook.old) (λ answer. C.gives hook.old answer hook.new) }
-    ensures kept { OnErr result (table.new ≡ table.old) }
-    ensures first { RefusesAtOnce (refused_insert table.old row.now) result }
-{
-    match row.copy() {
-        Ok(row) => table.insert_with_hook(row, hook),
-        Err(_) => match table.refused_insert(row) {
-            Some(why) => Err(NotMade::Refused(why)),
-            None => Err(NotMade::OutOfMemory),
-        },
-    }
+    act_keyed(table, &op.action, key, hook)
 }
 
 pub(crate) fn copies<A: AllocHandle>(

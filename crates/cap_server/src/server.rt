@@ -10,7 +10,12 @@ use crate::{CallFault, CloseFault, Closed, Locked};
 use cap_core::{Command, Reply};
 use cap_history::{Front, Naming, Opened, Seat};
 use cap_value::{AllocHandle, OutOfMemory};
-use std::sync::{Mutex, Wait};
+use std::hint::spin_loop;
+use std::sync::{Mutex, MutexGuard, Wait};
+
+// How often a call tries the lock before it sleeps, and how many pauses of the processor lie between two tries.
+const LOCK_TRIES: u32 = 64;
+const LOCK_PAUSES: u32 = 16;
 
 /// A server that threads share by reference. Each calls through its own seat.
 #[derive(Drop)]
@@ -46,7 +51,20 @@ impl<J: Naming, A: AllocHandle> Server<J, A> {
         ensures called { IfOk result (λ reply. HasCalled seat.old seat.new command.now reply) }
         ensures refused { IfErr result (λ fault. LeavesSeat fault seat.old seat.new) }
     {
-        self.locked.lock(rt).step(&self.front, seat, command)
+        self.lock(rt).step(&self.front, seat, command)
+    }
+
+    // Takes the lock. A short wait is spent awake: to sleep and to be woken takes longer than many commits.
+    fn lock<R: Wait>(&self, rt: &R) -> MutexGuard<'_, Locked<J, A>> {
+        for _try in 0..LOCK_TRIES {
+            if let Some(locked) = self.locked.try_lock() {
+                return locked;
+            }
+            for _pause in 0..LOCK_PAUSES {
+                spin_loop();
+            }
+        }
+        self.locked.lock(rt)
     }
 
     /// Lets the seat see the whole history, and gives the number of its events. It is wait-free.

@@ -1,6 +1,7 @@
 mod CommitLemmas
 pub mod Crossing
 mod LatestLemmas
+mod KeyLemmas
 mod ListLemmas
 mod NoteLemmas
 mod NumberLemmas

@@ -60,13 +60,13 @@ false_second : (a b : Bool) → b ≡ false → (a && b) ≡ false
 false_second true b is = is
 false_second false b is = refl
 
-and_twice : (a b c : Bool) → ((a && b) && c) ≡ (a && (b && c))
+pub and_twice : (a b c : Bool) → ((a && b) && c) ≡ (a && (b && c))
 and_twice true b c = refl
 and_twice false b c = refl
 
 module _ {A : Type 0} where
   -- what is found at a key that was touched
-  found-touched : (records : Records A) (t : Touch A) → get fields_cmp (touch records t) t.key ≡ Some (record_after (get fields_cmp records t.key) t.image t.indirect)
+  pub found-touched : (records : Records A) (t : Touch A) → get fields_cmp (touch records t) t.key ≡ Some (record_after (get fields_cmp records t.key) t.image t.indirect)
   found-touched records t =
       let found = get fields_cmp records t.key in
       let made = record_after found t.image t.indirect in

@@ -26,7 +26,7 @@ module _ {Y : Type 0} (none : Y) where
   listed-last name [] = ap (λ b. b || false) ((bytes_decides name name).1 refl)
   listed-last name (t ∷ ts) = ap (λ b. bytes_eq name t.0 || b) (listed-last name ts) ∙ or-true (bytes_eq name t.0)
 
-  listed-attached : (name : List ℕ) (tables : List (List ℕ × Y)) → listed name (attached name tables) ≡ true
+  pub listed-attached : (name : List ℕ) (tables : List (List ℕ × Y)) → listed name (attached name tables) ≡ true
   listed-attached name tables =
       elim (listed name tables) as (λ b. listed name tables ≡ b → listed name (cond b tables (tables ++ (name, none) ∷ [])) ≡ true) [
         | true ↦ λ there. there

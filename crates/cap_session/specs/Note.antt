@@ -1,8 +1,9 @@
 -- Recording the changes of one commit, or a diff, in a session.
-use Rattle.std.specs.Prelude.{ℕ, Bool, true, false, Option, None, List, map, fold, ◌||◌, if◌then◌else◌}
+use Rattle.std.specs.Prelude.{ℕ, Bool, true, false, Option, None, List, [], ◌∷◌, map, fold, ◌||◌, if◌then◌else◌}
 use Rattle.std.specs.List.{filter_map}
 use Rattle.std.specs.Option.{option_map}
 use Rattle.cap_value.specs.Bytes.{bytes_eq}
+use Rattle.cap_row.specs.Fields.{Fields}
 use Rattle.cap_database.specs.Read.{row_at}
 use Rattle.cap_database.specs.Tables.{Tables}
 use Rattle.cap_database.specs.declared.cause.Cause.{Cause}
@@ -70,6 +71,18 @@ module _ {A : Type 0} where
   touch_table name touches tables =
       map (λ attached.
       if bytes_eq name attached.0 then (attached.0, with_touches attached.1 touches) else attached) tables
+
+  -- the session after a commit that changes the row of this key alone, given the row before it
+  abbrev pub note_key : List ℕ → Fields A → Cause → Option (Fields A) → SessionState A → SessionState A
+  note_key name key cause image session =
+      if session.enabled
+      then record session {
+        tables =
+            touch_table name
+            (record { key = key; image = image; indirect = session.indirect || is_cascade cause } ∷ [])
+            (attach_by session.rule session.tables name);
+      }
+      else session
 
   -- the session after a diff of this table, which is attached whatever the rule, even where the session is
   -- disabled

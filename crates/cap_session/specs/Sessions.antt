@@ -1,9 +1,11 @@
 -- Sessions by number.
 use Rattle.std.specs.Prelude.{ℕ, Option, Some, None, List, [], ◌∷◌, map, nat_eq, if◌then◌else◌}
 use Rattle.std.specs.Map.{lookup}
+use Rattle.cap_row.specs.Fields.{Fields}
 use Rattle.cap_database.specs.Tables.{Tables}
+use Rattle.cap_database.specs.declared.cause.Cause.{Cause}
 use Rattle.cap_database.specs.declared.change.Change.{Change}
-use Rattle.cap_session.specs.Note.{note}
+use Rattle.cap_session.specs.Note.{note, note_key}
 use Rattle.cap_session.specs.Session.{SessionState}
 
 -- the sessions in the order in which they were created, each with its number
@@ -40,3 +42,9 @@ module _ {A : Type 0} where
   -- each session after the changes of a commit, given the tables before it
   abbrev pub note_each : Tables A → List (Change A) → NumberedSessions A → NumberedSessions A
   note_each before changes sessions = map (λ session. (session.0, note before changes session.1)) sessions
+
+  -- each session after a commit that changes the row of this key alone, given the row before it
+  abbrev pub note_key_each : List ℕ → Fields A → Cause → Option (Fields A) → NumberedSessions A
+      → NumberedSessions A
+  note_key_each name key cause image sessions =
+      map (λ session. (session.0, note_key name key cause image session.1)) sessions

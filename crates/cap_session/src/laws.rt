@@ -5,6 +5,7 @@ ghost use Rattle.std.specs.List.{AllByRecursion, list_any};
 ghost use Rattle.std.specs.Option.{option_map};
 ghost use Rattle.cap_value.specs.Bytes.{bytes_eq};
 ghost use Rattle.cap_filter.specs.Rule.{Rule};
+ghost use Rattle.cap_row.specs.Fields.{Fields};
 ghost use Rattle.cap_row.specs.Key.{fields_cmp};
 ghost use Rattle.cap_tree.specs.Tree.{get};
 ghost use Rattle.cap_database.specs.Read.{row_at};
@@ -16,6 +17,7 @@ ghost use Rattle.cap_session.specs.Note.{attach_by_rule, note, touches_of};
 ghost use Rattle.cap_session.specs.Records.{AreTouched, Records, Touch, with_touches};
 ghost use Rattle.cap_session.specs.Session.{AttachedTables, SessionState, accepts_by, attach_all, records_of};
 ghost use Rattle.cap_session.specs.Session.{set_filter};
+ghost use Rattle.cap_session.specs.Sessions.{NumberedSessions, note_each, note_key_each};
 
 use cap_value::AllocHandle;
 
@@ -65,6 +67,16 @@ pub fn rule_attaches_changed_tables<A: AllocHandle>()
 pub fn disabled_session_gains_nothing<A: AllocHandle>()
     ensures { (before : Tables A) (changes : List (Change A)) (session : SessionState A)
         → session.enabled ≡ false → note before changes session ≡ session }
+{}
+
+/// A commit that makes one change of a key, or the same change twice, is one touch of the key.
+pub fn changes_of_a_key_are_one_touch<A: AllocHandle>()
+    ensures once { (before : Tables A) (change : Change A) (key : Fields A) (sessions : NumberedSessions A)
+        → change.key ≡ Some key → note_each before (change ∷ []) sessions
+        ≡ note_key_each change.table key change.cause (row_at before change.table key) sessions }
+    ensures twice { (before : Tables A) (change : Change A) (key : Fields A) (sessions : NumberedSessions A)
+        → change.key ≡ Some key → note_each before (change ∷ change ∷ []) sessions
+        ≡ note_key_each change.table key change.cause (row_at before change.table key) sessions }
 {}
 
 /// A filter takes precedence over attaching every table, in whatever order they are set.

@@ -205,12 +205,14 @@ impl<A: AllocHandle> Session<A> {
                 self.list.place_by(&AutomaticRule::All, name)?;
                 Ok(())
             }
-            Staging::Changes(before, changes) => {
-                if !self.enabled {
-                    return Ok(());
-                }
+            Staging::Changes(_, _) | Staging::Key(_, _, _, _) if !self.enabled => Ok(()),
+            Staging::Changes(before, changes) => self
+                .list
+                .stage_changes(&self.rule, self.indirect, before, changes),
+            Staging::Key(name, key, cause, image) => {
+                let touches = Touches::OfKey(key, cause, image);
                 self.list
-                    .stage_changes(&self.rule, self.indirect, before, changes)
+                    .stage_touches(&self.rule, self.indirect, name, touches)
             }
             Staging::Diff(name, differences) => {
                 let touches = Touches::OfDiff(differences);

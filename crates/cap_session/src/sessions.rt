@@ -1,20 +1,22 @@
 //! All sessions of a core, by number.
-ghost use Rattle.std.specs.Prelude.{◌≡◌, [], ◌∷◌, ◌++◌, Ok, Err, IfOk, IfErr, OnOk, OnErr, length};
-ghost use Rattle.std.specs.Option.{option_map};
+ghost use Rattle.std.specs.Prelude.{◌≡◌, [], ◌∷◌, ◌++◌, Ok, Err, Some, None, IfOk, IfErr, OnOk, OnErr, length};
+ghost use Rattle.std.specs.Option.{option_copied, option_map};
 ghost use Rattle.cap_value.specs.Memory.{MatchFault};
 ghost use Rattle.cap_session.specs.Code.Numbered.{made_of};
 ghost use Rattle.cap_session.specs.Code.Staging.{staged_by};
 ghost use Rattle.cap_session.specs.Note.{note_diff};
-ghost use Rattle.cap_session.specs.Session.{attached, changed_by, new_session};
-ghost use Rattle.cap_session.specs.Sessions.{note_each, session_numbered, with_session_if, without_session};
+ghost use Rattle.cap_session.specs.Session.{attached, changed_by, new_session, settled};
+ghost use Rattle.cap_session.specs.Sessions.{note_each, note_key_each, session_numbered, with_session_if};
+ghost use Rattle.cap_session.specs.Sessions.{without_session};
 
 use crate::keep::Keep;
 use crate::numbered::{Numbered, change, copies_of, keep, place_of, stage};
 use crate::staging::Staging;
 use crate::{Session, SessionChange};
 use cap_compare::Difference;
-use cap_database::{Change, Database};
-use cap_tree::CommitHook;
+use cap_database::{Cause, Change, Database};
+use cap_row::{Key, Row};
+use cap_tree::Hook;
 use cap_value::{AllocHandle, Fault, Name, OutOfMemory};
 use std::marker::Model;
 
@@ -79,27 +81,26 @@ impl<A: AllocHandle> Sessions<A> {
         Some(&self.sessions[place].session)
     }
 
-    /// Adds a new session with this number, where the commit hook allows it. The hook is asked once, after
-    /// all memory is reserved. On an error the sessions are unchanged.
-    pub fn add_with_hook<C: CommitHook>(
+    /// Adds a new session with this number, where the hook allows it. The hook is asked once, after all memory is
+    /// reserved, and is shown the session. On an error the sessions are unchanged.
+    pub fn add_hooked<H: Hook<Session<A>>>(
         &mut self,
         number: u64,
-        hook: &mut C,
-    ) -> Result<(), Fault<C::Refusal>>
-        requires { C.can_ask hook.old }
+        hook: &mut H,
+    ) -> Result<(), Fault<H::Refusal>>
+        requires { H.can_ask hook.old None (Some (settled new_session)) }
         ensures added { OnOk result (self.new.live ≡ self.old.live ++ (number, new_session) ∷ []) }
-        ensures allowed { OnOk result (C.gives hook.old (Ok tt) hook.new) }
+        ensures allowed { OnOk result
+            (H.gives hook.old None (Some (settled new_session)) (Ok tt) hook.new) }
         ensures err { OnErr result (self.new.live ≡ self.old.live) }
         ensures refused { IfErr result (λ fault. MatchFault fault (hook.new ≡ hook.old)
-            (λ why. C.gives hook.old (Err why) hook.new)) }
+            (λ why. H.gives hook.old None (Some (settled new_session)) (Err why) hook.new)) }
         ensures nothing_staged { self.new.staged ≡ self.new.live }
     {
         keep(&mut self.sessions, Keep::Published);
         self.sessions.reserve(1)?;
-        if let Err(why) = hook.before_commit() {
-            return Err(Fault::Refused(why));
-        }
         let session = Session::new(self.alloc);
+        ask_to_add(hook, &session)?;
         self.sessions.push_reserved(Numbered { number, session });
         Ok(())
     }
@@ -122,6 +123,22 @@ impl<A: AllocHandle> Sessions<A> {
         ensures nothing_staged { OnErr result (self.new.staged ≡ self.new.live) }
     {
         self.stage(None, &Staging::Changes(before, changes))
+    }
+
+    /// Stages a commit that changes the row of this key alone in each session. `image` is the row before it.
+    pub fn note_key(
+        &mut self,
+        table: &Name<A>,
+        key: &Key<A>,
+        cause: Cause,
+        image: Option<&Row<A>>,
+    ) -> Result<(), OutOfMemory>
+        ensures kept { self.new.live ≡ self.old.live }
+        ensures staged { OnOk result (self.new.staged
+            ≡ note_key_each table.now key.now cause (option_copied image.entry) self.old.live) }
+        ensures nothing_staged { OnErr result (self.new.staged ≡ self.new.live) }
+    {
+        self.stage(None, &Staging::Key(table, key, cause, image))
     }
 
     /// Stages attaching a table to the session with this number, if any.
@@ -191,5 +208,22 @@ impl<A: AllocHandle> Sessions<A> {
             alloc: self.alloc,
             sessions: copies_of(self.alloc, &self.sessions)?,
         })
+    }
+}
+
+// Asks the hook where a session is added.
+fn ask_to_add<A: AllocHandle, H: Hook<Session<A>>>(
+    hook: &mut H,
+    session: &Session<A>,
+) -> Result<(), Fault<H::Refusal>>
+    requires { H.can_ask hook.old None (Some session.now) }
+    ensures allowed { OnOk result (H.gives hook.old None (Some session.now) (Ok tt) hook.new) }
+    ensures refused { IfErr result (λ fault. MatchFault fault (hook.new ≡ hook.old)
+        (λ why. H.gives hook.old None (Some session.now) (Err why) hook.new)) }
+{
+    let nothing: Option<Session<A>> = None;
+    match hook.before_change(nothing.as_ref(), Some(session)) {
+        Ok(()) => Ok(()),
+        Err(why) => Err(Fault::Refused(why)),
     }
 }

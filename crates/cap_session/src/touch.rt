@@ -3,8 +3,7 @@ ghost use Rattle.std.specs.Prelude.{◌≡◌, IsTrue, IfOk, Some, map};
 ghost use Rattle.std.specs.Option.{option_copied, unwrap_or};
 ghost use Rattle.cap_row.specs.Key.{fields_cmp};
 ghost use Rattle.cap_tree.specs.Tree.{IsOrdered, get};
-ghost use Rattle.cap_database.specs.Read.{row_at};
-ghost use Rattle.cap_session.specs.Code.Staging.{touches_by};
+ghost use Rattle.cap_session.specs.Code.Staging.{image_of, touches_by};
 ghost use Rattle.cap_session.specs.Note.{is_cascade, touch_of, touches_found};
 ghost use Rattle.cap_session.specs.Records.{Records, Touch, record_after, touch, touch_if, with_touches};
 
@@ -19,8 +18,19 @@ use cap_value::{AllocHandle, Name, OutOfMemory};
 pub(crate) enum Touches<'a, A: AllocHandle> {
     // A change of a commit, after the database before it.
     OfChange(&'a Database<A>, &'a Change<A>),
+    // A change of this key, with the row before the commit.
+    OfKey(&'a Key<A>, Cause, Option<&'a Row<A>>),
     // A diff.
     OfDiff(&'a [Difference<A>]),
+}
+
+// Where the row under a touched key before the commit is.
+#[derive(Clone, Copy, Drop)]
+pub(crate) enum Image<'a, A: AllocHandle> {
+    // In the table of this name.
+    In(&'a Database<A>, &'a Name<A>),
+    // Here.
+    Shown(Option<&'a Row<A>>),
 }
 
 // `after`, or where it is `None` the records, after touches.
@@ -35,6 +45,10 @@ pub(crate) fn after_touches<A: AllocHandle>(
 {
     match touches {
         Touches::OfChange(before, change) => after_change(records, after, before, indirect, change),
+        Touches::OfKey(key, cause, image) => {
+            let indirect = indirect || is_cascade(cause);
+            after_touch(records, after, indirect, key, Image::Shown(image))
+        }
         Touches::OfDiff(differences) => {
             let after = after_or_copy(records, after)?;
             Ok(Some(after_diff(after, indirect, differences)?))
@@ -57,7 +71,8 @@ fn after_change<A: AllocHandle>(
         None => Ok(after),
         Some(key) => {
             let indirect = indirect || is_cascade(change.cause);
-            after_touch(&change.table, records, after, before, indirect, key)
+            let image = Image::In(before, &change.table);
+            after_touch(records, after, indirect, key, image)
         }
     }
 }
@@ -71,19 +86,19 @@ fn is_cascade(cause: Cause) -> bool
     }
 }
 
-// `after`, or where it is `None` the records, after one more touch. The key is searched once.
+// `after`, or where it is `None` the records, after one more touch. The key is searched once, and the image
+// only where the key has no record.
 fn after_touch<A: AllocHandle>(
-    name: &Name<A>,
     records: &Records<A>,
     after: Option<Records<A>>,
-    before: &Database<A>,
     indirect: bool,
     key: &Key<A>,
+    image: Image<'_, A>,
 ) -> Result<Option<Records<A>>, OutOfMemory>
     ensures { IfOk result (λ then. unwrap_or then records.now
         ≡ touch (unwrap_or after records.now) (record {
           key = key.now;
-          image = row_at before.now name.now key.now;
+          image = image_of image.entry key.now;
           indirect = indirect;
         })) }
 {
@@ -93,7 +108,7 @@ fn after_touch<A: AllocHandle>(
     if is_noted(found, indirect) {
         return Ok(after);
     }
-    let record = record_after(found, row_at(before, name, key), indirect)?;
+    let record = record_after(found, row_of(image, key), indirect)?;
     let mut after = after_or_copy(records, after)?;
     after.put(key.copy()?, record)?;
     Ok(Some(after))
@@ -125,17 +140,13 @@ fn after_or_copy<A: AllocHandle>(
     }
 }
 
-// The row with this primary key, if any.
-fn row_at<'a, A: AllocHandle>(
-    tables: &'a Database<A>,
-    name: &Name<A>,
-    key: &Key<A>,
-) -> Option<&'a Row<A>>
-    ensures { option_copied result ≡ row_at tables.now name.now key.now }
+// The row under this key before the commit, if any.
+fn row_of<'a, A: AllocHandle>(image: Image<'a, A>, key: &Key<A>) -> Option<&'a Row<A>>
+    ensures { option_copied result ≡ image_of image.entry key.now }
 {
-    match tables.table(name) {
-        Some(table) => table.keyed().get(key),
-        None => None,
+    match image {
+        Image::In(tables, name) => tables.table(name)?.get_keyed(key),
+        Image::Shown(row) => row,
     }
 }
 

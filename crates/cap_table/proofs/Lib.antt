@@ -1,8 +1,9 @@
 pub mod Crossing
-pub mod WithHookLemmas
+pub mod HookedLemmas
 pub mod BackLemmas
 pub mod IdLemmas
 pub mod KeptLemmas
 pub mod LawLemmas
 pub mod TableLemmas
+pub mod KeptKeyLemmas
 pub mod RenewLemmas

@@ -27,6 +27,14 @@ module _ {A : Type 0} where
   its-own None key is = cc
   its-own (Some own) key is = ap Some (tied fields_cmp own key fields_same is)
 
+  -- a row that is found has the table's width, and its own key
+  pub own_row : (t : TableState A) (key row : Fields A) → IsTable t → get fields_cmp t.keyed key ≡ Some row → (length row ≡ length t.schema) × (key_of t.schema row ≡ Some key)
+  own_row t key row h there =
+      let passes = found-passes fields_cmp (λ row. keyed_stands t.schema row.0 row.1) fields_same t.keyed key row h.keyed there in (
+        is_same_length (length row) (length t.schema) (first (length row == length t.schema) (is_key_of (key_of t.schema row) key) passes),
+        its-own (key_of t.schema row) key (second (length row == length t.schema) (is_key_of (key_of t.schema row) key) passes),
+      )
+
   module _ (t : TableState A) (key : Fields A) (changes : List (ℕ × Value A)) where
     pub no-row : are_columns (length t.schema) (columns_of changes) ≡ true → get fields_cmp t.keyed key ≡ None → update_row t (Key key) changes ≡ Err NoRow
     no-row cols none = ap (λ b. cond b (updated t (Key key) changes (row_of t (Key key))) (Err BadColumn)) cols ∙ ap (λ o. updated t (Key key) changes o) none
@@ -36,11 +44,7 @@ module _ {A : Type 0} where
       with-ok = ap (λ b. cond b (Ok (row_with changes row)) (Err BadColumn)) cols
 
       pub stands : (length row ≡ length t.schema) × (key_of t.schema row ≡ Some key)
-      stands =
-          let passes = found-passes fields_cmp (λ row. keyed_stands t.schema row.0 row.1) fields_same t.keyed key row h.keyed there in (
-            is_same_length (length row) (length t.schema) (first (length row == length t.schema) (is_key_of (key_of t.schema row) key) passes),
-            its-own (key_of t.schema row) key (second (length row == length t.schema) (is_key_of (key_of t.schema row) key) passes),
-          )
+      stands = own_row t key row h there
 
       pub updated-to : update_row t (Key key) changes ≡ Ok (with_key t key (row_with changes row))
       updated-to =

@@ -6,3 +6,4 @@ pub mod Sound
 pub mod Table
 pub mod NotMade
 pub mod Hooked
+pub mod KeptKey

@@ -1,6 +1,7 @@
 //! Operations on rows that have a key, each by one search: the tree shows the table's hook the present row of the key,
 //! and the table's hook checks it before it asks the caller's hook.
-ghost use Rattle.std.specs.Prelude.{◌≡◌, Result, Ok, Err, Some, None, IfOk, IfErr, OnErr, length, is_some, option_map};
+ghost use Rattle.std.specs.Prelude.{◌≡◌, Result, Ok, Err, Some, None, IfOk, IfErr, OnOk, OnErr, IsTrue, length, get_or, is_some, option_map, false};
+ghost use Rattle.std.specs.List.{list_any};
 ghost use Rattle.cap_value.specs.declared.refusal.Refusal.{Refusal};
 ghost use Rattle.cap_row.specs.Fields.{Fields};
 ghost use Rattle.cap_row.specs.Row.{row_with};
@@ -9,14 +10,15 @@ ghost use Rattle.cap_tree.specs.Tree.{get};
 ghost use Rattle.cap_table.specs.WithHook.{LeavesOnceAllowed};
 ghost use Rattle.cap_table.specs.NotMade.{RefusesAtOnce};
 ghost use Rattle.cap_table.specs.Operation.{delete_row, insert_row, under_key, update_row};
-ghost use Rattle.cap_table.specs.Operation.{refused_delete, refused_insert, refused_update};
+ghost use Rattle.cap_table.specs.Operation.{refused_delete, refused_update};
+ghost use Rattle.cap_table.specs.KeptKey.{keeps_key, new_key};
 ghost use Rattle.cap_table.specs.Table.{TableState};
 
 use crate::table::Table;
 use crate::{NotMade, RowRef};
 use cap_row::{Key, Row, Schema, are_columns, key_of};
 use cap_tree::{Hook, Remake};
-use cap_value::{AllocHandle, Fault, Refusal, Value};
+use cap_value::{AllocHandle, Fault, OutOfMemory, Refusal, Value};
 
 // Refuses a row whose key is taken, and otherwise asks the caller's hook.
 #[derive(Drop)]
@@ -122,59 +124,41 @@ impl<'a, 'b, 'c, 'd, A: AllocHandle, H: Hook<Row<A>>> Remake<Row<A>>
 }
 
 impl<A: AllocHandle> Table<A> {
-    /// Adds a row if the hook allows it, with `insert`'s refusals. The hook is asked once, after all memory is reserved,
-    /// and only if the rules accept the row. On an error the table is as before.
-    pub fn insert_hooked<H: Hook<Row<A>>>(
-        &mut self,
-        row: Row<A>,
-        hook: &mut H,
-    ) -> Result<(), NotMade<H::Refusal>>
-        requires { (after : TableState A) → insert_row self.old row ≡ Ok after
-            → H.can_ask hook.old None (Some row) }
-        ensures table { LeavesOnceAllowed result (insert_row self.old row) self.new
-            (hook.new ≡ hook.old) (λ answer. H.gives hook.old None (Some row) answer hook.new) }
-        ensures kept { OnErr result (self.new ≡ self.old) }
-        ensures first { RefusesAtOnce (refused_insert self.old row) result }
+    /// The primary key of a new row, none where it has none or another width than the table.
+    pub fn new_key(&self, row: &Row<A>) -> Result<Option<Key<A>>, OutOfMemory>
+        ensures { IfOk result (λ key. key ≡ new_key self.now row.now) }
     {
         if row.width() != self.schema.width() {
-            return Err(NotMade::Refused(Refusal::WrongWidth));
+            return Ok(None);
         }
-        match key_of(self.alloc, &self.schema, &row) {
-            Ok(Some(key)) => self.put_new_hooked(key, row, hook),
-            Ok(None) => self.put_loose_hooked(row, hook),
-            Err(_) => Err(NotMade::OutOfMemory),
-        }
+        key_of(self.alloc, &self.schema, row)
     }
 
-    // A row that has no key, made on a snapshot.
-    fn put_loose_hooked<H: Hook<Row<A>>>(
+    /// Whether none of these fields is of a key column, so that an update with them leaves each row its key.
+    pub fn keeps_key(&self, fields: &[(usize, Value<A>)]) -> bool
+        ensures { result ≡ keeps_key self.now.schema fields.now }
+    {
+        !names_key_column(self.schema.flags(), fields)
+    }
+
+    /// Adds a row under its key if the hook allows it. Refused with `Duplicate` where a row has the key already. The
+    /// hook is asked once, after all memory is reserved, and only if no row has the key. On an error the table is as
+    /// before.
+    pub fn insert_keyed_hooked<H: Hook<Row<A>>>(
         &mut self,
+        key: Key<A>,
         row: Row<A>,
         hook: &mut H,
     ) -> Result<(), NotMade<H::Refusal>>
-        requires { (after : TableState A) → insert_row self.old row ≡ Ok after
+        requires own { new_key self.old row ≡ Some key }
+        requires can_ask { (after : TableState A) → insert_row self.old row ≡ Ok after
             → H.can_ask hook.old None (Some row) }
         ensures table { LeavesOnceAllowed result (insert_row self.old row) self.new
             (hook.new ≡ hook.old) (λ answer. H.gives hook.old None (Some row) answer hook.new) }
         ensures kept { OnErr result (self.new ≡ self.old) }
+        ensures free { OnOk result (get fields_cmp self.old.keyed key ≡ None) }
     {
-        let Ok(shown) = row.copy() else {
-            return Err(NotMade::OutOfMemory);
-        };
-        match self.with_insert(row) {
-            Ok(table) => {
-                let nothing: Option<Row<A>> = None;
-                match hook.before_change(nothing.as_ref(), Some(&shown)) {
-                    Ok(()) => {
-                        *self = table;
-                        Ok(())
-                    }
-                    Err(why) => Err(NotMade::Vetoed(why)),
-                }
-            }
-            Err(Fault::Refused(why)) => Err(NotMade::Refused(why)),
-            Err(Fault::OutOfMemory) => Err(NotMade::OutOfMemory),
-        }
+        self.put_new_hooked(key, row, hook)
     }
 
     // A row under a key that no row has yet, in place.
@@ -236,8 +220,7 @@ impl<A: AllocHandle> Table<A> {
         fields: &[(usize, Value<A>)],
         hook: &mut H,
     ) -> Result<(), NotMade<H::Refusal>>
-        requires same { (row : Fields A) → key_of self.old.schema (row_with fields.now row)
-            ≡ key_of self.old.schema row }
+        requires kept { IsTrue (keeps_key self.old.schema fields.now) }
         requires can_ask { (after : TableState A) → update_row self.old (RowRef.Key key.now) fields.now
             ≡ Ok after
             → H.can_ask hook.old (get fields_cmp self.old.keyed key.now)
@@ -267,5 +250,24 @@ impl<A: AllocHandle> Table<A> {
                 None => Err(NotMade::Refused(Refusal::NoRow)),
             },
         }
+    }
+}
+
+// Whether some field is of a key column.
+fn names_key_column<A: AllocHandle>(flags: &[bool], fields: &[(usize, Value<A>)]) -> bool
+    ensures { result ≡ list_any (λ field. get_or flags.now field.0 false) fields.now }
+{
+    let Some((first, rest)) = fields.split_first() else {
+        return false;
+    };
+    is_key_column(flags, first.0) || names_key_column(flags, rest)
+}
+
+fn is_key_column(flags: &[bool], column: usize) -> bool
+    ensures { result ≡ get_or flags.now column false }
+{
+    match flags.get(column) {
+        Some(key) => *key,
+        None => false,
     }
 }

@@ -12,7 +12,6 @@ mod row_ref;
 mod rows;
 mod scan;
 mod table;
-mod with_hook;
 
 pub use laws::{
     delete_undoes_insert, ids_are_given_once, insert_takes_next_id, keyed_rows_go_back,

@@ -1,10 +1,10 @@
-//! A commit hook that counts how often it is asked.
+//! A hook that counts how often it is asked.
 
 ghost use Rattle.std.specs.Prelude.{◌≡◌, ◌↔◌, ◌+◌, ◌-◌, ◌^◌, min, IsOk, true};
 
-use cap_tree::CommitHook;
+use cap_tree::Hook;
 
-/// A commit hook that counts how often it is asked, and allows every change or refuses every one.
+/// A hook that counts how often it is asked, and allows every change or refuses every one.
 #[derive(Drop)]
 pub struct CountingHook {
     /// Whether it allows changes.
@@ -33,16 +33,16 @@ impl CountingHook {
     }
 }
 
-impl CommitHook for CountingHook {
+impl<V> Hook<V> for CountingHook {
     ghost use Rattle.std.specs.Prelude.{◌≡◌, ◌↔◌, IsOk, true};
 
     type Refusal = ();
 
-    ghost can_ask = { λ hook. Unit {0} };
+    ghost can_ask = { λ hook present next. Unit {0} };
 
-    ghost gives = { λ old answer new. IsOk answer ↔ (old.allows ≡ true) };
+    ghost gives = { λ old present next answer new. IsOk answer ↔ (old.allows ≡ true) };
 
-    fn before_commit(&mut self) -> Result<(), ()> {
+    fn before_change(&mut self, _present: Option<&V>, _next: Option<&V>) -> Result<(), ()> {
         self.ask()
     }
 }

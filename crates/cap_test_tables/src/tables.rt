@@ -1,8 +1,7 @@
 //! Tables: rows that change, ids, commit hooks, and memory of which each request is refused.
 use cap_row::{Key, Row, Schema};
 use cap_table::{IDS_END, NotMade, RowName, RowRef, Table};
-use cap_test_support::Memory;
-use cap_tree::CommitHook;
+use cap_test_support::{CountingHook, Memory};
 use cap_value::{AllocHandle, Fault, Refusal, Value};
 use linked_list_allocator::LocalHeap;
 use std::test::Fail;
@@ -285,65 +284,50 @@ fn each_allocation_may_be_refused(rt: HostRuntime) -> Result<(), Fail> {
     Ok(())
 }
 
-// A commit hook that counts how often it is asked, and allows or refuses.
-#[derive(Drop)]
-struct Counted {
-    allows: bool,
-    asked: u8,
-}
-
-impl CommitHook for Counted {
-    type Refusal = ();
-
-    ghost can_ask = { λ hook. Unit {0} };
-
-    ghost gives = { λ old answer new. Unit {0} };
-
-    fn before_commit(&mut self) -> Result<(), ()> {
-        self.asked = self.asked.saturating_add(1);
-        if self.allows { Ok(()) } else { Err(()) }
+// Adds a row under its key, if the hook allows it.
+fn insert_keyed<A: AllocHandle>(
+    alloc: A,
+    table: &mut Table<A>,
+    text: &str,
+    hook: &mut CountingHook,
+) -> Result<Result<(), NotMade<()>>, Fault<Refusal>> {
+    let row = row(alloc, Some(1), text)?;
+    match table.new_key(&row)? {
+        Some(key) => Ok(table.insert_keyed_hooked(key, row, hook)),
+        None => Ok(Err(NotMade::OutOfMemory)),
     }
 }
 
-// Each change is tried with a hook that refuses, and then with one that allows it.
+// Each change is tried with a hook that refuses, and then with one that allows it. A change that the rules refuse is
+// not shown to the hook.
 #[test]
 fn changes_wait_for_the_commit_hook(rt: HostRuntime) -> Result<(), Fail> {
     let alloc = rt.alloc();
     let mut table = kv(alloc)?;
-    let (one, two) = (named(alloc, 1)?, named(alloc, 2)?);
+    let one = named(alloc, 1)?;
+    let Some(key) = table.new_key(&row(alloc, Some(1), "a")?)? else {
+        return Err(Fail::from("no key"));
+    };
     let text = [(1, Value::text(alloc, "b")?)];
-    let key = [(0, Value::Int(2))];
-    let mut no = Counted {
-        allows: false,
-        asked: 0,
-    };
-    let mut yes = Counted {
-        allows: true,
-        asked: 0,
-    };
+    let (mut no, mut yes) = (CountingHook::new(false), CountingHook::new(true));
     let vetoed = Err(NotMade::Vetoed(()));
     let duplicate = Err(NotMade::Refused(Refusal::Duplicate));
     let no_row = Err(NotMade::Refused(Refusal::NoRow));
-    assert!(rt; table.insert_with_hook(row(alloc, Some(1), "a")?, &mut no) == vetoed);
+    assert!(rt; table.new_key(&row(alloc, None, "l")?)?.is_none());
+    assert!(rt; !table.keeps_key(&[(0, Value::Int(2))]) && table.keeps_key(&text));
+    assert!(rt; insert_keyed(alloc, &mut table, "a", &mut no)? == vetoed);
     assert!(rt; table.get(&one).is_none());
-    assert!(rt; table.insert_with_hook(row(alloc, Some(1), "a")?, &mut yes) == Ok(()));
-    assert!(rt; table.insert_with_hook(row(alloc, Some(1), "c")?, &mut no) == duplicate);
-    assert!(rt; table.insert_with_hook(row(alloc, None, "l")?, &mut no) == vetoed);
-    assert!(rt; table.insert_with_hook(row(alloc, None, "l")?, &mut yes) == Ok(()));
-    assert!(rt; table.update_with_hook(&one, &text, &mut no) == vetoed);
-    assert!(rt; has(&table, &one, "a") && has(&table, &RowRef::Loose(1), "l"));
-    assert!(rt; table.update_with_hook(&one, &text, &mut yes) == Ok(()));
-    assert!(rt; table.update_with_hook(&one, &key, &mut no) == vetoed);
-    assert!(rt; has(&table, &one, "b") && table.get(&two).is_none());
-    assert!(rt; table.update_with_hook(&one, &key, &mut yes) == Ok(()));
-    assert!(rt; has(&table, &two, "b") && table.get(&one).is_none());
-    assert!(rt; table.update_with_hook(&one, &text, &mut no) == no_row);
-    assert!(rt; table.delete_with_hook(&one, &mut no) == no_row);
-    assert!(rt; table.delete_with_hook(&two, &mut no) == vetoed);
-    assert!(rt; has(&table, &two, "b"));
-    assert!(rt; table.delete_with_hook(&two, &mut yes) == Ok(()));
-    assert!(rt; table.delete_with_hook(&RowRef::Loose(1), &mut yes) == Ok(()));
+    assert!(rt; insert_keyed(alloc, &mut table, "a", &mut yes)? == Ok(()));
+    assert!(rt; insert_keyed(alloc, &mut table, "c", &mut no)? == duplicate);
+    assert!(rt; table.update_kept_hooked(&key, &text, &mut no) == vetoed);
+    assert!(rt; has(&table, &one, "a"));
+    assert!(rt; table.update_kept_hooked(&key, &text, &mut yes) == Ok(()));
+    assert!(rt; table.delete_keyed_hooked(&key, &mut no) == vetoed);
+    assert!(rt; has(&table, &one, "b"));
+    assert!(rt; table.delete_keyed_hooked(&key, &mut yes) == Ok(()));
+    assert!(rt; table.update_kept_hooked(&key, &text, &mut no) == no_row);
+    assert!(rt; table.delete_keyed_hooked(&key, &mut no) == no_row);
     assert!(rt; table.scan().left() == 0);
-    assert!(rt; (no.asked, yes.asked) == (5, 6));
+    assert!(rt; (no.asked, yes.asked) == (3, 3));
     Ok(())
 }

@@ -79,19 +79,19 @@ fn a_tree_of_a_sorted_list(rt: HostRuntime) -> Result<(), Fail> {
 #[derive(Clone, Copy, Debug, Drop)]
 enum Change {
     Insert,
-    InsertWithHook,
+    InsertHooked,
     Put,
     Remove,
-    RemoveWithHook,
+    RemoveHooked,
     Take,
 }
 
 const CHANGES: [Change; 6] = [
     Change::Insert,
-    Change::InsertWithHook,
+    Change::InsertHooked,
     Change::Put,
     Change::Remove,
-    Change::RemoveWithHook,
+    Change::RemoveHooked,
     Change::Take,
 ];
 
@@ -103,13 +103,13 @@ fn make_change<A: AllocHandle>(
 ) -> Result<Option<u64>, Fault<()>> {
     match change {
         Change::Insert => Ok(tree.insert(101, 1010)?),
-        Change::InsertWithHook => tree.insert_with_hook(101, 1010, hook),
+        Change::InsertHooked => tree.insert_hooked(101, 1010, hook),
         Change::Put => {
             *tree = tree.put(101, 1010)?;
             Ok(None)
         }
         Change::Remove => Ok(tree.remove(&50)?),
-        Change::RemoveWithHook => tree.remove_with_hook(&50, hook),
+        Change::RemoveHooked => tree.remove_hooked(&50, hook),
         Change::Take => {
             *tree = tree.take(&50)?;
             Ok(None)
@@ -124,10 +124,10 @@ fn is_made<A: AllocHandle>(
     answer: Result<Option<u64>, Fault<()>>,
 ) -> bool {
     match change {
-        Change::Insert | Change::InsertWithHook | Change::Put => {
+        Change::Insert | Change::InsertHooked | Change::Put => {
             answer == Ok(None) && is_rising(tree, 101)
         }
-        Change::Remove | Change::RemoveWithHook => answer == Ok(Some(500)) && lacks_50(tree),
+        Change::Remove | Change::RemoveHooked => answer == Ok(Some(500)) && lacks_50(tree),
         Change::Take => answer == Ok(None) && lacks_50(tree),
     }
 }
@@ -142,8 +142,8 @@ fn lacks_50<A: AllocHandle>(tree: &Numbers<A>) -> bool {
 // Takes the change back.
 fn undo_change<A: AllocHandle>(tree: &mut Numbers<A>, change: Change) -> Result<(), AllocError> {
     match change {
-        Change::Insert | Change::InsertWithHook | Change::Put => tree.remove(&101)?,
-        Change::Remove | Change::RemoveWithHook | Change::Take => tree.insert(50, 500)?,
+        Change::Insert | Change::InsertHooked | Change::Put => tree.remove(&101)?,
+        Change::Remove | Change::RemoveHooked | Change::Take => tree.insert(50, 500)?,
     };
     Ok(())
 }
@@ -265,17 +265,17 @@ fn a_change_waits_for_one_answer(rt: HostRuntime) -> Result<(), Fail> {
     let (mut no, mut yes) = (CountingHook::new(false), CountingHook::new(true));
     assert!(rt;
         matches!(
-            tree.insert_with_hook(101, 1010, &mut no),
+            tree.insert_hooked(101, 1010, &mut no),
             Err(Fault::Refused(()))
         )
     );
-    assert!(rt; matches!(tree.remove_with_hook(&50, &mut no), Err(Fault::Refused(()))));
+    assert!(rt; matches!(tree.remove_hooked(&50, &mut no), Err(Fault::Refused(()))));
     assert_eq!(rt; no.asked, 2);
     assert!(rt; is_rising(&tree, 100));
-    assert!(rt; matches!(tree.insert_with_hook(101, 1010, &mut yes), Ok(None)));
+    assert!(rt; matches!(tree.insert_hooked(101, 1010, &mut yes), Ok(None)));
     assert!(rt; is_rising(&tree, 101));
-    assert!(rt; matches!(tree.remove_with_hook(&101, &mut yes), Ok(Some(1010))));
-    assert!(rt; matches!(tree.remove_with_hook(&101, &mut yes), Ok(None)));
+    assert!(rt; matches!(tree.remove_hooked(&101, &mut yes), Ok(Some(1010))));
+    assert!(rt; matches!(tree.remove_hooked(&101, &mut yes), Ok(None)));
     assert_eq!(rt; yes.asked, 3);
     assert!(rt; is_rising(&tree, 100));
     Ok(())

@@ -3,7 +3,6 @@ ghost use Rattle.std.specs.Prelude.{Option, Result, ◌≡◌, Some, None, Ok, E
 ghost use Rattle.std.specs.Option.{option_copied};
 ghost use Rattle.cap_value.specs.Memory.{MatchFault};
 
-use crate::commit_hook::CommitHook;
 use cap_value::Fault;
 
 /// A hook that is shown the present value of a key and its next one, and allows the change or refuses it. It may
@@ -88,26 +87,5 @@ pub(crate) fn ask_to_keep<V: Drop, H: Hook<V>>(hook: &mut H) -> Result<(), Fault
     match hook.before_change(nothing.as_ref(), nothing.as_ref()) {
         Ok(()) => Ok(()),
         Err(why) => Err(Fault::Refused(why)),
-    }
-}
-
-// A commit hook as a hook: it is shown nothing.
-#[derive(Drop)]
-pub(crate) struct Unseen<'a, C: CommitHook> {
-    pub(crate) hook: &'a mut C,
-}
-
-impl<'a, V, C: CommitHook> Hook<V> for Unseen<'a, C> {
-    type Refusal = C::Refusal;
-
-    ghost use Rattle.std.specs.Prelude.{◌≡◌};
-
-    ghost can_ask = { λ hook present next. C.can_ask hook.hook.now };
-
-    ghost gives = { λ old present next answer new. (new.hook.ghost_name ≡ old.hook.ghost_name)
-        × C.gives old.hook.now answer new.hook.now };
-
-    fn before_change(&mut self, _present: Option<&V>, _next: Option<&V>) -> Result<(), C::Refusal> {
-        self.hook.before_commit()
     }
 }

@@ -4,7 +4,6 @@
 
 mod build;
 mod child;
-mod commit_hook;
 mod find;
 mod grow;
 mod hook;
@@ -24,7 +23,6 @@ mod split;
 mod take;
 mod tree;
 
-pub use commit_hook::CommitHook;
 pub use hook::Hook;
 pub use iter::Iter;
 pub use remake::Remake;

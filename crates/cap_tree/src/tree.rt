@@ -9,9 +9,8 @@ ghost use Rattle.cap_tree.specs.Replace.{Replaces};
 ghost use Rattle.cap_tree.specs.Tree.{IsOrdered, get, put_entry, take_entry, Updates};
 
 use crate::build::{build, is_ordered};
-use crate::commit_hook::CommitHook;
 use crate::find::{find, last};
-use crate::hook::{Hook, Unseen};
+use crate::hook::Hook;
 use crate::iter::Iter;
 use crate::no_hook::NoHook;
 use crate::node::Node;
@@ -261,48 +260,6 @@ impl<K: Ord + Exact + Drop, V: Exact + Drop, A: AllocHandle> Tree<K, V, A> {
             None => Ok(None),
             Some(node) => replace_in_root(node, key, hook),
         }
-    }
-
-    /// Puts the value at the key if the commit hook allows it, and answers the value that was there.
-    ///
-    /// `hook` is asked once, after all memory is reserved. If it refuses, or on `OutOfMemory`, the tree is as it was.
-    pub fn insert_with_hook<C: CommitHook>(
-        &mut self,
-        key: K,
-        value: V,
-        hook: &mut C,
-    ) -> Result<Option<V>, Fault<C::Refusal>>
-        requires { C.can_ask hook.old }
-        ensures allowed { OnOk result (C.gives hook.old (Ok tt) hook.new) }
-        ensures refused { IfErr result (λ fault. MatchFault fault (hook.new ≡ hook.old)
-            (λ why. C.gives hook.old (Err why) hook.new)) }
-        ensures err { OnErr result (self.new ≡ self.old) }
-        ensures ok { OnOk result (self.new ≡ put_entry K.cmp self.old key value) }
-        ensures replaced { IfOk result (λ o. o ≡ get K.cmp self.old key) }
-    {
-        let mut unseen = Unseen { hook };
-        self.insert_hooked(key, value, &mut unseen)
-    }
-
-    /// Removes the entry at the key, if there is one, if the commit hook allows it, and answers its value.
-    ///
-    /// `hook` is asked once, after all memory is reserved, also where no key is equal. If it refuses, or on
-    /// `OutOfMemory`, the tree is as it was.
-    pub fn remove_with_hook<C: CommitHook>(
-        &mut self,
-        key: &K,
-        hook: &mut C,
-    ) -> Result<Option<V>, Fault<C::Refusal>>
-        requires { C.can_ask hook.old }
-        ensures allowed { OnOk result (C.gives hook.old (Ok tt) hook.new) }
-        ensures refused { IfErr result (λ fault. MatchFault fault (hook.new ≡ hook.old)
-            (λ why. C.gives hook.old (Err why) hook.new)) }
-        ensures err { OnErr result (self.new ≡ self.old) }
-        ensures ok { OnOk result (self.new ≡ take_entry K.cmp self.old key.now) }
-        ensures removed { IfOk result (λ o. o ≡ get K.cmp self.old key.now) }
-    {
-        let mut unseen = Unseen { hook };
-        self.remove_hooked(key, &mut unseen)
     }
 
     /// Puts the value at the key, and answers the value that was there. It searches once.

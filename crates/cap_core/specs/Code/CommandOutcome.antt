@@ -1,13 +1,13 @@
 -- The outcome of a command that asks a commit hook.
-use Rattle.std.specs.Prelude.{◌≡◌, ◌+◌, Result, Ok, Err, IsOk, List}
+use Rattle.std.specs.Prelude.{◌≡◌, ◌+◌, Result, Ok, Err, IsOk}
 use Rattle.cap_value.specs.Memory.{MatchFault}
 use Rattle.cap_value.specs.declared.memory.Fault.{Fault}
 use Rattle.cap_table.specs.NotMade.{MatchNotMade}
 use Rattle.cap_table.specs.declared.not_made.NotMade.{NotMade}
-use Rattle.cap_database.specs.Operation.{step}
+use Rattle.cap_database.specs.Operation.{changes, step}
 use Rattle.cap_database.specs.Tables.{Tables}
-use Rattle.cap_database.specs.declared.change.Change.{Change}
 use Rattle.cap_database.specs.declared.op.Op.{Op}
+use Rattle.cap_session.specs.Sessions.{NumberedSessions, SessionsState}
 use Rattle.cap_core.specs.declared.reply.Reply.{Reply}
 use Rattle.cap_core.specs.declared.reply.Reply.TheVariants.{Written}
 use Rattle.cap_core.specs.Answer.{State}
@@ -22,13 +22,22 @@ module _ {A S E : Type 0} (gives : S → Reply A → Result Unit E → S → Typ
   Reports reply next old new before after (Err fault) =
       (new ≡ old) × MatchFault fault (after ≡ before) (λ why. gives before reply (Err why) after)
 
-  -- The same of one operation in place, with these changes.
-  abbrev pub ReportsStep : Op A → List (Change A) → State A → State A → S → S → Result (Reply A) (NotMade E)
-      → Type 0
-  ReportsStep op changes old new before after (Ok answered) =
+  -- The same of one operation in place.
+  abbrev pub ReportsStep : Op A → State A → State A → S → S → Result (Reply A) (NotMade E) → Type 0
+  ReportsStep op old new before after (Ok answered) =
       (answered ≡ Written (old.version + 1)) × gives before (Written (old.version + 1)) (Ok tt) after
-      × ((left : Tables A) × (step old.main op ≡ Ok left) × (new ≡ written old left changes))
-  ReportsStep op changes old new before after (Err fault) =
+      × ((left : Tables A) × (step old.main op ≡ Ok left)
+      × (new ≡ written old left (changes old.main op)))
+  ReportsStep op old new before after (Err fault) =
       (new ≡ old) × MatchNotMade fault (λ why. (step old.main op ≡ Err why) × (after ≡ before))
       (after ≡ before)
       (λ why. IsOk (step old.main op) × gives before (Written (old.version + 1)) (Err why) after)
+
+  -- The live sessions stay. The touch is staged and the hook allowed the reply; or memory ran out before the hook
+  -- was asked; or the hook refused.
+  abbrev pub GivesNoted : Reply A → NumberedSessions A → NumberedSessions A → SessionsState A → S → S
+      → Result Unit (Fault E) → Type 0
+  GivesNoted reply live touched sessions before after (Ok done) =
+      (sessions.live ≡ live) × (sessions.staged ≡ touched) × gives before reply (Ok tt) after
+  GivesNoted reply live touched sessions before after (Err fault) =
+      (sessions.live ≡ live) × MatchFault fault (after ≡ before) (λ why. gives before reply (Err why) after)

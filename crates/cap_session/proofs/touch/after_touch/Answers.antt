@@ -1,11 +1,11 @@
 use Rattle.std.proofs.Common.{refl, sym, ap, ◌∙◌}
-use Rattle.cap_database.specs.Read.{row_at}
+use Rattle.cap_session.specs.Code.Staging.{image_of}
 use Rattle.cap_session.specs.Records.{Touch, touch}
 use Rattle.cap_session.proofs.touch.after_touch.Goals as goal
 
 pub returns-then-is_noted : goal.returns-then-is_noted
 returns-then-is_noted g c =
-    let t : Touch _ = record { key = c.args.key.now; image = row_at c.args.before.now c.args.name.now c.args.key.now; indirect = c.args.indirect } in
+    let t : Touch _ = record { key = c.args.key.now; image = image_of c.args.image c.args.key.now; indirect = c.args.indirect } in
     sym c.current-now.ensures
     ∙ sym (c.is_noted.ensures c.if-is_noted.true c.current-now.result.now t c.in_order.ensures (sym c.get-found.ensures) refl)
     ∙ ap (λ records. touch records t) c.current-now.ensures

@@ -3,7 +3,7 @@ use Rattle.std.specs.Prelude.{is_some}
 use Rattle.cap_row.specs.Key.{fields_cmp}
 use Rattle.cap_tree.specs.Tree.{get}
 use Rattle.cap_table.specs.Table.{TableState}
-use Rattle.cap_table.proofs.WithHookLemmas.{deleted}
+use Rattle.cap_table.proofs.HookedLemmas.{deleted}
 use Rattle.cap_table.proofs.TableLemmas.{take_keyed}
 use Rattle.cap_table.proofs.table.Table.delete_keyed_hooked.Goals as goal
 

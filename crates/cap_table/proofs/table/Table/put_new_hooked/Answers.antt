@@ -3,7 +3,7 @@ use Rattle.std.specs.Prelude.{is_some}
 use Rattle.cap_row.specs.Key.{fields_cmp}
 use Rattle.cap_tree.specs.Tree.{get}
 use Rattle.cap_table.specs.Table.{TableState}
-use Rattle.cap_table.proofs.WithHookLemmas.{free_key}
+use Rattle.cap_table.proofs.HookedLemmas.{free_key}
 use Rattle.cap_table.proofs.TableLemmas.{after_put}
 use Rattle.cap_table.proofs.table.Table.put_new_hooked.Goals as goal
 

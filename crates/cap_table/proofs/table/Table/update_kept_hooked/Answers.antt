@@ -8,6 +8,7 @@ use Rattle.cap_table.specs.Operation.{update_row, with_key}
 use Rattle.cap_table.specs.Sound.{IsTable}
 use Rattle.cap_table.specs.Table.{TableState}
 use Rattle.cap_table.specs.declared.row_ref.RowRef.TheVariants.{Key}
+use Rattle.cap_table.proofs.KeptKeyLemmas.{same_key}
 use Rattle.cap_table.proofs.RenewLemmas.{no-row, stands, updated-to, renewed-table, asked, renewed, not-renewed}
 use Rattle.cap_table.proofs.table.Table.update_kept_hooked.Goals as goal
 
@@ -16,7 +17,7 @@ replace_hooked-requires g c = λ v there.
     let t : TableState g.row.A.Denot = record { schema = c.self.inside.schema; keyed = c.self.inside.keyed; loose = c.self.inside.loose; next_id = c.self.inside.next_id } in
     let is : t ≡ c.args.self.now = c.self.view_is in
     let cols : are_columns (length t.schema) (columns_of c.args.fields.now) ≡ true = rw (← c.width.ensures.columns) (sym c.are_columns.ensures ∙ c.if-not-are_columns.false) in
-    let same : (row : _) → key_of t.schema (row_with c.args.fields.now row) ≡ key_of t.schema row = subst (λ (u : TableState g.row.A.Denot). (row : _) → key_of u.schema (row_with c.args.fields.now row) ≡ key_of u.schema row) (sym is) c.requires.same in
+    let same : (row : _) → key_of t.schema (row_with c.args.fields.now row) ≡ key_of t.schema row = subst (λ (u : TableState g.row.A.Denot). (row : _) → key_of u.schema (row_with c.args.fields.now row) ≡ key_of u.schema row) (sym is) (same_key c.args.self.now.schema c.args.fields.now c.requires.kept) in
     let can : (after : TableState g.row.A.Denot) → update_row t (Key c.args.key.now) c.args.fields.now ≡ Ok after → g.H.Hook.can_ask c.args.hook.now (get fields_cmp t.keyed c.args.key.now) (option_map (row_with c.args.fields.now) (get fields_cmp t.keyed c.args.key.now)) = subst (λ (u : TableState g.row.A.Denot). (after : TableState g.row.A.Denot) → update_row u (Key c.args.key.now) c.args.fields.now ≡ Ok after → g.H.Hook.can_ask c.args.hook.now (get fields_cmp u.keyed c.args.key.now) (option_map (row_with c.args.fields.now) (get fields_cmp u.keyed c.args.key.now))) (sym is) c.requires.can_ask in (
       sym (stands t c.args.key.now c.args.fields.now cols same c.self.invariant v there).0,
       λ made with.
@@ -28,7 +29,7 @@ invariant_of-self g c =
     let t : TableState g.row.A.Denot = record { schema = c.self.inside.schema; keyed = c.self.inside.keyed; loose = c.self.inside.loose; next_id = c.self.inside.next_id } in
     let is : t ≡ c.args.self.now = c.self.view_is in
     let cols : are_columns (length t.schema) (columns_of c.args.fields.now) ≡ true = rw (← c.width.ensures.columns) (sym c.are_columns.ensures ∙ c.if-not-are_columns.false) in
-    let same : (row : _) → key_of t.schema (row_with c.args.fields.now row) ≡ key_of t.schema row = subst (λ (u : TableState g.row.A.Denot). (row : _) → key_of u.schema (row_with c.args.fields.now row) ≡ key_of u.schema row) (sym is) c.requires.same in
+    let same : (row : _) → key_of t.schema (row_with c.args.fields.now row) ≡ key_of t.schema row = subst (λ (u : TableState g.row.A.Denot). (row : _) → key_of u.schema (row_with c.args.fields.now row) ≡ key_of u.schema row) (sym is) (same_key c.args.self.now.schema c.args.fields.now c.requires.kept) in
     let e = rw c.in-Ok-Some.field-0-is at c.in-Ok-Some.ensures in
     rw e.1.1.1 (renewed-table t c.args.key.now c.args.fields.now cols same c.self.invariant c.in-Ok-Some.field-0-0 e.0 e.1.0 e.1.1.0.1.0)
 
@@ -45,7 +46,7 @@ returns-in-Ok-Some-clause-table g c =
     let there : get fields_cmp c.args.self.now.keyed c.args.key.now ≡ Some row = subst (λ (u : TableState g.row.A.Denot). get fields_cmp u.keyed c.args.key.now ≡ Some row) is e.0 in
     let gave : GivesRenewed g.H.Hook.gives c.args.self.now.schema c.args.fields.now c.args.hook.now row (Ok e.1.0) c.replace_hooked.new.hook.outer.now = subst (λ (u : TableState g.row.A.Denot). GivesRenewed g.H.Hook.gives u.schema c.args.fields.now c.args.hook.now row (Ok e.1.0) c.replace_hooked.new.hook.outer.now) is e.1.1.0.1 in
     let put : left ≡ with_key c.args.self.now c.args.key.now e.1.0 = subst (λ (u : TableState g.row.A.Denot). left ≡ with_key u c.args.key.now e.1.0) is (ap (λ k. record t { keyed = k }) e.1.1.1) in
-    let all = renewed c.args.self.now c.args.key.now c.args.fields.now wide c.requires.same stand row there g.H.Hook.gives c.args.hook.now c.replace_hooked.new.hook.outer.now e.1.0 gave left put in
+    let all = renewed c.args.self.now c.args.key.now c.args.fields.now wide (same_key c.args.self.now.schema c.args.fields.now c.requires.kept) stand row there g.H.Hook.gives c.args.hook.now c.replace_hooked.new.hook.outer.now e.1.0 gave left put in
     let name = e.1.1.0.0 in
     let given : c.hook-1.given.0 ≡ c.replace_hooked.new.hook.outer.now = c.hook-1.given.1 (sym name) in
     rw given all
@@ -73,7 +74,7 @@ returns-in-Err-Refused-clause-table g c =
     let row = e.1.0 in
     let there : get fields_cmp c.args.self.now.keyed c.args.key.now ≡ Some row = subst (λ (u : TableState g.row.A.Denot). get fields_cmp u.keyed c.args.key.now ≡ Some row) is e.1.1.0 in
     let gave : GivesRenewed g.H.Hook.gives c.args.self.now.schema c.args.fields.now c.args.hook.now row (Err c.in-Err-Refused.why) c.replace_hooked.new.hook.outer.now = subst (λ (u : TableState g.row.A.Denot). GivesRenewed g.H.Hook.gives u.schema c.args.fields.now c.args.hook.now row (Err c.in-Err-Refused.why) c.replace_hooked.new.hook.outer.now) is e.1.1.1.1 in
-    let all = not-renewed c.args.self.now c.args.key.now c.args.fields.now wide c.requires.same stand row there g.H.Hook.gives c.args.hook.now c.replace_hooked.new.hook.outer.now c.in-Err-Refused.why gave left in
+    let all = not-renewed c.args.self.now c.args.key.now c.args.fields.now wide (same_key c.args.self.now.schema c.args.fields.now c.requires.kept) stand row there g.H.Hook.gives c.args.hook.now c.replace_hooked.new.hook.outer.now c.in-Err-Refused.why gave left in
     let name = e.1.1.1.0 in
     let given : c.hook-1.given.0 ≡ c.replace_hooked.new.hook.outer.now = c.hook-1.given.1 (sym name) in
     rw given all

@@ -1,7 +1,6 @@
--- When a commit hook may be asked: what an operation leaves where its key is free, or where the row is there.
-use Rattle.std.proofs.Common.{◌≡◌, true, false, cond, Option, Some, None, Ok, Err, sym, ap, Bor}
+-- When a hook may be asked: what an operation leaves where its key is free, or where the row is there.
+use Rattle.std.proofs.Common.{◌≡◌, true, false, cond, Ok, Err, ap}
 use Rattle.std.specs.Prelude.{is_some}
-use Rattle.std.specs.Option.{option_copied}
 use Rattle.cap_value.specs.declared.refusal.Refusal.TheVariants.{NoRow}
 use Rattle.cap_row.specs.Fields.{Fields}
 use Rattle.cap_row.specs.Key.{fields_cmp}
@@ -9,15 +8,6 @@ use Rattle.cap_tree.specs.Tree.{get}
 use Rattle.cap_table.specs.declared.row_ref.RowRef.TheVariants.{Key}
 use Rattle.cap_table.specs.Operation.{delete_row, under_key, with_key, without}
 use Rattle.cap_table.specs.Table.{TableState}
-
--- a row that was looked for
-pub absent : {X : Type 0} (found : Option (Bor X)) (there : Option X) → option_copied found ≡ there → is_some found ≡ false → is_some there ≡ false
-absent None there is none = ap is_some (sym is)
-absent (Some x) there is none = cc
-
-pub present : {X : Type 0} (found : Option (Bor X)) (there : Option X) → option_copied found ≡ there → is_some found ≡ true → is_some there ≡ true
-present None there is some = cc
-present (Some x) there is some = ap is_some (sym is)
 
 module _ {A : Type 0} where
   pub free_key : (t : TableState A) (row key : Fields A) → is_some (get fields_cmp t.keyed key) ≡ false → under_key (is_some (get fields_cmp t.keyed key)) t key row ≡ Ok (with_key t key row)

@@ -1,0 +1,78 @@
+-- An operation on a row that keeps its key: what its hook is shown, and its changes.
+use Rattle.std.proofs.Common.{◌≡◌, ◌⊎◌, ℕ, Bool, true, false, cond, Option, Some, None, Result, Ok, Err, List, [], ◌∷◌, inl, inr, refl, sym, ap, subst, ◌∙◌, length}
+use Rattle.std.specs.Prelude.{OnOk, option_and_then, ◌==◌}
+use Rattle.cap_value.specs.declared.refusal.Refusal.{Refusal}
+use Rattle.cap_value.specs.declared.refusal.Refusal.TheVariants.{BadColumn}
+use Rattle.cap_row.specs.Fields.{Fields}
+use Rattle.cap_row.specs.Key.{fields_cmp, key_of}
+use Rattle.cap_row.specs.Row.{are_columns, columns_of, row_with}
+use Rattle.cap_tree.specs.Tree.{get}
+use Rattle.cap_table.specs.KeptKey.{keeps_key, new_key}
+use Rattle.cap_table.specs.Operation.{key_of_name, row_of, update_row, updated}
+use Rattle.cap_table.specs.Sound.{IsRising, IsTable}
+use Rattle.cap_table.specs.Table.{TableState}
+use Rattle.cap_table.specs.WithHook.{LeavesOnceAllowed}
+use Rattle.cap_table.specs.declared.not_made.NotMade.{NotMade}
+use Rattle.cap_table.specs.declared.row_ref.RowRef.TheVariants.{Key, Loose}
+use Rattle.cap_table.proofs.KeptKeyLemmas.{same_key}
+use Rattle.cap_table.proofs.RenewLemmas.{own_row}
+use Rattle.cap_database.specs.Assigned.{Assigned}
+use Rattle.cap_database.specs.KeptKey.{AreOfKey, kept_in, kept_key}
+use Rattle.cap_database.specs.Operation.{act, changed_keys, changes, changes_in, changes_to, in_place, step, stepped, updated_keys}
+use Rattle.cap_database.specs.Read.{row_at}
+use Rattle.cap_database.specs.Tables.{AreTables, EachRises, Tables, table_of}
+use Rattle.cap_database.specs.declared.op.Action.{Action}
+use Rattle.cap_database.specs.declared.op.Action.TheVariants.{Insert, Update, Delete}
+use Rattle.cap_database.specs.declared.op.Op.{Op}
+use Rattle.cap_database.proofs.KeptLemmas.{each-found}
+
+module _ {A : Type 0} where
+  pub row-found : (ts : Tables A) (name : List ℕ) (t : TableState A) (key : Fields A) → table_of ts name ≡ Some t → row_at ts name key ≡ get fields_cmp t.keyed key
+  row-found ts name t key there = ap (option_and_then (λ t. get fields_cmp t.keyed key)) there
+
+  pub key-found : (ts : Tables A) (op : Op A) (t : TableState A) (key : Fields A) → table_of ts op.table ≡ Some t → kept_key ts op ≡ Some key → kept_in t op.action ≡ Some key
+  key-found ts op t key there kept = sym (ap (option_and_then (λ t. kept_in t op.action)) there) ∙ kept
+
+  if_true : (b : Bool) (own : Option (Fields A)) (key : Fields A) → cond b own None ≡ Some key → (b ≡ true) × (own ≡ Some key)
+  if_true true own key is = (refl, is)
+  if_true false own key is = absurd cc
+
+  not_bad : (b : Bool) (r : Result (TableState A) Refusal) (after : TableState A) → cond b r (Err BadColumn) ≡ Ok after → r ≡ Ok after
+  not_bad true r after is = is
+  not_bad false r after is = absurd cc
+
+  module _ (t : TableState A) (h : IsTable t) (key : Fields A) where
+    updated-twice : (fields : Assigned A) → keeps_key t.schema fields ≡ true → (found : Option (Fields A)) → get fields_cmp t.keyed key ≡ found → (after : TableState A) → updated t (Key key) fields found ≡ Ok after
+        → updated_keys t (Key key) fields found ≡ Some key ∷ Some key ∷ []
+    updated-twice fields keeps None there after is = absurd cc
+    updated-twice fields keeps (Some row) there after is =
+        ap (λ own. Some key ∷ own ∷ []) (same_key t.schema fields keeps row ∙ (own_row t key row h there).1)
+
+  pub keys-kept : (t : TableState A) → IsTable t → (action : Action A) (key : Fields A) → kept_in t action ≡ Some key → (after : TableState A) → act t action ≡ Ok after
+      → (changed_keys t action ≡ Some key ∷ []) ⊎ (changed_keys t action ≡ Some key ∷ Some key ∷ [])
+  keys-kept t h (Insert row) key kept after is =
+      inl (ap (λ own. own ∷ []) (if_true (length row == length t.schema) (key_of t.schema row) key kept).1)
+  keys-kept t h (Update (Key own) fields) key kept after is =
+      let both = if_true (keeps_key t.schema fields) (Some own) key kept in
+      let made = not_bad (are_columns (length t.schema) (columns_of fields)) (updated t (Key own) fields (row_of t (Key own))) after is in
+      inr (updated-twice t h own fields both.0 (row_of t (Key own)) refl after made ∙ ap (λ k. k ∷ k ∷ []) both.1)
+  keys-kept t h (Update (Loose id) fields) key kept after is = absurd cc
+  keys-kept t h (Delete name) key kept after is = inl (ap (λ own. own ∷ []) kept)
+
+  made-of-key : (ts : Tables A) → EachRises ts → (op : Op A) (key : Fields A) (found : Option (TableState A)) → table_of ts op.table ≡ found → option_and_then (λ t. kept_in t op.action) found ≡ Some key → (left : Tables A) → stepped ts found op ≡ Ok left
+      → AreOfKey op key (changes_in found op)
+  made-of-key ts each op key None there kept left is = absurd cc
+  made-of-key ts each op key (Some t) there kept left is = inner (act t op.action) refl is
+    where
+      told : (changed_keys t op.action ≡ Some key ∷ []) ⊎ (changed_keys t op.action ≡ Some key ∷ Some key ∷ []) → AreOfKey op key (changes_in (Some t) op)
+      told (inl e) = inl (ap (changes_to op.table op.cause) e)
+      told (inr e) = inr (ap (changes_to op.table op.cause) e)
+
+      inner : (r : Result (TableState A) Refusal) → act t op.action ≡ r → in_place ts op.table r ≡ Ok left → AreOfKey op key (changes_in (Some t) op)
+      inner (Ok after) acts made = told (keys-kept t (each-found IsRising ts op.table t each there).stand op.action key kept after acts)
+      inner (Err why) acts made = absurd cc
+
+  pub changes-of-key : {E : Type 0} (ts : Tables A) → EachRises ts → (op : Op A) (key : Fields A) → kept_key ts op ≡ Some key → (r : Result (Unit {0}) (NotMade E)) (left : Tables A) (unasked : Type 0) (gives : Result (Unit {0}) E → Type 0)
+      → LeavesOnceAllowed r (step ts op) left unasked gives → OnOk r (AreOfKey op key (changes ts op))
+  changes-of-key ts each op key kept (Ok done) left unasked gives is = made-of-key ts each op key (table_of ts op.table) refl kept left is.0
+  changes-of-key ts each op key kept (Err why) left unasked gives is = tt
