@@ -1,4 +1,5 @@
--- When a session can be captured against a database: each first image is a row of its table, under its own key.
+-- When a session can be captured against a database: each first image is a row of its table, under its own
+-- key.
 use Rattle.std.specs.Prelude.{Bool, true, false, Option, Some, None, List}
 use Rattle.std.specs.List.{list_all}
 use Rattle.cap_row.specs.Fields.{Fields}

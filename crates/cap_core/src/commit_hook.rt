@@ -88,7 +88,8 @@ impl<'a, 'b, V, A: AllocHandle, C: CommitHook<A>> Hook<V> for ReplyHook<'a, 'b, 
     }
 }
 
-// The commit hook as a row's tree asks it about one operation: the row before it is staged in each session first.
+// The commit hook as a row's tree asks it about one operation: the row before it is staged in each session
+// first.
 #[derive(Drop)]
 pub(crate) struct NotingHook<'a, 'b, 'c, A: AllocHandle, C: CommitHook<A>> {
     pub(crate) sessions: &'a mut Sessions<A>,

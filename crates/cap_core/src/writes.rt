@@ -269,8 +269,8 @@ impl<A: AllocHandle> Core<A> {
     }
 }
 
-// Makes one operation on a row that keeps this key, in place. Before it takes effect it is staged in each session,
-// and the hook is asked.
+// Makes one operation on a row that keeps this key, in place. Before it takes effect it is staged in each
+// session, and the hook is asked.
 fn step_and_note<A: AllocHandle, C: CommitHook<A>>(
     main: &mut Database<A>,
     sessions: &mut Sessions<A>,

@@ -41,7 +41,7 @@ module _ {K V : Type 0} (R : K → K → Ordering) (o : IsTotalOrder R) where
   below-first k e less (x ∷ xs) h = ap (λ r. cond (is_eq r) (Some x.1) (get R xs k)) (o.trans k e x.0 less h.0) ∙ below-first k e less xs h.1
 
   -- what is put in its own place leaves the list
-  there-already : IsAntisymmetric R → (es : List (K × V)) (k : K) (v : V) → IsOrdered R es → get R es k ≡ Some v → put_entry R es k v ≡ es
+  pub there-already : IsAntisymmetric R → (es : List (K × V)) (k : K) (v : V) → IsOrdered R es → get R es k ≡ Some v → put_entry R es k v ≡ es
   unfolding IsStrictlySortedBy
   there-already same [] k v s is = absurd cc
   there-already same (e ∷ es) k v s is =

@@ -8,6 +8,7 @@ pub mod KeptKeyLemmas
 pub mod KeptLemmas
 pub mod PlaceLemmas
 pub mod PlanLemmas
+pub mod ReplaceLemmas
 pub mod RowsInLemmas
 pub mod RowsLemmas
 pub mod RunLemmas

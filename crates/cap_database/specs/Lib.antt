@@ -7,6 +7,7 @@ pub mod Keyed
 pub mod Operation
 pub mod Outcome
 pub mod Read
+pub mod Replace
 pub mod Snapshot
 pub mod Tables
 pub mod KeptKey

@@ -11,15 +11,17 @@ ghost use Rattle.cap_table.specs.NotMade.{RefusesAtOnce};
 ghost use Rattle.cap_database.specs.Operation.{step, changes_made, changes, refused_step};
 ghost use Rattle.cap_database.specs.KeptKey.{AreOfKey, kept_key, row_left};
 ghost use Rattle.cap_database.specs.Keyed.{GoesBack, IsOwnRow, row_set};
+ghost use Rattle.cap_row.specs.Fields.{Fields};
 ghost use Rattle.cap_database.specs.Read.{read, row_at, rows_of, Lends};
+ghost use Rattle.cap_database.specs.Replace.{MakesOwnRows, ReplacesRow};
 
 use crate::kept_key::kept_in;
-use crate::keyed::{put_under, take_under};
+use crate::keyed::{put_under, replace_under, take_under};
 use crate::place::{copies, place_of, put_at, step_at, step_keyed_at};
 use crate::{Effect, Op};
 use cap_row::{Key, Row, Schema};
 use cap_table::{NotMade, RowRef, Scan, Table, operations_keep_tables};
-use cap_tree::Hook;
+use cap_tree::{Hook, Remake};
 use cap_value::{AllocHandle, Exact, Fault, Name, OutOfMemory, Refusal};
 use std::marker::Model;
 
@@ -179,6 +181,26 @@ impl<A: AllocHandle> Database<A> {
             IfSome before (GoesBack self.old self.new table.now key)) }
     {
         put_under(&mut self.tables, table, key, row)
+    }
+
+    /// Replaces the row of a key in the table of this name by one that `hook` makes of it, and answers the row that was
+    /// there, or none where no row has the key. The table is searched once.
+    ///
+    /// `hook` is asked once, after all other memory is reserved, and only if there is a row. If it refuses, or on
+    /// `OutOfMemory`, the database is as before.
+    pub fn replace_row<H: Remake<Row<A>>>(
+        &mut self,
+        table: &Name<A>,
+        key: &Key<A>,
+        hook: &mut H,
+    ) -> Result<Option<Row<A>>, Fault<H::Refusal>>
+        requires there { IsTrue (is_some (table_of self.old table.now)) }
+        requires can_remake { (row : Fields A) → IsOwnRow self.old table.now key.now row
+            → H.can_remake hook.old row }
+        requires own { MakesOwnRows H.gives hook.old self.old table.now key.now }
+        ensures { ReplacesRow H.gives result self.old table.now key.now self.new hook.old hook.new }
+    {
+        replace_under(&mut self.tables, table, key, hook)
     }
 
     /// Takes the row of a key out of the table of this name, and answers it, if any; it may go back. The table is

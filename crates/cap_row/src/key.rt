@@ -13,8 +13,8 @@ use std::marker::Model;
 use std::slice;
 use std::sync::Arc;
 
-// Two values fit inline, so that most keys of several columns are one allocation.
-type Several<A> = SmallVec<Value<A>, 2, A>;
+/// The values of a key that is being made. Two fit inline, so that most keys of several columns are one allocation.
+pub type KeyValues<A> = SmallVec<Value<A>, 2, A>;
 
 /// A primary key: the values of a row's key columns, in column order, none of them NULL. Copies share the values.
 pub struct Key<A: AllocHandle> {
@@ -24,7 +24,7 @@ pub struct Key<A: AllocHandle> {
 // One value takes no memory of its own.
 pub(crate) enum Values<A: AllocHandle> {
     One(Value<A>),
-    Many(Arc<Several<A>, A>),
+    Many(Arc<KeyValues<A>, A>),
 }
 
 impl<A: AllocHandle> Model for Key<A> {
@@ -65,7 +65,9 @@ impl<A: AllocHandle> Key<A> {
         Key::of_values(alloc, values)
     }
 
-    fn of_values(alloc: A, values: Several<A>) -> Result<Option<Self>, OutOfMemory>
+    /// The key of values that were put one after another, or none where there is no value, or a NULL among them. One
+    /// value takes no memory.
+    pub fn of_values(alloc: A, values: KeyValues<A>) -> Result<Option<Self>, OutOfMemory>
         ensures { IfOk result (λ key. key ≡ key_from values.items) }
     {
         if !is_key(values.as_slice()) {
@@ -82,7 +84,7 @@ impl<A: AllocHandle> Key<A> {
         }
     }
 
-    fn of_value(mut values: Several<A>) -> Self
+    fn of_value(mut values: KeyValues<A>) -> Self
         requires one { length values.items ≡ 1 }
         requires key { IsTrue (is_key values.items) }
         ensures { result ≡ values.items }
@@ -186,7 +188,7 @@ fn key_values<A: AllocHandle>(
     alloc: A,
     flags: &[bool],
     fields: &[Value<A>],
-) -> Result<Several<A>, OutOfMemory>
+) -> Result<KeyValues<A>, OutOfMemory>
     requires { length flags.now ≡ length fields.now }
     ensures { IfOk result (λ values. values.items ≡ key_fields flags.now fields.now) }
 {

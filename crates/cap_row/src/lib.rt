@@ -5,6 +5,6 @@ mod key;
 mod row;
 mod schema;
 
-pub use key::{Key, key_of};
-pub use row::{Row, are_columns};
+pub use key::{Key, KeyValues, key_of};
+pub use row::{Row, RowValues, are_columns};
 pub use schema::{COLUMNS_MAX, Schema};

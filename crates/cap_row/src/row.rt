@@ -14,12 +14,12 @@ use std::fmt::{self, Debug, Formatter, Write};
 use std::marker::Model;
 use std::sync::Arc;
 
-// Four values fit inline, so that most rows are one allocation.
-type Values<A> = SmallVec<Value<A>, 4, A>;
+/// The values of a row that is being made. Four fit inline, so that most rows are one allocation.
+pub type RowValues<A> = SmallVec<Value<A>, 4, A>;
 
 /// A row: one value a column, in column order. Copies share the values.
 pub struct Row<A: AllocHandle> {
-    fields: Arc<Values<A>, A>,
+    fields: Arc<RowValues<A>, A>,
 }
 
 impl<A: AllocHandle> Model for Row<A> {
@@ -48,7 +48,8 @@ impl<A: AllocHandle> Row<A> {
         Row::of_values(alloc, values)
     }
 
-    fn of_values(alloc: A, values: Values<A>) -> Result<Self, OutOfMemory>
+    /// The row of values that were put one after another.
+    pub fn of_values(alloc: A, values: RowValues<A>) -> Result<Self, OutOfMemory>
         ensures { IfOk result (λ row. row ≡ values.items) }
     {
         match Arc::new(alloc, values) {
@@ -175,7 +176,7 @@ fn are_many_columns<A: AllocHandle>(width: usize, fields: &[(usize, Value<A>)]) 
     true
 }
 
-fn copies<A: AllocHandle>(alloc: A, values: &[Value<A>]) -> Result<Values<A>, OutOfMemory>
+fn copies<A: AllocHandle>(alloc: A, values: &[Value<A>]) -> Result<RowValues<A>, OutOfMemory>
     ensures { IfOk result (λ copies. copies.items ≡ values.now) }
 {
     let mut copies = SmallVec::with_capacity(alloc, values.len())?;

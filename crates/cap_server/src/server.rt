@@ -13,9 +13,8 @@ use cap_value::{AllocHandle, OutOfMemory};
 use std::hint::spin_loop;
 use std::sync::{Mutex, MutexGuard, Wait};
 
-// How often a call tries the lock before it sleeps, and how many pauses of the processor lie between two tries.
-const LOCK_TRIES: u32 = 64;
-const LOCK_PAUSES: u32 = 16;
+// How often a call tries the lock before it sleeps. It pauses twice as long after each try.
+const LOCK_TRIES: u32 = 11;
 
 /// A server that threads share by reference. Each calls through its own seat.
 #[derive(Drop)]
@@ -54,13 +53,14 @@ impl<J: Naming, A: AllocHandle> Server<J, A> {
         self.lock(rt).step(&self.front, seat, command)
     }
 
-    // Takes the lock. A short wait is spent awake: to sleep and to be woken takes longer than many commits.
+    // Takes the lock. A short wait is spent awake: to sleep and to be woken takes longer than many commits. The
+    // pauses grow, so that a thread with more to commit commits some of it before the state moves to another processor.
     fn lock<R: Wait>(&self, rt: &R) -> MutexGuard<'_, Locked<J, A>> {
-        for _try in 0..LOCK_TRIES {
+        for doublings in 0..LOCK_TRIES {
             if let Some(locked) = self.locked.try_lock() {
                 return locked;
             }
-            for _pause in 0..LOCK_PAUSES {
+            for _pause in 0..1u32 << doublings {
                 spin_loop();
             }
         }

@@ -9,7 +9,8 @@ use Rattle.cap_row.specs.Fields.{Fields}
 use Rattle.cap_row.specs.Key.{fields_cmp, fields_cmp_total, key_of}
 use Rattle.cap_tree.specs.Tree.{get, put_entry, take_entry}
 use Rattle.cap_table.specs.Operation.{with_key, without}
-use Rattle.cap_table.specs.Sound.{IsRising, is_key_of, keyed_stands}
+use Rattle.cap_table.specs.Replace.{IsOwn}
+use Rattle.cap_table.specs.Sound.{IsRising, IsTable, is_key_of, keyed_stands}
 use Rattle.cap_table.specs.Table.{TableState}
 use Rattle.cap_table.specs.declared.row_ref.RowRef.TheVariants.{Key}
 use Rattle.cap_table.proofs.TableLemmas.{fields_same, first, found-passes, is_same_length, second, take-absent, tied}
@@ -67,14 +68,17 @@ module _ {A : Type 0} where
   its-own None key is = cc
   its-own (Some own) key is = ap Some (tied fields_cmp own key fields_same is)
 
+  -- a row that is found has the table's width and the key that it is found under
+  pub own-row : (t : TableState A) (key row : Fields A) → IsTable t → get fields_cmp t.keyed key ≡ Some row → IsOwn t key row
+  own-row t key row stand found =
+      let stands = found-passes fields_cmp (λ row. keyed_stands t.schema row.0 row.1) fields_same t.keyed key row stand.keyed found in (
+        is_same_length (length row) (length t.schema) (first (length row == length t.schema) (is_key_of (key_of t.schema row) key) stands),
+        its-own (key_of t.schema row) key (second (length row == length t.schema) (is_key_of (key_of t.schema row) key) stands),
+      )
+
   module _ (t : TableState A) (key row : Fields A) (rises : IsRising t) (found : get fields_cmp t.keyed key ≡ Some row) where
-    -- a row that is found has the table's width and the key that it is found under
-    pub found-own : (length row ≡ length t.schema) × (key_of t.schema row ≡ Some key)
-    found-own =
-        let stands = found-passes fields_cmp (λ row. keyed_stands t.schema row.0 row.1) fields_same t.keyed key row rises.stand.keyed found in (
-          is_same_length (length row) (length t.schema) (first (length row == length t.schema) (is_key_of (key_of t.schema row) key) stands),
-          its-own (key_of t.schema row) key (second (length row == length t.schema) (is_key_of (key_of t.schema row) key) stands),
-        )
+    pub found-own : IsOwn t key row
+    found-own = own-row t key row rises.stand found
 
     pub back-after-put : (other : Fields A) → with_key (with_key t key other) key row ≡ t
     back-after-put other = ap (λ rows. record t { keyed = rows }) (put-back fields_cmp fields_cmp_total fields_same t.keyed key row other rises.keys found)

@@ -7,3 +7,4 @@ pub mod LawLemmas
 pub mod TableLemmas
 pub mod KeptKeyLemmas
 pub mod RenewLemmas
+pub mod ReplaceLemmas

@@ -33,8 +33,8 @@ module _ {A S E : Type 0} (gives : S → Reply A → Result Unit E → S → Typ
       (after ≡ before)
       (λ why. IsOk (step old.main op) × gives before (Written (old.version + 1)) (Err why) after)
 
-  -- The live sessions stay. The touch is staged and the hook allowed the reply; or memory ran out before the hook
-  -- was asked; or the hook refused.
+  -- The live sessions stay. The touch is staged and the hook allowed the reply; or memory ran out before the
+  -- hook was asked; or the hook refused.
   abbrev pub GivesNoted : Reply A → NumberedSessions A → NumberedSessions A → SessionsState A → S → S
       → Result Unit (Fault E) → Type 0
   GivesNoted reply live touched sessions before after (Ok done) =
