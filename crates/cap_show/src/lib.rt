@@ -1,7 +1,11 @@
-//! Prints the content of a changeset or a patchset as text.
+//! Prints the content of a changeset or a patchset as text, as SQL and as JSON.
 #![tactic(auto)]
 
+mod json_text;
 mod list;
+mod sql;
 mod text;
 
+pub use json_text::{changeset_json, patchset_json};
 pub use list::{write_changeset, write_patchset};
+pub use sql::{write_changeset_sql, write_patchset_sql};

@@ -15,30 +15,42 @@ impl<'a, A: AllocHandle> Display for ValueText<'a, A> {
         match self.0 {
             Value::Null => f.write_str("null"),
             Value::Int(number) => write!(f, "{number}"),
-            Value::Text(text) => write_quoted(f, text.as_str()),
-            Value::Blob(blob) => write_digits(f, blob.as_slice()),
+            Value::Text(text) => Doubled(text.as_str(), '\'').fmt(f),
+            Value::Blob(blob) => Blob(blob.as_slice()).fmt(f),
         }
     }
 }
 
-// Quotes the text, and doubles each quote in it.
-fn write_quoted<W: Write>(f: &mut Formatter<W>, text: &str) -> fmt::Result {
-    f.write_str("'")?;
-    for (place, part) in text.split('\'').enumerate() {
-        if place > 0 {
-            f.write_str("''")?;
+// A text between two quotes of this kind, with each of those in it doubled.
+#[derive(Drop)]
+pub(crate) struct Doubled<'a>(pub(crate) &'a str, pub(crate) char);
+
+impl<'a> Display for Doubled<'a> {
+    fn fmt<W: Write>(&self, f: &mut Formatter<W>) -> fmt::Result {
+        f.write_char(self.1)?;
+        for (place, part) in self.0.split(self.1).enumerate() {
+            if place > 0 {
+                f.write_char(self.1)?;
+                f.write_char(self.1)?;
+            }
+            f.write_str(part)?;
         }
-        f.write_str(part)?;
+        f.write_char(self.1)
     }
-    f.write_str("'")
 }
 
-fn write_digits<W: Write>(f: &mut Formatter<W>, bytes: &[u8]) -> fmt::Result {
-    f.write_str("x'")?;
-    for byte in bytes {
-        write!(f, "{byte:02x}")?;
+// The hex digits of a blob.
+#[derive(Drop)]
+pub(crate) struct Blob<'a>(pub(crate) &'a [u8]);
+
+impl<'a> Display for Blob<'a> {
+    fn fmt<W: Write>(&self, f: &mut Formatter<W>) -> fmt::Result {
+        f.write_str("x'")?;
+        for byte in self.0 {
+            write!(f, "{byte:02x}")?;
+        }
+        f.write_str("'")
     }
-    f.write_str("'")
 }
 
 // The columns of a table as text: `k` for each column of the primary key, and `v` for each other.
