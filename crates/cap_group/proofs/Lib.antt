@@ -6,3 +6,4 @@ pub mod TableLemmas
 pub mod JoinLemmas
 pub mod RowLemmas
 pub mod AloneLemmas
+pub mod BytesLemmas

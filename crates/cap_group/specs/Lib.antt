@@ -4,3 +4,4 @@ pub mod Combined
 pub mod KeyedChanges
 pub mod ChangeGroup
 pub mod Rows
+pub mod Bytes

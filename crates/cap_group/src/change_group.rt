@@ -1,16 +1,24 @@
 //! Changegroups, and the concatenation of blobs.
-ghost use Rattle.std.specs.Prelude.{◌≡◌, IfOk, OnErr, Some, None, if◌then◌else◌};
+ghost use Rattle.std.specs.Prelude.{◌≡◌, IfOk, OnErr, OnOk, Ok, Some, None, if◌then◌else◌};
+ghost use Rattle.std.specs.Option.{option_map};
+ghost use Rattle.cap_group.specs.declared.refusal.BlobRefusal.TheVariants.{Malformed};
 ghost use Rattle.cap_group.specs.declared.refusal.GroupRefusal.TheVariants.{OtherKind};
 ghost use Rattle.cap_value.specs.Memory.{AnswersUnlessMemory, LeavesUnlessMemory, RefusesFirst};
+ghost use Rattle.cap_value.specs.Memory.{ShowsUnlessMemory};
+ghost use Rattle.cap_codec.specs.FirstByte.{first_fault};
+ghost use Rattle.cap_codec.specs.Spelling.{Spells};
+ghost use Rattle.cap_codec.specs.Writable.{blob_bytes_with};
+ghost use Rattle.cap_codec.specs.declared.read.Contents.{Contents as Spelled};
 ghost use Rattle.cap_codec.specs.declared.read.Contents.TheVariants.{Changes, Patches};
 ghost use Rattle.cap_group.specs.ChangeGroup.{added, added_unless, all_added, concat_of, contents_of};
 ghost use Rattle.cap_group.specs.ChangeGroup.{empty_group, has_changes, refused_kind};
+ghost use Rattle.cap_group.specs.Bytes.{bytes_added, contents_at};
 
 use crate::keyed_changes::KeyedChanges;
 use crate::tables::{groups_of, with_groups};
-use crate::{Combine, GroupRefusal};
+use crate::{BlobRefusal, Combine, GroupRefusal};
 use cap_changes::{ChangeList, Patch, PatchList, RowChange, TableGroup};
-use cap_codec::Contents;
+use cap_codec::{Contents, KeyFlags, read_blob, write_changes_with, write_patches_with};
 use cap_value::{AllocHandle, Fault, OutOfMemory};
 use std::marker::Model;
 
@@ -119,6 +127,51 @@ impl<A: AllocHandle> ChangeGroup<A> {
         } else {
             Ok(Contents::Patches(patches))
         }
+    }
+
+    /// Adds the changes of the blob with these bytes, as `add` does.
+    ///
+    /// Refused with `Malformed` where the bytes are no blob. On an error the changegroup is as before.
+    pub fn add_bytes(&mut self, bytes: &[u8]) -> Result<(), Fault<BlobRefusal>>
+        // The blob that the bytes spell is added.
+        ensures spelled { OnOk result ((blob : Spelled A) × Spells blob bytes.now
+            × (added self.old blob ≡ Ok self.new)) }
+        // What is left, or which refusal.
+        ensures content { LeavesUnlessMemory result (bytes_added self.old bytes.now) self.new }
+        ensures kept { OnErr result (self.new ≡ self.old) }
+        // A first byte that begins no group is refused without memory.
+        ensures first { RefusesFirst (option_map Malformed (first_fault bytes.now)) result }
+    {
+        let blob = read_contents(self.alloc, bytes)?;
+        match self.add(&blob) {
+            Ok(()) => Ok(()),
+            Err(Fault::Refused(why)) => Err(Fault::Refused(BlobRefusal::Group(why))),
+            Err(Fault::OutOfMemory) => Err(Fault::OutOfMemory),
+        }
+    }
+
+    /// The bytes of the changes, with these key flags (The Session Extension, "sqlite3changegroup_output").
+    /// SQLite applies a group with a key of several columns only where they are `KeyFlags::Places`.
+    pub fn bytes(&self, key_flags: KeyFlags) -> Result<Vec<u8, A>, OutOfMemory>
+        ensures { IfOk result (λ out. out.items ≡ blob_bytes_with key_flags (contents_of self.now)) }
+    {
+        match self.contents()? {
+            Contents::Changes(list) => write_changes_with(self.alloc, key_flags, &list),
+            Contents::Patches(list) => write_patches_with(self.alloc, key_flags, &list),
+        }
+    }
+}
+
+// The blob with these bytes.
+fn read_contents<A: AllocHandle>(alloc: A, bytes: &[u8]) -> Result<Contents<A>, Fault<BlobRefusal>>
+    ensures spelled { IfOk result (λ blob. Spells blob bytes.now) }
+    ensures answers { ShowsUnlessMemory (λ blob. blob) result (contents_at A bytes.now) }
+    ensures first { RefusesFirst (option_map Malformed (first_fault bytes.now)) result }
+{
+    match read_blob(alloc, bytes) {
+        Ok(blob) => Ok(blob),
+        Err(Fault::Refused(fault)) => Err(Fault::Refused(BlobRefusal::Malformed(fault))),
+        Err(Fault::OutOfMemory) => Err(Fault::OutOfMemory),
     }
 }
 

@@ -2,6 +2,7 @@
 //! "sqlite3changegroup_add").
 #![tactic(auto)]
 
+mod bytes;
 mod change_group;
 mod change_key;
 mod combine;
@@ -14,7 +15,8 @@ mod refusal;
 mod shared;
 mod tables;
 
+pub use bytes::concat_bytes;
 pub use change_group::{ChangeGroup, concat};
 pub use combine::Combine;
 pub use laws::{changes_that_follow, each_row_by_itself, one_list_alone};
-pub use refusal::GroupRefusal;
+pub use refusal::{BlobRefusal, ConcatRefusal, GroupRefusal};
