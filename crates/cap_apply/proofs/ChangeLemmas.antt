@@ -1,8 +1,6 @@
 -- One change: the operations of the code make the requested change.
 use Rattle.std.proofs.Common.{◌≡◌, ℕ, ◌≤◌, Bool, true, false, cond, Option, Some, None, Result, Ok, Err, List, [], ◌∷◌, ◌++◌, length, map, refl, sym, ap, ◌∙◌, arith}
-use Rattle.std.specs.Prelude.{IfSome, is_some}
-use Rattle.std.specs.Borrow.{Bor}
-use Rattle.std.specs.Option.{option_copied}
+use Rattle.std.specs.Prelude.{is_some}
 use Rattle.std.proofs.lemmas.List.{length-map}
 use Rattle.cap_value.specs.Bytes.{bytes_cmp}
 use Rattle.cap_value.specs.Memory.{AnswersUnlessMemory, LeavesUnlessMemory}
@@ -167,14 +165,6 @@ module _ {A : Type 0} where
           applied_at policy number name flags requested state h before conflict found met
           ∙ ap (λ m. concluded m (counted (with_row_in name h.table (key_values flags (key_record_of requested.patch)) before (row_after (length h.table.schema) requested.patch before) (noted policy number conflict state))) (left_out number (noted policy number conflict state))) e
 
-      pub change_omitted : (made : Bool) (next : AppliedState A) → made ≡ false → is_made policy number conflict ≡ Ok made → next ≡ judged conflict made →
-          change_applied policy number name flags requested state ≡ Ok next
-      change_omitted true next left e is = cc
-      change_omitted false next left e is =
-          applied_at policy number name flags requested state h before conflict found met
-          ∙ ap (λ m. concluded m (counted (with_row_in name h.table (key_values flags (key_record_of requested.patch)) before (row_after (length h.table.schema) requested.patch before) (noted policy number conflict state))) (left_out number (noted policy number conflict state))) e
-          ∙ ap Ok (sym is)
-
       change_made : is_made policy number conflict ≡ Ok true → change_applied policy number name flags requested state
           ≡ Ok (counted (with_row_in name h.table (key_values flags (key_record_of requested.patch)) before (row_after (length h.table.schema) requested.patch before) (noted policy number conflict state)))
       change_made e =
@@ -284,8 +274,3 @@ module _ {A : Type 0} where
         change_applied policy number name flags (record { old = old; patch = patched.Delete indirect old }) state
         ≡ change_applied policy number name flags (record { old = old; patch = patched.Delete indirect (key_record flags old) }) state
     delete_asked indirect old = delete_in indirect old (target state.database name flags)
-
--- the width of a row by reference
-pub wide_row : {A : Type 0} (found : Option (Bor (Fields A))) (n : ℕ) → IfSome found (λ row. length row.now ≡ n) → (row : Fields A) → option_copied found ≡ Some row → length row ≡ n
-wide_row None n wide row is = cc
-wide_row (Some lent) n wide row is = let same : lent.now ≡ row = cc in ap length (sym same) ∙ wide

@@ -1,8 +1,9 @@
 -- A change as the code makes it: its steps make the requested change.
-use Rattle.std.proofs.Common.{◌≡◌, ℕ, Bool, true, false, cond, Option, Some, None, Ok, List, [], ◌∷◌, ◌++◌, length, refl, sym, ap, subst, ◌∙◌}
+use Rattle.std.proofs.Common.{◌≡◌, ℕ, Bool, true, false, cond, Option, Some, None, Ok, Err, List, [], ◌∷◌, ◌++◌, length, refl, sym, ap, subst, ◌∙◌}
 use Rattle.std.specs.Prelude.{option_and_then}
 use Rattle.std.specs.Option.{option_map}
 use Rattle.cap_value.specs.Bytes.{bytes_cmp}
+use Rattle.cap_value.specs.declared.refusal.Refusal.{Refusal}
 use Rattle.cap_row.specs.Fields.{Fields}
 use Rattle.cap_row.specs.Key.{fields_cmp, key_of}
 use Rattle.cap_row.specs.Schema.{has_key}
@@ -23,31 +24,20 @@ use Rattle.cap_apply.specs.Apply.{change_applied, concluded, counted, keys_with,
 use Rattle.cap_apply.specs.Requested.{Requested}
 use Rattle.cap_apply.specs.Policy.{is_made}
 use Rattle.cap_apply.specs.Row.{conflict_of, key_record_of, key_values, missed, new_row, row_after, set_fields}
-use Rattle.cap_apply.specs.Steps.{placed, with_changes}
+use Rattle.cap_apply.specs.Steps.{placed, placed_if_made, with_changes}
 use Rattle.cap_apply.specs.declared.conflict.ConflictKind.{ConflictKind}
 use Rattle.cap_apply.specs.declared.conflict.ConflictKind.TheVariants.{Conflict}
 use Rattle.cap_apply.specs.declared.policy.Policy.{Policy}
-use Rattle.cap_apply.proofs.ChangeLemmas.{HasTarget, applied_at, missed_made, noted_there}
+use Rattle.cap_apply.proofs.ChangeLemmas.{HasTarget, applied_at, change_refused, missed_made, noted_there}
 use Rattle.cap_apply.proofs.RowLemmas.{key_of-new_row, key_of-set_fields, length-new_row, length-set_fields}
 
 one_table : {X : Type 0} (found : Option X) (x y : X) → found ≡ Some x → found ≡ Some y → x ≡ y
 one_table found x y first second = cc
 
-same_some : {X : Type 0} (x y : X) → Some x ≡ Some y → x ≡ y
-same_some x y e = cc
-
 module _ {A : Type 0} where
   same_row : (table : TableState A) (key : Fields A) (row : Option (Fields A)) → keyed_in.with_row table key row ≡ with_row table key row
   same_row table key None = refl
   same_row table key (Some row) = refl
-
-  -- a row is there where an update is made
-  pub some_row : (policy : Policy) (number : ℕ) (flags : List Bool) (old new : RecordFields A) (before : Option (Fields A)) (conflict : Option ConflictKind) (made : Bool) →
-      missed flags old before ≡ conflict → is_made policy number conflict ≡ Ok made → made ≡ true → option_map (set_fields new) before ≡ None → true ≡ false
-  some_row policy number flags old new before conflict made met e agreed none =
-      let present = missed_made policy number flags old before (ap (is_made policy number) met ∙ e ∙ ap Ok agreed) in
-      let nothing : Some (set_fields new present.0) ≡ None = ap (option_map (set_fields new)) (sym present.1) ∙ none in
-      cc
 
   module _ (policy : Policy) (number : ℕ) where
     -- who notes a conflict leaves the database
@@ -71,9 +61,6 @@ module _ {A : Type 0} where
     judged_database s judged None false is = ap (λ (x : AppliedState A). x.database) is
     judged_database s judged (Some kind) true is = ap (λ (x : AppliedState A). x.database) is
     judged_database s judged (Some kind) false is = ap (λ (x : AppliedState A). x.database) is
-
-    pub judged_there : (judged : AppliedState A) (conflict : Option ConflictKind) (made : Bool) → judged ≡ judged_on state conflict made → table_of judged.database name ≡ Some h.table
-    judged_there judged conflict made is = ap (λ (d : Tables A). table_of d name) (judged_database state judged conflict made is) ∙ h.there
 
     pub at_is : (key : Fields A) → row_at state.database name key ≡ get fields_cmp h.table.keyed key
     at_is key = ap (option_and_then (λ table. get fields_cmp table.keyed key)) h.there
@@ -161,31 +148,41 @@ module _ {A : Type 0} where
 
     -- ---- an update
 
-    module _ (keyed : has_key flags ≡ true) (indirect : Bool) (old new : RecordFields A) (fits : satisfy (requirements record_kinds.Keyed flags) new ≡ true) (key row : Fields A)
-        (key_is : key ≡ key_values flags new) (before : Option (Fields A)) (found : get fields_cmp h.table.keyed (key_values flags new) ≡ before) (conflict : Option ConflictKind)
-        (met : missed flags old before ≡ conflict) (row_is : Some row ≡ option_map (set_fields new) before) (made : Bool) (e : is_made policy number conflict ≡ Ok made) (agreed : made ≡ true)
-        (judged : AppliedState A) (judged_is : judged ≡ judged_on state conflict made) where
+    module _ (keyed : has_key flags ≡ true) (new : RecordFields A) (fits : satisfy (requirements record_kinds.Keyed flags) new ≡ true) (key : Fields A) (key_is : key ≡ key_values flags new) where
+      pub update_own : (row : Fields A) → IsOwnRow state.database name key row → IsOwnRow state.database name key (set_fields new row)
+      update_own row own =
+          let wide = (own h.table h.there).0 in
+          own_row state.database key (set_fields new row) h.there (length-set_fields new row ∙ wide) (key_of-set_fields flags h.table.schema new h.fit keyed fits row wide ∙ ap Some (sym key_is))
+
+    module _ (indirect : Bool) (old new : RecordFields A) (key : Fields A) (key_is : key ≡ key_values flags new) (conflict : Option ConflictKind) (met : missed flags old (row_at state.database name key) ≡ conflict)
+        (put : AppliedState A) (put_is : put ≡ placed_if_made (is_made policy number conflict) name key (option_map (set_fields new) (row_at state.database name key)) state) where
       abbrev updates : Requested A
       updates = record { old = old; patch = patched.Update indirect new }
 
-      present : (r : Fields A) × (before ≡ Some r)
-      present = missed_made policy number flags old before (ap (is_made policy number) met ∙ e ∙ ap Ok agreed)
+      update_found : get fields_cmp h.table.keyed (key_values flags new) ≡ row_at state.database name key
+      update_found = ap (get fields_cmp h.table.keyed) (sym key_is) ∙ sym (at_is key)
 
-      set_is : row ≡ set_fields new present.0
-      set_is = same_some row (set_fields new present.0) (row_is ∙ ap (option_map (set_fields new)) present.1)
+      pub update_refused : (why : Refusal) → is_made policy number conflict ≡ Err why → change_applied policy number name flags updates state ≡ Err why
+      update_refused why e = change_refused policy number name flags state h updates (row_at state.database name key) conflict update_found met why e
 
-      pub update_own : ((r : Fields A) → before ≡ Some r → length r ≡ length h.table.schema) → IsOwnRow judged.database name key row
-      update_own wide =
-          own_row judged.database key row (judged_there judged conflict made judged_is) (ap length set_is ∙ length-set_fields new present.0 ∙ wide present.0 present.1)
-          (ap (key_of h.table.schema) set_is ∙ key_of-set_fields flags h.table.schema new h.fit keyed fits present.0 (wide present.0 present.1) ∙ ap Some (sym key_is))
+      module _ (judged : AppliedState A) (made : Bool) (judged_is : judged ≡ judged_on put conflict made) (e : is_made policy number conflict ≡ Ok made) where
+        pub update_made : (told_it next : AppliedState A) → made ≡ true → told_it ≡ with_changes name (Some key ∷ Some key ∷ []) judged → next ≡ counted told_it →
+            change_applied policy number name flags updates state ≡ Ok next
+        update_made told_it next agreed told_is is =
+            let present = missed_made policy number flags old (row_at state.database name key) (ap (is_made policy number) met ∙ e ∙ ap Ok agreed) in
+            let row = set_fields new present.0 in
+            let stands = put_is ∙ ap (λ m. placed_if_made m name key (option_map (set_fields new) (row_at state.database name key)) state) (e ∙ ap Ok agreed)
+            ∙ ap (λ (r : Option (Fields A)). placed name key (option_map (set_fields new) r) state) present.1 in
+            makes updates (Some present.0) conflict (update_found ∙ present.1) (ap (missed flags old) (sym present.1) ∙ met) (e ∙ ap Ok agreed) (Some (key_values flags new) ∷ Some (key_values flags new) ∷ []) (Some row) next refl refl
+            (is ∙ ap counted (told_is
+            ∙ ap (with_changes name (Some key ∷ Some key ∷ [])) (judged_is ∙ ap (judged_on put conflict) agreed ∙ ap (noted policy number conflict) stands ∙ noted_placed policy number conflict name key (Some row) state)
+            ∙ (λ i. with_changes name (Some (key_is i) ∷ Some (key_is i) ∷ []) (placed name (key_is i) (Some row) (noted policy number conflict state)))))
 
-      pub update_put : (put told_it next : AppliedState A) → put ≡ placed name key (Some row) judged → told_it ≡ with_changes name (Some key ∷ Some key ∷ []) put → next ≡ counted told_it →
-          change_applied policy number name flags updates state ≡ Ok next
-      update_put put told_it next put_is told_is is =
-          makes updates (Some present.0) conflict (found ∙ present.1) (ap (missed flags old) (sym present.1) ∙ met) (e ∙ ap Ok agreed) (Some (key_values flags new) ∷ Some (key_values flags new) ∷ []) (Some (set_fields new present.0)) next refl refl
-          (is ∙ ap counted (told_is
-          ∙ ap (with_changes name (Some key ∷ Some key ∷ [])) (put_is ∙ ap (placed name key (Some row)) (judged_is ∙ ap (judged_on state conflict) agreed))
-          ∙ (λ i. with_changes name (Some (key_is i) ∷ Some (key_is i) ∷ []) (placed name (key_is i) (Some (set_is i)) (noted policy number conflict state)))))
+        pub update_left : made ≡ false → change_applied policy number name flags updates state ≡ Ok judged
+        update_left agreed =
+            let same = put_is ∙ ap (λ m. placed_if_made m name key (option_map (set_fields new) (row_at state.database name key)) state) (e ∙ ap Ok agreed) in
+            leaves updates (row_at state.database name key) conflict update_found met (e ∙ ap Ok agreed) judged
+            (judged_is ∙ ap (judged_on put conflict) agreed ∙ ap (λ (s : AppliedState A). left_out number (noted policy number conflict s)) same)
 
     -- ---- a delete
 

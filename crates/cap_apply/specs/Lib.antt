@@ -12,3 +12,4 @@ pub mod Report
 pub mod Row
 pub mod Steps
 pub mod Target
+pub mod Updated

@@ -1,16 +1,22 @@
 //! The result of applying a blob, and its steps.
 ghost use Rattle.std.specs.Prelude.{◌≡◌, [], ◌∷◌, Some, None, IfOk, IfSome, IfNone, IsTrue, OnOk, is_some};
 ghost use Rattle.std.specs.Prelude.{if◌then◌else◌};
+ghost use Rattle.std.specs.Option.{option_map};
 ghost use Rattle.cap_value.specs.Memory.{AnswersUnlessMemory};
+ghost use Rattle.cap_row.specs.Fields.{Fields};
 ghost use Rattle.cap_database.specs.Keyed.{GoesBack, IsOwnRow};
 ghost use Rattle.cap_database.specs.Read.{row_at};
 ghost use Rattle.cap_database.specs.Tables.{table_of};
 ghost use Rattle.cap_apply.specs.Apply.{counted, left_out, noted, nothing_applied, skipped};
 ghost use Rattle.cap_apply.specs.Policy.{is_made};
-ghost use Rattle.cap_apply.specs.Steps.{placed, with_changes};
+ghost use Rattle.cap_apply.specs.Row.{missed, set_fields};
+ghost use Rattle.cap_apply.specs.Steps.{placed, placed_if_made, with_changes};
 ghost use Rattle.cap_apply.specs.Target.{target};
+ghost use Rattle.cap_apply.specs.declared.conflict.ConflictKind.TheVariants.{NotFound};
+ghost use Rattle.cap_changes.specs.Patch.{update_record};
 
 use crate::decision::Decision;
+use crate::row_update::{NotUpdated, RowUpdate};
 use crate::target::has_target;
 use crate::{ConflictKind, Report};
 use cap_database::{Cause, Change, Database};
@@ -159,6 +165,34 @@ impl<A: AllocHandle> Applied<A> {
             IfSome before (GoesBack self.old.database self.new.database table.now key)) }
     {
         self.database.put_row(table, key, row)
+    }
+
+    // Replaces the row of a key by the row after an update, where there is a row and the policy applies the update
+    // to it. Answers the conflict.
+    pub(crate) fn replace(
+        &mut self,
+        table: &Name<A>,
+        key: &Key<A>,
+        update: RowUpdate<'_, A>,
+    ) -> Result<Option<ConflictKind>, OutOfMemory>
+        requires there { IsTrue (is_some (table_of self.old.database table.now)) }
+        requires own { (row : Fields A) → IsOwnRow self.old.database table.now key.now row
+            → IsOwnRow self.old.database table.now key.now
+            (set_fields (update_record update.flags.now update.key.now update.new.now) row) }
+        requires unknown { update.conflict ≡ Some NotFound }
+        ensures conflict { IfOk result (λ conflict. missed update.entry.flags.now update.entry.old.now
+            (row_at self.old.database table.now key.now) ≡ conflict) }
+        ensures state { IfOk result (λ conflict. self.new ≡ placed_if_made
+            (is_made update.entry.decision.policy update.entry.decision.number conflict) table.now key.now
+            (option_map (set_fields (update_record update.entry.flags.now update.entry.key.now
+            update.entry.new.now)) (row_at self.old.database table.now key.now)) self.old) }
+    {
+        let mut step = update;
+        match self.database.replace_row(table, key, &mut step) {
+            Ok(_) => Ok(step.conflict),
+            Err(Fault::Refused(NotUpdated::Unwanted)) => Ok(step.conflict),
+            Err(_) => Err(OutOfMemory),
+        }
     }
 
     // Takes the row of a key out and answers it. It may be put back.

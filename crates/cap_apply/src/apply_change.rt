@@ -1,5 +1,6 @@
 //! Applying one change. An insert and a delete are made at once, and undone where the row that was found is a
-//! conflict and the policy omits the change. So the key is searched once.
+//! conflict and the policy omits the change. An update is judged where its row is found. So the key is searched
+//! once.
 ghost use Rattle.std.specs.Prelude.{◌≡◌, [], Bool, IsTrue, is_some};
 ghost use Rattle.cap_row.specs.Key.{is_key};
 ghost use Rattle.cap_row.specs.Schema.{has_key};
@@ -13,8 +14,9 @@ ghost use Rattle.cap_apply.specs.Row.{key_values};
 ghost use Rattle.cap_apply.specs.Target.{target};
 
 use crate::decision::Decision;
-use crate::fields::{key_of_fields, new_row, updated};
-use crate::present_row::{missed, row_under, width_of};
+use crate::fields::{key_of_fields, new_row};
+use crate::present_row::{missed, width_of};
+use crate::row_update::RowUpdate;
 use crate::{Applied, ConflictKind};
 use cap_row::Schema;
 use cap_value::{AllocHandle, Fault, Name, Refusal, Value};
@@ -54,7 +56,7 @@ impl<A: AllocHandle> Applied<A> {
     }
 
     // An update: the key fields are in the one record, and the fields to set in the other. The new row is
-    // made from the row that is found, so the key is searched again when it is put.
+    // made of the row that is found, where the search ends.
     pub(crate) fn update(
         &mut self,
         decision: Decision,
@@ -75,15 +77,21 @@ impl<A: AllocHandle> Applied<A> {
               patch = patched.Update indirect (update_record columns.now key.now new.now);
             }) self.old) self.new }
     {
-        let under = key_of_fields(self.alloc(), columns.flags(), key)?;
-        let found = row_under(self.database(), table, &under);
-        let conflict = missed(columns.flags(), old, found);
-        let row = updated(self.alloc(), columns.flags(), key, new, found)?;
+        let (alloc, flags) = (self.alloc(), columns.flags());
+        let under = key_of_fields(alloc, flags, key)?;
+        let update = RowUpdate {
+            alloc: &alloc,
+            decision,
+            flags,
+            old,
+            key,
+            new,
+            conflict: Some(ConflictKind::NotFound),
+        };
+        let conflict = self.replace(table, &under, update)?;
         if !self.judge(decision, conflict)? {
             return Ok(());
         }
-        let Some(row) = row else { unreachable!() };
-        self.put(table, under.copy()?, row)?;
         self.add_replacement(table, under)?;
         self.count()?;
         Ok(())

@@ -1,13 +1,14 @@
 //! Rows, keys and assignments from the fields of a change.
-ghost use Rattle.std.specs.Prelude.{◌≡◌, ◌++◌, IfOk, IsTrue, OnOk};
-ghost use Rattle.std.specs.Option.{option_copied, option_map, unwrap_or};
+ghost use Rattle.std.specs.Prelude.{◌≡◌, [], ◌∷◌, ◌++◌, IfOk, IsTrue, OnOk, if◌then◌else◌};
+ghost use Rattle.std.specs.Option.{unwrap_or};
 ghost use Rattle.cap_value.specs.declared.value.Value.TheVariants.{Null};
 ghost use Rattle.cap_row.specs.Key.{is_key};
 ghost use Rattle.cap_changes.specs.Patch.{update_record};
 ghost use Rattle.cap_apply.specs.Row.{has_old_values, has_old_value, key_values, new_row, set_fields};
 
-use cap_row::{Key, Row};
+use cap_row::{Key, KeyValues, Row, RowValues};
 use cap_value::{AllocHandle, OutOfMemory, Value};
+use smallvec::SmallVec;
 
 // The key that a change names.
 pub(crate) fn key_of_fields<A: AllocHandle>(
@@ -18,7 +19,7 @@ pub(crate) fn key_of_fields<A: AllocHandle>(
     requires { IsTrue (is_key (key_values flags.now fields.now)) }
     ensures { IfOk result (λ key. key ≡ key_values flags.now fields.now) }
 {
-    let Some(key) = Key::new(alloc, key_values(alloc, flags, fields)?)? else {
+    let Some(key) = Key::of_values(alloc, key_values(alloc, flags, fields)?)? else {
         unreachable!()
     };
     Ok(key)
@@ -28,10 +29,10 @@ fn key_values<A: AllocHandle>(
     alloc: A,
     flags: &[bool],
     fields: &[Option<Value<A>>],
-) -> Result<Vec<Value<A>, A>, OutOfMemory>
+) -> Result<KeyValues<A>, OutOfMemory>
     ensures { IfOk result (λ values. values.items ≡ key_values flags.now fields.now) }
 {
-    let mut values = Vec::with_capacity(alloc, 1)?;
+    let mut values = SmallVec::new(alloc);
     for (flag, field) in flags.iter().zip(fields) {
         if *flag {
             if let Some(value) = field {
@@ -50,14 +51,14 @@ pub(crate) fn new_row<A: AllocHandle>(
 ) -> Result<Row<A>, OutOfMemory>
     ensures { IfOk result (λ row. row ≡ new_row width fields.now) }
 {
-    let mut values = Vec::with_capacity(alloc, width)?;
+    let mut values = SmallVec::with_capacity(alloc, width)?;
     for field in fields {
         values.push(value_or_null(field)?)?;
     }
     for _further in 0..width.saturating_sub(fields.len()) {
         values.push(Value::Null)?;
     }
-    Row::new(values)
+    Row::of_values(alloc, values)
 }
 
 fn value_or_null<A: AllocHandle>(field: &Option<Value<A>>) -> Result<Value<A>, OutOfMemory>
@@ -69,28 +70,24 @@ fn value_or_null<A: AllocHandle>(field: &Option<Value<A>>) -> Result<Value<A>, O
     }
 }
 
-// The row after an update, where there is a row: the key fields and the defined other fields are set.
+// The row after an update: the key fields and the defined other fields are set.
 pub(crate) fn updated<A: AllocHandle>(
     alloc: A,
     flags: &[bool],
     key: &[Option<Value<A>>],
     new: &[Option<Value<A>>],
-    found: Option<&Row<A>>,
-) -> Result<Option<Row<A>>, OutOfMemory>
-    ensures { IfOk result (λ row. row ≡ option_map
-        (set_fields (update_record flags.now key.now new.now)) (option_copied found.entry)) }
+    row: &Row<A>,
+) -> Result<Row<A>, OutOfMemory>
+    ensures { IfOk result (λ made. made ≡ set_fields (update_record flags.now key.now new.now) row.now) }
 {
-    let Some(row) = found else {
-        return Ok(None);
-    };
-    let mut values = Vec::with_capacity(alloc, row.width())?;
+    let mut values = SmallVec::with_capacity(alloc, row.width())?;
     set_fields(&mut values, flags, key, new, row.fields())?;
-    Ok(Some(Row::new(values)?))
+    Row::of_values(alloc, values)
 }
 
 // Appends the values of the row, with the fields set.
 fn set_fields<A: AllocHandle>(
-    values: &mut Vec<Value<A>, A>,
+    values: &mut RowValues<A>,
     flags: &[bool],
     key: &[Option<Value<A>>],
     new: &[Option<Value<A>>],
@@ -111,14 +108,27 @@ fn set_fields<A: AllocHandle>(
     let Some((value, row)) = row.split_first() else {
         return Ok(());
     };
-    values.push(value_or(if *flag { kept } else { set }, value)?)?;
+    push_field(values, *flag, kept, set, value)?;
     set_fields(values, flags, key, new, row)
 }
 
-fn copies<A: AllocHandle>(
-    values: &mut Vec<Value<A>, A>,
-    row: &[Value<A>],
+// Appends the value of a column after an update, by its key flag, the fields and the value before.
+fn push_field<A: AllocHandle>(
+    values: &mut RowValues<A>,
+    flag: bool,
+    kept: &Option<Value<A>>,
+    set: &Option<Value<A>>,
+    value: &Value<A>,
 ) -> Result<(), OutOfMemory>
+    ensures { OnOk result (values.new.items ≡ values.old.items
+        ++ unwrap_or (if flag then kept.now else set.now) value.now ∷ []) }
+{
+    let field = if flag { kept } else { set };
+    values.push(value_or(field, value)?)?;
+    Ok(())
+}
+
+fn copies<A: AllocHandle>(values: &mut RowValues<A>, row: &[Value<A>]) -> Result<(), OutOfMemory>
     ensures { OnOk result (values.new.items ≡ values.old.items ++ row.now) }
 {
     for value in row {

@@ -13,6 +13,7 @@ mod laws;
 mod policy;
 mod present_row;
 mod report;
+mod row_update;
 mod target;
 
 pub use applied::Applied;
