@@ -126,13 +126,13 @@ def check(count, workload, replies):
         byte_by_byte(count, words, b"# " + b"-" * 2_000 + b"\n" + workload, replies, label)
         byte_by_byte(count, words, b"", b"", label)
     threads_that_cannot_be_started(count, ["run", "--threads", "4"], "run --threads 4")
-    for word, printed in [("show", SHOWN), ("invert", INVERTED), ("patchset", PATCHED)]:
+    for word, printed in [("show", SHOWN), ("invert", INVERTED), ("patchset", PATCHED), ("concat", BLOB + b"\n")]:
         full_output(count, [word], BLOB, word)
         closed_output(count, [word], BLOB, word)
         unread_input(count, [word], word)
         full_error(count, [word], b"54zz", word)
         byte_by_byte(count, [word], BLOB, printed, word)
-    for words in [["--help"], ["--version"], ["run", "--help"], ["invert", "--help"]]:
+    for words in [["--help"], ["--version"], ["run", "--help"], ["invert", "--help"], ["concat", "--help"]]:
         full_output(count, words, b"", " ".join(words))
         closed_output(count, words, b"", " ".join(words))
     full_error(count, ["frob"], b"", "frob")

@@ -21,7 +21,7 @@ use Rattle.cap_run.specs.Code.Calls.{AreSeats, HasCalledOwn, HaveCalled, OneHasS
 use Rattle.cap_run.specs.Workload.{AreCalls, AreOfOneHistory, ReportsEvents, WritesAll, WritesSome, WritesUnclosed, WritesWorkload, calls_of}
 use Rattle.cap_run.specs.RunFault.{RunsNothing}
 use Rattle.cap_run.specs.declared.fault.RunFault.{RunFault}
-use Rattle.cap_run.specs.declared.fault.RunFault.TheVariants.{Blob, Call, Close, Memory, NotHex, NotUtf8, Patchset, Read, Script, Write}
+use Rattle.cap_run.specs.declared.fault.RunFault.TheVariants.{Concat, Blob, Call, Close, Memory, NotHex, NotUtf8, Patchset, Read, Script, Write}
 use Rattle.cap_script.specs.declared.line.Line.{Line}
 use Rattle.cap_server.specs.Close.{FirstHasSeen, HasAll, IsClosed, IsMissing, StandsAt}
 use Rattle.cap_server.specs.Fault.{MatchCloseFault}
@@ -211,6 +211,7 @@ module _ {A : Type 0} where
   writes_closed threads input lines (Err NotHex) seats events core a b some spelled runs closed = absurd runs
   writes_closed threads input lines (Err (Blob fault)) seats events core a b some spelled runs closed = absurd runs
   writes_closed threads input lines (Err Patchset) seats events core a b some spelled runs closed = absurd runs
+  writes_closed threads input lines (Err (Concat fault)) seats events core a b some spelled runs closed = absurd runs
   writes_closed threads input lines (Err Read) seats events core a b some spelled runs closed = absurd runs
   writes_closed threads input lines (Err Memory) seats events core a b some spelled runs closed = absurd runs
 
@@ -232,6 +233,7 @@ module _ {A : Type 0} where
   writes_unclosed threads input lines (Err NotHex) seats left least front a b some spelled runs first = absurd runs
   writes_unclosed threads input lines (Err (Blob fault)) seats left least front a b some spelled runs first = absurd runs
   writes_unclosed threads input lines (Err Patchset) seats left least front a b some spelled runs first = absurd runs
+  writes_unclosed threads input lines (Err (Concat fault)) seats left least front a b some spelled runs first = absurd runs
   writes_unclosed threads input lines (Err Read) seats left least front a b some spelled runs first = absurd runs
   writes_unclosed threads input lines (Err Memory) seats left least front a b some spelled runs first = absurd runs
 
@@ -253,6 +255,7 @@ module _ {A : Type 0} where
   runs-called threads lines (Err NotHex) a b k l runs = absurd runs
   runs-called threads lines (Err (Blob fault)) a b k l runs = absurd runs
   runs-called threads lines (Err Patchset) a b k l runs = absurd runs
+  runs-called threads lines (Err (Concat fault)) a b k l runs = absurd runs
   runs-called threads lines (Err Read) a b k l runs = absurd runs
   runs-called threads lines (Err Memory) a b k l runs = absurd runs
 
@@ -284,6 +287,7 @@ begins_nothing A threads input NotUtf8 a early = Keeps-refl a
 begins_nothing A threads input NotHex a early = Keeps-refl a
 begins_nothing A threads input (Blob fault) a early = Keeps-refl a
 begins_nothing A threads input Patchset a early = Keeps-refl a
+begins_nothing A threads input (Concat fault) a early = Keeps-refl a
 begins_nothing A threads input (Call fault) a early = absurd early
 begins_nothing A threads input Read a early = Keeps-refl a
 begins_nothing A threads input Write a early = absurd early

@@ -5,7 +5,7 @@ use Rattle.cap_codec.specs.StreamCalls.{AllWent, Calls}
 use Rattle.cap_run.specs.Reads.{EndsAtFault, EndsReads}
 use Rattle.cap_run.specs.RunFault.{exit_status, is_read, IsUnread, IsUnspelled, RunsNothing}
 use Rattle.cap_run.specs.declared.fault.RunFault.{RunFault}
-use Rattle.cap_run.specs.declared.fault.RunFault.TheVariants.{Blob, Call, Close, Memory, NotHex, NotUtf8, Patchset, Read, Script, Write}
+use Rattle.cap_run.specs.declared.fault.RunFault.TheVariants.{Concat, Blob, Call, Close, Memory, NotHex, NotUtf8, Patchset, Read, Script, Write}
 use Rattle.cap_script.specs.Script.{SpellsScript}
 use Rattle.cap_script.specs.declared.line.Line.{Line}
 
@@ -55,6 +55,7 @@ module _ {R : Type 0} (gave failed : R → R → Type 0) where
   reads_before NotHex old new later went = went
   reads_before (Blob fault) old new later went = went
   reads_before Patchset old new later went = went
+  reads_before (Concat fault) old new later went = went
   reads_before (Call fault) old new later went = went
   reads_before Read old new later went = absurd (cc later)
   reads_before Write old new later went = went
@@ -77,6 +78,7 @@ module _ {R : Type 0} (gave failed : R → R → Type 0) where
   reads_unspelled NotHex old new early went = absurd early
   reads_unspelled (Blob fault) old new early went = absurd early
   reads_unspelled Patchset old new early went = absurd early
+  reads_unspelled (Concat fault) old new early went = absurd early
   reads_unspelled (Call fault) old new early went = absurd early
   reads_unspelled Read old new early went = absurd early
   reads_unspelled Write old new early went = absurd early

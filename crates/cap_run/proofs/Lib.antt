@@ -8,3 +8,4 @@ mod PieceLemmas
 mod RunLemmas
 mod SeatLemmas
 mod WorkerLemmas
+mod BlobListLemmas

@@ -3,11 +3,13 @@ use Rattle.std.specs.Prelude.{ℕ, List, Result}
 use Rattle.std.specs.Result.{result_map_both}
 use Rattle.cap_codec.specs.BlobReading.{blob_at}
 use Rattle.cap_codec.specs.declared.read.Contents.{Contents}
+use Rattle.cap_codec.specs.declared.read.Contents.TheVariants.{Changes, Patches}
 use Rattle.cap_run.specs.declared.encoding.Encoding.{Encoding}
 use Rattle.cap_run.specs.declared.fault.RunFault.{RunFault}
 use Rattle.cap_run.specs.declared.fault.RunFault.TheVariants.{Blob}
 use Rattle.cap_run.specs.Encoding.{decoded}
 use Rattle.cap_run.specs.RunFault.{after}
+use Rattle.cap_show.specs.Json as json
 
 -- what bytes hold
 abbrev pub contents_of : (A : Type 0) → List ℕ → Result (Contents A) RunFault
@@ -16,3 +18,8 @@ contents_of A bytes = result_map_both (λ contents. contents) Blob (blob_at {A =
 -- what an input holds
 abbrev pub contents_at : (A : Type 0) → Encoding → List ℕ → Result (Contents A) RunFault
 contents_at A encoding given = after (decoded encoding given) (contents_of A)
+
+-- its changes as a JSON document
+abbrev pub json_text : {A : Type 0} → Contents A → List ℕ
+json_text (Changes changes) = json.list_text json.change changes
+json_text (Patches patches) = json.list_text json.patch patches

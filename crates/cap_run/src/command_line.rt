@@ -2,7 +2,9 @@
 ghost use Rattle.std.specs.Prelude.{IfOk};
 ghost use Rattle.cap_run.specs.Options.{IsInRange};
 
-use crate::{Conversion, Encoding, Options, OptionsFault, THREADS_MAX, Target};
+use crate::{
+    Concatenation, Conversion, Encoding, Form, Options, OptionsFault, THREADS_MAX, Target,
+};
 use cap_codec::KeyFlags;
 use clap::builder::ValueParser;
 use clap::error::ErrorKind;
@@ -30,7 +32,8 @@ as a changeset:
     changeset 5402010074001200010000000000000001030178
 
 `changecap run --help` has every command. `changecap show` prints what is in those digits, `changecap
-invert` prints the changeset that undoes them, and `changecap patchset` their patchset.";
+invert` prints the changeset that undoes them, and `changecap patchset` their patchset. `changecap concat`
+makes one changeset of several.";
 
 const RUN_ABOUT: &str = "Run the workload on standard input and print the reply to each command";
 
@@ -39,6 +42,13 @@ const SHOW_ABOUT: &str = "Print what is in the changeset or patchset on standard
 const INVERT_ABOUT: &str = "Print the inverse of the changeset on standard input";
 
 const PATCHSET_ABOUT: &str = "Print the patchset of the changeset on standard input";
+
+const CONCAT_ABOUT: &str =
+    "Print the concatenation of the changesets or patchsets on standard input, one a line";
+
+const SQL_HELP: &str = "Print a SQL statement for each change, on columns c0, c1 and so on";
+
+const JSON_HELP: &str = "Print a JSON array with an object for each change";
 
 const BINARY_INPUT_HELP: &str = "The input is the bytes themselves, not hex digits";
 
@@ -93,7 +103,14 @@ const SHOW_EXAMPLE: &str = "The digits may be of either case and end with a line
 prints
     changeset
     group t kv
-    insert direct (1,'x')";
+    insert direct (1,'x')
+With --sql it prints
+    BEGIN;
+    INSERT INTO \"t\" VALUES(1,'x');
+    COMMIT;
+and with --json
+    [{\"table\":\"t\",\"op\":\"insert\",\"indirect\":false,\"key\":[\"c0\"],\"new\":{\"c0\":1,\"c1\":\"x\"}}]
+An undefined field is left out of both, and a blob in JSON is {\"blob\":\"00ff\"}.";
 
 const INVERT_EXAMPLE: &str = "The digits may be of either case and end with a line feed. For example
     echo 5402010074001200010000000000000001030178 | changecap invert
@@ -108,6 +125,15 @@ prints
     5002010074000900010000000000000001
 which deletes the row by its key alone. A patchset is refused.";
 
+const CONCAT_EXAMPLE: &str = "Each line is a blob in digits of either case. For example
+    printf '%s\\n' 5402010074001200010000000000000001030178 \\
+        540201007400170001000000000000000103017800030179 | changecap concat
+prints
+    5402010074001200010000000000000001030179
+which inserts the row as the second changeset leaves it. A changeset beside a patchset is refused, and so
+are two tables of one name with different columns. With --binary each blob of the input stands behind its
+length as eight bytes, the most significant first.";
+
 // The command line.
 fn command_line<'a>(alloc: Global) -> Result<Command<'a>, AllocError> {
     Command::new(alloc, "changecap")
@@ -120,7 +146,8 @@ fn command_line<'a>(alloc: Global) -> Result<Command<'a>, AllocError> {
         .subcommand(run_command(alloc)?)?
         .subcommand(show_command(alloc)?)?
         .subcommand(convert_command(alloc, "invert", INVERT_ABOUT, INVERT_EXAMPLE)?)?
-        .subcommand(convert_command(alloc, "patchset", PATCHSET_ABOUT, PATCHSET_EXAMPLE)?)
+        .subcommand(convert_command(alloc, "patchset", PATCHSET_ABOUT, PATCHSET_EXAMPLE)?)?
+        .subcommand(convert_command(alloc, "concat", CONCAT_ABOUT, CONCAT_EXAMPLE)?)
 }
 
 fn run_command<'a>(alloc: Global) -> Result<Command<'a>, AllocError> {
@@ -140,7 +167,9 @@ fn show_command<'a>(alloc: Global) -> Result<Command<'a>, AllocError> {
     Command::new(alloc, "show")
         .about(SHOW_ABOUT)
         .after_help(SHOW_EXAMPLE)
-        .arg(binary(alloc, BINARY_INPUT_HELP))
+        .arg(binary(alloc, BINARY_INPUT_HELP))?
+        .arg(flag(alloc, "sql", SQL_HELP).conflicts_with("json")?)?
+        .arg(flag(alloc, "json", JSON_HELP))
 }
 
 fn convert_command<'a>(
@@ -163,8 +192,12 @@ fn convert_command<'a>(
 }
 
 fn binary<'a>(alloc: Global, help: &'a str) -> Arg<'a> {
-    Arg::new(alloc, "binary")
-        .long("binary")
+    flag(alloc, "binary", help)
+}
+
+fn flag<'a>(alloc: Global, word: &'a str, help: &'a str) -> Arg<'a> {
+    Arg::new(alloc, word)
+        .long(word)
         .help(help)
         .action(ArgAction::SetTrue)
 }
@@ -172,9 +205,9 @@ fn binary<'a>(alloc: Global, help: &'a str) -> Arg<'a> {
 /// Parses the words after the program's name.
 ///
 /// `run` runs a workload, on N threads with `--threads N`, N from 1 to 63, and otherwise on one. `show` shows
-/// a blob. `invert` and `patchset` convert one, with key flags by places, or by ones with `--key-flags ones`.
-/// A blob is given and written as hex digits, or with `--binary` as its bytes. Other words are refused with a
-/// message. `--help` and `--version` give their text as a fault of status 0.
+/// a blob, with `--sql` or `--json` as such. `invert` and `patchset` convert one, and `concat` concatenates several, with key flags by places, or
+/// by ones with `--key-flags ones`. A blob is given and written as hex digits, or with `--binary` as its bytes.
+/// Other words are refused with a message. `--help` and `--version` give their text as a fault of status 0.
 pub fn options(alloc: Global, words: &[String]) -> Result<Options, OptionsFault>
     // The number of threads is in range.
     ensures range { IfOk result IsInRange }
@@ -200,25 +233,44 @@ fn asked_for(matches: &ArgMatches) -> Options
         }
         Some(("invert", invert)) => Options::Convert(conversion(Target::Inverse, invert)),
         Some(("patchset", patchset)) => Options::Convert(conversion(Target::Patchset, patchset)),
+        Some(("concat", concat)) => Options::Concat(Concatenation {
+            key_flags: key_flags(concat),
+            encoding: encoding(concat),
+        }),
         Some((_, show)) => Options::Show {
+            form: form(show),
             encoding: encoding(show),
         },
         // The parser refuses this.
         None => Options::Show {
+            form: Form::Text,
             encoding: Encoding::Hex,
         },
     }
 }
 
 fn conversion(target: Target, matches: &ArgMatches) -> Conversion {
-    let key_flags = match matches.get_str("key-flags") {
-        Some("ones") => KeyFlags::Ones,
-        _ => KeyFlags::Places,
-    };
     Conversion {
         target,
-        key_flags,
+        key_flags: key_flags(matches),
         encoding: encoding(matches),
+    }
+}
+
+fn key_flags(matches: &ArgMatches) -> KeyFlags {
+    match matches.get_str("key-flags") {
+        Some("ones") => KeyFlags::Ones,
+        _ => KeyFlags::Places,
+    }
+}
+
+fn form(matches: &ArgMatches) -> Form {
+    if matches.get_flag("json") {
+        Form::Json
+    } else if matches.get_flag("sql") {
+        Form::Sql
+    } else {
+        Form::Text
     }
 }
 

@@ -1,4 +1,4 @@
-//! What is made of a changeset.
+//! What is made of a changeset, or of several blobs.
 use crate::Encoding;
 use cap_codec::KeyFlags;
 
@@ -18,5 +18,15 @@ pub struct Conversion {
     /// The key flags that are written. Either are read.
     pub key_flags: KeyFlags,
     /// The encoding of the input and of the output.
+    pub encoding: Encoding,
+}
+
+/// How the concatenation of blobs is read and written.
+#[derive(Clone, Copy, Debug, PartialEq, Eq, Drop)]
+pub struct Concatenation {
+    /// The key flags that are written. Either are read.
+    pub key_flags: KeyFlags,
+    /// The encoding of the blobs and of the output. Blobs in hex are lines. Blobs as bytes are each behind
+    /// their length as eight bytes, the most significant first; the output is without its length.
     pub encoding: Encoding,
 }

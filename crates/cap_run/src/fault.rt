@@ -1,10 +1,47 @@
 //! The faults of a run.
 
 use cap_codec::BlobFault;
+use cap_group::GroupRefusal;
 use cap_script::ScriptFault;
 use cap_server::CallFault;
 use cap_value::Fault;
 use thiserror::Error;
+
+/// Why a blob is not added to those before it.
+#[derive(Clone, Copy, Debug, PartialEq, Eq, Drop, Error)]
+pub enum ListedFault {
+    /// The line is not hex.
+    #[error("not hex")]
+    NotHex,
+    /// The input ends inside the blob or its length.
+    #[error("truncated")]
+    Truncated,
+    /// The bytes are neither a changeset nor a patchset.
+    #[error("fault {0}")]
+    Malformed(BlobFault),
+    /// The blob does not go with those before it.
+    #[error("{0}")]
+    Group(GroupRefusal),
+}
+
+/// Why blobs have no concatenation: the first of them that is refused. Lines and blobs are counted from 1.
+#[derive(Clone, Copy, Debug, PartialEq, Eq, Drop, Error)]
+pub enum ConcatFault {
+    /// A blob in hex.
+    #[error("line {line}: {why}")]
+    Line {
+        /// Its line.
+        line: u64,
+        why: ListedFault,
+    },
+    /// A blob as bytes.
+    #[error("blob {blob}: {why}")]
+    Blob {
+        /// Its number.
+        blob: u64,
+        why: ListedFault,
+    },
+}
 
 /// Why a run ended before its workload did, or why a blob was neither shown nor converted.
 #[derive(Clone, Copy, Debug, PartialEq, Eq, Drop, Error)]
@@ -24,16 +61,19 @@ pub enum RunFault {
     /// The bytes are a patchset, which has neither an inverse nor a patchset. Nothing was converted.
     #[error("patchset")]
     Patchset,
+    /// A blob of several is refused. Nothing was concatenated.
+    #[error(transparent)]
+    Concat(ConcatFault),
     /// A command has no reply. The replies before it were printed, and then this fault.
     #[error(transparent)]
     Call(CallFault),
-    /// A read failed, or the reader had not ended after 2^40 reads. Nothing was run, shown or converted.
+    /// A read failed, or the reader had not ended after 2^40 reads. Nothing was run or printed.
     #[error("a read failed")]
     Read,
     /// A write failed. A prefix of the output was written.
     #[error("a write failed")]
     Write,
-    /// Out of memory for the input. Nothing was run, shown or converted.
+    /// Out of memory for the input. Nothing was run or printed.
     #[error("no memory for the input")]
     Memory,
     /// The server could not be closed. All lines were run and their replies printed.
@@ -54,7 +94,8 @@ impl RunFault {
             | RunFault::NotUtf8
             | RunFault::NotHex
             | RunFault::Blob(_)
-            | RunFault::Patchset => 1,
+            | RunFault::Patchset
+            | RunFault::Concat(_) => 1,
             RunFault::Call(_)
             | RunFault::Read
             | RunFault::Write

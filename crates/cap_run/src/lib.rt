@@ -1,9 +1,11 @@
 //! Runs a workload: reads its text, calls a server with its commands, and prints the replies. Also shows a
-//! changeset or patchset, and makes the inverse or the patchset of a changeset.
+//! changeset or patchset, makes the inverse or the patchset of a changeset, and concatenates blobs.
 #![tactic(auto)]
 
+mod blob_list;
 mod block;
 mod command_line;
+mod concat;
 mod conversion;
 mod convert;
 mod encoding;
@@ -21,14 +23,15 @@ mod worker;
 mod workload;
 
 pub use command_line::options;
-pub use conversion::{Conversion, Target};
+pub use concat::concat_blobs;
+pub use conversion::{Concatenation, Conversion, Target};
 pub use convert::convert_blob;
 pub use encoding::Encoding;
-pub use fault::RunFault;
+pub use fault::{ConcatFault, ListedFault, RunFault};
 pub use gate::{Gate, NoGate};
 pub use limits::THREADS_MAX;
 pub use program_options::{Options, OptionsFault};
 pub use run::run_core;
 pub use run_output::RunOutput;
-pub use show::show_blob;
+pub use show::{Form, show_blob};
 pub use workload::run_workload;

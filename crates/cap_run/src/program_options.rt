@@ -2,7 +2,7 @@
 ghost use Rattle.std.specs.Prelude.{◌≡◌};
 ghost use Rattle.cap_run.specs.Options.{options_status};
 
-use crate::{Conversion, Encoding};
+use crate::{Concatenation, Conversion, Encoding, Form};
 
 /// What the program does.
 #[derive(Clone, Copy, Debug, PartialEq, Eq, Drop)]
@@ -14,11 +14,15 @@ pub enum Options {
     },
     /// Show the blob on standard input.
     Show {
+        /// How it is shown.
+        form: Form,
         /// Its encoding.
         encoding: Encoding,
     },
     /// Convert the changeset on standard input.
     Convert(Conversion),
+    /// Concatenate the blobs on standard input.
+    Concat(Concatenation),
 }
 
 /// Why the program ends without a run.

@@ -1,26 +1,41 @@
 //! Shows a changeset or a patchset.
-ghost use Rattle.std.specs.Prelude.{◌≡◌, ◌⊎◌, Err, false, IfSome, IfErr, IsErrAnd};
+ghost use Rattle.std.specs.Prelude.{◌≡◌, ◌⊎◌, Err, false, IfSome, IfErr, IfOk, IsErrAnd};
 ghost use Rattle.cap_value.specs.Memory.{ShowsUnlessMemory};
+ghost use Rattle.cap_run.specs.Conversion.{WritesOutput};
 ghost use Rattle.cap_run.specs.Reads.{EndsReads, ShowsUnlessUnread};
 ghost use Rattle.cap_run.specs.RunFault.{exit_status, input_fault, is_read, IsUnread, RunsNothing};
-ghost use Rattle.cap_run.specs.Show.{contents_at, contents_of};
+ghost use Rattle.cap_run.specs.Show.{contents_at, contents_of, json_text};
 ghost use Rattle.cap_run.specs.Writes.{EndsWrites};
 
 use crate::encoding::read_bytes;
 use crate::output::write_output;
 use crate::{Encoding, RunFault, RunOutput};
 use cap_codec::{Contents, Source, read_blob};
-use cap_show::{write_changeset, write_patchset};
+use cap_show::{
+    changeset_json, patchset_json, write_changeset, write_changeset_sql, write_patchset,
+    write_patchset_sql,
+};
 use cap_value::{AllocHandle, Fault, OutOfMemory};
 
-/// Shows the blob that the reader gives: writes a line for the blob, for each group and for each change, or
-/// `empty`.
+/// How a blob is shown.
+#[derive(Clone, Copy, Debug, PartialEq, Eq, Drop)]
+pub enum Form {
+    /// A line for the blob, for each group and for each change, or `empty`.
+    Text,
+    /// A SQL statement for each change.
+    Sql,
+    /// A JSON array with an object for each change, on a line.
+    Json,
+}
+
+/// Shows the blob that the reader gives.
 ///
 /// The whole blob is read before anything is written. The contracts say exactly which input is refused and
 /// with which fault, where it is known what the reader gives. A failed read and out of memory may come before
-/// any other answer. No clause states the text of the output; it is tested.
+/// any other answer. No clause states the text of the output but for JSON; it is tested.
 pub fn show_blob<A: AllocHandle, R: Source, W: RunOutput>(
     alloc: A,
+    form: Form,
     encoding: Encoding,
     reader: &mut R,
     writer: &mut W,
@@ -31,6 +46,11 @@ pub fn show_blob<A: AllocHandle, R: Source, W: RunOutput>(
         (λ fault. IsErrAnd result (λ f. (f ≡ fault) ⊎ IsUnread f))) }
     ensures just { IfSome (R.remaining reader.old) (λ given. IfErr result (λ fault.
         exit_status fault ≡ 1 → contents_at A encoding given ≡ Err fault)) }
+    // What is written as JSON, where it is known what the reader gives: the document of the changes, or a
+    // beginning of it where a write failed.
+    ensures json { form ≡ Form.Json → IfSome (R.remaining reader.old) (λ given.
+        IfOk (contents_at A encoding given) (λ contents. WritesOutput (json_text contents) result
+        (W.contents writer.old) (W.contents writer.new))) }
     // When a failed read is reported, as far as the outcomes of the reads are known.
     ensures reported { EndsReads R.gave R.failed result reader.old reader.new }
     // When a failed write is reported, as far as the outcomes of the writes are known.
@@ -40,7 +60,7 @@ pub fn show_blob<A: AllocHandle, R: Source, W: RunOutput>(
     ensures memory { result ≡ Err RunFault.Memory → writer.new ≡ writer.old }
 {
     let blob = read_contents(alloc, encoding, reader)?;
-    write_blob(alloc, &blob, writer)
+    write_blob(alloc, form, &blob, writer)
 }
 
 // Reads the blob.
@@ -73,23 +93,56 @@ fn contents<A: AllocHandle>(alloc: A, bytes: &[u8]) -> Result<Contents<A>, Fault
 // Writes the content of the blob as text. All of the text is made before any of it is written.
 fn write_blob<A: AllocHandle, W: RunOutput>(
     alloc: A,
+    form: Form,
     blob: &Contents<A>,
     writer: &mut W,
 ) -> Result<(), RunFault>
+    ensures json { form ≡ Form.Json
+        → WritesOutput (json_text blob.now) result (W.contents writer.old) (W.contents writer.new) }
     ensures status { IfErr result (λ fault. exit_status fault ≡ 3) }
     ensures read { IfErr result (λ fault. is_read fault ≡ false) }
     ensures write_reported { EndsWrites W.went W.failed result writer.old writer.new }
     ensures memory { result ≡ Err RunFault.Memory → writer.new ≡ writer.old }
 {
-    let text = text_of(alloc, blob).map_err(|_| RunFault::Memory)?;
+    let text = shown(alloc, form, blob).map_err(|_| RunFault::Memory)?;
     write_output(writer, text.as_slice())
 }
 
-// The text of the blob.
-fn text_of<A: AllocHandle>(alloc: A, blob: &Contents<A>) -> Result<Vec<u8, A>, OutOfMemory> {
+// The blob in this form.
+fn shown<A: AllocHandle>(
+    alloc: A,
+    form: Form,
+    blob: &Contents<A>,
+) -> Result<Vec<u8, A>, OutOfMemory>
+    ensures json { form ≡ Form.Json → IfOk result (λ text. text.items ≡ json_text blob.now) }
+{
+    match form {
+        Form::Text => text_of(alloc, false, blob),
+        Form::Sql => text_of(alloc, true, blob),
+        Form::Json => json_of(alloc, blob),
+    }
+}
+
+fn json_of<A: AllocHandle>(alloc: A, blob: &Contents<A>) -> Result<Vec<u8, A>, OutOfMemory>
+    ensures { IfOk result (λ text. text.items ≡ json_text blob.now) }
+{
+    match blob {
+        Contents::Changes(changes) => changeset_json(alloc, changes),
+        Contents::Patches(patches) => patchset_json(alloc, patches),
+    }
+}
+
+// The text of the blob, or its SQL.
+fn text_of<A: AllocHandle>(
+    alloc: A,
+    is_sql: bool,
+    blob: &Contents<A>,
+) -> Result<Vec<u8, A>, OutOfMemory> {
     let mut text = Vec::new(alloc);
     let written = match blob {
+        Contents::Changes(changes) if is_sql => write_changeset_sql(changes, &mut text),
         Contents::Changes(changes) => write_changeset(changes, &mut text),
+        Contents::Patches(patches) if is_sql => write_patchset_sql(patches, &mut text),
         Contents::Patches(patches) => write_patchset(patches, &mut text),
     };
     // A vector fails at a write only out of memory.

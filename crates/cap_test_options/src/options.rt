@@ -1,6 +1,6 @@
 //! The words of a command line: what they ask for, and those that are refused.
 use cap_codec::KeyFlags;
-use cap_run::{Conversion, Encoding, Options, OptionsFault, Target, options};
+use cap_run::{Concatenation, Conversion, Encoding, Form, Options, OptionsFault, Target, options};
 use std::alloc::{AllocError, Global};
 use std::test::Fail;
 
@@ -13,13 +13,9 @@ fn words_of(alloc: Global, line: &str) -> Result<Vec<String>, AllocError> {
     Ok(words)
 }
 
-const HEX: Options = Options::Show {
-    encoding: Encoding::Hex,
-};
-
-const BINARY: Options = Options::Show {
-    encoding: Encoding::Binary,
-};
+fn shown(form: Form, encoding: Encoding) -> Options {
+    Options::Show { form, encoding }
+}
 
 fn conversion(target: Target, key_flags: KeyFlags, encoding: Encoding) -> Options {
     Options::Convert(Conversion {
@@ -36,8 +32,10 @@ fn what_is_asked_for(rt: HostRuntime) -> Result<(), Fail> {
         ("run --threads 1", Options::Run { threads: 1 }),
         ("run --threads 4", Options::Run { threads: 4 }),
         ("run --threads=63", Options::Run { threads: 63 }),
-        ("show", HEX),
-        ("show --binary", BINARY),
+        ("show", shown(Form::Text, Encoding::Hex)),
+        ("show --binary", shown(Form::Text, Encoding::Binary)),
+        ("show --sql", shown(Form::Sql, Encoding::Hex)),
+        ("show --json --binary", shown(Form::Json, Encoding::Binary)),
     ];
     for (line, asked) in table {
         let words = words_of(rt.alloc(), line)?;
@@ -47,7 +45,7 @@ fn what_is_asked_for(rt: HostRuntime) -> Result<(), Fail> {
     Ok(())
 }
 
-// The words behind `invert` and `patchset`.
+// The words behind `invert`, `patchset` and `concat`.
 #[test]
 fn what_is_converted(rt: HostRuntime) -> Result<(), Fail> {
     let table = [
@@ -74,6 +72,16 @@ fn what_is_converted(rt: HostRuntime) -> Result<(), Fail> {
             assert_eq!(rt; found, conversion(target, key_flags, encoding), "{line}");
         }
     }
+    for (line, key_flags, encoding) in table {
+        let line = format!(in rt.alloc(); "concat {line}")?;
+        let words = words_of(rt.alloc(), line.as_str())?;
+        let found = options(rt.alloc(), words.as_slice()).map_err(|_| "refused")?;
+        let asked = Options::Concat(Concatenation {
+            key_flags,
+            encoding,
+        });
+        assert_eq!(rt; found, asked, "{line}");
+    }
     Ok(())
 }
 
@@ -92,6 +100,7 @@ fn what_is_refused(rt: HostRuntime) -> Result<(), Fail> {
         "run file",
         "show --threads 2",
         "show --key-flags ones",
+        "show --sql --json",
         "run --binary",
         "invert file",
         "invert --threads 2",
@@ -99,6 +108,8 @@ fn what_is_refused(rt: HostRuntime) -> Result<(), Fail> {
         "invert --key-flags both",
         "patchset --key-flags Places",
         "patchset --binary=yes",
+        "concat file",
+        "concat --key-flags Places",
     ];
     for line in lines {
         let words = words_of(rt.alloc(), line)?;
@@ -130,6 +141,7 @@ fn help(rt: HostRuntime) -> Result<(), Fail> {
         ),
         ("patchset --help", "| changecap patchset"),
         ("help patchset", "--binary"),
+        ("concat --help", "| changecap concat"),
     ];
     for (line, part) in table {
         let words = words_of(rt.alloc(), line)?;

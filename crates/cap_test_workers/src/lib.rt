@@ -11,4 +11,6 @@ mod watched;
 #[cfg(test)]
 mod workers;
 
-pub use watched::{Watched, convert_watched, run_watched, serve_watched, show_watched};
+pub use watched::{
+    Watched, concat_watched, convert_watched, run_watched, serve_watched, show_watched,
+};

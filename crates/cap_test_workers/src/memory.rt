@@ -1,6 +1,11 @@
 //! Each request for memory refused in turn.
-use crate::rows::{CHANGESET, INVERSE, PATCHSET, SHOWN, TO_INVERSE, TO_PATCHSET, WORKLOADS};
-use cap_run::{Encoding, NoGate, RunFault, convert_blob, run_core, run_workload, show_blob};
+use crate::rows::{
+    CHANGESET, INVERSE, JOINED, PATCHSET, SHOWN, TO_INVERSE, TO_JOIN, TO_PATCHSET, TOGETHER,
+    WORKLOADS,
+};
+use cap_run::{
+    Encoding, Form, NoGate, RunFault, concat_blobs, convert_blob, run_core, run_workload, show_blob,
+};
 use cap_server::CallFault;
 use cap_test_support::Memory;
 use std::alloc::Global;
@@ -88,6 +93,7 @@ fn out_of_memory_for_a_blob(rt: HostRuntime) -> Result<(), Fail> {
         let mut written = Vec::new(rt.alloc());
         match show_blob(
             &memory,
+            Form::Text,
             Encoding::Hex,
             &mut CHANGESET.as_bytes(),
             &mut written,
@@ -129,5 +135,28 @@ fn out_of_memory_for_a_conversion(rt: HostRuntime) -> Result<(), Fail> {
         }
         assert!(rt; ended > 10 && !memory.has_refused());
     }
+    Ok(())
+}
+
+#[test]
+fn out_of_memory_for_a_concatenation(rt: HostRuntime) -> Result<(), Fail> {
+    let memory = Memory::new(rt.alloc());
+    let mut ended = 0u64;
+    for number in 1..REQUESTS_MAX {
+        memory.refuse(number);
+        let mut written = Vec::new(rt.alloc());
+        match concat_blobs(&memory, TOGETHER, &mut TO_JOIN.as_bytes(), &mut written) {
+            Ok(()) => assert!(rt; written.as_slice() == JOINED.as_bytes()),
+            Err(fault) => {
+                assert_eq!(rt; fault, RunFault::Memory, "{number}");
+                assert!(rt; written.is_empty(), "{number}");
+                ended = ended.saturating_add(1);
+            }
+        }
+        if !memory.has_refused() {
+            break;
+        }
+    }
+    assert!(rt; ended > 10 && !memory.has_refused());
     Ok(())
 }

@@ -1,6 +1,6 @@
 //! Workloads with what they print, and a blob with what is shown of it and what it is converted to.
 use cap_codec::KeyFlags;
-use cap_run::{Conversion, Encoding, Target};
+use cap_run::{Concatenation, Conversion, Encoding, Target};
 
 // A session captures an insert.
 const INSERT: (&str, &str) = (
@@ -66,6 +66,19 @@ pub(crate) const TO_INVERSE: Conversion = Conversion {
 
 pub(crate) const TO_PATCHSET: Conversion = Conversion {
     target: Target::Patchset,
+    key_flags: KeyFlags::Places,
+    encoding: Encoding::Hex,
+};
+
+/// That changeset and a delete of a row that it inserts, a blob a line.
+pub(crate) const TO_JOIN: &str =
+    "54030100007400120101000000000000012c04000512000180000000000000000300017fffffffffffffff170001000000000000000103036f6c640000030869742773206e65770009000100000000000000020304676f6e65040200ff54030200016772c3b6c39f6500170103016b01ffffffffffffffff0100000000000000090001000000000000000000\n54030100007400090101000000000000012c040005\n";
+
+/// What SQLite 3.40 makes of both, with the changes in the order of their keys, and the key flags as of the inverse.
+pub(crate) const JOINED: &str =
+    "5403010000740012000180000000000000000300017fffffffffffffff170001000000000000000103036f6c640000030869742773206e65770009000100000000000000020304676f6e65040200ff54030100026772c3b6c39f6500170103016b01ffffffffffffffff0100000000000000090001000000000000000000\n";
+
+pub(crate) const TOGETHER: Concatenation = Concatenation {
     key_flags: KeyFlags::Places,
     encoding: Encoding::Hex,
 };

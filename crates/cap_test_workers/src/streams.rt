@@ -1,6 +1,6 @@
 //! Readers and writers that fail, that are interrupted, and that give or take one byte at a time.
-use crate::rows::{CHANGESET, INVERSE, SHOWN, TO_INVERSE};
-use crate::{Watched, convert_watched, run_watched, serve_watched, show_watched};
+use crate::rows::{CHANGESET, INVERSE, JOINED, SHOWN, TO_INVERSE, TO_JOIN, TOGETHER};
+use crate::{Watched, concat_watched, convert_watched, run_watched, serve_watched, show_watched};
 use cap_run::RunFault;
 use cap_test_support::{Failure, Sink, Source};
 use std::alloc::{AllocError, Global};
@@ -23,14 +23,16 @@ enum Program {
     Workload,
     Show,
     Invert,
+    Concat,
 }
 
 // The programs, each with an input and its output.
-const PROGRAMS: [(Program, &str, &str); 4] = [
+const PROGRAMS: [(Program, &str, &str); 5] = [
     (Program::Core, WORKLOAD, REPLIES),
     (Program::Workload, WORKLOAD, REPLIES),
     (Program::Show, CHANGESET, SHOWN),
     (Program::Invert, CHANGESET, INVERSE),
+    (Program::Concat, TO_JOIN, JOINED),
 ];
 
 // Runs a program on these streams. It reports a call that failed.
@@ -48,6 +50,7 @@ fn run<T: Threads + Wait + Sync>(
         Program::Workload => serve_watched(rt, alloc, &mut reader, &mut writer),
         Program::Show => show_watched(alloc, &mut reader, &mut writer),
         Program::Invert => convert_watched(alloc, TO_INVERSE, &mut reader, &mut writer),
+        Program::Concat => concat_watched(alloc, TOGETHER, &mut reader, &mut writer),
     }
 }
 

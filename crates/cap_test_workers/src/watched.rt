@@ -5,8 +5,8 @@ ghost use Rattle.std.specs.declared.io.ErrorKind.TheVariants.{Interrupted};
 
 use cap_codec::Source;
 use cap_run::{
-    Conversion, Encoding, NoGate, RunFault, RunOutput, convert_blob, run_core, run_workload,
-    show_blob,
+    Concatenation, Conversion, Encoding, Form, NoGate, RunFault, RunOutput, concat_blobs,
+    convert_blob, run_core, run_workload, show_blob,
 };
 use std::alloc::Global;
 use std::io;
@@ -139,7 +139,7 @@ pub fn show_watched<R: Read, W: Write>(
     ensures read { reader.new.has_failed ≡ true → result ≡ Err RunFault.Read }
     ensures write { writer.new.has_failed ≡ true → result ≡ Err RunFault.Write }
 {
-    show_blob(alloc, Encoding::Hex, reader, writer)
+    show_blob(alloc, Form::Text, Encoding::Hex, reader, writer)
 }
 
 /// Converts a changeset. A call of the streams that failed is what the run reports.
@@ -155,4 +155,19 @@ pub fn convert_watched<R: Read, W: Write>(
     ensures write { writer.new.has_failed ≡ true → result ≡ Err RunFault.Write }
 {
     convert_blob(alloc, conversion, reader, writer)
+}
+
+/// Concatenates blobs. A call of the streams that failed is what the run reports.
+pub fn concat_watched<R: Read, W: Write>(
+    alloc: Global,
+    concatenation: Concatenation,
+    reader: &mut Watched<R>,
+    writer: &mut Watched<W>,
+) -> Result<(), RunFault>
+    requires reader { reader.old.has_failed ≡ false }
+    requires writer { writer.old.has_failed ≡ false }
+    ensures read { reader.new.has_failed ≡ true → result ≡ Err RunFault.Read }
+    ensures write { writer.new.has_failed ≡ true → result ≡ Err RunFault.Write }
+{
+    concat_blobs(alloc, concatenation, reader, writer)
 }
