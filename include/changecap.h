@@ -49,6 +49,8 @@ extern "C" {
 #define CHANGECAP_REFUSED   6 /* the server refuses the command: its reply says why */
 #define CHANGECAP_COMMAND   7 /* the text is not one command: the fault is told */
 #define CHANGECAP_FULL      8 /* the server has answered 2^63 - 1 commands */
+#define CHANGECAP_KIND      9 /* a changeset where the blob before it is a patchset, or the other way round */
+#define CHANGECAP_COLUMNS  10 /* a table that had other columns, or another key, before */
 #define CHANGECAP_ROW     100 /* the iterator is at a change */
 #define CHANGECAP_DONE    101 /* the iterator is behind the last change */
 
@@ -102,6 +104,22 @@ uint32_t changecap_invert(const uint8_t *blob, size_t n, uint32_t key_flags, uin
  *   The rest as of changecap_invert. */
 uint32_t changecap_patchset(const uint8_t *blob, size_t n, uint32_t key_flags, uint8_t *out, size_t room, size_t *len,
                             changecap_fault *fault);
+
+/* The concatenation of two changesets or of two patchsets, as sqlite3changeset_concat: one change for each row that both
+ * have changed, the tables in the order of their first change, the changes of a table in that of their keys. A blob without
+ * changes is of either kind. *blob is the number of the blob that is refused: 0 of the first, 1 of the second.
+ *   OK (*len), MALFORMED (*fault, *blob), ROOM (*len), NOMEM, MISUSE (no such key_flags), KIND (*blob), COLUMNS (*blob).
+ * Unless the status is OK, out is as it was. */
+uint32_t changecap_concat(const uint8_t *first, size_t n, const uint8_t *second, size_t m, uint32_t key_flags, uint8_t *out,
+                          size_t room, size_t *len, changecap_fault *fault, size_t *blob);
+
+/* A changeset or a patchset as JSON: an array with an object for each change, and a line feed, in UTF-8 without a zero byte
+ * at its end. An object has the "table", the "op" ("insert", "update" or "delete"), whether it is "indirect", the names
+ * of the "key" columns, and its "old" and "new" values by column. Columns are "c0", "c1" and so on. A value is null, a
+ * number, a string, or an object whose "blob" has hex digits. An update of a patchset has its key in "new" too.
+ *   OK (*len), MALFORMED (*fault), ROOM (*len), NOMEM.
+ * Unless the status is OK, out is as it was. */
+uint32_t changecap_json(const uint8_t *blob, size_t n, uint8_t *out, size_t room, size_t *len, changecap_fault *fault);
 
 /* ---- Changes of a blob ---- */
 

@@ -134,6 +134,126 @@ static void worked_values(void){
   CHECK(changecap_invert(changecap_bytes(NULL), 0, 1, &none, 0, &len, &fault) == CHANGECAP_OK && len == 0);
 }
 
+/* Both blobs as one, in the way of made_by. */
+static uint32_t concatenated(bytes first, bytes second, uint32_t key_flags, bytes *made, changecap_fault *fault,
+                             size_t *blob){
+  size_t len = 12345;
+  uint8_t none = 0xaa;
+  uint32_t status;
+  status = changecap_concat(first.at, first.n, second.at, second.n, key_flags, &none, 0, &len, fault, blob);
+  *made = copy_of(&none, 0);
+  CHECK(none == 0xaa);
+  if( status == CHANGECAP_OK ) CHECK(len == 0);
+  if( status != CHANGECAP_ROOM ) return status;
+  free(made->at);
+  made->n = len;
+  made->at = __real_malloc(len);
+  len = 0;
+  status = changecap_concat(first.at, first.n, second.at, second.n, key_flags, made->at, made->n, &len, fault, blob);
+  CHECK(status == CHANGECAP_OK && len == made->n);
+  return status;
+}
+
+/* The text of a blob, in the way of made_by. */
+static uint32_t json_of(bytes blob, bytes *made, changecap_fault *fault){
+  size_t len = 12345;
+  uint8_t none = 0xaa;
+  uint32_t status = changecap_json(blob.at, blob.n, &none, 0, &len, fault);
+  *made = copy_of(&none, 0);
+  CHECK(none == 0xaa && status != CHANGECAP_OK);
+  if( status != CHANGECAP_ROOM ) return status;
+  free(made->at);
+  made->n = len;
+  made->at = __real_malloc(len);
+  len = 0;
+  status = changecap_json(blob.at, blob.n, made->at, made->n, &len, fault);
+  CHECK(status == CHANGECAP_OK && len == made->n);
+  return status;
+}
+
+/* Both blobs, by their digits, have this concatenation. */
+static void concat_is(const char *first, const char *second, uint32_t key_flags, const char *wanted){
+  bytes one = of_hex(first, strlen(first)), two = of_hex(second, strlen(second)), made;
+  changecap_fault fault = { 77, 77 };
+  size_t blob = 77;
+  CHECK(concatenated(one, two, key_flags, &made, &fault, &blob) == CHANGECAP_OK && is_hex(made, wanted));
+  CHECK(fault.kind == 77 && fault.at == 77 && blob == 77);
+  free(one.at);
+  free(two.at);
+  free(made.at);
+}
+
+/* They have none, for this reason, by the blob of this number. Nothing else is told. */
+static void concat_is_refused(const char *first, const char *second, uint32_t wanted, size_t by, changecap_fault of){
+  bytes one = of_hex(first, strlen(first)), two = of_hex(second, strlen(second));
+  changecap_fault fault = { 77, 77 };
+  size_t blob = 77, len = 99;
+  uint8_t out[64] = { 0xaa };
+  CHECK(changecap_concat(one.at, one.n, two.at, two.n, 0, out, sizeof out, &len, &fault, &blob) == wanted);
+  CHECK(blob == by && fault.kind == of.kind && fault.at == of.at && len == 99 && out[0] == 0xaa);
+  free(one.at);
+  free(two.at);
+}
+
+static void worked_concatenations(void){
+  const char *insert = "5402010074001200010000000000000001030178";
+  const char *update = "540201007400170001000000000000000103017800030179";
+  const char *delete = "5402010074000900010000000000000001030178";
+  const char *patch = "5002010074001200010000000000000001030178";
+  const char *patched = "5002010074001700010000000000000001030179";
+  const char *two_keys = "540300010174001200030178010000000000000002010000000000000001";
+  const char *other_table = "540201007500120001000000000000000205";
+  const char *two_tables = "5402010074001200010000000000000001030178" "540201007500120001000000000000000205";
+  changecap_fault none = { 77, 77 };
+  concat_is(insert, update, CHANGECAP_KEYS_ONES, "5402010074001200010000000000000001030179");
+  concat_is(update, "5402010074000900010000000000000001030179", CHANGECAP_KEYS_PLACES, delete);
+  concat_is(insert, delete, CHANGECAP_KEYS_PLACES, "");
+  concat_is(insert, other_table, CHANGECAP_KEYS_PLACES, two_tables);
+  concat_is(patch, patched, CHANGECAP_KEYS_ONES, "5002010074001200010000000000000001030179");
+  concat_is("", two_keys, CHANGECAP_KEYS_ONES, two_keys);
+  concat_is(two_keys, "", CHANGECAP_KEYS_PLACES, "540300010274001200030178010000000000000002010000000000000001");
+  concat_is("", "", CHANGECAP_KEYS_ONES, "");
+  concat_is("", patch, CHANGECAP_KEYS_ONES, patch);
+  concat_is_refused(insert, patch, CHANGECAP_KIND, 1, none);
+  concat_is_refused(patch, insert, CHANGECAP_KIND, 1, none);
+  concat_is_refused(insert, two_keys, CHANGECAP_COLUMNS, 1, none);
+  concat_is_refused("5480", insert, CHANGECAP_MALFORMED, 0, (changecap_fault){ CHANGECAP_BAD_VARINT, 1 });
+  concat_is_refused(insert, "5480", CHANGECAP_MALFORMED, 1, (changecap_fault){ CHANGECAP_BAD_VARINT, 1 });
+  bytes blob = of_hex(insert, strlen(insert));
+  changecap_fault fault = { 77, 77 };
+  size_t len = 99, by = 77;
+  uint8_t out[64];
+  CHECK(changecap_concat(blob.at, blob.n, blob.at, blob.n, 2, out, sizeof out, &len, &fault, &by) == CHANGECAP_MISUSE);
+  free(blob.at);
+}
+
+static void json_is(const char *hex, const char *wanted){
+  bytes blob = of_hex(hex, strlen(hex)), made;
+  changecap_fault fault = { 77, 77 };
+  CHECK(json_of(blob, &made, &fault) == CHANGECAP_OK && fault.kind == 77 && fault.at == 77);
+  CHECK(made.n == strlen(wanted) && !memcmp(made.at, wanted, made.n));
+  free(blob.at);
+  free(made.at);
+}
+
+static void worked_json(void){
+  json_is("", "[]\n");
+  json_is("5402010074001200010000000000000001030178",
+          "[{\"table\":\"t\",\"op\":\"insert\",\"indirect\":false,\"key\":[\"c0\"],"
+          "\"new\":{\"c0\":1,\"c1\":\"x\"}}]\n");
+  json_is("540201007400170101000000000000000103017800030179",
+          "[{\"table\":\"t\",\"op\":\"update\",\"indirect\":true,\"key\":[\"c0\"],"
+          "\"old\":{\"c0\":1,\"c1\":\"x\"},\"new\":{\"c1\":\"y\"}}]\n");
+  json_is("50030001017400120005010000000000000002040200ff",
+          "[{\"table\":\"t\",\"op\":\"insert\",\"indirect\":false,\"key\":[\"c1\",\"c2\"],"
+          "\"new\":{\"c0\":null,\"c1\":2,\"c2\":{\"blob\":\"00ff\"}}}]\n");
+  bytes blob = of_hex("5480", 4), made;
+  changecap_fault fault = { 77, 77 };
+  CHECK(json_of(blob, &made, &fault) == CHANGECAP_MALFORMED && fault.kind == CHANGECAP_BAD_VARINT && fault.at == 1);
+  free(blob.at);
+  free(made.at);
+}
+
 /* Each request for memory is refused in turn. The call says so and changes nothing, or it did without that request. */
 static void refused_memory(bytes blob, convert call){
   bytes out = copy_of(blob.at, blob.n), before = copy_of(blob.at, blob.n), made;
@@ -156,6 +276,51 @@ static void refused_memory(bytes blob, convert call){
   }
   free(out.at);
   free(before.at);
+  free(made.at);
+}
+
+/* The same of the concatenation of two blobs that have one. */
+static void refused_concat(bytes first, bytes second){
+  changecap_fault fault = { 77, 77 };
+  size_t blob = 77;
+  bytes made;
+  if( concatenated(first, second, 1, &made, &fault, &blob) != CHANGECAP_OK ){
+    free(made.at);
+    return;
+  }
+  bytes out = { __real_malloc(made.n + 1), made.n };
+  for(long at = 0, granted = 0; !granted; at++){
+    size_t len = 99;
+    memset(out.at, 0xaa, out.n + 1);
+    refused_at = at;
+    uint32_t status = changecap_concat(first.at, first.n, second.at, second.n, 1, out.at, out.n, &len, &fault, &blob);
+    granted = refused_at >= 0;
+    refused_at = -1;
+    CHECK(fault.kind == 77 && fault.at == 77 && blob == 77 && out.at[out.n] == 0xaa);
+    if( status == CHANGECAP_NOMEM ) CHECK(!granted && len == 99 && out.at[0] == 0xaa);
+    else CHECK(status == CHANGECAP_OK && len == made.n && !memcmp(out.at, made.at, made.n));
+  }
+  free(out.at);
+  free(made.at);
+}
+
+static void refused_json(bytes blob){
+  changecap_fault fault = { 77, 77 };
+  bytes made;
+  CHECK(json_of(blob, &made, &fault) == CHANGECAP_OK);
+  bytes out = { __real_malloc(made.n), made.n };
+  for(long at = 0, granted = 0; !granted; at++){
+    size_t len = 99;
+    memset(out.at, 0xaa, out.n);
+    refused_at = at;
+    uint32_t status = changecap_json(blob.at, blob.n, out.at, out.n, &len, &fault);
+    granted = refused_at >= 0;
+    refused_at = -1;
+    CHECK(fault.kind == 77 && fault.at == 77);
+    if( status == CHANGECAP_NOMEM ) CHECK(!granted && len == 99 && out.at[0] == 0xaa);
+    else CHECK(status == CHANGECAP_OK && len == made.n && !memcmp(out.at, made.at, made.n));
+  }
+  free(out.at);
   free(made.at);
 }
 
@@ -385,6 +550,29 @@ static void refused_server(void){
   }
 }
 
+/* What holds of a blob alone, of this status and fault, and of its text. A concatenation does not change once more. */
+static void concat_and_json_agree(bytes blob, uint32_t status, changecap_fault fault){
+  bytes nothing = { (uint8_t *)"", 0 }, once, twice, text;
+  changecap_fault other = { 77, 77 };
+  size_t by = 77;
+  uint32_t joined = concatenated(blob, nothing, 0, &once, &other, &by);
+  if( status == CHANGECAP_MALFORMED ){
+    CHECK(joined == status && other.kind == fault.kind && other.at == fault.at && by == 0);
+  }else if( joined == CHANGECAP_OK ){
+    CHECK(concatenated(nothing, once, 0, &twice, &other, &by) == CHANGECAP_OK);
+    CHECK(once.n == twice.n && !memcmp(once.at, twice.at, once.n));
+    free(twice.at);
+  }else{
+    CHECK(joined == CHANGECAP_COLUMNS && by == 0);
+  }
+  free(once.at);
+  other = (changecap_fault){ 77, 77 };
+  CHECK(json_of(blob, &text, &other) == status);
+  if( status == CHANGECAP_MALFORMED ) CHECK(other.kind == fault.kind && other.at == fault.at);
+  else CHECK(text.n >= 3 && text.at[0] == '[' && text.at[text.n - 1] == '\n');
+  free(text.at);
+}
+
 /* What holds of the calls on any bytes. */
 static void calls_agree(bytes blob){
   changecap_fault fault = { 0, 0 }, other = { 0, 0 };
@@ -393,6 +581,7 @@ static void calls_agree(bytes blob){
   uint32_t inverted = made_by(changecap_invert, blob, 0, &once, &other);
   uint32_t patched = made_by(changecap_patchset, blob, 0, &patchset, &other);
   CHECK(inverted == patched);
+  concat_and_json_agree(blob, status, fault);
   size_t changes = iterated(blob, status);
   if( status == CHANGECAP_MALFORMED ){
     CHECK(inverted == status && fault.kind == other.kind && fault.at == other.at);
@@ -496,6 +685,8 @@ int main(int words, char **word){
     return 2;
   }
   worked_values();
+  worked_concatenations();
+  worked_json();
   worked_iterator();
   worked_server();
   refused_server();
@@ -505,6 +696,8 @@ int main(int words, char **word){
     if( all[i].fault.kind ) continue;
     refused_check(all[i].blob);
     refused_iterator(all[i].blob);
+    refused_json(all[i].blob);
+    refused_concat(all[i].blob, all[i].blob);
     if( all[i].blob.n && all[i].blob.at[0] == 0x50 ) continue;
     refused_memory(all[i].blob, changecap_invert);
     refused_memory(all[i].blob, changecap_patchset);

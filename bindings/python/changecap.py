@@ -21,6 +21,7 @@ from ctypes import POINTER, byref, c_int64, c_size_t, c_uint32, c_void_p
 from dataclasses import dataclass
 
 OK, MALFORMED, ROOM, NOMEM, PATCHSET, MISUSE, REFUSED, COMMAND, FULL, ROW, DONE = 0, 1, 2, 3, 4, 5, 6, 7, 8, 100, 101
+KIND, COLUMNS = 9, 10
 KEYS_ONES, KEYS_PLACES = 0, 1
 UNDEFINED, INTEGER, TEXT, BLOB, NULL = 0, 1, 3, 4, 5
 OPERATIONS = {18: "insert", 23: "update", 9: "delete"}
@@ -91,6 +92,8 @@ _CALLS = {
     "check": [_BYTES, _LEN, POINTER(_Fault)],
     "invert": [_BYTES, _LEN, c_uint32, _OUT, _LEN, POINTER(c_size_t), POINTER(_Fault)],
     "patchset": [_BYTES, _LEN, c_uint32, _OUT, _LEN, POINTER(c_size_t), POINTER(_Fault)],
+    "concat": [_BYTES, _LEN, _BYTES, _LEN, c_uint32, _OUT, _LEN, POINTER(c_size_t), POINTER(_Fault), POINTER(c_size_t)],
+    "json": [_BYTES, _LEN, _OUT, _LEN, POINTER(c_size_t), POINTER(_Fault)],
     "iter_open": [_BYTES, _LEN, POINTER(_Handle), POINTER(_Fault)],
     "iter_next": [POINTER(_Handle)],
     "iter_op": [POINTER(_Handle), POINTER(_Change)],
@@ -127,6 +130,15 @@ class _Library:
 _library = _Library()
 
 
+_MESSAGES = {
+    PATCHSET: "a patchset, where only a changeset serves",
+    MISUSE: "misuse",
+    FULL: "history full",
+    KIND: "a changeset and a patchset",
+    COLUMNS: "a table that had other columns before",
+}
+
+
 def _check(status, fault=None):
     if status == MALFORMED:
         raise Malformed(fault)
@@ -135,17 +147,16 @@ def _check(status, fault=None):
     if status == NOMEM:
         raise MemoryError
     if status != OK:
-        raise Error(status, {PATCHSET: "a patchset, where only a changeset serves", MISUSE: "misuse", FULL: "history full"}
-                    .get(status, f"status {status}"))
+        raise Error(status, _MESSAGES.get(status, f"status {status}"))
 
 
-def _taken(call, room=256):
+def _taken(call, room=256, fault=None):
     """The bytes that a call writes, which gets a buffer of this length first."""
     while True:
         out, length = ctypes.create_string_buffer(room or 1), c_size_t()
         status = call(out, room, byref(length))
         if status != ROOM:
-            _check(status)
+            _check(status, fault)
             return out.raw[:length.value]
         room = length.value
 
@@ -172,6 +183,27 @@ def invert(changeset, key_flags=KEYS_PLACES):
 def patchset(changeset, key_flags=KEYS_PLACES):
     """The patchset of a changeset."""
     return _converted(_library.patchset, changeset, key_flags)
+
+
+def concat(first, second, key_flags=KEYS_PLACES):
+    """The concatenation of two changesets or of two patchsets. Of an error, `blob` is 0 or 1: the one that is refused."""
+    first, second, fault, blob = bytes(first), bytes(second), _Fault(), c_size_t()
+
+    def call(*out):
+        return _library.concat(first, len(first), second, len(second), key_flags, *out, byref(fault), byref(blob))
+
+    try:
+        return _taken(call, len(first) + len(second), fault)
+    except Error as error:
+        if error.status != MISUSE:
+            error.blob = blob.value
+        raise
+
+
+def json(blob):
+    """A changeset or a patchset as JSON: an array with an object for each change, and a line feed."""
+    blob, fault = bytes(blob), _Fault()
+    return _taken(lambda *out: _library.json(blob, len(blob), *out, byref(fault)), 4 * len(blob), fault).decode()
 
 
 def _value(handle, column, field_of, bytes_of):

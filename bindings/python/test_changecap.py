@@ -1,4 +1,5 @@
 """Each call, beside worked values, the table of blobs that CHANGECAP_BLOBS names, and SQLite where it is there."""
+import json
 import os
 import random
 import sys
@@ -39,6 +40,40 @@ class Blobs(unittest.TestCase):
             changecap.check(b"T\x80")
         self.assertEqual((raised.exception.kind, raised.exception.at), (3, 1))
 
+    def test_concatenations(self):
+        update = bytes.fromhex("540201007400170001000000000000000103017800030179")
+        both = bytes.fromhex("5402010074001200010000000000000001030179")
+        self.assertEqual(changecap.concat(INSERT, update), both)
+        self.assertEqual(changecap.concat(INSERT, DELETE), b"")
+        self.assertEqual(changecap.concat(*map(changecap.patchset, (INSERT, update))), changecap.patchset(both))
+        two_keys = bytes.fromhex("540300010174001200030178010000000000000002010000000000000001")
+        self.assertEqual(changecap.concat(b"", two_keys, changecap.KEYS_ONES), two_keys)
+        self.assertEqual(changecap.concat(two_keys, b"")[:6].hex(), "540300010274")
+        for first, second, status, blob in ((INSERT, b"P" + INSERT[1:], changecap.KIND, 1),
+                                            (INSERT, two_keys, changecap.COLUMNS, 1),
+                                            (b"T\x80", INSERT, changecap.MALFORMED, 0),
+                                            (INSERT, b"T\x80", changecap.MALFORMED, 1)):
+            with self.assertRaises(changecap.Error) as raised:
+                changecap.concat(first, second)
+            self.assertEqual((raised.exception.status, raised.exception.blob), (status, blob))
+        with self.assertRaises(changecap.Error) as raised:
+            changecap.concat(INSERT, DELETE, 7)
+        self.assertEqual(raised.exception.status, changecap.MISUSE)
+
+    def test_json(self):
+        text = '[{"table":"t","op":"insert","indirect":false,"key":["c0"],"new":{"c0":1,"c1":"x"}}]\n'
+        self.assertEqual(changecap.json(INSERT), text)
+        self.assertEqual(changecap.json(b"P" + INSERT[1:]), text)
+        self.assertEqual(changecap.json(b""), "[]\n")
+        blob = bytes.fromhex("540201007500170101000000000000000703012d0003022b2b540301000062001200040200ff05030161")
+        self.assertEqual(json.loads(changecap.json(blob)), [
+            {"table": "u", "op": "update", "indirect": True, "key": ["c0"], "old": {"c0": 7, "c1": "-"}, "new": {"c1": "++"}},
+            {"table": "b", "op": "insert", "indirect": False, "key": ["c0"],
+             "new": {"c0": {"blob": "00ff"}, "c1": None, "c2": "a"}},
+        ])
+        with self.assertRaises(changecap.Malformed):
+            changecap.json(b"T")
+
     def test_changes(self):
         blob = bytes.fromhex("540201007500170101000000000000000703012d0003022b2b540301000062001200040200ff05030161")
         update, insert = changecap.iterate(blob)
@@ -67,7 +102,11 @@ class Blobs(unittest.TestCase):
         if not sqlite:
             self.skipTest("no SQLite with the session extension")
         for number in range(60):
-            changeset, patchset = captured(random.Random(number))
+            (changeset, patchset), later = captured(random.Random(number))
+            for first, second in zip((changeset, patchset), later):
+                ours, theirs = changecap.concat(first, second), sqlite.concat(first, second)
+                self.assertEqual(changes_of(ours), changes_of(theirs))
+                self.assertEqual(len(json.loads(changecap.json(ours))), len(changes_of(ours)))
             self.assertEqual(changecap.invert(changeset), sqlite.invert(changeset))
             self.assertEqual(changecap.patchset(changeset), patchset)
             for blob in changeset, patchset:
@@ -79,8 +118,13 @@ class Blobs(unittest.TestCase):
                     self.assertEqual((our.key, our.indirect), ([bool(it) for it in their.key], bool(their.indirect)))
 
 
+def changes_of(blob):
+    """The changes of a blob in an order of their own: SQLite has those of a concatenation in that of a hash table."""
+    return sorted(map(repr, changecap.iterate(blob)))
+
+
 def captured(chance):
-    """A changeset and a patchset of SQLite, of some random statements."""
+    """Two changesets of SQLite, each with its patchset, of some random statements that come one after the other."""
     connection = sqlite.Connection()
     connection.execute("CREATE TABLE t(a, b, c, PRIMARY KEY(a, b))")
     connection.execute("CREATE TABLE u(a PRIMARY KEY, b)")
@@ -101,13 +145,15 @@ def captured(chance):
 
     for _ in range(20):
         change()
-    session = connection.session()
-    session.attach()
-    for _ in range(20):
-        session.indirect(chance.randrange(2))
-        change()
-    made = session.changeset(), session.patchset()
-    session.delete()
+    made = []
+    for _ in range(2):
+        session = connection.session()
+        session.attach()
+        for _ in range(20):
+            session.indirect(chance.randrange(2))
+            change()
+        made.append((session.changeset(), session.patchset()))
+        session.delete()
     connection.close()
     return made
 

@@ -30,15 +30,12 @@ pub fn check(blob: &[u8]) -> Result<()> {
     }
 }
 
-fn converted(call: ffi::Convert, blob: &[u8], key_flags: KeyFlags) -> Result<Vec<u8>> {
-    // What is made is no longer than the changeset.
-    let mut out = vec![0; blob.len()];
+/// What a call writes, which gets a buffer of this length first.
+fn taken(room: usize, call: impl Fn(&mut [u8], &mut usize, &mut ffi::Fault) -> u32) -> Result<Vec<u8>> {
+    let mut out = vec![0; room];
     let (mut len, mut fault) = (0, ffi::Fault::default());
     loop {
-        let status = unsafe {
-            call(blob.as_ptr(), blob.len(), key_flags.number(), out.as_mut_ptr(), out.len(), &mut len, &mut fault)
-        };
-        match status {
+        match call(&mut out, &mut len, &mut fault) {
             ffi::OK => {
                 out.truncate(len);
                 return Ok(out);
@@ -47,6 +44,37 @@ fn converted(call: ffi::Convert, blob: &[u8], key_flags: KeyFlags) -> Result<Vec
             status => return Err(Error::of(status, fault)),
         }
     }
+}
+
+fn converted(call: ffi::Convert, blob: &[u8], key_flags: KeyFlags) -> Result<Vec<u8>> {
+    // What is made is no longer than the changeset.
+    taken(blob.len(), |out, len, fault| unsafe {
+        call(blob.as_ptr(), blob.len(), key_flags.number(), out.as_mut_ptr(), out.len(), len, fault)
+    })
+}
+
+fn joined(first: &[u8], second: &[u8], key_flags: KeyFlags) -> Result<Vec<u8>> {
+    taken(first.len() + second.len(), |out, len, fault| unsafe {
+        ffi::changecap_concat(
+            first.as_ptr(),
+            first.len(),
+            second.as_ptr(),
+            second.len(),
+            key_flags.number(),
+            out.as_mut_ptr(),
+            out.len(),
+            len,
+            fault,
+            &mut 0,
+        )
+    })
+}
+
+fn text(blob: &[u8]) -> Result<String> {
+    let text = taken(4 * blob.len(), |out, len, fault| unsafe {
+        ffi::changecap_json(blob.as_ptr(), blob.len(), out.as_mut_ptr(), out.len(), len, fault)
+    })?;
+    Ok(String::from_utf8(text).expect("texts are UTF-8"))
 }
 
 /// The bytes of a changeset.
@@ -79,6 +107,16 @@ impl Changeset {
         Ok(Patchset(converted(ffi::changecap_patchset, &self.0, key_flags)?))
     }
 
+    /// The concatenation of two changesets: one change for each row that both have changed.
+    pub fn concat(first: &Changeset, second: &Changeset, key_flags: KeyFlags) -> Result<Changeset> {
+        Ok(Changeset(joined(&first.0, &second.0, key_flags)?))
+    }
+
+    /// An array with an object for each change, and a line feed. `changecap.h` says what is in an object.
+    pub fn json(&self) -> Result<String> {
+        text(&self.0)
+    }
+
     pub fn iter(&self) -> Result<ChangesetIter> {
         ChangesetIter::start(&self.0)
     }
@@ -96,6 +134,16 @@ impl Patchset {
 
     pub fn as_bytes(&self) -> &[u8] {
         &self.0
+    }
+
+    /// The concatenation of two patchsets: one change for each row that both have changed.
+    pub fn concat(first: &Patchset, second: &Patchset, key_flags: KeyFlags) -> Result<Patchset> {
+        Ok(Patchset(joined(&first.0, &second.0, key_flags)?))
+    }
+
+    /// An array with an object for each change, and a line feed. `changecap.h` says what is in an object.
+    pub fn json(&self) -> Result<String> {
+        text(&self.0)
     }
 
     pub fn iter(&self) -> Result<ChangesetIter> {

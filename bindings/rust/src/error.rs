@@ -16,6 +16,10 @@ pub enum Error {
     Malformed(Fault),
     /// A patchset, where only a changeset serves.
     Patchset,
+    /// A changeset where the blob before it is a patchset, or the other way round.
+    OtherKind,
+    /// A table that had other columns, or another key, before.
+    OtherColumns,
     OutOfMemory,
     /// There is no such column, or no change.
     Misuse,
@@ -37,6 +41,8 @@ impl Error {
             ffi::MALFORMED => Error::Malformed(fault),
             ffi::NOMEM => Error::OutOfMemory,
             ffi::PATCHSET => Error::Patchset,
+            ffi::KIND => Error::OtherKind,
+            ffi::COLUMNS => Error::OtherColumns,
             ffi::COMMAND => Error::Command(fault),
             ffi::FULL => Error::HistoryFull,
             _ => Error::Misuse,
@@ -49,6 +55,8 @@ impl fmt::Display for Error {
         match self {
             Error::Malformed(fault) => write!(f, "fault D{} at {}", fault.kind, fault.at),
             Error::Patchset => f.write_str("a patchset, where only a changeset serves"),
+            Error::OtherKind => f.write_str("a changeset and a patchset"),
+            Error::OtherColumns => f.write_str("a table that had other columns before"),
             Error::OutOfMemory => f.write_str("out of memory"),
             Error::Misuse => f.write_str("no such column, or no change"),
             Error::Refused(reply) => f.write_str(reply),

@@ -10,6 +10,8 @@ pub const MISUSE: u32 = 5;
 pub const REFUSED: u32 = 6;
 pub const COMMAND: u32 = 7;
 pub const FULL: u32 = 8;
+pub const KIND: u32 = 9;
+pub const COLUMNS: u32 = 10;
 pub const ROW: u32 = 100;
 
 #[repr(C)]
@@ -52,6 +54,8 @@ unsafe extern "C" {
     pub fn changecap_check(blob: *const u8, n: usize, fault: *mut Fault) -> u32;
     pub fn changecap_invert(blob: *const u8, n: usize, key_flags: u32, out: *mut u8, room: usize, len: *mut usize, fault: *mut Fault) -> u32;
     pub fn changecap_patchset(blob: *const u8, n: usize, key_flags: u32, out: *mut u8, room: usize, len: *mut usize, fault: *mut Fault) -> u32;
+    pub fn changecap_concat(first: *const u8, n: usize, second: *const u8, m: usize, key_flags: u32, out: *mut u8, room: usize, len: *mut usize, fault: *mut Fault, blob: *mut usize) -> u32;
+    pub fn changecap_json(blob: *const u8, n: usize, out: *mut u8, room: usize, len: *mut usize, fault: *mut Fault) -> u32;
 
     pub fn changecap_iter_open(blob: *const u8, n: usize, iter: *mut Handle, fault: *mut Fault) -> u32;
     pub fn changecap_iter_next(iter: *mut Handle) -> u32;

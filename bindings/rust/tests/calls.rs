@@ -31,6 +31,31 @@ fn whole_blobs() {
 }
 
 #[test]
+fn concatenations() {
+    let insert = Changeset::from_bytes(&of_hex(INSERT)).unwrap();
+    let update = Changeset::from_bytes(&of_hex("540201007400170001000000000000000103017800030179")).unwrap();
+    let both = Changeset::concat(&insert, &update, KeyFlags::Ones).unwrap();
+    assert_eq!(both.as_bytes(), of_hex("5402010074001200010000000000000001030179"));
+    let nothing = Changeset::concat(&insert, &Changeset::from_bytes(&of_hex(DELETE)).unwrap(), KeyFlags::Places).unwrap();
+    assert!(nothing.as_bytes().is_empty());
+    let patches = (insert.patchset(KeyFlags::Places).unwrap(), update.patchset(KeyFlags::Places).unwrap());
+    let patched = Patchset::concat(&patches.0, &patches.1, KeyFlags::Places).unwrap();
+    assert_eq!(patched, both.patchset(KeyFlags::Places).unwrap());
+    let two_keys = Changeset::from_bytes(&of_hex("540300010174001200030178010000000000000002010000000000000001")).unwrap();
+    assert!(matches!(Changeset::concat(&insert, &two_keys, KeyFlags::Ones), Err(Error::OtherColumns)));
+    assert!(Changeset::concat(&nothing, &two_keys, KeyFlags::Ones).unwrap() == two_keys);
+}
+
+#[test]
+fn json() {
+    let insert = Changeset::from_bytes(&of_hex(INSERT)).unwrap();
+    let text = r#"[{"table":"t","op":"insert","indirect":false,"key":["c0"],"new":{"c0":1,"c1":"x"}}]"#;
+    assert_eq!(insert.json().unwrap(), format!("{text}\n"));
+    assert_eq!(insert.patchset(KeyFlags::Ones).unwrap().json().unwrap(), format!("{text}\n"));
+    assert_eq!(Changeset::from_bytes(&[]).unwrap().json().unwrap(), "[]\n");
+}
+
+#[test]
 fn changes_of_a_blob() {
     let hex = "540201000175001701010000000000000007030130003";
     assert!(ChangesetIter::start(&of_hex(hex)).is_err());

@@ -4,6 +4,7 @@ pub mod Fields
 pub mod Iter
 pub mod IterHandle
 pub mod IterTold
+pub mod Json
 pub mod KeyFlags
 pub mod Places
 pub mod Server

@@ -3,7 +3,12 @@ use Rattle.std.specs.Prelude.{◌≡◌, ℕ, List, length, nat_lt, Result, Ok, 
 use Rattle.cap_blob.specs.declared.refusal.BytesRefusal.{BytesRefusal}
 use Rattle.cap_blob.specs.declared.refusal.BytesRefusal.TheVariants as refused
 use Rattle.cap_codec.specs.declared.fault.BlobFault.{BlobFault}
+use Rattle.cap_group.specs.declared.refusal.BlobRefusal.{BlobRefusal}
+use Rattle.cap_group.specs.declared.refusal.BlobRefusal.TheVariants as not_added
+use Rattle.cap_group.specs.declared.refusal.ConcatRefusal.{ConcatRefusal}
+use Rattle.cap_group.specs.declared.refusal.GroupRefusal.TheVariants.{OtherKind, OtherColumns}
 use Rattle.cap_c.specs.declared.status.TheConstants.{DONE, MALFORMED, NO_ROOM, NO_MEMORY, PATCHSET}
+use Rattle.cap_c.specs.declared.status.TheConstants.{OTHER_KIND, OTHER_COLUMNS}
 
 -- of a blob that was read, or of its fault
 abbrev pub read_status : {X : Type 0} → Result X BlobFault → ℕ
@@ -19,6 +24,17 @@ abbrev pub bytes_status : Result (List ℕ) BytesRefusal → ℕ → ℕ
 bytes_status (Ok bytes) room = room_status (length bytes) room
 bytes_status (Err (refused.Malformed fault)) room = MALFORMED
 bytes_status (Err refused.Patchset) room = PATCHSET
+
+-- of a blob that is not added to those before it
+abbrev pub refused_status : BlobRefusal → ℕ
+refused_status (not_added.Malformed fault) = MALFORMED
+refused_status (not_added.Group OtherKind) = OTHER_KIND
+refused_status (not_added.Group (OtherColumns group)) = OTHER_COLUMNS
+
+-- of the bytes of a concatenation, or of the refusal of one of its blobs
+abbrev pub concat_status : Result (List ℕ) ConcatRefusal → ℕ → ℕ
+concat_status (Ok bytes) room = room_status (length bytes) room
+concat_status (Err refusal) room = refused_status refusal.why
 
 -- this status, unless memory ran out
 abbrev pub IsUnlessMemory : ℕ → ℕ → Type 0

@@ -4,6 +4,9 @@ use Rattle.cap_value.specs.declared.value.Value.{Value}
 use Rattle.cap_value.specs.declared.value.Value.TheVariants.{Null, Int, Text, Blob}
 use Rattle.cap_blob.specs.declared.refusal.BytesRefusal.{BytesRefusal}
 use Rattle.cap_blob.specs.declared.refusal.BytesRefusal.TheVariants.{Malformed, Patchset}
+use Rattle.cap_group.specs.declared.refusal.BlobRefusal.{BlobRefusal}
+use Rattle.cap_group.specs.declared.refusal.BlobRefusal.TheVariants as not_added
+use Rattle.cap_group.specs.declared.refusal.ConcatRefusal.{ConcatRefusal}
 use Rattle.cap_c.specs.Fault.{placed}
 use Rattle.cap_c.specs.Status.{room_status}
 use Rattle.cap_c.specs.declared.change_info.FieldValue.{FieldValue}
@@ -25,6 +28,17 @@ abbrev pub Tells : Result (List ℕ) BytesRefusal → ℕ → List ℕ → List 
 Tells (Ok bytes) status old new len fault = Writes bytes status old new len
 Tells (Err (Malformed wrong)) status old new len fault = (new ≡ old) × (fault ≡ placed wrong)
 Tells (Err Patchset) status old new len fault = new ≡ old
+
+-- the fault of a blob that is not added to those before it, where it has one
+abbrev pub TellsFault : BlobRefusal → PlacedFault → Type 0
+TellsFault (not_added.Malformed wrong) fault = fault ≡ placed wrong
+TellsFault (not_added.Group why) fault = Unit {0}
+
+-- The same of a concatenation: the number of the blob that is refused is told too.
+abbrev pub TellsConcat : Result (List ℕ) ConcatRefusal → ℕ → List ℕ → List ℕ → ℕ → PlacedFault → ℕ → Type 0
+TellsConcat (Ok bytes) status old new len fault blob = Writes bytes status old new len
+TellsConcat (Err refusal) status old new len fault blob =
+    (new ≡ old) × (blob ≡ refusal.blob) × TellsFault refusal.why fault
 
 -- what was asked for is told, or there is none and that is misuse
 abbrev pub TellsFound : {X : Type 0} → Option X → ℕ → X → X → Type 0

@@ -4,6 +4,7 @@
 
 mod blobs;
 mod change_info;
+mod concat;
 mod fault;
 mod iter;
 mod iter_calls;
@@ -11,6 +12,7 @@ mod iter_fields;
 mod iter_handle;
 mod iter_place;
 mod iter_told;
+mod json_text;
 mod key_flags;
 mod one_line;
 mod output;

@@ -18,6 +18,10 @@ pub(crate) const REFUSED: u32 = 6;
 pub(crate) const NO_COMMAND: u32 = 7;
 /// The server has answered as many commands as it can.
 pub(crate) const FULL: u32 = 8;
+/// A changeset where the blob before it is a patchset, or the other way round.
+pub(crate) const OTHER_KIND: u32 = 9;
+/// A table that had other columns, or another key, before.
+pub(crate) const OTHER_COLUMNS: u32 = 10;
 /// The iterator is at a change.
 pub(crate) const ROW: u32 = 100;
 /// The iterator is behind the last change.

@@ -1,0 +1,98 @@
+//! The concatenation of two blobs.
+ghost use Rattle.std.specs.Prelude.{◌≡◌, ◌↔◌, ℕ, List, [], ◌∷◌, None, Result, Some, length};
+ghost use Rattle.cap_value.specs.Memory.{ShowsUnlessMemory};
+ghost use Rattle.cap_codec.specs.declared.key_flags.KeyFlags.{KeyFlags as Flags};
+ghost use Rattle.cap_group.specs.Bytes.{concat_at};
+ghost use Rattle.cap_group.specs.declared.refusal.ConcatRefusal.{ConcatRefusal as Refused};
+ghost use Rattle.cap_c.specs.KeyFlags.{key_flags_of};
+ghost use Rattle.cap_c.specs.Status.{IsUnlessMemory, concat_status, refused_status};
+ghost use Rattle.cap_c.specs.Told.{TellsConcat, TellsFault};
+ghost use Rattle.cap_c.specs.declared.status.TheConstants.{DONE, MALFORMED, MISUSE, NO_MEMORY};
+
+use crate::fault::PlacedFault;
+use crate::key_flags::key_flags_of;
+use crate::output::write_bytes;
+use crate::status::{MALFORMED, MISUSE, NO_MEMORY, OTHER_COLUMNS, OTHER_KIND};
+use cap_group::{BlobRefusal, ConcatRefusal, GroupRefusal, concat_bytes};
+use cap_value::Fault;
+use std::alloc::Global;
+
+/// The concatenation of two blobs of one kind, with the key flags of this number.
+#[unsafe(no_mangle)]
+pub extern "C" fn changecap_concat(
+    alloc: Global,
+    first: &[u8],
+    second: &[u8],
+    key_flags: u32,
+    out: &mut [u8],
+    len: &mut usize,
+    fault: &mut PlacedFault,
+    blob: &mut usize,
+) -> u32
+    // Which status.
+    ensures status { (flags : Flags) → key_flags_of key_flags ≡ Some flags → IsUnlessMemory result
+        (concat_status (concat_at Global flags (first.now ∷ second.now ∷ [])) (length out.old)) }
+    // The bytes of the concatenation, their number, or which blob is refused and its fault.
+    ensures told { (flags : Flags) → key_flags_of key_flags ≡ Some flags → ¬ (result ≡ NO_MEMORY) →
+        TellsConcat (concat_at Global flags (first.now ∷ second.now ∷ [])) result out.old out.new len.new
+        fault.new blob.new }
+    // Exactly a number that names no key flags is misuse.
+    ensures misuse { (result ≡ MISUSE) ↔ (key_flags_of key_flags ≡ None) }
+    ensures kept { ¬ (result ≡ DONE) → out.new ≡ out.old }
+    ensures fault_kept { ¬ (result ≡ MALFORMED) → fault.new ≡ fault.old }
+    ensures unchanged { result ≡ NO_MEMORY → (len.new ≡ len.old) × (blob.new ≡ blob.old) }
+{
+    let Some(flags) = key_flags_of(key_flags) else {
+        return MISUSE;
+    };
+    tell_concat(
+        concat_bytes(alloc, flags, &[first, second]),
+        out,
+        len,
+        fault,
+        blob,
+    )
+}
+
+// Writes the bytes that were asked for, or tells which blob is refused, and its fault.
+fn tell_concat(
+    answer: Result<Vec<u8, Global>, Fault<ConcatRefusal>>,
+    out: &mut [u8],
+    len: &mut usize,
+    fault: &mut PlacedFault,
+    blob: &mut usize,
+) -> u32
+    ensures status { (said : Result (List ℕ) Refused) → ShowsUnlessMemory (λ bytes. bytes.items) answer said →
+        IsUnlessMemory result (concat_status said (length out.old)) }
+    ensures told { (said : Result (List ℕ) Refused) → ShowsUnlessMemory (λ bytes. bytes.items) answer said →
+        ¬ (result ≡ NO_MEMORY) → TellsConcat said result out.old out.new len.new fault.new blob.new }
+    ensures misuse { ¬ (result ≡ MISUSE) }
+    ensures kept { ¬ (result ≡ DONE) → out.new ≡ out.old }
+    ensures fault_kept { ¬ (result ≡ MALFORMED) → fault.new ≡ fault.old }
+    ensures unchanged { result ≡ NO_MEMORY → (len.new ≡ len.old) × (blob.new ≡ blob.old) }
+{
+    match answer {
+        Ok(bytes) => write_bytes(bytes.as_slice(), out, len),
+        Err(Fault::Refused(refusal)) => {
+            *blob = refusal.blob;
+            tell_refused(refusal.why, fault)
+        }
+        Err(Fault::OutOfMemory) => NO_MEMORY,
+    }
+}
+
+// Tells the fault of a blob that is refused, where it has one.
+fn tell_refused(why: BlobRefusal, fault: &mut PlacedFault) -> u32
+    ensures status { result ≡ refused_status why }
+    ensures told { TellsFault why fault.new }
+    ensures fault_kept { ¬ (result ≡ MALFORMED) → fault.new ≡ fault.old }
+{
+    match why {
+        BlobRefusal::Malformed(wrong) => {
+            *fault = PlacedFault::of(wrong);
+            MALFORMED
+        }
+        BlobRefusal::Group(GroupRefusal::OtherKind) => OTHER_KIND,
+        BlobRefusal::Group(GroupRefusal::OtherColumns { .. }) => OTHER_COLUMNS,
+    }
+}
