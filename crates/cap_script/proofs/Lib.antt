@@ -1,6 +1,12 @@
 pub mod Crossing
 mod FitLemmas
 mod LineLemmas
+mod MoreLemmas
+mod NoCommands
+mod NoForms
+mod NoLines
+mod NoOperations
+mod NoneLemmas
 mod OneCommands
 mod OneForms
 mod OneTokens

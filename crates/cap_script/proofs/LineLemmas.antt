@@ -97,7 +97,7 @@ module _ {A : Type 0} where
       (line ∷ parts.0, parts.1, inr (spells, parts.2))
 
   -- the lines by the first line of the text
-  by_first : (lines : List (Line A)) (text line rest : List ℕ) → IsCut text line rest → SpellsScript lines text → (others : List (List ℕ)) × AreBehind others rest × SpellsLines lines (line ∷ others)
+  pub by_first : (lines : List (Line A)) (text line rest : List ℕ) → IsCut text line rest → SpellsScript lines text → (others : List (List ℕ)) × AreBehind others rest × SpellsLines lines (line ∷ others)
   unfolding SpellsScript
   by_first lines text line rest cut (texts, are, spelled) =
       let parts = cut_lines texts text line rest cut are in

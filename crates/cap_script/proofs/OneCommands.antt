@@ -51,7 +51,7 @@ one_letter true true e = refl
 one_letter false false e = refl
 one_letter x y e = absurd (omega arith)
 
-one_schema : (xs ys : List Bool) → letters xs ≡ letters ys → xs ≡ ys
+pub one_schema : (xs ys : List Bool) → letters xs ≡ letters ys → xs ≡ ys
 one_schema [] [] e = refl
 one_schema [] (y ∷ ys) e = absurd cc
 one_schema (x ∷ xs) [] e = absurd cc
@@ -59,7 +59,7 @@ one_schema (x ∷ xs) (y ∷ ys) e =
     let whole : ◌≡◌ {A = List ℕ} (cond x 107 118 ∷ letters xs) (cond y 107 118 ∷ letters ys) = e in
     ap₂ (λ (z : Bool) (zs : List Bool). z ∷ zs) (one_letter x y (cc)) (one_schema xs ys (cc))
 
-one_head : (x y : Head) → head_word x ≡ head_word y → x ≡ y
+pub one_head : (x y : Head) → head_word x ≡ head_word y → x ≡ y
 one_head head.Create head.Create e = refl
 one_head head.Commit head.Commit e = refl
 one_head head.CommitAt head.CommitAt e = refl
@@ -175,7 +175,7 @@ same_key_flags Ones Places line a b p q = absurd (no_places line b p.0 q)
 same_key_flags Places Ones line a b p q = absurd (no_places line a q.0 p)
 
 -- who gives a command
-same_worker : (x y : Option ℕ) (line a b : List ℕ) → SpelledWorker x line a → SpelledWorker y line b → (x ≡ y) × (a ≡ b)
+pub same_worker : (x y : Option ℕ) (line a b : List ℕ) → SpelledWorker x line a → SpelledWorker y line b → (x ≡ y) × (a ≡ b)
 same_worker None None line a b p q = (refl, same_without 64 line a b p q)
 same_worker None (Some y) line a b p q = absurd (with_or_without 64 line a q.0 p q.1)
 same_worker (Some x) None line a b p q = absurd (with_or_without 64 line b p.0 q p.1)

@@ -12,13 +12,16 @@ use Rattle.cap_database.specs.declared.cause.Cause.TheVariants.{Direct, Cascade}
 use Rattle.cap_database.specs.declared.op.Action.{Action}
 use Rattle.cap_database.specs.declared.op.Action.TheVariants.{Insert, Update, Delete}
 use Rattle.cap_database.specs.declared.op.Op.{Op}
-use Rattle.cap_script.specs.Forms.{Form, ◌▸◌, Without, Word, Sign, Natural}
-use Rattle.cap_script.specs.Operations.{SpelledCause, SpelledValue, MoreValues, SpelledValues, SpelledRow, SpelledField, MoreFields, SpelledFields, SpelledAction, SpelledOperation, MoreOperations, SpelledOperations}
-use Rattle.cap_script.specs.Tokens.{begins, behind_blanks, signed}
 use Rattle.cap_script.specs.Words.{verb_word}
 use Rattle.cap_script.specs.declared.words.Verb.{Verb}
 use Rattle.cap_script.specs.declared.words.Verb.TheVariants as verbs
-use Rattle.cap_script.proofs.OneTokens.{Kind, a_blob, a_number, a_text, a_word, blob_kind, differ, eqb_itself, kind_of, number_kind, one_blob, one_integer, one_sign, one_text, one_word, text_kind, word_kind}
+use Rattle.cap_script.specs.Forms.{Form, ◌▸◌, Without, Word, Sign, Natural}
+use Rattle.cap_script.specs.Operations.{SpelledCause, SpelledValue, MoreValues, SpelledValues, SpelledRow, SpelledField, MoreFields, SpelledFields, SpelledAction, SpelledOperation, MoreOperations, SpelledOperations}
+use Rattle.cap_script.specs.Starts.{start_of}
+use Rattle.cap_script.specs.declared.token.Start.{Start}
+use Rattle.cap_script.specs.declared.token.Start.TheVariants.{Quote, Digit, X, Other}
+use Rattle.cap_script.specs.Tokens.{begins, behind_blanks, signed}
+use Rattle.cap_script.proofs.OneTokens.{differ, eqb_itself, number_start, one_blob, one_integer, one_sign, one_text, one_word}
 
 -- ---- tokens behind spaces
 
@@ -44,7 +47,7 @@ with_or_without c line a b p q =
 pub same_without : (c : ℕ) (line a b : List ℕ) → Without c line a → Without c line b → a ≡ b
 same_without c line a b p q = p.0 ∙ sym q.0
 
-two_words : (v w line a b : List ℕ) → Word v line a → Word w line b → v ≡ w
+pub two_words : (v w line a b : List ℕ) → Word v line a → Word w line b → v ≡ w
 two_words v w line a b p q = (same_word v w line a b p q).0
 
 pub loose_or_key : (line a b : List ℕ) → Word (codes "loose") line a → Word (codes "key") line b → ⊥
@@ -68,17 +71,17 @@ moved form x y rest e p = subst (λ (l : List ℕ). form l rest) (sym e) p
 -- ---- values
 
 module _ {A : Type 0} where
-  abbrev kind_of_value : Value A → Kind
-  kind_of_value Null = a_word
-  kind_of_value (Int number) = a_number
-  kind_of_value (Text t) = a_text
-  kind_of_value (Blob b) = a_blob
+  abbrev pub start_of_value : Value A → Start
+  start_of_value Null = Other
+  start_of_value (Int number) = Digit
+  start_of_value (Text t) = Quote
+  start_of_value (Blob b) = X
 
-  pub value_kind : (value : Value A) (line rest : List ℕ) → SpelledValue value line rest → kind_of (behind_blanks line) ≡ kind_of_value value
-  value_kind Null line rest p = word_kind (codes "null") (behind_blanks line) rest p
-  value_kind (Int number) line rest p = number_kind p.0 p.1 (behind_blanks line) rest p.2
-  value_kind (Text t) line rest p = text_kind t (behind_blanks line) rest p
-  value_kind (Blob b) line rest p = blob_kind b (behind_blanks line) rest p
+  pub value_start : (value : Value A) (line rest : List ℕ) → SpelledValue value line rest → start_of (behind_blanks line) ≡ start_of_value value
+  value_start Null line rest p = rw p.0 refl
+  value_start (Int number) line rest p = number_start p.0 p.1 (behind_blanks line) rest p.2
+  value_start (Text t) line rest p = rw p.0 refl
+  value_start (Blob b) line rest p = rw p.1 refl
 
   pub same_value : (v w : Value A) (line a b : List ℕ) → SpelledValue v line a → SpelledValue w line b → (v ≡ w) × (a ≡ b)
   same_value Null Null line a b p q = (refl, (same_word (codes "null") (codes "null") line a b p q).1)
@@ -87,7 +90,7 @@ module _ {A : Type 0} where
       (ap Int (p.3 ∙ ap₂ signed same.0 same.1 ∙ sym q.3), same.2)
   same_value (Text t) (Text u) line a b p q = let same = one_text t u (behind_blanks line) a b p q in (ap Text same.0, same.1)
   same_value (Blob x) (Blob y) line a b p q = let same = one_blob x y (behind_blanks line) a b p q in (ap Blob same.0, same.1)
-  same_value v w line a b p q = let same : kind_of_value v ≡ kind_of_value w = sym (value_kind v line a p) ∙ value_kind w line b q in absurd cc
+  same_value v w line a b p q = let same : start_of_value v ≡ start_of_value w = sym (value_start v line a p) ∙ value_start w line b q in absurd cc
 
   pub same_more_values : (vs ws : Fields A) (line a b : List ℕ) → MoreValues vs line a → MoreValues ws line b → (vs ≡ ws) × (a ≡ b)
   same_more_values [] [] line a b p q = (refl, same_sign 41 line a b p q)
@@ -123,7 +126,7 @@ module _ {A : Type 0} where
   pub row_is : (row : RowRef A) (line rest : List ℕ) → SpelledRow row line rest → IsRow row line rest
   row_is (Key key) line rest p = inr (key, ap row_of (sym p.0), p.1)
   row_is (Loose id) line rest (inl p) = inl (id, refl, p)
-  row_is (Loose id) line rest (inr (is_zero, fields, none, p)) = inr (fields, ap Loose is_zero ∙ ap row_of (sym none), p)
+  row_is (Loose id) line rest (inr (is_zero, fields, none, within, p)) = inr (fields, ap Loose is_zero ∙ ap row_of (sym none), p)
 
   same_row_by : (r s : RowRef A) (line a b : List ℕ) → IsRow r line a → IsRow s line b → (r ≡ s) × (a ≡ b)
   same_row_by r s line a b (inl (i, is, p)) (inl (j, is_too, q)) =
@@ -203,7 +206,7 @@ module _ {A : Type 0} where
       let same : verb_of x ≡ verb_of y = one_verb (verb_of x) (verb_of y) (two_words (verb_word (verb_of x)) (verb_word (verb_of y)) line first.0 other.0 first.1 other.1) in
       absurd cc
 
-  no_cascade : (line between rest : List ℕ) (table : List ℕ) (action : Action A) → Word (codes "cascade") line between → SpelledAction table action line rest → ⊥
+  pub no_cascade : (line between rest : List ℕ) (table : List ℕ) (action : Action A) → Word (codes "cascade") line between → SpelledAction table action line rest → ⊥
   no_cascade line between rest table action p q =
       let first = verb_first table action line rest q in
       no_verb (verb_of action) (two_words (verb_word (verb_of action)) (codes "cascade") line first.0 between first.1 p)

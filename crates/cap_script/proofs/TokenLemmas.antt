@@ -1,16 +1,20 @@
 -- What texts begin with.
 use Rattle.std.proofs.Common.{◌≡◌, ◌≢◌, ℕ, ◌+◌, ◌<◌, ◌≤◌, ◌||◌, Bool, true, false, cond, eqb, List, [], ◌∷◌, ◌++◌, length, take, drop, get_or, Option, refl, sym, ap, ◌∙◌, subst, arith, one-add, not, Some, None, MatchOption, IfSome, length-take, take-append-drop, append_assoc, take_all, le_refl}
 use Rattle.std.proofs.Common.{ap₂, Result, Ok, Err, IfOk, ℤ, pos, neg_ℤ, w64, rules}
+use Rattle.std.proofs.Common.{zero, suc, ◌^◌, IsUtf8, IfNone, FitsSigned}
+use Rattle.std.specs.Str.{IsAscii, IsCharBoundary}
+use Rattle.std.proofs.lemmas.Str.{IsUtf8-from_ascii, IsCharBoundary-from_take}
+use Rattle.std.proofs.lemmas.Bool.Decides.{nat_tests}
 use Rattle.std.specs.Borrow.{Bor}
 use Rattle.std.specs.Result.{result_ok}
 use Rattle.std.specs.Char.{is_ascii_digit}
-use Rattle.std.specs.Str.Parse.{ParsesSigned, digits_value}
-use Rattle.std.proofs.lemmas.Str.Parse.{IsNumeralModel, numerals_by_value, parse_signed_minus, parse_signed_digits}
+use Rattle.std.specs.Str.Parse.{ParsesSigned, ParsesUnsigned, digits_value}
+use Rattle.std.proofs.lemmas.Str.Parse.{IsNumeralModel, numerals_by_value, parse_digits, parse_signed_minus, parse_signed_digits}
 use Rattle.std.specs.List.{list_all, list_any, prefix_len, take_while, position_or_len, before_first, after_first}
-use Rattle.std.proofs.lemmas.Bool.{ne_eqb, and_from, eqb-true}
+use Rattle.std.proofs.lemmas.Bool.{ne_eqb, and_from, and_parts, eqb-true}
 use Rattle.std.proofs.lemmas.List.Sums.{split_at_first}
 use Rattle.cap_filter.specs.Printed.{quote, double_quotes}
-use Rattle.cap_filter.specs.Tokens.{blank, has_quote}
+use Rattle.cap_filter.specs.Tokens.{blank, has_quote, is_word_byte}
 use Rattle.cap_script.specs.Tokens.{begins, behind_blanks, is_quote, minus, signed}
 
 -- ---- spaces
@@ -67,25 +71,57 @@ run_parts p text front back n counted is_front is_back =
     let n_is : n ≡ prefix_len p text = counted ∙ run_len p text in
     rw (is_front, is_back, n_is) (sym (take-append-drop (prefix_len p text) text), run_front p text, run_behind p text)
 
-pub run_split : (p : ℕ → Bool) (text bytes : List ℕ) (n : ℕ) (r : Option (Bor (List ℕ) × Bor (List ℕ))) → bytes ≡ text → n ≡ length (take_while p bytes) → IfSome r (λ x. x.0.now ≡ take n text) → IfSome r (λ x. x.1.now ≡ drop n text)
-    → IfSome r (λ x. (text ≡ x.0.now ++ x.1.now) × (list_all p x.0.now ≡ true) × (begins p x.1.now ≡ false))
-run_split p text bytes n None same counted is_front is_back = tt
-run_split p text bytes n (Some x) same counted is_front is_back =
-    run_parts p text x.0.now x.1.now n (counted ∙ ap (λ (l : List ℕ). length (take_while p l)) same) is_front is_back
+pub run_split : (p : ℕ → Bool) (text bytes front back : List ℕ) (n : ℕ) → bytes ≡ text → n ≡ length (take_while p bytes) → front ≡ take n text → back ≡ drop n text
+    → (text ≡ front ++ back) × (list_all p front ≡ true) × (begins p back ≡ false)
+run_split p text bytes front back n same counted is_front is_back =
+    run_parts p text front back n (counted ∙ ap (λ (l : List ℕ). length (take_while p l)) same) is_front is_back
+
+-- ---- where a run ends, a character ends
+
+ascii_run : (p : ℕ → Bool) → ((byte : ℕ) → p byte ≡ true → byte < 128) → (xs : List ℕ) → list_all p xs ≡ true → IsAscii xs
+ascii_run p ascii [] all i = omega arith
+ascii_run p ascii (x ∷ xs) all zero = ascii x (and_parts (p x) (list_all p xs) all).0
+ascii_run p ascii (x ∷ xs) all (suc i) = ascii_run p ascii xs (and_parts (p x) (list_all p xs) all).1 i
+
+-- behind n bytes that are ASCII
+pub ascii_boundary : (text : List ℕ) (n : ℕ) → IsUtf8 text → n ≤ length text → IsAscii (take n text) → IsCharBoundary text n
+ascii_boundary text n utf8 within ascii = IsCharBoundary-from_take text n utf8 within (IsUtf8-from_ascii (take n text) ascii)
+
+pub run_boundary : (p : ℕ → Bool) → ((byte : ℕ) → p byte ≡ true → byte < 128) → (text bytes : List ℕ) (n : ℕ) → IsUtf8 text → bytes ≡ text → n ≡ length (take_while p bytes) → IsCharBoundary text n
+run_boundary p ascii text bytes n utf8 same counted =
+    let n_is : n ≡ prefix_len p text = counted ∙ ap (λ (l : List ℕ). length (take_while p l)) same ∙ run_len p text in
+    rw n_is (ascii_boundary text (prefix_len p text) utf8 (run_within p text) (ascii_run p ascii (take (prefix_len p text) text) (run_front p text)))
+
+pub word_ascii : (byte : ℕ) → is_word_byte byte ≡ true → byte < 128
+word_ascii byte e = grind (arith, nat_tests)
+
+pub digit_ascii : (byte : ℕ) → is_ascii_digit byte ≡ true → byte < 128
+digit_ascii byte e = grind (arith, nat_tests)
+
+minus_ascii : (xs : List ℕ) → IsAscii xs → IsAscii (45 ∷ xs)
+minus_ascii xs ascii zero = omega arith
+minus_ascii xs ascii (suc i) = ascii i
+
+pub minus_boundary : (text digits bytes : List ℕ) (n : ℕ) → IsUtf8 text → text ≡ 45 ∷ digits → bytes ≡ digits → n ≡ length (take_while is_ascii_digit bytes) → IsCharBoundary text (n + 1)
+minus_boundary text digits bytes n utf8 e same counted =
+    let n_is : n ≡ prefix_len is_ascii_digit digits = counted ∙ ap (λ (l : List ℕ). length (take_while is_ascii_digit l)) same ∙ run_len is_ascii_digit digits in
+    let more : n + 1 ≡ 1 + prefix_len is_ascii_digit digits = omega (arith, n_is) in
+    let long : length text ≡ length (45 ∷ digits) = ap length e in
+    let front : take (n + 1) text ≡ 45 ∷ take (prefix_len is_ascii_digit digits) digits = ap₂ take more e ∙ (rw one-add refl) in
+    ascii_boundary text (n + 1) utf8 (omega (arith, more, long, run_within is_ascii_digit digits))
+    (subst (λ (l : List ℕ). IsAscii l) (sym front) (minus_ascii (take (prefix_len is_ascii_digit digits) digits) (ascii_run is_ascii_digit digit_ascii (take (prefix_len is_ascii_digit digits) digits) (run_front is_ascii_digit digits))))
 
 -- ---- integers
 
 -- a minus sign and the digits behind it
-pub minus_split : (text digits bytes : List ℕ) (n : ℕ) (r : Option (Bor (List ℕ) × Bor (List ℕ))) → text ≡ 45 ∷ digits → bytes ≡ digits → n ≡ length (take_while is_ascii_digit bytes)
-    → IfSome r (λ x. x.0.now ≡ take (n + 1) text) → IfSome r (λ x. x.1.now ≡ drop (n + 1) text)
-    → IfSome r (λ x. (negative : Bool) × (written : List ℕ) × (text ≡ x.0.now ++ x.1.now) × (x.0.now ≡ minus negative written) × (list_all is_ascii_digit written ≡ true) × (begins is_ascii_digit x.1.now ≡ false))
-minus_split text digits bytes n None e same counted is_front is_back = tt
-minus_split text digits bytes n (Some x) e same counted is_front is_back =
+pub minus_split : (text digits bytes front back : List ℕ) (n : ℕ) → text ≡ 45 ∷ digits → bytes ≡ digits → n ≡ length (take_while is_ascii_digit bytes) → front ≡ take (n + 1) text → back ≡ drop (n + 1) text
+    → (written : List ℕ) × (text ≡ front ++ back) × (front ≡ 45 ∷ written) × (list_all is_ascii_digit written ≡ true) × (begins is_ascii_digit back ≡ false)
+minus_split text digits bytes front back n e same counted is_front is_back =
     let parts = run_parts is_ascii_digit digits (take n digits) (drop n digits) n (counted ∙ ap (λ (l : List ℕ). length (take_while is_ascii_digit l)) same) refl refl in
     let more : n + 1 ≡ 1 + n = omega arith in
-    let front_is : x.0.now ≡ 45 ∷ take n digits = is_front ∙ ap₂ take more e ∙ (rw one-add refl) in
-    let back_is : x.1.now ≡ drop n digits = is_back ∙ ap₂ drop more e ∙ (rw one-add refl) in
-    (true, take n digits, e ∙ ap (λ (l : List ℕ). 45 ∷ l) parts.0 ∙ sym (ap₂ (λ (a b : List ℕ). a ++ b) front_is back_is), front_is, parts.1, rw back_is parts.2)
+    let front_is : front ≡ 45 ∷ take n digits = is_front ∙ ap₂ take more e ∙ (rw one-add refl) in
+    let back_is : back ≡ drop n digits = is_back ∙ ap₂ drop more e ∙ (rw one-add refl) in
+    (take n digits, e ∙ ap (λ (l : List ℕ). 45 ∷ l) parts.0 ∙ sym (ap₂ (λ (a b : List ℕ). a ++ b) front_is back_is), front_is, parts.1, rw back_is parts.2)
 
 digits_model : IsNumeralModel (λ ds. list_all is_ascii_digit ds ≡ true) (digits_value 10)
 digits_model = numerals_by_value _ (search rules)
@@ -106,6 +142,36 @@ pub integer_parsed : {E : Type 0} (bs : List ℕ) (r : Result ℤ E) (o : Option
     → IfSome o (λ z. (0 < length digits) × (z ≡ signed negative (digits_value 10 digits)))
 integer_parsed {E} bs (Ok z) o h is negative digits same all = rw is (parsed_by E negative digits bs (Ok z) h same all)
 integer_parsed bs (Err e) o h is negative digits same all = rw is tt
+
+least : (n : ℕ) → FitsSigned w64 (neg_ℤ (pos n)) → n ≤ 2 ^ 63
+least zero fits = omega arith
+least (suc n) fits = fits.sfits
+
+-- digits whose number fits are parsed
+not_parsed_by : (E : Type 0) (negative : Bool) (digits bs : List ℕ) (e : E) → ParsesSigned w64 10 bs (Err e) → bs ≡ minus negative digits → 0 < length digits → list_all is_ascii_digit digits ≡ true
+    → FitsSigned w64 (signed negative (digits_value 10 digits)) → ⊥
+not_parsed_by E true digits bs e h same some all fits =
+    let d : drop 1 bs ≡ digits = rw same refl in
+    let n : ℕ = digits_value 10 digits in
+    parse_signed_minus digits_model {E = E} w64 bs (Err e) h (rw same refl)
+    (rw d all, rw d some, rw d (least n fits))
+not_parsed_by E false digits bs e h same some all fits =
+    parse_signed_digits digits_model {E = E} w64 bs (Err e) h (rw same all) (rw same some, rw same fits.sfits)
+
+pub not_parsed : {E : Type 0} (bs : List ℕ) (r : Result ℤ E) (o : Option ℤ) → ParsesSigned w64 10 bs r → o ≡ result_ok r
+    → IfNone o ((negative : Bool) (digits : List ℕ) → bs ≡ minus negative digits → 0 < length digits → list_all is_ascii_digit digits ≡ true → FitsSigned w64 (signed negative (digits_value 10 digits)) → ⊥)
+not_parsed {E} bs (Ok z) o h is = rw is tt
+not_parsed {E} bs (Err e) o h is = rw is (λ negative digits same some all fits. not_parsed_by E negative digits bs e h same some all fits)
+
+natural_by : {E : Type 0} (bs : List ℕ) (r : Result ℕ E) → ParsesUnsigned 64 10 bs r → list_all is_ascii_digit bs ≡ true
+    → MatchOption (result_ok r) (0 < length bs → digits_value 10 bs < 2 ^ 64 → ⊥) (λ n. (0 < length bs) × (n ≡ digits_value 10 bs))
+natural_by {E} bs (Ok n) h all = let read = parse_digits digits_model {E = E} 64 bs (Ok n) h all in (read.0.0, read.1)
+natural_by {E} bs (Err e) h all = λ some fits. parse_digits digits_model {E = E} 64 bs (Err e) h all (some, fits)
+
+-- digits and the number that they spell
+pub natural_parsed : {E : Type 0} (bs : List ℕ) (r : Result ℕ E) (o : Option ℕ) → ParsesUnsigned 64 10 bs r → o ≡ result_ok r → list_all is_ascii_digit bs ≡ true
+    → MatchOption o (0 < length bs → digits_value 10 bs < 2 ^ 64 → ⊥) (λ n. (0 < length bs) × (n ≡ digits_value 10 bs))
+natural_parsed bs r o h is all = rw is (natural_by bs r h all)
 
 -- ---- the first byte of a kind
 

@@ -1,5 +1,5 @@
 -- The forms of a line, in sequence.
-use Rattle.std.specs.Prelude.{◌≡◌, ℕ, List, [], false, ◌==◌}
+use Rattle.std.specs.Prelude.{◌≡◌, ℕ, List, [], ◌∷◌, false, ◌==◌}
 use Rattle.cap_script.specs.Tokens.{Next, begins, behind_blanks, integer, sign, word}
 
 -- a form at the beginning of a line, and the rest after it
@@ -35,3 +35,12 @@ Sign s = Next (sign s)
 -- an integer without `-`
 abbrev pub Natural : ℕ → Form
 Natural n = Next (integer false n)
+
+-- this sign and an item, for each of the items, and what ends them
+abbrev pub More : {X : Type 0} → ℕ → (X → Form) → Form → List X → Form
+More s item end [] = end
+More s item end (x ∷ xs) = Sign s ▸ item x ▸ More s item end xs
+
+-- nothing at the beginning of the line is of this form
+abbrev pub NotSpelled : Form → List ℕ → Type 0
+NotSpelled form line = (rest : List ℕ) → form line rest → ⊥

@@ -1,9 +1,14 @@
 pub mod Commands
 pub mod Forms
+pub mod Limits
+pub mod LineLimits
 pub mod Operations
 pub mod RefusalText
+pub mod Refused
+pub mod RefusedLines
 pub mod ReplyText
 pub mod RowText
 pub mod Script
+pub mod Starts
 pub mod Tokens
 pub mod Words

@@ -1,5 +1,6 @@
 -- How values, rows and operations are spelled.
 use Rattle.std.specs.Prelude.{◌≡◌, ◌⊎◌, ℕ, List, [], ◌∷◌, Some, None, codes}
+use Rattle.std.specs.List.{AllByRecursion}
 use Rattle.cap_value.specs.declared.value.Value.{Value}
 use Rattle.cap_value.specs.declared.value.Value.TheVariants.{Null, Int, Text, Blob}
 use Rattle.cap_row.specs.Fields.{Fields}
@@ -12,7 +13,8 @@ use Rattle.cap_database.specs.declared.cause.Cause.TheVariants.{Direct, Cascade}
 use Rattle.cap_database.specs.declared.op.Action.{Action}
 use Rattle.cap_database.specs.declared.op.Action.TheVariants.{Insert, Update, Delete}
 use Rattle.cap_database.specs.declared.op.Op.{Op}
-use Rattle.cap_script.specs.Forms.{Form, ◌▸◌, Never, Nothing, Without, Word, Sign, Natural}
+use Rattle.cap_script.specs.Forms.{Form, ◌▸◌, More, Never, Nothing, Without, Word, Sign, Natural}
+use Rattle.cap_script.specs.Limits.{ValueWithin}
 use Rattle.cap_script.specs.Tokens.{Next, NextInteger, blob, text}
 
 -- nothing, or a word for a change by a trigger or a foreign key action
@@ -29,21 +31,21 @@ module _ {A : Type 0} where
 
   -- a comma before each, and a closing parenthesis
   abbrev pub MoreValues : Fields A → Form
-  MoreValues [] = Sign 41
-  MoreValues (value ∷ values) = Sign 44 ▸ SpelledValue value ▸ MoreValues values
+  MoreValues = More 44 SpelledValue (Sign 41)
 
   -- one or more between parentheses
   abbrev pub SpelledValues : Fields A → Form
   SpelledValues [] = Never
   SpelledValues (value ∷ values) = Sign 40 ▸ SpelledValue value ▸ MoreValues values
 
-  -- A key, or an id. A key with a NULL among its values is read as the id 0, which no row has.
+  -- A key, or an id. A key with a NULL among its values, which are within the limits, is read as the id 0,
+  -- which no row has.
   abbrev pub SpelledRow : RowRef A → Form
   SpelledRow (Key key) =
       λ line rest. (key_from key ≡ Some key) × (Word (codes "key") ▸ SpelledValues key) line rest
   SpelledRow (Loose id) = λ line rest.
       (Word (codes "loose") ▸ Natural id) line rest
-      ⊎ ((id ≡ 0) × (fields : Fields A) × (key_from fields ≡ None)
+      ⊎ ((id ≡ 0) × (fields : Fields A) × (key_from fields ≡ None) × AllByRecursion ValueWithin fields
       × (Word (codes "key") ▸ SpelledValues fields) line rest)
 
   -- a column and its new value
@@ -52,8 +54,7 @@ module _ {A : Type 0} where
 
   -- a comma before each, as many as there are
   abbrev pub MoreFields : Assigned A → Form
-  MoreFields [] = Without 44
-  MoreFields (field ∷ fields) = Sign 44 ▸ SpelledField field ▸ MoreFields fields
+  MoreFields = More 44 SpelledField (Without 44)
 
   abbrev pub SpelledFields : Assigned A → Form
   SpelledFields [] = Never
@@ -71,8 +72,7 @@ module _ {A : Type 0} where
 
   -- a semicolon before each, as many as there are
   abbrev pub MoreOperations : List (Op A) → Form
-  MoreOperations [] = Without 59
-  MoreOperations (op ∷ ops) = Sign 59 ▸ SpelledOperation op ▸ MoreOperations ops
+  MoreOperations = More 59 SpelledOperation (Without 59)
 
   abbrev pub SpelledOperations : List (Op A) → Form
   SpelledOperations [] = Never

@@ -53,6 +53,10 @@ flag_word (Some true) = codes "on"
 flag_word (Some false) = codes "off"
 flag_word None = codes "ask"
 
--- a word of `k` for each key column and `v` for each other
+-- `k` for a key column and `v` for another
+abbrev pub key_letter : Bool → ℕ
+key_letter flag = if flag then 107 else 118
+
+-- a word of a letter for each column
 abbrev pub letters : List Bool → List ℕ
-letters flags = map (λ flag. if flag then 107 else 118) flags
+letters flags = map key_letter flags

@@ -1,7 +1,10 @@
 //! Reads commands. Each function but the first reads a command after its first word.
-ghost use Rattle.std.specs.Prelude.{List, ℕ, IfOk, codes};
+ghost use Rattle.std.specs.Prelude.{List, ℕ, OnErr, IfOk, IfErr, codes};
+ghost use Rattle.cap_apply.specs.declared.policy.Answer.{Answer};
+ghost use Rattle.cap_apply.specs.declared.policy.Policy.{Policy};
 ghost use Rattle.cap_script.specs.Commands.{SpelledBlob, SpelledCommand, SpelledPolicy};
-ghost use Rattle.cap_script.specs.Forms.{Word};
+ghost use Rattle.cap_script.specs.Forms.{NotSpelled, Word};
+ghost use Rattle.cap_script.specs.RefusedLines.{NoBlob, NoCommand, NoSchema};
 ghost use Rattle.cap_script.specs.Words.{answer_word, head_word, letters};
 
 use crate::Show;
@@ -23,7 +26,9 @@ pub(crate) fn command<A: AllocHandle>(
     alloc: A,
     cursor: &mut Cursor<'_>,
 ) -> Result<(Command<A>, Show<A>), LineFault>
-    ensures { IfOk result (λ made. SpelledCommand made.0 made.1 cursor.old.rest.now cursor.new.rest.now) }
+    ensures next { IfOk result (λ made.
+        SpelledCommand made.0 made.1 cursor.old.rest.now cursor.new.rest.now) }
+    ensures none { IfErr result (λ fault. NoCommand A fault cursor.old.rest.now) }
 {
     let word = cursor.word()?;
     let head = head_of(word.text).ok_or(word.misfit)?;
@@ -36,8 +41,10 @@ fn command_of<A: AllocHandle>(
     cursor: &mut Cursor<'_>,
     head: Head,
 ) -> Result<(Command<A>, Show<A>), LineFault>
-    ensures { (line : List ℕ) → Word (head_word head) line cursor.old.rest.now
+    ensures next { (line : List ℕ) → Word (head_word head) line cursor.old.rest.now
         → IfOk result (λ made. SpelledCommand made.0 made.1 line cursor.new.rest.now) }
+    ensures none { (line : List ℕ) → Word (head_word head) line cursor.old.rest.now
+        → IfErr result (λ fault. NoCommand A fault line) }
 {
     match head {
         Head::Create => create(alloc, cursor),
@@ -57,8 +64,10 @@ fn create<A: AllocHandle>(
     alloc: A,
     cursor: &mut Cursor<'_>,
 ) -> Result<(Command<A>, Show<A>), LineFault>
-    ensures { (line : List ℕ) → Word (codes "create") line cursor.old.rest.now
+    ensures next { (line : List ℕ) → Word (codes "create") line cursor.old.rest.now
         → IfOk result (λ made. SpelledCommand made.0 made.1 line cursor.new.rest.now) }
+    ensures none { (line : List ℕ) → Word (codes "create") line cursor.old.rest.now
+        → IfErr result (λ fault. NoCommand A fault line) }
 {
     let table = name(alloc, cursor)?;
     let schema = schema(alloc, cursor)?;
@@ -67,7 +76,8 @@ fn create<A: AllocHandle>(
 
 // Reads the columns of a table: one letter a column, `k` for a column of the primary key and `v` for another.
 fn schema<A: AllocHandle>(alloc: A, cursor: &mut Cursor<'_>) -> Result<Schema<A>, LineFault>
-    ensures { IfOk result (λ made. Word (letters made) cursor.old.rest.now cursor.new.rest.now) }
+    ensures next { IfOk result (λ made. Word (letters made) cursor.old.rest.now cursor.new.rest.now) }
+    ensures none { IfErr result (λ fault. NoSchema fault cursor.old.rest.now) }
 {
     let word = cursor.word()?;
     let flags = flags_of(alloc, word.text)?.ok_or(word.misfit)?;
@@ -79,8 +89,10 @@ fn commit<A: AllocHandle>(
     alloc: A,
     cursor: &mut Cursor<'_>,
 ) -> Result<(Command<A>, Show<A>), LineFault>
-    ensures { (line : List ℕ) → Word (codes "commit") line cursor.old.rest.now
+    ensures next { (line : List ℕ) → Word (codes "commit") line cursor.old.rest.now
         → IfOk result (λ made. SpelledCommand made.0 made.1 line cursor.new.rest.now) }
+    ensures none { (line : List ℕ) → Word (codes "commit") line cursor.old.rest.now
+        → IfErr result (λ fault. NoCommand A fault line) }
 {
     let batch = batch(alloc, cursor, Batch::blind(alloc))?;
     Ok((Command::Commit(batch), Show::Plain))
@@ -91,8 +103,10 @@ fn commit_at<A: AllocHandle>(
     alloc: A,
     cursor: &mut Cursor<'_>,
 ) -> Result<(Command<A>, Show<A>), LineFault>
-    ensures { (line : List ℕ) → Word (codes "commitat") line cursor.old.rest.now
+    ensures next { (line : List ℕ) → Word (codes "commitat") line cursor.old.rest.now
         → IfOk result (λ made. SpelledCommand made.0 made.1 line cursor.new.rest.now) }
+    ensures none { (line : List ℕ) → Word (codes "commitat") line cursor.old.rest.now
+        → IfErr result (λ fault. NoCommand A fault line) }
 {
     let base = cursor.natural()?;
     let batch = batch(alloc, cursor, Batch::based(alloc, base))?;
@@ -104,8 +118,10 @@ fn apply<A: AllocHandle>(
     alloc: A,
     cursor: &mut Cursor<'_>,
 ) -> Result<(Command<A>, Show<A>), LineFault>
-    ensures { (line : List ℕ) → Word (codes "apply") line cursor.old.rest.now
+    ensures next { (line : List ℕ) → Word (codes "apply") line cursor.old.rest.now
         → IfOk result (λ made. SpelledCommand made.0 made.1 line cursor.new.rest.now) }
+    ensures none { (line : List ℕ) → Word (codes "apply") line cursor.old.rest.now
+        → IfErr result (λ fault. NoCommand A fault line) }
 {
     let blob = contents(alloc, cursor)?;
     let policy = policy(cursor)?;
@@ -114,7 +130,8 @@ fn apply<A: AllocHandle>(
 
 // Reads the changeset or patchset in a blob, the next token.
 fn contents<A: AllocHandle>(alloc: A, cursor: &mut Cursor<'_>) -> Result<Contents<A>, LineFault>
-    ensures { IfOk result (λ made. SpelledBlob made cursor.old.rest.now cursor.new.rest.now) }
+    ensures next { IfOk result (λ made. SpelledBlob made cursor.old.rest.now cursor.new.rest.now) }
+    ensures none { IfErr result (λ fault. NoBlob A fault cursor.old.rest.now) }
 {
     let bytes = cursor.blob(alloc)?;
     if bytes.len() > BYTES_MAX {
@@ -124,7 +141,8 @@ fn contents<A: AllocHandle>(alloc: A, cursor: &mut Cursor<'_>) -> Result<Content
 }
 
 fn policy(cursor: &mut Cursor<'_>) -> Result<Policy, LineFault>
-    ensures { IfOk result (λ made. SpelledPolicy made cursor.old.rest.now cursor.new.rest.now) }
+    ensures next { IfOk result (λ made. SpelledPolicy made cursor.old.rest.now cursor.new.rest.now) }
+    ensures none { OnErr result ((policy : Policy) → NotSpelled (SpelledPolicy policy) cursor.old.rest.now) }
 {
     Ok(Policy {
         on_data: answer(cursor)?,
@@ -135,7 +153,9 @@ fn policy(cursor: &mut Cursor<'_>) -> Result<Policy, LineFault>
 
 // Reads the answer to a conflict: `omit`, `replace` or `abort`.
 fn answer(cursor: &mut Cursor<'_>) -> Result<Answer, LineFault>
-    ensures { IfOk result (λ made. Word (answer_word made) cursor.old.rest.now cursor.new.rest.now) }
+    ensures next { IfOk result (λ made. Word (answer_word made) cursor.old.rest.now cursor.new.rest.now) }
+    ensures none { OnErr result ((answer : Answer) →
+        NotSpelled (Word (answer_word answer)) cursor.old.rest.now) }
 {
     let word = cursor.word()?;
     answer_of(word.text).ok_or(word.misfit)
@@ -146,8 +166,10 @@ fn get<A: AllocHandle>(
     alloc: A,
     cursor: &mut Cursor<'_>,
 ) -> Result<(Command<A>, Show<A>), LineFault>
-    ensures { (line : List ℕ) → Word (codes "get") line cursor.old.rest.now
+    ensures next { (line : List ℕ) → Word (codes "get") line cursor.old.rest.now
         → IfOk result (λ made. SpelledCommand made.0 made.1 line cursor.new.rest.now) }
+    ensures none { (line : List ℕ) → Word (codes "get") line cursor.old.rest.now
+        → IfErr result (λ fault. NoCommand A fault line) }
 {
     let table = name(alloc, cursor)?;
     let row = row_ref(alloc, cursor)?;
@@ -159,8 +181,10 @@ fn scan<A: AllocHandle>(
     alloc: A,
     cursor: &mut Cursor<'_>,
 ) -> Result<(Command<A>, Show<A>), LineFault>
-    ensures { (line : List ℕ) → Word (codes "scan") line cursor.old.rest.now
+    ensures next { (line : List ℕ) → Word (codes "scan") line cursor.old.rest.now
         → IfOk result (λ made. SpelledCommand made.0 made.1 line cursor.new.rest.now) }
+    ensures none { (line : List ℕ) → Word (codes "scan") line cursor.old.rest.now
+        → IfErr result (λ fault. NoCommand A fault line) }
 {
     let table = name(alloc, cursor)?;
     Ok((Command::Read, Show::Scan(table)))
@@ -171,8 +195,10 @@ fn save<A: AllocHandle>(
     alloc: A,
     cursor: &mut Cursor<'_>,
 ) -> Result<(Command<A>, Show<A>), LineFault>
-    ensures { (line : List ℕ) → Word (codes "save") line cursor.old.rest.now
+    ensures next { (line : List ℕ) → Word (codes "save") line cursor.old.rest.now
         → IfOk result (λ made. SpelledCommand made.0 made.1 line cursor.new.rest.now) }
+    ensures none { (line : List ℕ) → Word (codes "save") line cursor.old.rest.now
+        → IfErr result (λ fault. NoCommand A fault line) }
 {
     let database = name(alloc, cursor)?;
     Ok((Command::SaveAs { database }, Show::Plain))

@@ -1,19 +1,19 @@
 //! Reads the tokens of a line.
-ghost use Rattle.std.specs.Prelude.{◌≡◌, ◌≤◌, ◌<◌, ◌^◌, [], Bool, true, false, ℕ, List, length, OnOk, IfOk};
-ghost use Rattle.std.specs.Prelude.{IsTrue, string_bytes};
-ghost use Rattle.cap_script.specs.Forms.{AtEnd, Without};
+ghost use Rattle.std.specs.Prelude.{◌≡◌, ◌≤◌, ◌<◌, ◌^◌, ◌≢◌, ◌⊎◌, [], Bool, true, false, ℕ, ℤ, List};
+ghost use Rattle.std.specs.Prelude.{Option, length, IsTrue, string_bytes, OnOk, OnErr, IfOk, IfErr};
+ghost use Rattle.cap_script.specs.Forms.{AtEnd, NotSpelled, Without};
 ghost use Rattle.cap_script.specs.Tokens.{Begins, Next, NextInteger, behind_blanks, blob, integer, sign};
 ghost use Rattle.cap_script.specs.Tokens.{text, word};
 ghost use Rattle.cap_script.specs.Script.{SpelledWorker};
+ghost use Rattle.cap_script.specs.Starts.{start_of};
 
 use crate::fault::LineFault;
 use crate::token::{
-    after_blanks, after_blob_start, begins_blank, begins_name, integer_of, split_digits,
-    split_integer, split_quoted, split_word,
+    Start, after_blanks, after_blob_start, begins_blank, begins_name, bytes_of, integer_of,
+    natural_of, split_digits, split_integer, split_quoted, split_word, start_of,
 };
 use cap_filter::{after, split_at_quote};
 use cap_value::AllocHandle;
-use hex::FromHexError;
 
 // The greatest integer.
 const INTEGER_MAX: u64 = (1 << 63) - 1;
@@ -76,9 +76,11 @@ impl<'a> Cursor<'a> {
         self.rest = "";
     }
 
-    // The first byte of the next token, if there is one.
-    pub(crate) fn first_byte(&self) -> Option<u8> {
-        after_blanks(self.rest).as_bytes().first().copied()
+    // What the next token, a value, begins as.
+    pub(crate) fn start(&self) -> Start
+        ensures { result ≡ start_of (behind_blanks self.now.rest.now) }
+    {
+        start_of(after_blanks(self.rest))
     }
 
     // Skips the spaces before the next token.
@@ -111,6 +113,7 @@ impl<'a> Cursor<'a> {
     pub(crate) fn sign(&mut self, wanted: char) -> Result<(), LineFault>
         requires { wanted < 128 }
         ensures next { OnOk result (Next (sign wanted) self.old.rest.now self.new.rest.now) }
+        ensures none { OnErr result (NotSpelled (Next (sign wanted)) self.old.rest.now) }
         ensures left { length self.new.rest.now ≤ length self.old.rest.now }
     {
         if self.takes_sign(wanted) {
@@ -123,6 +126,7 @@ impl<'a> Cursor<'a> {
     // Skips spaces, and answers whether the line ends there.
     pub(crate) fn takes_end(&mut self) -> bool
         ensures end { IsTrue result → AtEnd self.old.rest.now self.new.rest.now }
+        ensures other { result ≡ false → behind_blanks self.old.rest.now ≢ [] }
         ensures behind { self.new.rest.now ≡ behind_blanks self.old.rest.now }
         ensures left { length self.new.rest.now ≤ length self.old.rest.now }
     {
@@ -132,7 +136,8 @@ impl<'a> Cursor<'a> {
 
     // Refuses a line that has another token.
     pub(crate) fn end(&mut self) -> Result<(), LineFault>
-        ensures { OnOk result (behind_blanks self.old.rest.now ≡ []) }
+        ensures end { OnOk result (behind_blanks self.old.rest.now ≡ []) }
+        ensures other { OnErr result (behind_blanks self.old.rest.now ≢ []) }
     {
         if self.takes_end() {
             Ok(())
@@ -144,6 +149,7 @@ impl<'a> Cursor<'a> {
     // Reads a word, the next token: an ASCII letter or `_`, and then letters, digits or `_`.
     pub(crate) fn word(&mut self) -> Result<Word<'a>, LineFault>
         ensures next { IfOk result (λ found. Next (word found.text.now) self.old.rest.now self.new.rest.now) }
+        ensures none { OnErr result ((w : List ℕ) → NotSpelled (Next (word w)) self.old.rest.now) }
         ensures left { length self.new.rest.now ≤ length self.old.rest.now }
     {
         self.skip_spaces();
@@ -151,7 +157,7 @@ impl<'a> Cursor<'a> {
         if !begins_name(self.rest) || after_blob_start(self.rest).is_some() {
             return Err(misfit);
         }
-        let (text, rest) = split_word(self.rest).ok_or(misfit)?;
+        let (text, rest) = split_word(self.rest);
         self.rest = rest;
         Ok(Word { text, misfit })
     }
@@ -159,6 +165,7 @@ impl<'a> Cursor<'a> {
     // Skips this word, which must be the next token.
     pub(crate) fn keyword(&mut self, wanted: &str) -> Result<(), LineFault>
         ensures next { OnOk result (Next (word wanted.now) self.old.rest.now self.new.rest.now) }
+        ensures none { OnErr result (NotSpelled (Next (word wanted.now)) self.old.rest.now) }
         ensures left { length self.new.rest.now ≤ length self.old.rest.now }
     {
         let found = self.word()?;
@@ -172,11 +179,12 @@ impl<'a> Cursor<'a> {
     // Reads an integer, the next token: an optional `-` and decimal digits.
     pub(crate) fn integer(&mut self) -> Result<i64, LineFault>
         ensures next { IfOk result (λ number. NextInteger number self.old.rest.now self.new.rest.now) }
+        ensures none { OnErr result ((number : ℤ) → NotSpelled (NextInteger number) self.old.rest.now) }
         ensures left { length self.new.rest.now ≤ length self.old.rest.now }
     {
         self.skip_spaces();
         let misfit = self.misfit();
-        let (digits, rest) = split_integer(self.rest).ok_or(misfit)?;
+        let (digits, rest) = split_integer(self.rest);
         let number = integer_of(digits).ok_or(misfit)?;
         self.rest = rest;
         Ok(number)
@@ -185,6 +193,7 @@ impl<'a> Cursor<'a> {
     // Reads an integer without `-`, the next token.
     pub(crate) fn natural(&mut self) -> Result<u64, LineFault>
         ensures next { IfOk result (λ n. Next (integer false n) self.old.rest.now self.new.rest.now) }
+        ensures none { OnErr result ((n : ℕ) → NotSpelled (Next (integer false n)) self.old.rest.now) }
         ensures left { length self.new.rest.now ≤ length self.old.rest.now }
         ensures fits { IfOk result (λ n. n < 2 ^ 63) }
     {
@@ -195,12 +204,13 @@ impl<'a> Cursor<'a> {
     // Reads an integer without `-` that begins here, without spaces before it.
     fn digits(&mut self) -> Result<u64, LineFault>
         ensures here { IfOk result (λ n. Begins (integer false n) self.old.rest.now self.new.rest.now) }
+        ensures none { OnErr result ((n : ℕ) → NotSpelled (Begins (integer false n)) self.old.rest.now) }
         ensures left { length self.new.rest.now ≤ length self.old.rest.now }
         ensures fits { IfOk result (λ n. n < 2 ^ 63) }
     {
         let misfit = self.misfit();
-        let (digits, rest) = split_digits(self.rest).ok_or(misfit)?;
-        let number = digits.parse::<u64>().map_err(|_| misfit)?;
+        let (digits, rest) = split_digits(self.rest);
+        let number = natural_of(digits).ok_or(misfit)?;
         if number > INTEGER_MAX {
             return Err(misfit);
         }
@@ -212,6 +222,8 @@ impl<'a> Cursor<'a> {
     // space.
     pub(crate) fn worker(&mut self) -> Result<Option<u64>, LineFault>
         ensures next { IfOk result (λ made. SpelledWorker made self.old.rest.now self.new.rest.now) }
+        ensures none { OnErr result
+            ((worker : Option ℕ) → NotSpelled (SpelledWorker worker) self.old.rest.now) }
         ensures left { length self.new.rest.now ≤ length self.old.rest.now }
     {
         if !self.takes_sign('@') {
@@ -232,6 +244,8 @@ impl<'a> Cursor<'a> {
     // Reads a quoted text, the next token. Two quotes within it are one.
     pub(crate) fn quoted<A: AllocHandle>(&mut self, alloc: A) -> Result<String<A>, LineFault>
         ensures next { IfOk result (λ t. Next (text (string_bytes t)) self.old.rest.now self.new.rest.now) }
+        ensures none { IfErr result (λ fault. (fault ≡ LineFault.OutOfMemory)
+            ⊎ ((t : List ℕ) → NotSpelled (Next (text t)) self.old.rest.now)) }
         ensures left { length self.new.rest.now ≤ length self.old.rest.now }
     {
         self.skip_spaces();
@@ -245,16 +259,15 @@ impl<'a> Cursor<'a> {
     // Reads a blob, the next token: an `x`, and right after it pairs of hex digits in quotes.
     pub(crate) fn blob<A: AllocHandle>(&mut self, alloc: A) -> Result<Vec<u8, A>, LineFault>
         ensures next { IfOk result (λ bytes. Next (blob bytes.items) self.old.rest.now self.new.rest.now) }
+        ensures none { IfErr result (λ fault. (fault ≡ LineFault.OutOfMemory)
+            ⊎ ((bytes : List ℕ) → NotSpelled (Next (blob bytes)) self.old.rest.now)) }
         ensures left { length self.new.rest.now ≤ length self.old.rest.now }
     {
         self.skip_spaces();
         let misfit = self.misfit();
         let begun = after_blob_start(self.rest).ok_or(misfit)?;
         let (digits, rest) = split_at_quote(begun).ok_or(misfit)?;
-        let bytes = hex::decode(alloc, digits).map_err(|error| match error {
-            FromHexError::OutOfMemory => LineFault::OutOfMemory,
-            _ => misfit,
-        })?;
+        let bytes = bytes_of(alloc, digits)?.ok_or(misfit)?;
         self.rest = rest;
         Ok(bytes)
     }

@@ -1,4 +1,6 @@
 //! The faults of a workload's text.
+ghost use Rattle.std.specs.Prelude.{◌≡◌};
+ghost use Rattle.cap_script.specs.RefusedLines.{in_line};
 
 use cap_codec::BlobFault;
 use cap_value::{Fault, OutOfMemory, Refusal};
@@ -48,7 +50,9 @@ pub(crate) enum LineFault {
 
 impl LineFault {
     // The fault of the workload, with this line number.
-    pub(crate) fn in_line(self, line: u64) -> Fault<ScriptFault> {
+    pub(crate) fn in_line(self, line: u64) -> Fault<ScriptFault>
+        ensures { result ≡ in_line line self }
+    {
         match self {
             LineFault::Syntax { at } => Fault::Refused(ScriptFault::Syntax { line, at }),
             LineFault::Limit(why) => Fault::Refused(ScriptFault::Limit { line, why }),
@@ -59,18 +63,30 @@ impl LineFault {
 }
 
 impl From<OutOfMemory> for LineFault {
+    ghost use Rattle.cap_script.specs.declared.fault.LineFault.TheVariants.{OutOfMemory};
+
+    ghost from_gives = { λ _ fault. fault ≡ OutOfMemory };
+
     fn from(_error: OutOfMemory) -> LineFault {
         LineFault::OutOfMemory
     }
 }
 
 impl<T: Drop> From<AllocFailed<T>> for LineFault {
+    ghost use Rattle.cap_script.specs.declared.fault.LineFault.TheVariants.{OutOfMemory};
+
+    ghost from_gives = { λ _ fault. fault ≡ OutOfMemory };
+
     fn from(_error: AllocFailed<T>) -> LineFault {
         LineFault::OutOfMemory
     }
 }
 
 impl From<Fault<Refusal>> for LineFault {
+    ghost use Rattle.cap_script.specs.Refused.{limit_fault};
+
+    ghost from_gives = { λ refused fault. fault ≡ limit_fault refused };
+
     fn from(fault: Fault<Refusal>) -> LineFault {
         match fault {
             Fault::Refused(why) => LineFault::Limit(why),
@@ -80,6 +96,10 @@ impl From<Fault<Refusal>> for LineFault {
 }
 
 impl From<Fault<BlobFault>> for LineFault {
+    ghost use Rattle.cap_script.specs.Refused.{blob_fault};
+
+    ghost from_gives = { λ refused fault. fault ≡ blob_fault refused };
+
     fn from(fault: Fault<BlobFault>) -> LineFault {
         match fault {
             Fault::Refused(fault) => LineFault::BadBlob(fault),

@@ -1,13 +1,15 @@
 //! A line of a workload.
-ghost use Rattle.std.specs.Prelude.{◌≡◌, IfOk};
+ghost use Rattle.std.specs.Prelude.{◌≡◌, IfOk, IfErr};
+ghost use Rattle.cap_script.specs.RefusedLines.{NoLine};
 ghost use Rattle.cap_script.specs.Script.{SpellsLine, is_ignored};
 
 use crate::command::command;
 use crate::cursor::Cursor;
 use crate::fault::LineFault;
 use crate::token::after_blanks;
-use cap_codec::KeyFlags;
+use cap_codec::{KeyFlags, no_bytes_spell_two};
 use cap_core::Command;
+use cap_filter::one_filter;
 use cap_table::RowRef;
 use cap_value::{AllocHandle, Name};
 
@@ -40,8 +42,11 @@ pub struct Line<A: AllocHandle> {
 impl<A: AllocHandle> Line<A> {
     // The line with this text, which is not ignored.
     pub(crate) fn parse(alloc: A, text: &str) -> Result<Self, LineFault>
-        ensures { IfOk result (λ line. SpellsLine line text.now) }
+        ensures spelled { IfOk result (λ line. SpellsLine line text.now) }
+        ensures none { IfErr result (λ fault. NoLine A fault text.now) }
     {
+        one_filter();
+        no_bytes_spell_two::<A>();
         let mut cursor = Cursor::new(text);
         let worker = cursor.worker()?;
         let (command, show) = command(alloc, &mut cursor)?;

@@ -1,6 +1,7 @@
 //! An iterator over the lines of a workload.
-ghost use Rattle.std.specs.Prelude.{◌≡◌, ◌≤◌, ◌<◌, ◌++◌, ◌∷◌, List, [], false, length, IfOk, IfSome};
+ghost use Rattle.std.specs.Prelude.{◌≡◌, ◌≤◌, ◌<◌, ◌++◌, ◌∷◌, List, [], false, length, IfOk, IfErr, IfSome};
 ghost use Rattle.std.specs.Prelude.{MatchOption, MatchResult};
+ghost use Rattle.cap_script.specs.RefusedLines.{NoLines};
 ghost use Rattle.cap_script.specs.Script.{IsCut, IsLeft, IsRead, SpellsScript, TakesFirst, begins_at};
 ghost use Rattle.cap_script.specs.Script.{has_line_feed, is_ignored};
 ghost use Rattle.cap_script.specs.declared.line.Line.{Line};
@@ -43,6 +44,8 @@ impl<'t, A: AllocHandle> Lines<'t, A> {
         // All of the text remains, and it spells some lines.
         ensures whole { IfOk result (λ rest. rest ≡ text.now) }
         ensures spelled { IfOk result (λ rest. (lines : List (Line A)) × SpellsScript lines text.now) }
+        // A text that spells lines within the limits is not refused.
+        ensures none { IfErr result (λ fault. NoLines A fault text.now) }
     {
         let mut rest = Lines::over(alloc, text);
         while let Some(_line) = rest.read()? {}
@@ -86,6 +89,7 @@ impl<'t, A: AllocHandle> Lines<'t, A> {
     // The next line, or none after the last. A refused line is still the next.
     pub(crate) fn read(&mut self) -> Result<Option<Line<A>>, Fault<ScriptFault>>
         ensures read { IfOk result (λ found. IsRead found self.old self.new) }
+        ensures none { IfErr result (λ fault. NoLines A fault self.old) }
         ensures next { (lines : List (Line A)) → SpellsScript lines self.old
             → MatchResult result (λ found. TakesFirst found lines self.new) (λ fault. IsLeft lines self.new) }
         ensures left { IfOk result (λ found. IfSome found (λ line. length self.new < length self.old)) }

@@ -1,8 +1,14 @@
 //! Reads the commands on one session, after their first word.
-ghost use Rattle.std.specs.Prelude.{◌≡◌, ◌≤◌, List, ℕ, IfOk, IfErr, codes, length};
+ghost use Rattle.std.specs.Prelude.{◌≡◌, ◌≤◌, List, ℕ, Bool, Option};
+ghost use Rattle.std.specs.Prelude.{Ok, IsTrue, OnErr, IfOk, IfErr, codes, length};
+ghost use Rattle.cap_value.specs.Memory.{AnswersUnlessMemory};
+ghost use Rattle.cap_filter.specs.Limits.{is_within_limits};
+ghost use Rattle.cap_filter.specs.Rule.{Rule};
+ghost use Rattle.cap_codec.specs.declared.key_flags.KeyFlags.{KeyFlags};
 ghost use Rattle.cap_filter.specs.Grammar.{Spells};
 ghost use Rattle.cap_script.specs.Commands.{SpelledCommand, SpelledFilter, SpelledKeyFlags};
-ghost use Rattle.cap_script.specs.Forms.{◌▸◌, Natural, Word};
+ghost use Rattle.cap_script.specs.Forms.{◌▸◌, Natural, NotSpelled, Word};
+ghost use Rattle.cap_script.specs.RefusedLines.{NoCommand, NoFilter};
 ghost use Rattle.cap_script.specs.Words.{flag_word, session_word};
 
 use crate::Show;
@@ -21,8 +27,10 @@ pub(crate) fn session_command<A: AllocHandle>(
     cursor: &mut Cursor<'_>,
     word: SessionWord,
 ) -> Result<(Command<A>, Show<A>), LineFault>
-    ensures { (line : List ℕ) → Word (session_word word) line cursor.old.rest.now
+    ensures next { (line : List ℕ) → Word (session_word word) line cursor.old.rest.now
         → IfOk result (λ made. SpelledCommand made.0 made.1 line cursor.new.rest.now) }
+    ensures none { (line : List ℕ) → Word (session_word word) line cursor.old.rest.now
+        → IfErr result (λ fault. NoCommand A fault line) }
 {
     let session = cursor.natural()?;
     match word {
@@ -67,8 +75,10 @@ fn diff<A: AllocHandle>(
     cursor: &mut Cursor<'_>,
     session: u64,
 ) -> Result<(Command<A>, Show<A>), LineFault>
-    ensures { (line : List ℕ) → (Word (codes "diff") ▸ Natural session) line cursor.old.rest.now
+    ensures next { (line : List ℕ) → (Word (codes "diff") ▸ Natural session) line cursor.old.rest.now
         → IfOk result (λ made. SpelledCommand made.0 made.1 line cursor.new.rest.now) }
+    ensures none { (line : List ℕ) → (Word (codes "diff") ▸ Natural session) line cursor.old.rest.now
+        → IfErr result (λ fault. NoCommand A fault line) }
 {
     let from = name(alloc, cursor)?;
     let table = name(alloc, cursor)?;
@@ -82,7 +92,8 @@ fn diff<A: AllocHandle>(
 
 // Reads a filter, which is the rest of the line.
 fn filter<A: AllocHandle>(alloc: A, cursor: &mut Cursor<'_>) -> Result<TableFilter<A>, LineFault>
-    ensures { IfOk result (λ made. SpelledFilter made cursor.old.rest.now cursor.new.rest.now) }
+    ensures next { IfOk result (λ made. SpelledFilter made cursor.old.rest.now cursor.new.rest.now) }
+    ensures none { IfErr result (λ fault. NoFilter fault cursor.old.rest.now) }
 {
     let text = cursor.rest();
     match filter_of(alloc, text) {
@@ -99,6 +110,10 @@ fn filter<A: AllocHandle>(alloc: A, cursor: &mut Cursor<'_>) -> Result<TableFilt
 // The filter that the text spells. The offset of a fault is within the text, or at its end.
 fn filter_of<A: AllocHandle>(alloc: A, text: &str) -> Result<TableFilter<A>, Fault<Refusal>>
     ensures found { IfOk result (λ made. Spells text.now made) }
+    ensures only { (filter : Rule) → Spells text.now filter → IsTrue (is_within_limits filter)
+        → AnswersUnlessMemory result (Ok filter) }
+    ensures unfit { IfErr result (λ fault. (at : ℕ)
+        → fault ≡ Fault.Refused (Refusal.BadFilter at) → (filter : Rule) → Spells text.now filter → ⊥) }
     ensures place { IfErr result (λ fault. (at : ℕ)
         → fault ≡ Fault.Refused (Refusal.BadFilter at) → at ≤ length text.now) }
 {
@@ -108,7 +123,9 @@ fn filter_of<A: AllocHandle>(alloc: A, text: &str) -> Result<TableFilter<A>, Fau
 
 // Reads the key flags: `places`, or nothing for `01`.
 fn key_flags(cursor: &mut Cursor<'_>) -> Result<KeyFlags, LineFault>
-    ensures { IfOk result (λ made. SpelledKeyFlags made cursor.old.rest.now cursor.new.rest.now) }
+    ensures next { IfOk result (λ made. SpelledKeyFlags made cursor.old.rest.now cursor.new.rest.now) }
+    ensures none { OnErr result
+        ((flags : KeyFlags) → NotSpelled (SpelledKeyFlags flags) cursor.old.rest.now) }
 {
     if cursor.takes_end() {
         return Ok(KeyFlags::Ones);
@@ -119,7 +136,9 @@ fn key_flags(cursor: &mut Cursor<'_>) -> Result<KeyFlags, LineFault>
 
 // Reads a flag's new value: `on` or `off`, or `ask` to query it.
 fn flag(cursor: &mut Cursor<'_>) -> Result<Option<bool>, LineFault>
-    ensures { IfOk result (λ made. Word (flag_word made) cursor.old.rest.now cursor.new.rest.now) }
+    ensures next { IfOk result (λ made. Word (flag_word made) cursor.old.rest.now cursor.new.rest.now) }
+    ensures none { OnErr result ((flag : Option Bool) →
+        NotSpelled (Word (flag_word flag)) cursor.old.rest.now) }
 {
     let word = cursor.word()?;
     flag_of(word.text).ok_or(word.misfit)

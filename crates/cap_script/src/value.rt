@@ -1,10 +1,15 @@
 //! Reads values, and references to rows.
-ghost use Rattle.std.specs.Prelude.{◌≤◌, List, ℕ, length, IfOk, codes};
+ghost use Rattle.std.specs.Prelude.{◌≤◌, List, ℕ, length, IfOk, IfErr, codes};
+ghost use Rattle.std.specs.List.{AllByRecursion};
 ghost use Rattle.cap_script.specs.Forms.{Word};
+ghost use Rattle.cap_script.specs.Limits.{IsShort, ValueWithin};
 ghost use Rattle.cap_script.specs.Operations.{SpelledRow, SpelledValue, SpelledValues};
+ghost use Rattle.cap_script.specs.Refused.{NoRow, NoValue, NoValues, NoneSpelled};
+ghost use Rattle.cap_script.specs.Tokens.{Next, blob, text};
 
 use crate::cursor::Cursor;
 use crate::fault::LineFault;
+use crate::token::Start;
 use cap_row::Key;
 use cap_table::RowRef;
 use cap_value::{AllocHandle, Value};
@@ -15,13 +20,15 @@ pub(crate) fn value<A: AllocHandle>(
     cursor: &mut Cursor<'_>,
 ) -> Result<Value<A>, LineFault>
     ensures next { IfOk result (λ made. SpelledValue made cursor.old.rest.now cursor.new.rest.now) }
+    ensures within { IfOk result (λ made. ValueWithin made) }
+    ensures none { IfErr result (λ fault. NoValue A fault cursor.old.rest.now) }
     ensures left { length cursor.new.rest.now ≤ length cursor.old.rest.now }
 {
-    match cursor.first_byte() {
-        Some(b'\'') => text(alloc, cursor),
-        Some(b'-' | b'0'..=b'9') => Ok(Value::Int(cursor.integer()?)),
-        Some(b'x') => blob(alloc, cursor),
-        _ => {
+    match cursor.start() {
+        Start::Quote => text(alloc, cursor),
+        Start::Digit => Ok(Value::Int(cursor.integer()?)),
+        Start::X => blob(alloc, cursor),
+        Start::Other => {
             cursor.keyword("null")?;
             Ok(Value::Null)
         }
@@ -30,6 +37,9 @@ pub(crate) fn value<A: AllocHandle>(
 
 fn text<A: AllocHandle>(alloc: A, cursor: &mut Cursor<'_>) -> Result<Value<A>, LineFault>
     ensures next { IfOk result (λ made. SpelledValue made cursor.old.rest.now cursor.new.rest.now) }
+    ensures within { IfOk result (λ made. ValueWithin made) }
+    ensures none { IfErr result (λ fault.
+        NoneSpelled fault IsShort (λ bytes. Next (text bytes)) cursor.old.rest.now) }
     ensures left { length cursor.new.rest.now ≤ length cursor.old.rest.now }
 {
     let text = cursor.quoted(alloc)?;
@@ -38,6 +48,9 @@ fn text<A: AllocHandle>(alloc: A, cursor: &mut Cursor<'_>) -> Result<Value<A>, L
 
 fn blob<A: AllocHandle>(alloc: A, cursor: &mut Cursor<'_>) -> Result<Value<A>, LineFault>
     ensures next { IfOk result (λ made. SpelledValue made cursor.old.rest.now cursor.new.rest.now) }
+    ensures within { IfOk result (λ made. ValueWithin made) }
+    ensures none { IfErr result (λ fault.
+        NoneSpelled fault IsShort (λ bytes. Next (blob bytes)) cursor.old.rest.now) }
     ensures left { length cursor.new.rest.now ≤ length cursor.old.rest.now }
 {
     let bytes = cursor.blob(alloc)?;
@@ -51,6 +64,8 @@ pub(crate) fn values<A: AllocHandle>(
 ) -> Result<Vec<Value<A>, A>, LineFault>
     ensures next { IfOk result (λ made.
         SpelledValues made.items cursor.old.rest.now cursor.new.rest.now) }
+    ensures within { IfOk result (λ made. AllByRecursion ValueWithin made.items) }
+    ensures none { IfErr result (λ fault. NoValues A fault cursor.old.rest.now) }
     ensures left { length cursor.new.rest.now ≤ length cursor.old.rest.now }
 {
     cursor.sign('(')?;
@@ -69,6 +84,7 @@ pub(crate) fn row_ref<A: AllocHandle>(
     cursor: &mut Cursor<'_>,
 ) -> Result<RowRef<A>, LineFault>
     ensures next { IfOk result (λ made. SpelledRow made cursor.old.rest.now cursor.new.rest.now) }
+    ensures none { IfErr result (λ fault. NoRow A fault cursor.old.rest.now) }
     ensures left { length cursor.new.rest.now ≤ length cursor.old.rest.now }
 {
     let word = cursor.word()?;
@@ -85,6 +101,8 @@ pub(crate) fn row_ref<A: AllocHandle>(
 fn key_ref<A: AllocHandle>(alloc: A, cursor: &mut Cursor<'_>) -> Result<RowRef<A>, LineFault>
     ensures next { (line : List ℕ) → Word (codes "key") line cursor.old.rest.now
         → IfOk result (λ made. SpelledRow made line cursor.new.rest.now) }
+    ensures none { (line : List ℕ) → Word (codes "key") line cursor.old.rest.now
+        → IfErr result (λ fault. NoRow A fault line) }
     ensures left { length cursor.new.rest.now ≤ length cursor.old.rest.now }
 {
     let values = values(alloc, cursor)?;

@@ -1,6 +1,11 @@
 //! The words of commands.
-ghost use Rattle.std.specs.Prelude.{◌≡◌, IfSome, IfOk};
-ghost use Rattle.cap_script.specs.Words.{answer_word, flag_word, head_word, letters, session_word, verb_word};
+ghost use Rattle.std.specs.Prelude.{◌≡◌, ◌≢◌, List, Bool, Option, IfOk, MatchOption};
+ghost use Rattle.cap_script.specs.Words.{answer_word, flag_word, head_word, key_letter, letters};
+ghost use Rattle.cap_script.specs.Words.{session_word, verb_word};
+ghost use Rattle.cap_script.specs.declared.words.Head.{Head};
+ghost use Rattle.cap_script.specs.declared.words.SessionWord.{SessionWord};
+ghost use Rattle.cap_script.specs.declared.words.Verb.{Verb};
+ghost use Rattle.cap_apply.specs.declared.policy.Answer.{Answer};
 
 use cap_apply::Answer;
 use cap_value::{AllocHandle, OutOfMemory};
@@ -45,7 +50,8 @@ pub(crate) enum Verb {
 
 // The command that the word begins, if any.
 pub(crate) fn head_of(word: &str) -> Option<Head>
-    ensures { IfSome result (λ head. word.now ≡ head_word head) }
+    ensures { MatchOption result ((head : Head) → word.now ≢ head_word head)
+        (λ head. word.now ≡ head_word head) }
 {
     match word {
         "create" => Some(Head::Create),
@@ -61,7 +67,8 @@ pub(crate) fn head_of(word: &str) -> Option<Head>
 }
 
 fn session_word_of(word: &str) -> Option<SessionWord>
-    ensures { IfSome result (λ found. word.now ≡ session_word found) }
+    ensures { MatchOption result ((found : SessionWord) → word.now ≢ session_word found)
+        (λ found. word.now ≡ session_word found) }
 {
     match word {
         "drop" => Some(SessionWord::Drop),
@@ -81,7 +88,8 @@ fn session_word_of(word: &str) -> Option<SessionWord>
 
 // The operation that the word begins, if any.
 pub(crate) fn verb_of(word: &str) -> Option<Verb>
-    ensures { IfSome result (λ verb. word.now ≡ verb_word verb) }
+    ensures { MatchOption result ((verb : Verb) → word.now ≢ verb_word verb)
+        (λ verb. word.now ≡ verb_word verb) }
 {
     match word {
         "insert" => Some(Verb::Insert),
@@ -93,7 +101,8 @@ pub(crate) fn verb_of(word: &str) -> Option<Verb>
 
 // The answer to a conflict, if the word is `omit`, `replace` or `abort`.
 pub(crate) fn answer_of(word: &str) -> Option<Answer>
-    ensures { IfSome result (λ answer. word.now ≡ answer_word answer) }
+    ensures { MatchOption result ((answer : Answer) → word.now ≢ answer_word answer)
+        (λ answer. word.now ≡ answer_word answer) }
 {
     match word {
         "omit" => Some(Answer::Omit),
@@ -105,7 +114,8 @@ pub(crate) fn answer_of(word: &str) -> Option<Answer>
 
 // The new value of a flag, if the word is `on` or `off`, or none for `ask`.
 pub(crate) fn flag_of(word: &str) -> Option<Option<bool>>
-    ensures { IfSome result (λ flag. word.now ≡ flag_word flag) }
+    ensures { MatchOption result ((flag : Option Bool) → word.now ≢ flag_word flag)
+        (λ flag. word.now ≡ flag_word flag) }
 {
     match word {
         "on" => Some(Some(true)),
@@ -120,15 +130,27 @@ pub(crate) fn flags_of<A: AllocHandle>(
     alloc: A,
     word: &str,
 ) -> Result<Option<Vec<bool, A>>, OutOfMemory>
-    ensures { IfOk result (λ found. IfSome found (λ flags. word.now ≡ letters flags.items)) }
+    ensures { IfOk result (λ found. MatchOption found ((flags : List Bool) → word.now ≢ letters flags)
+        (λ flags. word.now ≡ letters flags.items)) }
 {
     let mut flags = Vec::new(alloc);
     for letter in word.as_bytes() {
-        match *letter {
-            b'k' => flags.push(true)?,
-            b'v' => flags.push(false)?,
-            _ => return Ok(None),
-        }
+        let Some(flag) = key_flag_of(*letter) else {
+            return Ok(None);
+        };
+        flags.push(flag)?;
     }
     Ok(Some(flags))
+}
+
+// The key flag of a column, if the letter is `k` or `v`.
+fn key_flag_of(letter: u8) -> Option<bool>
+    ensures { MatchOption result ((flag : Bool) → letter ≢ key_letter flag)
+        (λ flag. letter ≡ key_letter flag) }
+{
+    match letter {
+        b'k' => Some(true),
+        b'v' => Some(false),
+        _ => None,
+    }
 }

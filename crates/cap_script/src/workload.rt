@@ -1,5 +1,6 @@
 //! Reads a whole workload.
-ghost use Rattle.std.specs.Prelude.{◌≡◌, ◌++◌, ◌∷◌, [], IfOk, OnOk};
+ghost use Rattle.std.specs.Prelude.{◌≡◌, ◌++◌, ◌∷◌, [], IfOk, IfErr, OnOk};
+ghost use Rattle.cap_script.specs.RefusedLines.{NoLines};
 ghost use Rattle.cap_script.specs.Script.{SpellsScript};
 ghost use Rattle.cap_script.specs.declared.line.Line.{Line};
 
@@ -19,7 +20,9 @@ pub struct Workload<A: AllocHandle> {
 /// `Limit`, and `Limit` before `BadBlob`.
 pub fn parse<A: AllocHandle>(alloc: A, text: &str) -> Result<Workload<A>, Fault<ScriptFault>>
     // The text spells the workload.
-    ensures { IfOk result (λ workload. SpellsScript workload.lines.items text.now) }
+    ensures spelled { IfOk result (λ workload. SpellsScript workload.lines.items text.now) }
+    // A text that spells lines within the limits is not refused.
+    ensures none { IfErr result (λ fault. NoLines A fault text.now) }
 {
     let mut rest = Lines::over(alloc, text);
     let mut lines = Vec::new(alloc);
@@ -34,7 +37,8 @@ fn push_line<A: AllocHandle>(
     lines: &mut Vec<Line<A>, A>,
     line: Line<A>,
 ) -> Result<(), Fault<ScriptFault>>
-    ensures { OnOk result (lines.new.items ≡ lines.old.items ++ line ∷ []) }
+    ensures pushed { OnOk result (lines.new.items ≡ lines.old.items ++ line ∷ []) }
+    ensures memory { IfErr result (λ fault. fault ≡ Fault.OutOfMemory) }
 {
     Ok(lines.push(line).map_err(OutOfMemory::from)?)
 }

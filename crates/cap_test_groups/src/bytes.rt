@@ -79,13 +79,17 @@ fn joined<A: AllocHandle>(
     second: &str,
 ) -> Result<Vec<u8, A>, Fault<ConcatRefusal>> {
     match (hex::decode(alloc, first), hex::decode(alloc, second)) {
-        (Ok(first), Ok(second)) => concat_bytes(
-            alloc,
-            KeyFlags::Places,
-            &[first.as_slice(), second.as_slice()],
-        ),
+        (Ok(first), Ok(second)) => bytes_joined(alloc, first.as_slice(), second.as_slice()),
         _ => Err(Fault::OutOfMemory),
     }
+}
+
+fn bytes_joined<A: AllocHandle>(
+    alloc: A,
+    first: &[u8],
+    second: &[u8],
+) -> Result<Vec<u8, A>, Fault<ConcatRefusal>> {
+    concat_bytes(alloc, KeyFlags::Places, &[first, second])
 }
 
 fn joins<A: AllocHandle>(alloc: A, first: &str, second: &str, both: &str) -> bool {

@@ -298,36 +298,61 @@ fn insert_keyed<A: AllocHandle>(
     }
 }
 
-// Each change is tried with a hook that refuses, and then with one that allows it. A change that the rules refuse is
-// not shown to the hook.
+// Sets the text of the row of this key, if the hook allows it.
+fn update_kept<A: AllocHandle>(
+    alloc: A,
+    table: &mut Table<A>,
+    key: &Key<A>,
+    hook: &mut CountingHook,
+) -> Result<Result<(), NotMade<()>>, Fault<Refusal>> {
+    let fields = [(1, Value::text(alloc, "b")?)];
+    if !table.keeps_key(&fields) {
+        return Ok(Err(NotMade::OutOfMemory));
+    }
+    Ok(table.update_kept_hooked(key, &fields, hook))
+}
+
+fn key_of_one<A: AllocHandle>(alloc: A) -> Result<Key<A>, Fault<Refusal>> {
+    match named(alloc, 1)? {
+        RowRef::Key(key) => Ok(key),
+        RowRef::Loose(_) => Err(Fault::OutOfMemory),
+    }
+}
+
+// Each change is tried with a hook that refuses, and then with one that allows it.
 #[test]
 fn changes_wait_for_the_commit_hook(rt: HostRuntime) -> Result<(), Fail> {
     let alloc = rt.alloc();
-    let mut table = kv(alloc)?;
-    let one = named(alloc, 1)?;
-    let Some(key) = table.new_key(&row(alloc, Some(1), "a")?)? else {
-        return Err(Fail::from("no key"));
-    };
-    let text = [(1, Value::text(alloc, "b")?)];
+    let (mut table, key, one) = (kv(alloc)?, key_of_one(alloc)?, named(alloc, 1)?);
     let (mut no, mut yes) = (CountingHook::new(false), CountingHook::new(true));
     let vetoed = Err(NotMade::Vetoed(()));
-    let duplicate = Err(NotMade::Refused(Refusal::Duplicate));
-    let no_row = Err(NotMade::Refused(Refusal::NoRow));
-    assert!(rt; table.new_key(&row(alloc, None, "l")?)?.is_none());
-    assert!(rt; !table.keeps_key(&[(0, Value::Int(2))]) && table.keeps_key(&text));
     assert!(rt; insert_keyed(alloc, &mut table, "a", &mut no)? == vetoed);
     assert!(rt; table.get(&one).is_none());
     assert!(rt; insert_keyed(alloc, &mut table, "a", &mut yes)? == Ok(()));
-    assert!(rt; insert_keyed(alloc, &mut table, "c", &mut no)? == duplicate);
-    assert!(rt; table.update_kept_hooked(&key, &text, &mut no) == vetoed);
+    assert!(rt; update_kept(alloc, &mut table, &key, &mut no)? == vetoed);
     assert!(rt; has(&table, &one, "a"));
-    assert!(rt; table.update_kept_hooked(&key, &text, &mut yes) == Ok(()));
+    assert!(rt; update_kept(alloc, &mut table, &key, &mut yes)? == Ok(()));
     assert!(rt; table.delete_keyed_hooked(&key, &mut no) == vetoed);
     assert!(rt; has(&table, &one, "b"));
     assert!(rt; table.delete_keyed_hooked(&key, &mut yes) == Ok(()));
-    assert!(rt; table.update_kept_hooked(&key, &text, &mut no) == no_row);
+    assert!(rt; (table.scan().left(), no.asked, yes.asked) == (0, 3, 3));
+    Ok(())
+}
+
+// A change that the rules refuse is not shown to the hook.
+#[test]
+fn refused_changes_are_not_shown_to_the_hook(rt: HostRuntime) -> Result<(), Fail> {
+    let alloc = rt.alloc();
+    let (mut table, key) = (kv(alloc)?, key_of_one(alloc)?);
+    let mut no = CountingHook::new(false);
+    let no_row = Err(NotMade::Refused(Refusal::NoRow));
+    assert!(rt; table.new_key(&row(alloc, None, "l")?)?.is_none());
+    assert!(rt; !table.keeps_key(&[(0, Value::Int(2))]));
+    assert!(rt; update_kept(alloc, &mut table, &key, &mut no)? == no_row);
     assert!(rt; table.delete_keyed_hooked(&key, &mut no) == no_row);
-    assert!(rt; table.scan().left() == 0);
-    assert!(rt; (no.asked, yes.asked) == (3, 3));
+    table.insert(row(alloc, Some(1), "a")?)?;
+    let duplicate = Err(NotMade::Refused(Refusal::Duplicate));
+    assert!(rt; insert_keyed(alloc, &mut table, "c", &mut no)? == duplicate);
+    assert!(rt; no.asked == 0);
     Ok(())
 }

@@ -2,6 +2,7 @@ use Rattle.std.proofs.Common.{◌≤◌, ◌++◌, length, List, ℕ, codes}
 use Rattle.cap_database.specs.Assigned.{Assigned}
 use Rattle.cap_script.specs.Forms.{◌▸◌, Word}
 use Rattle.cap_script.specs.Operations.{MoreFields, SpelledFields}
+use Rattle.cap_script.proofs.MoreLemmas.{GoesOn}
 use Rattle.cap_script.proofs.operation.assignments.Given as goal
 
 abbrev pub invariant-loop-alloc : goal.invariant-loop-alloc
@@ -9,6 +10,7 @@ invariant-loop-alloc g l =
     (length l.cursor.rest.now ≤ length l.fn.cursor.rest.now)
     × ((tail : Assigned g.row.A.Denot) (rest : List ℕ) → MoreFields tail l.cursor.rest.now rest
     → (Word (codes "set") ▸ SpelledFields (l.fields.items ++ tail)) l.fn.cursor.rest.now rest)
+    × GoesOn {X = _} (λ fields. Word (codes "set") ▸ SpelledFields fields) MoreFields l.fields.items l.fn.cursor.rest.now l.cursor.rest.now
 
 abbrev pub decreases-loop-alloc : goal.decreases-loop-alloc
 decreases-loop-alloc g l = length l.cursor.rest.now

@@ -1,6 +1,7 @@
 use Rattle.std.proofs.Common.{◌≡◌, ◌++◌, ◌∷◌, [], List, ℕ, string_bytes, ap, ◌∙◌, sym, rules, append_assoc}
 use Rattle.cap_filter.specs.Printed.{quote, double_quotes}
 use Rattle.cap_script.proofs.TokenLemmas.{not_begun, piece_read, quote_read}
+use Rattle.cap_script.proofs.OneTokens.{not_quoted}
 use Rattle.cap_script.proofs.token.split_quoted.Goals as goal
 
 pub returns-in_default-after : goal.returns-in_default-after
@@ -20,3 +21,7 @@ loop-piece-preserved g c =
     (read ∙ ap (λ (l : List ℕ). double_quotes (string_bytes c.loop-piece.word ++ c.in-Some.piece.now) ++ quote ∷ l) c.in-Some-after.ensures) in
     let made : string_bytes c.push_str-in-Some.new.self ≡ (string_bytes c.loop-piece.word ++ c.in-Some.piece.now) ++ quote ∷ [] = c.in_ok-push_str-2.ensures.bytes ∙ ap (λ (w : List ℕ). w ++ quote ∷ []) c.in_ok-push_str.ensures.bytes in
     (search rules, rw made doubled)
+
+pub returns : goal.returns
+returns g c = λ word rest is closed.
+    not_quoted (string_bytes c.loop-piece.word) word c.loop-piece.rest.now c.args.text.now rest c.loop-piece.invariant.1 is c.in_default.ensures closed

@@ -1,6 +1,7 @@
 use Rattle.std.proofs.Common.{◌≡◌, ◌<◌, ℕ, List, [], ◌∷◌, ◌++◌, false, length, ap, arith, inl, inr, length-append, subst, sym}
 use Rattle.cap_script.specs.Script.{IsCut, is_ignored}
 use Rattle.cap_script.proofs.LineLemmas.{behind_line, cut_shorter, line_first, line_left, none_left, nothing_spelled}
+use Rattle.cap_script.proofs.NoLines.{no_first}
 use Rattle.cap_script.proofs.lines.Lines.read.Goals as goal
 
 -- a line that says something is not empty
@@ -28,14 +29,20 @@ returns-in_default-clause-next g c = λ lines spelled. none_left lines c.next_te
 pub returns-in-Ok-clause-read : goal.returns-in-Ok-clause-read
 returns-in-Ok-clause-read g c = λ lines spelled.
     let here = c.in-Some.ensures.here in
-    c.in-Some.ensures.back (c.in-Ok.line ∷ lines) (line_first c.in-Ok.line lines c.next_text.new.self c.in-Some.text.now c.in-Some.behind.now here.0 c.in-Ok.ensures spelled)
+    c.in-Some.ensures.back (c.in-Ok.line ∷ lines) (line_first c.in-Ok.line lines c.next_text.new.self c.in-Some.text.now c.in-Some.behind.now here.0 c.in-Ok.ensures.spelled spelled)
 
 pub returns-in-Ok-clause-next : goal.returns-in-Ok-clause-next
 returns-in-Ok-clause-next g c = λ lines spelled.
     let here = c.in-Some.ensures.here in
-    behind_line c.one_workload.ensures c.in-Ok.line lines c.next_text.new.self c.in-Some.text.now c.in-Some.behind.now here.0 here.1 c.in-Ok.ensures (c.in-Some.ensures.passed lines spelled)
+    behind_line c.one_workload.ensures c.in-Ok.line lines c.next_text.new.self c.in-Some.text.now c.in-Some.behind.now here.0 here.1 c.in-Ok.ensures.spelled (c.in-Some.ensures.passed lines spelled)
 
 pub returns-in-Err-clause-next : goal.returns-in-Err-clause-next
 returns-in-Err-clause-next g c = λ lines spelled.
     let here = c.in-Some.ensures.here in
     line_left lines c.next_text.new.self c.in-Some.text.now c.in-Some.behind.now here.0 here.1 (c.in-Some.ensures.passed lines spelled)
+
+pub returns-in-Err-clause-none : goal.returns-in-Err-clause-none
+returns-in-Err-clause-none g c =
+    let here = c.in-Some.ensures.here in
+    rw c.in_line.ensures
+    (λ lines spelled. no_first {A = g.row.A.Denot} c.in-Err.fault _ lines c.next_text.new.self c.in-Some.text.now c.in-Some.behind.now here.0 here.1 c.in-Err.ensures.none (c.in-Some.ensures.passed lines spelled))

@@ -1,0 +1,15 @@
+use Rattle.cap_script.specs.RefusedLines.{NoCommand}
+use Rattle.cap_script.specs.declared.words.Head.TheVariants as head
+use Rattle.cap_script.proofs.NoCommands.{no_created_name, no_created_schema, no_said}
+use Rattle.cap_script.proofs.NoneLemmas.{passed}
+use Rattle.cap_script.proofs.command.create.Goals as goal
+
+pub returns-in_err-table-clause-none : goal.returns-in_err-table-clause-none
+returns-in_err-table-clause-none g c = λ line begun.
+    passed c.from_residual.result c.in_err-table.field-0.0 (λ fault. NoCommand g.row.A.Denot fault line) c.from_residual.ensures.1
+    (no_said g.row.A.Denot c.in_err-table.field-0.0 head.Create line c.args.cursor.now.rest.now begun (no_created_name g.row.A.Denot c.in_err-table.field-0.0 c.args.cursor.now.rest.now c.in_err-table.ensures.none))
+
+pub returns-in_err-schema-clause-none : goal.returns-in_err-schema-clause-none
+returns-in_err-schema-clause-none g c = λ line begun.
+    passed c.from_residual-in_err-schema.result c.in_err-schema.field-0.0 (λ fault. NoCommand g.row.A.Denot fault line) c.from_residual-in_err-schema.ensures.1
+    (no_said g.row.A.Denot c.in_err-schema.field-0.0 head.Create line c.args.cursor.now.rest.now begun (no_created_schema g.row.A.Denot c.in_err-schema.field-0.0 _ c.args.cursor.now.rest.now c.name.new.cursor.rest.now c.in_ok-table.ensures.next c.in_err-schema.ensures.none))
