@@ -64,7 +64,8 @@ class Commands:
                 wanted = blob.write(blob.patches(blob.read(content)))
                 yield from self.differences("patchset", content.hex(), wanted, self.made_with_its_flags, content)
         for first, second in zip(changesets, changesets[1:]):
-            if "concat" not in self.missing:
+            # Key flags of two forms are two keys to SQLite, as a test of the differences shows.
+            if "concat" not in self.missing and has_positions(first) == has_positions(second):
                 yield from self.differences("concat", f"{first.hex()} {second.hex()}", joined(first, second),
                                             self.made_in_order, first, second)
 
@@ -80,16 +81,24 @@ class Commands:
     def shown(self, _word, content):
         return self.program.show(content)
 
-    def made(self, word, *blobs):
-        return self.program.on_blobs(word, *blobs)
-
     def made_with_its_flags(self, word, content):
         """What the command makes of a changeset with the form of key flags that this has: SQLite leaves it as it is."""
-        has_positions = all(group.has_positions() for group in blob.read(content))
-        return self.program.on_blobs(word, content, options=[] if has_positions else ["--key-flags", "ones"])
+        return self.program.on_blobs(word, content, options=options_of(content))
 
     def made_in_order(self, word, *blobs):
-        return blob.in_key_order(self.made(word, *blobs))
+        """What the command makes of changesets with one form of key flags, in that form."""
+        options = next((options for options in map(options_of, blobs) if options), [])
+        return blob.in_key_order(self.program.on_blobs(word, *blobs, options=options))
+
+
+def has_positions(content):
+    """Whether each key flag of the blob is the column's position within the key."""
+    return all(group.has_positions() for group in blob.read(content))
+
+
+def options_of(content):
+    """What asks for the form of key flags that the blob has."""
+    return [] if has_positions(content) else ["--key-flags", "ones"]
 
 
 def joined(first, second):
