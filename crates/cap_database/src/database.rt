@@ -129,7 +129,8 @@ impl<A: AllocHandle> Database<A> {
     /// The key of the row that an operation adds, takes out, or changes outside its key: of a row that has one and
     /// keeps it. None of any other operation, and where no table has the name.
     pub fn kept_key(&self, op: &Op<A>) -> Result<Option<Key<A>>, OutOfMemory>
-        ensures { IfOk result (λ key. key ≡ kept_key self.now op.now) }
+        ensures key { IfOk result (λ key. key ≡ kept_key self.now op.now) }
+        ensures first { table_of self.now op.now.table ≡ None → result ≡ Ok None }
     {
         match self.table(&op.table) {
             Some(table) => kept_in(table, &op.action),
@@ -137,9 +138,9 @@ impl<A: AllocHandle> Database<A> {
         }
     }
 
-    /// Makes an operation on a row that keeps this key, by one search, if the hook allows it, with `step`'s refusals. The hook
-    /// is asked once, after all memory is reserved, and only if the rules accept the operation. It is shown the row
-    /// under the key before and after. On an error the database is as before.
+    /// Makes an operation on a row that keeps this key, by one search, if the hook allows it, with `step`'s refusals.
+    /// The hook is asked once, after all memory is reserved, and only if the rules accept the operation. It is shown
+    /// the row under the key before and after. On an error the database is as before.
     pub fn step_keyed<H: Hook<Row<A>>>(
         &mut self,
         op: &Op<A>,

@@ -126,7 +126,8 @@ impl<'a, 'b, 'c, 'd, A: AllocHandle, H: Hook<Row<A>>> Remake<Row<A>>
 impl<A: AllocHandle> Table<A> {
     /// The primary key of a new row, none where it has none or another width than the table.
     pub fn new_key(&self, row: &Row<A>) -> Result<Option<Key<A>>, OutOfMemory>
-        ensures { IfOk result (λ key. key ≡ new_key self.now row.now) }
+        ensures key { IfOk result (λ key. key ≡ new_key self.now row.now) }
+        ensures first { ¬ (length row.now ≡ length self.now.schema) → result ≡ Ok None }
     {
         if row.width() != self.schema.width() {
             return Ok(None);
