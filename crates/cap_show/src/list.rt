@@ -1,9 +1,11 @@
 //! Prints changesets and patchsets.
-ghost use Rattle.std.specs.Prelude.{◌≡◌, ◌∷◌, ◌++◌, [], OnOk, codes};
+ghost use Rattle.std.specs.Prelude.{◌≡◌, ◌∷◌, ◌++◌, [], ℕ, List, OnOk, codes};
 ghost use Rattle.std.specs.Io.KnownBytes.{Appends};
+ghost use Rattle.std.specs.List.{flat_map};
+ghost use Rattle.cap_show.specs.ShowText as spec;
 
 use crate::text::{DefinedText, RecordText, SchemaText};
-use cap_changes::{ChangeList, Patch, PatchList, RowChange};
+use cap_changes::{ChangeList, Entry, Patch, PatchList, RowChange, TableGroup};
 use cap_value::AllocHandle;
 use std::io;
 use std::io::Write;
@@ -22,19 +24,15 @@ pub fn write_changeset<A: AllocHandle, W: Write>(
     // A list without groups is one line.
     ensures empty { changes.now ≡ [] → OnOk result (Appends (W.contents output.old) (W.contents output.new)
         (codes "empty" ++ 10 ∷ [])) }
+    // Where it is known what the writer holds, it is followed by the text of the list.
+    ensures text { OnOk result (Appends (W.contents output.old) (W.contents output.new)
+        (spec.changeset_text changes.now)) }
 {
     if changes.groups().is_empty() {
         return output.write_all(EMPTY);
     }
     writeln!(output, "changeset")?;
-    for group in changes.groups() {
-        let columns = SchemaText(group.schema());
-        writeln!(output, "group {} {columns}", group.table().as_str())?;
-        for change in group.changes() {
-            write_change(change, output)?;
-        }
-    }
-    Ok(())
+    write_groups::<RowChange<A>, A, W>(changes.groups(), output)
 }
 
 /// Writes a patchset: a line for it, for each group and for each change, or `empty` where it has no group.
@@ -48,79 +46,134 @@ pub fn write_patchset<A: AllocHandle, W: Write>(
     // A list without groups is one line.
     ensures empty { patches.now ≡ [] → OnOk result (Appends (W.contents output.old) (W.contents output.new)
         (codes "empty" ++ 10 ∷ [])) }
+    // Where it is known what the writer holds, it is followed by the text of the list.
+    ensures text { OnOk result (Appends (W.contents output.old) (W.contents output.new)
+        (spec.patchset_text patches.now)) }
 {
     if patches.groups().is_empty() {
         return output.write_all(EMPTY);
     }
     writeln!(output, "patchset")?;
-    for group in patches.groups() {
-        let columns = SchemaText(group.schema());
-        writeln!(output, "group {} {columns}", group.table().as_str())?;
-        for patch in group.changes() {
-            write_patch(patch, output)?;
+    write_groups::<Patch<A>, A, W>(patches.groups(), output)
+}
+
+// What a group holds, as a line.
+trait TextEntry: Entry {
+    // The line of one.
+    ghost text: { Self → List ℕ };
+
+    // Writes it.
+    fn write_text<W: Write>(&self, output: &mut W) -> io::Result<()>
+        ensures { OnOk result (Appends (W.contents output.old) (W.contents output.new) (text self.now)) };
+}
+
+impl<A: AllocHandle> TextEntry for RowChange<A> {
+    ghost use Rattle.cap_show.specs.ShowText.{change_text};
+
+    ghost text = { change_text };
+
+    fn write_text<W: Write>(&self, output: &mut W) -> io::Result<()> {
+        match self {
+            RowChange::Insert { indirect, new } => {
+                writeln!(
+                    output,
+                    "insert {} {}",
+                    flag_text(*indirect),
+                    RecordText(new)
+                )
+            }
+            RowChange::Update { indirect, old, new } => {
+                let (old, new) = (RecordText(old), RecordText(new));
+                writeln!(
+                    output,
+                    "update {} old {old} new {new}",
+                    flag_text(*indirect)
+                )
+            }
+            RowChange::Delete { indirect, old } => {
+                writeln!(
+                    output,
+                    "delete {} {}",
+                    flag_text(*indirect),
+                    RecordText(old)
+                )
+            }
         }
+    }
+}
+
+impl<A: AllocHandle> TextEntry for Patch<A> {
+    ghost use Rattle.cap_show.specs.ShowText.{patch_text};
+
+    ghost text = { patch_text };
+
+    fn write_text<W: Write>(&self, output: &mut W) -> io::Result<()> {
+        match self {
+            Patch::Insert { indirect, new } => {
+                writeln!(
+                    output,
+                    "insert {} {}",
+                    flag_text(*indirect),
+                    RecordText(new)
+                )
+            }
+            Patch::Update { indirect, new } => {
+                writeln!(
+                    output,
+                    "update {} {}",
+                    flag_text(*indirect),
+                    RecordText(new)
+                )
+            }
+            Patch::Delete { indirect, key } => {
+                writeln!(
+                    output,
+                    "delete {} {}",
+                    flag_text(*indirect),
+                    DefinedText(key)
+                )
+            }
+        }
+    }
+}
+
+fn flag_text(indirect: bool) -> &'static str
+    ensures { result.now ≡ spec.flag_text indirect }
+{
+    if indirect { "indirect" } else { "direct" }
+}
+
+fn write_groups<C: TextEntry, A: AllocHandle, W: Write>(
+    groups: &[TableGroup<C, A>],
+    output: &mut W,
+) -> io::Result<()>
+    ensures { OnOk result (Appends (W.contents output.old) (W.contents output.new)
+        (flat_map (spec.group_text C.text) groups.now)) }
+{
+    for group in groups {
+        write_group(group, output)?;
     }
     Ok(())
 }
 
-fn flag_text(indirect: bool) -> &'static str {
-    if indirect { "indirect" } else { "direct" }
+fn write_group<C: TextEntry, A: AllocHandle, W: Write>(
+    group: &TableGroup<C, A>,
+    output: &mut W,
+) -> io::Result<()>
+    ensures { OnOk result (Appends (W.contents output.old) (W.contents output.new)
+        (spec.group_text C.text group.now)) }
+{
+    let columns = SchemaText(group.schema());
+    writeln!(output, "group {} {columns}", group.table().as_str())?;
+    write_lines(group.changes(), output)
 }
 
-fn write_change<A: AllocHandle, W: Write>(change: &RowChange<A>, output: &mut W) -> io::Result<()> {
-    match change {
-        RowChange::Insert { indirect, new } => {
-            writeln!(
-                output,
-                "insert {} {}",
-                flag_text(*indirect),
-                RecordText(new)
-            )
-        }
-        RowChange::Update { indirect, old, new } => {
-            let (old, new) = (RecordText(old), RecordText(new));
-            writeln!(
-                output,
-                "update {} old {old} new {new}",
-                flag_text(*indirect)
-            )
-        }
-        RowChange::Delete { indirect, old } => {
-            writeln!(
-                output,
-                "delete {} {}",
-                flag_text(*indirect),
-                RecordText(old)
-            )
-        }
+fn write_lines<C: TextEntry, W: Write>(changes: &[C], output: &mut W) -> io::Result<()>
+    ensures { OnOk result (Appends (W.contents output.old) (W.contents output.new)
+        (flat_map C.text changes.now)) }
+{
+    for change in changes {
+        change.write_text(output)?;
     }
-}
-
-fn write_patch<A: AllocHandle, W: Write>(patch: &Patch<A>, output: &mut W) -> io::Result<()> {
-    match patch {
-        Patch::Insert { indirect, new } => {
-            writeln!(
-                output,
-                "insert {} {}",
-                flag_text(*indirect),
-                RecordText(new)
-            )
-        }
-        Patch::Update { indirect, new } => {
-            writeln!(
-                output,
-                "update {} {}",
-                flag_text(*indirect),
-                RecordText(new)
-            )
-        }
-        Patch::Delete { indirect, key } => {
-            writeln!(
-                output,
-                "delete {} {}",
-                flag_text(*indirect),
-                DefinedText(key)
-            )
-        }
-    }
+    Ok(())
 }

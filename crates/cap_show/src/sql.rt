@@ -2,7 +2,7 @@
 ghost use Rattle.std.specs.Prelude.{◌≡◌, ◌∷◌, ◌++◌, [], OnOk, codes};
 ghost use Rattle.std.specs.Io.KnownBytes.{Appends};
 
-use crate::text::{Blob, Doubled};
+use crate::text::{write_blob, write_quoted};
 use cap_changes::{ChangeList, FieldRecord, Patch, PatchList, RowChange};
 use cap_row::Schema;
 use cap_value::{AllocHandle, Value};
@@ -141,7 +141,7 @@ struct Identifier<'a>(&'a str);
 
 impl<'a> Display for Identifier<'a> {
     fn fmt<W: fmt::Write>(&self, f: &mut Formatter<W>) -> fmt::Result {
-        Doubled(self.0, '"').fmt(f)
+        write_quoted(f, self.0, '"')
     }
 }
 
@@ -155,16 +155,18 @@ impl<'a, A: AllocHandle> Display for Literal<'a, A> {
             Value::Null => f.write_str("NULL"),
             Value::Int(number) => write!(f, "{number}"),
             Value::Text(text) => write_text(f, text.as_str()),
-            Value::Blob(blob) => Blob(blob.as_slice()).fmt(f),
+            Value::Blob(blob) => write_blob(f, blob.as_slice()),
         }
     }
 }
 
 fn write_text<W: fmt::Write>(f: &mut Formatter<W>, text: &str) -> fmt::Result {
     if text.as_bytes().contains(&0) {
-        write!(f, "CAST({} AS TEXT)", Blob(text.as_bytes()))
+        f.write_str("CAST(")?;
+        write_blob(f, text.as_bytes())?;
+        f.write_str(" AS TEXT)")
     } else {
-        Doubled(text, '\'').fmt(f)
+        write_quoted(f, text, '\'')
     }
 }
 

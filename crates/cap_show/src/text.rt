@@ -1,4 +1,9 @@
 //! The text of values, columns and records.
+ghost use Rattle.hex.specs.Hex.{encode_lower};
+ghost use Rattle.std.specs.Fmt.{WritesOnOk};
+ghost use Rattle.std.specs.List.{filter_map, flat_map, join_by};
+ghost use Rattle.std.specs.Prelude.{◌≡◌, ◌<◌, ◌++◌, ◌∷◌, [], MatchOption, codes};
+ghost use Rattle.cap_show.specs.ShowText as spec;
 
 use cap_changes::FieldRecord;
 use cap_row::Schema;
@@ -11,46 +16,94 @@ use std::fmt::{Display, Formatter, Write};
 pub(crate) struct ValueText<'a, A: AllocHandle>(pub(crate) &'a Value<A>);
 
 impl<'a, A: AllocHandle> Display for ValueText<'a, A> {
+    ghost use Rattle.std.specs.Prelude.{Some};
+    ghost use Rattle.cap_show.specs.ShowText.{value_text};
+
+    ghost output = { λ shown. Some (value_text shown.0.now) };
+
     fn fmt<W: Write>(&self, f: &mut Formatter<W>) -> fmt::Result {
         match self.0 {
             Value::Null => f.write_str("null"),
             Value::Int(number) => write!(f, "{number}"),
-            Value::Text(text) => Doubled(text.as_str(), '\'').fmt(f),
-            Value::Blob(blob) => Blob(blob.as_slice()).fmt(f),
+            Value::Text(text) => write_quoted(f, text.as_str(), '\''),
+            Value::Blob(blob) => write_blob(f, blob.as_slice()),
         }
     }
 }
 
-// A text between two quotes of this kind, with each of those in it doubled.
-#[derive(Drop)]
-pub(crate) struct Doubled<'a>(pub(crate) &'a str, pub(crate) char);
-
-impl<'a> Display for Doubled<'a> {
-    fn fmt<W: Write>(&self, f: &mut Formatter<W>) -> fmt::Result {
-        f.write_char(self.1)?;
-        for (place, part) in self.0.split(self.1).enumerate() {
-            if place > 0 {
-                f.write_char(self.1)?;
-                f.write_char(self.1)?;
-            }
-            f.write_str(part)?;
-        }
-        f.write_char(self.1)
-    }
+// Writes a text between two quotes of this kind, with each of those in it doubled.
+pub(crate) fn write_quoted<W: Write>(f: &mut Formatter<W>, text: &str, quote: char) -> fmt::Result
+    requires ascii { quote < 128 }
+    ensures { WritesOnOk W.write_str_gives f.old result (spec.quoted quote text.now) f.new }
+{
+    write_quote(f, quote)?;
+    write_doubled(f, text, quote)?;
+    write_quote(f, quote)
 }
 
-// The hex digits of a blob.
-#[derive(Drop)]
-pub(crate) struct Blob<'a>(pub(crate) &'a [u8]);
-
-impl<'a> Display for Blob<'a> {
-    fn fmt<W: Write>(&self, f: &mut Formatter<W>) -> fmt::Result {
-        f.write_str("x'")?;
-        for byte in self.0 {
-            write!(f, "{byte:02x}")?;
-        }
-        f.write_str("'")
+// Writes a text with each of these quotes in it doubled.
+fn write_doubled<W: Write>(f: &mut Formatter<W>, text: &str, quote: char) -> fmt::Result
+    requires ascii { quote < 128 }
+    ensures { WritesOnOk W.write_str_gives f.old result (spec.doubled quote text.now) f.new }
+{
+    let mut rest = text;
+    while let Some((piece, after)) = split_at_quote(rest, quote) {
+        write_piece(f, piece, quote)?;
+        rest = after;
     }
+    f.write_str(rest)
+}
+
+// Writes what stands before a quote, and the quote twice.
+fn write_piece<W: Write>(f: &mut Formatter<W>, piece: &str, quote: char) -> fmt::Result
+    requires ascii { quote < 128 }
+    ensures { WritesOnOk W.write_str_gives f.old result (piece.now ++ (quote ∷ quote ∷ [])) f.new }
+{
+    f.write_str(piece)?;
+    write_quote(f, quote)?;
+    write_quote(f, quote)
+}
+
+fn write_quote<W: Write>(f: &mut Formatter<W>, quote: char) -> fmt::Result
+    requires ascii { quote < 128 }
+    ensures { WritesOnOk W.write_str_gives f.old result (quote ∷ []) f.new }
+{
+    f.write_char(quote)
+}
+
+// The text before its first quote of this kind, and the text behind that quote.
+fn split_at_quote(text: &str, quote: char) -> Option<(&str, &str)>
+    requires ascii { quote < 128 }
+    ensures { MatchOption result
+        (spec.doubled quote text.now ≡ text.now)
+        (λ parts. (text.now ≡ parts.0.now ++ quote ∷ parts.1.now)
+        × (spec.doubled quote text.now ≡ parts.0.now ++ quote ∷ quote ∷ spec.doubled quote parts.1.now)) }
+{
+    text.split_once(quote)
+}
+
+// Writes the hex digits of a blob.
+pub(crate) fn write_blob<W: Write>(f: &mut Formatter<W>, bytes: &[u8]) -> fmt::Result
+    ensures { WritesOnOk W.write_str_gives f.old result (spec.blob_text bytes.now) f.new }
+{
+    f.write_str("x'")?;
+    write_hex(f, bytes)?;
+    f.write_str("'")
+}
+
+fn write_hex<W: Write>(f: &mut Formatter<W>, bytes: &[u8]) -> fmt::Result
+    ensures { WritesOnOk W.write_str_gives f.old result (encode_lower bytes.now) f.new }
+{
+    for byte in bytes {
+        write_byte(f, *byte)?;
+    }
+    Ok(())
+}
+
+fn write_byte<W: Write>(f: &mut Formatter<W>, byte: u8) -> fmt::Result
+    ensures { WritesOnOk W.write_str_gives f.old result (encode_lower (byte ∷ [])) f.new }
+{
+    write!(f, "{byte:02x}")
 }
 
 // The columns of a table as text: `k` for each column of the primary key, and `v` for each other.
@@ -58,11 +111,33 @@ impl<'a> Display for Blob<'a> {
 pub(crate) struct SchemaText<'a, A: AllocHandle>(pub(crate) &'a Schema<A>);
 
 impl<'a, A: AllocHandle> Display for SchemaText<'a, A> {
+    ghost use Rattle.std.specs.Prelude.{Some};
+    ghost use Rattle.std.specs.List.{flat_map};
+    ghost use Rattle.cap_show.specs.ShowText.{column_text};
+
+    ghost output = { λ shown. Some (flat_map column_text shown.0.now) };
+
     fn fmt<W: Write>(&self, f: &mut Formatter<W>) -> fmt::Result {
-        for key in self.0.flags() {
-            f.write_str(if *key { "k" } else { "v" })?;
-        }
-        Ok(())
+        write_columns(f, self.0.flags())
+    }
+}
+
+fn write_columns<W: Write>(f: &mut Formatter<W>, flags: &[bool]) -> fmt::Result
+    ensures { WritesOnOk W.write_str_gives f.old result (flat_map spec.column_text flags.now) f.new }
+{
+    for is_key in flags {
+        write_column(f, *is_key)?;
+    }
+    Ok(())
+}
+
+fn write_column<W: Write>(f: &mut Formatter<W>, is_key: bool) -> fmt::Result
+    ensures { WritesOnOk W.write_str_gives f.old result (spec.column_text is_key) f.new }
+{
+    if is_key {
+        f.write_str("k")
+    } else {
+        f.write_str("v")
     }
 }
 
@@ -71,18 +146,68 @@ impl<'a, A: AllocHandle> Display for SchemaText<'a, A> {
 pub(crate) struct RecordText<'a, A: AllocHandle>(pub(crate) &'a FieldRecord<A>);
 
 impl<'a, A: AllocHandle> Display for RecordText<'a, A> {
+    ghost use Rattle.std.specs.Prelude.{Some};
+    ghost use Rattle.cap_show.specs.ShowText.{record_text};
+
+    ghost output = { λ shown. Some (record_text shown.0.now) };
+
     fn fmt<W: Write>(&self, f: &mut Formatter<W>) -> fmt::Result {
         f.write_str("(")?;
-        for (column, field) in self.0.fields().iter().enumerate() {
-            if column > 0 {
-                f.write_str(",")?;
-            }
-            match field {
-                Some(value) => ValueText(value).fmt(f)?,
-                None => f.write_str("-")?,
-            }
-        }
+        write_fields(f, self.0.fields())?;
         f.write_str(")")
+    }
+}
+
+// Writes the fields with commas between them.
+fn write_fields<A: AllocHandle, W: Write>(
+    f: &mut Formatter<W>,
+    fields: &[Option<Value<A>>],
+) -> fmt::Result
+    ensures { WritesOnOk W.write_str_gives f.old result
+        (join_by spec.field_text (codes ",") fields.now) f.new }
+{
+    match fields.split_first() {
+        Some((first, rest)) => {
+            write_field(f, first)?;
+            write_more_fields(f, rest)
+        }
+        None => Ok(()),
+    }
+}
+
+// Writes the fields, each after a comma.
+fn write_more_fields<A: AllocHandle, W: Write>(
+    f: &mut Formatter<W>,
+    fields: &[Option<Value<A>>],
+) -> fmt::Result
+    ensures { WritesOnOk W.write_str_gives f.old result
+        (flat_map (λ field. codes "," ++ spec.field_text field) fields.now) f.new }
+{
+    for field in fields {
+        write_next_field(f, field)?;
+    }
+    Ok(())
+}
+
+fn write_next_field<A: AllocHandle, W: Write>(
+    f: &mut Formatter<W>,
+    field: &Option<Value<A>>,
+) -> fmt::Result
+    ensures { WritesOnOk W.write_str_gives f.old result (codes "," ++ spec.field_text field.now) f.new }
+{
+    f.write_str(",")?;
+    write_field(f, field)
+}
+
+fn write_field<A: AllocHandle, W: Write>(
+    f: &mut Formatter<W>,
+    field: &Option<Value<A>>,
+) -> fmt::Result
+    ensures { WritesOnOk W.write_str_gives f.old result (spec.field_text field.now) f.new }
+{
+    match field {
+        Some(value) => ValueText(value).fmt(f),
+        None => f.write_str("-"),
     }
 }
 
@@ -91,14 +216,67 @@ impl<'a, A: AllocHandle> Display for RecordText<'a, A> {
 pub(crate) struct DefinedText<'a, A: AllocHandle>(pub(crate) &'a FieldRecord<A>);
 
 impl<'a, A: AllocHandle> Display for DefinedText<'a, A> {
+    ghost use Rattle.std.specs.Prelude.{Some};
+    ghost use Rattle.cap_show.specs.ShowText.{defined_text};
+
+    ghost output = { λ shown. Some (defined_text shown.0.now) };
+
     fn fmt<W: Write>(&self, f: &mut Formatter<W>) -> fmt::Result {
         f.write_str("(")?;
-        for (place, value) in self.0.fields().iter().flatten().enumerate() {
-            if place > 0 {
-                f.write_str(",")?;
-            }
-            ValueText(value).fmt(f)?;
-        }
+        write_defined(f, self.0.fields())?;
         f.write_str(")")
     }
+}
+
+// Writes the defined fields with commas between them.
+fn write_defined<A: AllocHandle, W: Write>(
+    f: &mut Formatter<W>,
+    fields: &[Option<Value<A>>],
+) -> fmt::Result
+    ensures { WritesOnOk W.write_str_gives f.old result
+        (join_by spec.value_text (codes ",") (filter_map (λ field. field) fields.now)) f.new }
+{
+    let mut is_first = true;
+    for field in fields {
+        write_if_defined(f, &mut is_first, field)?;
+    }
+    Ok(())
+}
+
+// Writes a field if it is defined, after a comma unless it is the first.
+fn write_if_defined<A: AllocHandle, W: Write>(
+    f: &mut Formatter<W>,
+    is_first: &mut bool,
+    field: &Option<Value<A>>,
+) -> fmt::Result
+    ensures text { WritesOnOk W.write_str_gives f.old result (spec.next_text is_first.old field.now) f.new }
+    ensures first { is_first.new ≡ spec.is_first_after is_first.old field.now }
+{
+    match field {
+        Some(value) => {
+            let is_first_value = *is_first;
+            *is_first = false;
+            write_value(f, is_first_value, value)
+        }
+        None => Ok(()),
+    }
+}
+
+// Writes a value, and a comma before it if another comes before.
+fn write_value<A: AllocHandle, W: Write>(
+    f: &mut Formatter<W>,
+    is_first: bool,
+    value: &Value<A>,
+) -> fmt::Result
+    ensures { WritesOnOk W.write_str_gives f.old result
+        (spec.comma_text is_first ++ spec.value_text value.now) f.new }
+{
+    write_comma(f, is_first)?;
+    ValueText(value).fmt(f)
+}
+
+fn write_comma<W: Write>(f: &mut Formatter<W>, is_first: bool) -> fmt::Result
+    ensures { WritesOnOk W.write_str_gives f.old result (spec.comma_text is_first) f.new }
+{
+    if is_first { Ok(()) } else { f.write_str(",") }
 }
