@@ -10,6 +10,7 @@ use Rattle.cap_run.specs.declared.fault.RunFault.TheVariants.{Blob}
 use Rattle.cap_run.specs.Encoding.{decoded}
 use Rattle.cap_run.specs.RunFault.{after}
 use Rattle.cap_show.specs.Json as json
+use Rattle.cap_show.specs.ShowText.{changeset_text, patchset_text}
 
 -- what bytes hold
 abbrev pub contents_of : (A : Type 0) → List ℕ → Result (Contents A) RunFault
@@ -18,6 +19,11 @@ contents_of A bytes = result_map_both (λ contents. contents) Blob (blob_at {A =
 -- what an input holds
 abbrev pub contents_at : (A : Type 0) → Encoding → List ℕ → Result (Contents A) RunFault
 contents_at A encoding given = after (decoded encoding given) (contents_of A)
+
+-- its groups and its changes as lines
+abbrev pub lines_text : {A : Type 0} → Contents A → List ℕ
+lines_text (Changes changes) = changeset_text changes
+lines_text (Patches patches) = patchset_text patches
 
 -- its changes as a JSON document
 abbrev pub json_text : {A : Type 0} → Contents A → List ℕ

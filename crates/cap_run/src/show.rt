@@ -1,10 +1,11 @@
 //! Shows a changeset or a patchset.
-ghost use Rattle.std.specs.Prelude.{◌≡◌, ◌⊎◌, Err, false, IfSome, IfErr, IfOk, IsErrAnd};
+ghost use Rattle.std.specs.Prelude.{◌≡◌, ◌⊎◌, Err, false, IfSome, IfErr, IfOk, IsErrAnd, OnOk};
+ghost use Rattle.std.specs.Io.KnownBytes.{Appends};
 ghost use Rattle.cap_value.specs.Memory.{ShowsUnlessMemory};
 ghost use Rattle.cap_run.specs.Conversion.{WritesOutput};
 ghost use Rattle.cap_run.specs.Reads.{EndsReads, ShowsUnlessUnread};
 ghost use Rattle.cap_run.specs.RunFault.{exit_status, input_fault, is_read, IsUnread, RunsNothing};
-ghost use Rattle.cap_run.specs.Show.{contents_at, contents_of, json_text};
+ghost use Rattle.cap_run.specs.Show.{contents_at, contents_of, json_text, lines_text};
 ghost use Rattle.cap_run.specs.Writes.{EndsWrites};
 
 use crate::encoding::read_bytes;
@@ -16,6 +17,8 @@ use cap_show::{
     write_patchset_sql,
 };
 use cap_value::{AllocHandle, Fault, OutOfMemory};
+use std::io;
+use std::io::Write;
 
 /// How a blob is shown.
 #[derive(Clone, Copy, Debug, PartialEq, Eq, Drop)]
@@ -32,7 +35,7 @@ pub enum Form {
 ///
 /// The whole blob is read before anything is written. The contracts say exactly which input is refused and
 /// with which fault, where it is known what the reader gives. A failed read and out of memory may come before
-/// any other answer. No clause states the text of the output but for JSON; it is tested.
+/// any other answer. No clause states the SQL that is written; it is tested.
 pub fn show_blob<A: AllocHandle, R: Source, W: RunOutput>(
     alloc: A,
     form: Form,
@@ -50,6 +53,11 @@ pub fn show_blob<A: AllocHandle, R: Source, W: RunOutput>(
     // beginning of it where a write failed.
     ensures json { form ≡ Form.Json → IfSome (R.remaining reader.old) (λ given.
         IfOk (contents_at A encoding given) (λ contents. WritesOutput (json_text contents) result
+        (W.contents writer.old) (W.contents writer.new))) }
+    // What is written as text, where it is known what the reader gives: the lines of the blob, or a beginning
+    // of them where a write failed.
+    ensures text { form ≡ Form.Text → IfSome (R.remaining reader.old) (λ given.
+        IfOk (contents_at A encoding given) (λ contents. WritesOutput (lines_text contents) result
         (W.contents writer.old) (W.contents writer.new))) }
     // When a failed read is reported, as far as the outcomes of the reads are known.
     ensures reported { EndsReads R.gave R.failed result reader.old reader.new }
@@ -99,6 +107,8 @@ fn write_blob<A: AllocHandle, W: RunOutput>(
 ) -> Result<(), RunFault>
     ensures json { form ≡ Form.Json
         → WritesOutput (json_text blob.now) result (W.contents writer.old) (W.contents writer.new) }
+    ensures text { form ≡ Form.Text
+        → WritesOutput (lines_text blob.now) result (W.contents writer.old) (W.contents writer.new) }
     ensures status { IfErr result (λ fault. exit_status fault ≡ 3) }
     ensures read { IfErr result (λ fault. is_read fault ≡ false) }
     ensures write_reported { EndsWrites W.went W.failed result writer.old writer.new }
@@ -115,10 +125,11 @@ fn shown<A: AllocHandle>(
     blob: &Contents<A>,
 ) -> Result<Vec<u8, A>, OutOfMemory>
     ensures json { form ≡ Form.Json → IfOk result (λ text. text.items ≡ json_text blob.now) }
+    ensures text { form ≡ Form.Text → IfOk result (λ text. text.items ≡ lines_text blob.now) }
 {
     match form {
-        Form::Text => text_of(alloc, false, blob),
-        Form::Sql => text_of(alloc, true, blob),
+        Form::Text => lines_of(alloc, blob),
+        Form::Sql => sql_of(alloc, blob),
         Form::Json => json_of(alloc, blob),
     }
 }
@@ -132,18 +143,31 @@ fn json_of<A: AllocHandle>(alloc: A, blob: &Contents<A>) -> Result<Vec<u8, A>, O
     }
 }
 
-// The text of the blob, or its SQL.
-fn text_of<A: AllocHandle>(
-    alloc: A,
-    is_sql: bool,
-    blob: &Contents<A>,
-) -> Result<Vec<u8, A>, OutOfMemory> {
+fn lines_of<A: AllocHandle>(alloc: A, blob: &Contents<A>) -> Result<Vec<u8, A>, OutOfMemory>
+    ensures { IfOk result (λ text. text.items ≡ lines_text blob.now) }
+{
+    let mut text = Vec::new(alloc);
+    // A vector fails at a write only out of memory.
+    match write_lines(blob, &mut text) {
+        Ok(()) => Ok(text),
+        Err(_) => Err(OutOfMemory),
+    }
+}
+
+fn write_lines<A: AllocHandle, W: Write>(blob: &Contents<A>, output: &mut W) -> io::Result<()>
+    ensures { OnOk result (Appends (W.contents output.old) (W.contents output.new) (lines_text blob.now)) }
+{
+    match blob {
+        Contents::Changes(changes) => write_changeset(changes, output),
+        Contents::Patches(patches) => write_patchset(patches, output),
+    }
+}
+
+fn sql_of<A: AllocHandle>(alloc: A, blob: &Contents<A>) -> Result<Vec<u8, A>, OutOfMemory> {
     let mut text = Vec::new(alloc);
     let written = match blob {
-        Contents::Changes(changes) if is_sql => write_changeset_sql(changes, &mut text),
-        Contents::Changes(changes) => write_changeset(changes, &mut text),
-        Contents::Patches(patches) if is_sql => write_patchset_sql(patches, &mut text),
-        Contents::Patches(patches) => write_patchset(patches, &mut text),
+        Contents::Changes(changes) => write_changeset_sql(changes, &mut text),
+        Contents::Patches(patches) => write_patchset_sql(patches, &mut text),
     };
     // A vector fails at a write only out of memory.
     match written {
