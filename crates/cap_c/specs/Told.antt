@@ -11,7 +11,7 @@ use Rattle.cap_c.specs.Fault.{placed}
 use Rattle.cap_c.specs.Status.{room_status}
 use Rattle.cap_c.specs.declared.change_info.FieldValue.{FieldValue}
 use Rattle.cap_c.specs.declared.fault.PlacedFault.{PlacedFault}
-use Rattle.cap_c.specs.declared.status.TheConstants.{DONE, MISUSE}
+use Rattle.cap_c.specs.declared.status.TheConstants.{DONE, MISUSE, NO_MEMORY}
 
 -- The bytes are at the beginning of the buffer, and what was behind them is still there.
 abbrev pub begins_with : List ℕ → List ℕ → List ℕ
@@ -50,6 +50,14 @@ abbrev pub TellsBytes : Option (List ℕ) → ℕ → List ℕ → List ℕ → 
 TellsBytes (Some bytes) status old new len =
     (status ≡ room_status (length bytes) (length old)) × Writes bytes status old new len
 TellsBytes None status old new len = (status ≡ MISUSE) × (new ≡ old)
+
+-- The same of bytes for which there may be no memory, and which a refused command has not.
+abbrev pub TellsAsked : Option (List ℕ) → ℕ → List ℕ → List ℕ → ℕ → ℕ → Type 0
+TellsAsked None status old new old_len len = (status ≡ DONE) × (new ≡ old) × (len ≡ old_len)
+TellsAsked (Some bytes) status old new old_len len =
+    (status ≡ NO_MEMORY → (new ≡ old) × (len ≡ old_len))
+    × (¬ (status ≡ NO_MEMORY) → (status ≡ room_status (length bytes) (length old))
+    × Writes bytes status old new len)
 
 module _ {A : Type 0} where
   -- a field, by SQLite's numbers of storage classes
