@@ -1,5 +1,6 @@
 pub mod Between
 pub mod Bits
+pub mod Captures
 pub mod Commands
 pub mod Fault
 pub mod Fields

@@ -1,7 +1,8 @@
 //! The commit hook that writes what a capture gives to the caller's buffer before the command takes effect.
-ghost use Rattle.std.specs.Prelude.{◌≡◌, IfOk, Some};
-ghost use Rattle.cap_c.specs.Replies.{bytes_asked, captured_bytes};
-ghost use Rattle.cap_c.specs.Told.{TellsAsked};
+ghost use Rattle.std.specs.Prelude.{◌≡◌, IfErr, IfOk, OnOk, Some};
+ghost use Rattle.cap_c.specs.Captures.{NotWritten};
+ghost use Rattle.cap_c.specs.Replies.{captured_bytes};
+ghost use Rattle.cap_c.specs.Told.{WritesAll};
 
 use crate::output::write_bytes;
 use crate::status::{DONE, NO_MEMORY};
@@ -33,44 +34,52 @@ impl<'o, 'l> CommitHook<Global> for CaptureHook<'o, 'l> {
     type Refusal = u32;
 
     ghost use Rattle.std.specs.Prelude.{◌≡◌, MatchResult};
+    ghost use Rattle.cap_c.specs.Captures.{NotWritten, Written};
     ghost use Rattle.cap_c.specs.Replies.{bytes_asked};
-    ghost use Rattle.cap_c.specs.Told.{TellsAsked};
-    ghost use Rattle.cap_c.specs.declared.status.TheConstants.{DONE};
 
     ghost can_ask = { λ hook reply. Unit {0} };
 
     ghost gives = { λ old reply answer new. (new.out.ghost_name ≡ old.out.ghost_name)
         × (new.len.ghost_name ≡ old.len.ghost_name)
         × MatchResult answer
-        (λ _. TellsAsked (bytes_asked old.form old.key_flags reply) DONE old.out.now new.out.now old.len.now
-          new.len.now)
-        (λ status. (¬ (status ≡ DONE)) × TellsAsked (bytes_asked old.form old.key_flags reply) status
-          old.out.now new.out.now old.len.now new.len.now) };
+        (λ _. Written old.form old.key_flags reply old.out.now new.out.now old.len.now new.len.now)
+        (λ status. NotWritten (bytes_asked old.form old.key_flags reply) status old.out.now new.out.now
+          old.len.now new.len.now) };
 
     fn before_commit(&mut self, reply: &Reply<Global>) -> Result<(), u32> {
         match reply {
-            Reply::Capture(capture) => {
-                match self.write(capture) {
-                    DONE => Ok(()),
-                    status => Err(status),
-                }
-            }
+            Reply::Capture(capture) => self.write(capture),
             _ => Ok(()),
         }
     }
 }
 
 impl<'o, 'l> CaptureHook<'o, 'l> {
-    fn write(&mut self, capture: &Capture<Global>) -> u32
+    fn write(&mut self, capture: &Capture<Global>) -> Result<(), u32>
         ensures out { self.new.out.ghost_name ≡ self.old.out.ghost_name }
         ensures len { self.new.len.ghost_name ≡ self.old.len.ghost_name }
-        ensures told { TellsAsked (Some (captured_bytes self.old.form self.old.key_flags capture.now)) result
-            self.old.out.now self.new.out.now self.old.len.now self.new.len.now }
+        ensures written { OnOk result (WritesAll (Some (captured_bytes self.old.form self.old.key_flags capture.now))
+            self.old.out.now self.new.out.now self.old.len.now self.new.len.now) }
+        ensures not_written { IfErr result (λ status.
+            NotWritten (Some (captured_bytes self.old.form self.old.key_flags capture.now)) status
+            self.old.out.now self.new.out.now self.old.len.now self.new.len.now) }
     {
-        match captured_bytes(self.alloc, self.form, self.key_flags, capture) {
-            Ok(bytes) => write_bytes(bytes.as_slice(), self.out, self.len),
-            Err(_) => NO_MEMORY,
-        }
+        let Ok(bytes) = captured_bytes(self.alloc, self.form, self.key_flags, capture) else {
+            return Err(NO_MEMORY);
+        };
+        write_all(bytes.as_slice(), self.out, self.len)
+    }
+}
+
+// Writes the bytes, or tells how many there are where there is no room.
+fn write_all(bytes: &[u8], out: &mut [u8], len: &mut usize) -> Result<(), u32>
+    ensures written { OnOk result (WritesAll (Some bytes.now) out.old out.new len.old len.new) }
+    ensures not_written { IfErr result (λ status.
+        NotWritten (Some bytes.now) status out.old out.new len.old len.new) }
+{
+    match write_bytes(bytes, out, len) {
+        DONE => Ok(()),
+        status => Err(status),
     }
 }
 

@@ -1,5 +1,5 @@
 //! The calls that write what a session has captured.
-ghost use Rattle.std.specs.Prelude.{◌≡◌, ◌↔◌, ◌⊎◌, IsSome, None, Some};
+ghost use Rattle.std.specs.Prelude.{◌≡◌, ◌↔◌, IsSome, None, Some};
 ghost use Rattle.cap_codec.specs.declared.key_flags.KeyFlags.{KeyFlags as Flags};
 ghost use Rattle.cap_core.specs.Answer.{answer};
 ghost use Rattle.cap_core.specs.declared.command.Command.TheVariants as command;
@@ -8,7 +8,7 @@ ghost use Rattle.cap_c.specs.Commands.{NoCall, Runs};
 ghost use Rattle.cap_c.specs.KeyFlags.{key_flags_of};
 ghost use Rattle.cap_c.specs.Replies.{bytes_asked, fault_told};
 ghost use Rattle.cap_c.specs.Server.{IsAnswered};
-ghost use Rattle.cap_c.specs.Told.{TellsAsked};
+ghost use Rattle.cap_c.specs.Told.{LacksRoom, WritesAll};
 ghost use Rattle.cap_c.specs.declared.captured.CapturedForm.TheVariants.{Changeset, Patchset};
 ghost use Rattle.cap_c.specs.declared.status.TheConstants.{DONE, MISUSE, NO_ROOM};
 
@@ -37,9 +37,11 @@ pub extern "C" fn changecap_session_changeset(
     ensures fault { IsAnswered result →
         Holds handle.old.value (λ old. fault.new ≡ fault_told (answer old.core (command.Capture session)) fault.old) }
     // The bytes of the changeset, or how many there are.
-    ensures told { (flags : Flags) → key_flags_of key_flags ≡ Some flags → (result ≡ DONE) ⊎ (result ≡ NO_ROOM) →
-        Holds handle.old.value (λ old. TellsAsked (bytes_asked Changeset flags (answer old.core (command.Capture session)))
-        result out.old out.new len.old len.new) }
+    ensures written { (flags : Flags) → key_flags_of key_flags ≡ Some flags → result ≡ DONE →
+        Holds handle.old.value (λ old. WritesAll (bytes_asked Changeset flags (answer old.core (command.Capture session)))
+        out.old out.new len.old len.new) }
+    ensures room { (flags : Flags) → key_flags_of key_flags ≡ Some flags → result ≡ NO_ROOM →
+        Holds handle.old.value (λ old. LacksRoom (bytes_asked Changeset flags (answer old.core (command.Capture session))) out.old len.new) }
     // Exactly a number that names no key flags is misuse.
     ensures misuse { (result ≡ MISUSE) ↔ (key_flags_of key_flags ≡ None) }
     ensures why { ¬ (IsAnswered result) → ¬ (result ≡ NO_ROOM) → ¬ (result ≡ MISUSE) →
@@ -83,9 +85,11 @@ pub extern "C" fn changecap_session_patchset(
     ensures fault { IsAnswered result →
         Holds handle.old.value (λ old. fault.new ≡ fault_told (answer old.core (command.Capture session)) fault.old) }
     // The bytes of the patchset, or how many there are.
-    ensures told { (flags : Flags) → key_flags_of key_flags ≡ Some flags → (result ≡ DONE) ⊎ (result ≡ NO_ROOM) →
-        Holds handle.old.value (λ old. TellsAsked (bytes_asked Patchset flags (answer old.core (command.Capture session)))
-        result out.old out.new len.old len.new) }
+    ensures written { (flags : Flags) → key_flags_of key_flags ≡ Some flags → result ≡ DONE →
+        Holds handle.old.value (λ old. WritesAll (bytes_asked Patchset flags (answer old.core (command.Capture session)))
+        out.old out.new len.old len.new) }
+    ensures room { (flags : Flags) → key_flags_of key_flags ≡ Some flags → result ≡ NO_ROOM →
+        Holds handle.old.value (λ old. LacksRoom (bytes_asked Patchset flags (answer old.core (command.Capture session))) out.old len.new) }
     // Exactly a number that names no key flags is misuse.
     ensures misuse { (result ≡ MISUSE) ↔ (key_flags_of key_flags ≡ None) }
     ensures why { ¬ (IsAnswered result) → ¬ (result ≡ NO_ROOM) → ¬ (result ≡ MISUSE) →
@@ -129,9 +133,11 @@ pub extern "C" fn changecap_session_restart(
     ensures fault { IsAnswered result →
         Holds handle.old.value (λ old. fault.new ≡ fault_told (answer old.core (command.Restart session)) fault.old) }
     // The bytes of the changeset, or how many there are.
-    ensures told { (flags : Flags) → key_flags_of key_flags ≡ Some flags → (result ≡ DONE) ⊎ (result ≡ NO_ROOM) →
-        Holds handle.old.value (λ old. TellsAsked (bytes_asked Changeset flags (answer old.core (command.Restart session)))
-        result out.old out.new len.old len.new) }
+    ensures written { (flags : Flags) → key_flags_of key_flags ≡ Some flags → result ≡ DONE →
+        Holds handle.old.value (λ old. WritesAll (bytes_asked Changeset flags (answer old.core (command.Restart session)))
+        out.old out.new len.old len.new) }
+    ensures room { (flags : Flags) → key_flags_of key_flags ≡ Some flags → result ≡ NO_ROOM →
+        Holds handle.old.value (λ old. LacksRoom (bytes_asked Changeset flags (answer old.core (command.Restart session))) out.old len.new) }
     // Exactly a number that names no key flags is misuse.
     ensures misuse { (result ≡ MISUSE) ↔ (key_flags_of key_flags ≡ None) }
     ensures why { ¬ (IsAnswered result) → ¬ (result ≡ NO_ROOM) → ¬ (result ≡ MISUSE) →

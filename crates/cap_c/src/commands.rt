@@ -1,11 +1,11 @@
 //! Commands to a server, and what is told of their replies.
-ghost use Rattle.std.specs.Prelude.{◌≡◌, ◌⊎◌, IfErr, IfOk, OnErr, OnOk};
+ghost use Rattle.std.specs.Prelude.{◌≡◌, IfErr, IfOk, OnErr, OnOk};
 ghost use Rattle.cap_core.specs.Answer.{answer};
 ghost use Rattle.cap_core.specs.Transition.{next};
 ghost use Rattle.cap_c.specs.Commands.{NoCall, NoReply, Runs};
 ghost use Rattle.cap_c.specs.Replies.{bytes_asked, fault_told, flag_told, number_told};
 ghost use Rattle.cap_c.specs.Server.{IsAnswered};
-ghost use Rattle.cap_c.specs.Told.{TellsAsked};
+ghost use Rattle.cap_c.specs.Told.{LacksRoom, WritesAll};
 ghost use Rattle.cap_c.specs.declared.status.TheConstants.{DONE, NO_ROOM};
 
 use crate::captured::{CaptureHook, CapturedForm};
@@ -104,8 +104,10 @@ impl TextServer {
     ) -> u32
         ensures ran { IsAnswered result → Runs self.old self.new command.now result }
         ensures fault { IsAnswered result → fault.new ≡ fault_told (answer self.old.core command.now) fault.old }
-        ensures told { (result ≡ DONE) ⊎ (result ≡ NO_ROOM) → TellsAsked
-            (bytes_asked form key_flags (answer self.old.core command.now)) result out.old out.new len.old len.new }
+        ensures done { result ≡ DONE → WritesAll (bytes_asked form key_flags (answer self.old.core command.now))
+            out.old out.new len.old len.new }
+        ensures room { result ≡ NO_ROOM → LacksRoom (bytes_asked form key_flags (answer self.old.core command.now))
+            out.old len.new }
         ensures why { ¬ (IsAnswered result) → ¬ (result ≡ NO_ROOM) → NoCall self.old result }
         ensures kept { ¬ (IsAnswered result) → (self.new ≡ self.old) × (fault.new ≡ fault.old) }
         ensures untold { ¬ (result ≡ DONE) → out.new ≡ out.old }
