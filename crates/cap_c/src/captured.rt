@@ -44,7 +44,7 @@ impl<'o, 'l> CommitHook<Global> for CaptureHook<'o, 'l> {
         × MatchResult answer
         (λ _. Written old.form old.key_flags reply old.out.now new.out.now old.len.now new.len.now)
         (λ status. NotWritten (bytes_asked old.form old.key_flags reply) status old.out.now new.out.now
-          old.len.now new.len.now) };
+        old.len.now new.len.now) };
 
     fn before_commit(&mut self, reply: &Reply<Global>) -> Result<(), u32> {
         match reply {

@@ -9,11 +9,7 @@ use cap_core::Reply;
 use std::alloc::Global;
 
 /// Tells the version or the session that was made, or why the command is refused.
-pub(crate) fn tell_number(
-    reply: &Reply<Global>,
-    number: &mut u64,
-    fault: &mut PlacedFault,
-) -> u32
+pub(crate) fn tell_number(reply: &Reply<Global>, number: &mut u64, fault: &mut PlacedFault) -> u32
     ensures status { result ≡ reply_status reply.now }
     ensures answered { IsAnswered result }
     ensures number { number.new ≡ number_told reply.now number.old }
