@@ -85,6 +85,20 @@ def byte_by_byte(count, words, given, whole, label):
     count.note(found == (whole, b"", 0), f"{label}, byte by byte", f"{found}"[:200])
 
 
+def line_by_line(count, workload, replies):
+    """A shell prints the reply to each line before the next line is written. Each of these has one line."""
+    found = []
+    with subprocess.Popen([count.program, "shell"], stdin=subprocess.PIPE, stdout=subprocess.PIPE,
+                          stderr=subprocess.PIPE) as ran:
+        for line in workload.splitlines(keepends=True):
+            ran.stdin.write(line)
+            ran.stdin.flush()
+            found.append(ran.stdout.readline())
+        ran.stdin.close()
+        rest = ran.stdout.read(), ran.stderr.read(), ran.wait()
+    count.note((b"".join(found), rest) == (replies, (b"", b"", 0)), "shell, line by line", f"{found}, {rest}")
+
+
 def words_that_are_no_text(count):
     ran = subprocess.run([count.program, b"\xff"], stdin=subprocess.DEVNULL, stdout=subprocess.PIPE,
                          stderr=subprocess.PIPE)
@@ -125,6 +139,13 @@ def check(count, workload, replies):
         full_error(count, words, b"frob", label)
         byte_by_byte(count, words, b"# " + b"-" * 2_000 + b"\n" + workload, replies, label)
         byte_by_byte(count, words, b"", b"", label)
+    for given, which in [(workload, "short"), (long, "long")]:
+        full_output(count, ["shell"], given, f"shell, {which}")
+        closed_output(count, ["shell"], given, f"shell, {which}")
+    output_that_closes(count, ["shell"], long, printed, "shell")
+    unread_input(count, ["shell"], "shell")
+    byte_by_byte(count, ["shell"], b"# " + b"-" * 2_000 + b"\n" + workload, replies, "shell")
+    line_by_line(count, workload, replies)
     threads_that_cannot_be_started(count, ["run", "--threads", "4"], "run --threads 4")
     for word, printed in [("show", SHOWN), ("invert", INVERTED), ("patchset", PATCHED), ("concat", BLOB + b"\n")]:
         full_output(count, [word], BLOB, word)
@@ -132,7 +153,7 @@ def check(count, workload, replies):
         unread_input(count, [word], word)
         full_error(count, [word], b"54zz", word)
         byte_by_byte(count, [word], BLOB, printed, word)
-    for words in [["--help"], ["--version"], ["run", "--help"], ["invert", "--help"], ["concat", "--help"]]:
+    for words in [["--help"], ["--version"], ["run", "--help"], ["shell", "--help"], ["invert", "--help"], ["concat", "--help"]]:
         full_output(count, words, b"", " ".join(words))
         closed_output(count, words, b"", " ".join(words))
     full_error(count, ["frob"], b"", "frob")

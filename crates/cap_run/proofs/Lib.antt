@@ -8,4 +8,6 @@ mod PieceLemmas
 mod RunLemmas
 mod SeatLemmas
 mod WorkerLemmas
+mod UnreadLemmas
+mod ShellLemmas
 mod BlobListLemmas

@@ -33,9 +33,12 @@ as a changeset:
 
 `changecap run --help` has every command. `changecap show` prints what is in those digits, `changecap
 invert` prints the changeset that undoes them, and `changecap patchset` their patchset. `changecap concat`
-makes one changeset of several.";
+makes one changeset of several. `changecap shell` runs each command as it is typed.";
 
 const RUN_ABOUT: &str = "Run the workload on standard input and print the reply to each command";
+
+const SHELL_ABOUT: &str =
+    "Run each line of standard input as it is read and print its reply at once";
 
 const SHOW_ABOUT: &str = "Print what is in the changeset or patchset on standard input";
 
@@ -98,6 +101,19 @@ not F, and(F,..) or or(F,..).
 A line may begin with @K, K from 0 to 63, and then belongs to worker K mod N:
 @1 commit insert t (2,'y'). Replies are printed in the order of the lines.";
 
+const SHELL_EXAMPLE: &str =
+    "The lines are those of a workload: `changecap run --help` has every command. In `changecap run` nothing
+runs before the end of the input; here each line runs at once. There is no prompt. For example, of these
+lines the even ones are printed:
+    create t kv
+    ok version 1
+    comit insert t (1,'x')
+    line 2: G1 Syntax at 0
+    commit insert t (1,'x')
+    ok version 2
+A line that is refused changes nothing, and the next one is read. A line that begins with @K is run as any
+other. The end of the input ends the shell, with status 0.";
+
 const SHOW_EXAMPLE: &str = "The digits may be of either case and end with a line feed. For example
     echo 5402010074001200010000000000000001030178 | changecap show
 prints
@@ -144,6 +160,7 @@ fn command_line<'a>(alloc: Global) -> Result<Command<'a>, AllocError> {
         .bin_name("changecap")?
         .subcommand_required(true)
         .subcommand(run_command(alloc)?)?
+        .subcommand(shell_command(alloc))?
         .subcommand(show_command(alloc)?)?
         .subcommand(convert_command(alloc, "invert", INVERT_ABOUT, INVERT_EXAMPLE)?)?
         .subcommand(convert_command(alloc, "patchset", PATCHSET_ABOUT, PATCHSET_EXAMPLE)?)?
@@ -161,6 +178,12 @@ fn run_command<'a>(alloc: Global) -> Result<Command<'a>, AllocError> {
         .about(RUN_ABOUT)
         .after_help(LANGUAGE)
         .arg(threads)
+}
+
+fn shell_command<'a>(alloc: Global) -> Command<'a> {
+    Command::new(alloc, "shell")
+        .about(SHELL_ABOUT)
+        .after_help(SHELL_EXAMPLE)
 }
 
 fn show_command<'a>(alloc: Global) -> Result<Command<'a>, AllocError> {
@@ -204,9 +227,10 @@ fn flag<'a>(alloc: Global, word: &'a str, help: &'a str) -> Arg<'a> {
 
 /// Parses the words after the program's name.
 ///
-/// `run` runs a workload, on N threads with `--threads N`, N from 1 to 63, and otherwise on one. `show` shows
-/// a blob, with `--sql` or `--json` as such. `invert` and `patchset` convert one, and `concat` concatenates several, with key flags by places, or
-/// by ones with `--key-flags ones`. A blob is given and written as hex digits, or with `--binary` as its bytes.
+/// `run` runs a workload, on N threads with `--threads N`, N from 1 to 63, and otherwise on one. `shell` runs
+/// each line as it is read. `show` shows a blob, with `--sql` or `--json` as such. `invert` and `patchset`
+/// convert one, and `concat` concatenates several, with key flags by places, or by ones with
+/// `--key-flags ones`. A blob is given and written as hex digits, or with `--binary` as its bytes.
 /// Other words are refused with a message. `--help` and `--version` give their text as a fault of status 0.
 pub fn options(alloc: Global, words: &[String]) -> Result<Options, OptionsFault>
     // The number of threads is in range.
@@ -231,6 +255,7 @@ fn asked_for(matches: &ArgMatches) -> Options
                 threads: threads.clamp(1, THREADS_MAX),
             }
         }
+        Some(("shell", _)) => Options::Shell,
         Some(("invert", invert)) => Options::Convert(conversion(Target::Inverse, invert)),
         Some(("patchset", patchset)) => Options::Convert(conversion(Target::Patchset, patchset)),
         Some(("concat", concat)) => Options::Concat(Concatenation {

@@ -1,8 +1,10 @@
 pub mod Commands
+pub mod FaultText
 pub mod Forms
 pub mod Limits
 pub mod LineLimits
 pub mod Operations
+pub mod ReadLine
 pub mod RefusalText
 pub mod Refused
 pub mod RefusedLines

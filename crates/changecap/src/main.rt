@@ -1,13 +1,13 @@
-//! The program `changecap`. `run` runs the workload on standard input and prints the replies; `show` prints
-//! the changes in a blob; `invert` and `patchset` print the inverse and the patchset of a changeset; `concat`
-//! prints the concatenation of blobs.
+//! The program `changecap`. `run` runs the workload on standard input and prints the replies; `shell` runs
+//! each line as it is read; `show` prints the changes in a blob; `invert` and `patchset` print the inverse
+//! and the patchset of a changeset; `concat` prints the concatenation of blobs.
 #![tactic(auto)]
 
 ghost use Rattle.cap_run.specs.Options.{IsThreadCount};
 
 use cap_run::{
     NoGate, Options, OptionsFault, RunFault, concat_blobs, convert_blob, options, run_core,
-    run_workload, show_blob,
+    run_shell, run_workload, show_blob,
 };
 use std::alloc::AllocError;
 use std::process::ExitCode;
@@ -86,6 +86,10 @@ fn run_program<R: Input + Print + Eprint + Env + AllocGlobal + Threads + Wait + 
     let words: Vec<String> = arguments.skip(1).collect(alloc)?;
     match options(alloc, words.as_slice()) {
         Ok(Options::Run { threads }) => Ok(run(rt, threads)),
+        Ok(Options::Shell) => {
+            let outcome = run_shell(alloc, &mut rt.reader(), &mut io::writer(rt));
+            Ok(report(rt, outcome))
+        }
         Ok(Options::Show { form, encoding }) => {
             let outcome = show_blob(alloc, form, encoding, &mut rt.reader(), &mut io::writer(rt));
             Ok(report(rt, outcome))

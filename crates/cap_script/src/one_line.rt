@@ -1,0 +1,28 @@
+//! Reads one line by itself.
+ghost use Rattle.std.specs.Prelude.{IfOk, IfErr};
+ghost use Rattle.cap_script.specs.ReadLine.{HasFault, IsFound};
+
+use crate::ScriptFault;
+use crate::line::{Line, is_ignored};
+use cap_value::{AllocHandle, Fault};
+
+/// The line with this text, which has no line feed, or none where it is ignored. A fault tells the line's
+/// number.
+pub fn read_line<A: AllocHandle>(
+    alloc: A,
+    number: u64,
+    text: &str,
+) -> Result<Option<Line<A>>, Fault<ScriptFault>>
+    // None where the line is ignored, and else what it spells.
+    ensures found { IfOk result (λ found. IsFound found text.now) }
+    // A line that spells a command within the limits is not refused. The fault has the number.
+    ensures none { IfErr result (λ fault. HasFault A number fault text.now) }
+{
+    if is_ignored(text) {
+        return Ok(None);
+    }
+    match Line::parse(alloc, text) {
+        Ok(line) => Ok(Some(line)),
+        Err(fault) => Err(fault.in_line(number)),
+    }
+}
