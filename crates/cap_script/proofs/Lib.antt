@@ -1,4 +1,5 @@
 pub mod Crossing
+mod FirstLemmas
 mod FitLemmas
 mod LineLemmas
 mod MoreLemmas

@@ -5,7 +5,7 @@ use Rattle.cap_script.specs.Tokens.{begins, behind_blanks}
 use Rattle.cap_script.specs.declared.line.Line.{Line}
 use Rattle.cap_script.proofs.OneCommands.{ignored_line, no_cut, same_cut}
 
-are_more : (texts : List (List ℕ)) (text line behind : List ℕ) → text ≡ line ++ 10 ∷ behind → has_line_feed line ≡ false → AreLines texts behind → AreLines (line ∷ texts) text
+pub are_more : (texts : List (List ℕ)) (text line behind : List ℕ) → text ≡ line ++ 10 ∷ behind → has_line_feed line ≡ false → AreLines texts behind → AreLines (line ∷ texts) text
 are_more [] text line behind e none are = absurd are
 are_more (t ∷ texts) text line behind e none are = (behind, e, none, are)
 
@@ -28,7 +28,7 @@ cut_shorter text line rest (none, inl e) some =
     let whole : length text ≡ length (line ++ 10 ∷ rest) = ap length e in omega (arith, whole, length-append line (10 ∷ rest))
 cut_shorter text line rest (none, inr (e, end)) some = let nothing : length rest ≡ 0 = ap length end in omega (arith, nothing, some)
 
-not_empty : (line rest : List ℕ) → [] ≡ line ++ 10 ∷ rest → ⊥
+pub not_empty : (line rest : List ℕ) → [] ≡ line ++ 10 ∷ rest → ⊥
 not_empty [] rest e = absurd cc
 not_empty (x ∷ line) rest e = absurd cc
 
@@ -78,7 +78,7 @@ module _ {A : Type 0} where
   in_front lines text line rest (none, inr (e, end)) spelled =
       ([], (e, none), subst (λ (ls : List (Line A)). SpellsLines ls []) (sym (none_left lines rest end spelled)) tt)
 
-  ignored_more : (lines : List (Line A)) (text : List ℕ) (texts : List (List ℕ)) → is_ignored text ≡ true → SpellsLines lines texts → SpellsLines lines (text ∷ texts)
+  pub ignored_more : (lines : List (Line A)) (text : List ℕ) (texts : List (List ℕ)) → is_ignored text ≡ true → SpellsLines lines texts → SpellsLines lines (text ∷ texts)
   ignored_more [] text texts ignored rest = (ignored, rest)
   ignored_more (line ∷ lines) text texts ignored rest = inl (ignored, rest)
 

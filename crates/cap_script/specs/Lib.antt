@@ -1,4 +1,5 @@
 pub mod Commands
+pub mod FirstRefused
 pub mod Forms
 pub mod Limits
 pub mod LineLimits

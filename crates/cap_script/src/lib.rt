@@ -10,6 +10,7 @@ mod lines;
 mod operation;
 mod refusal_text;
 mod reply;
+mod rest;
 mod row_text;
 mod session_command;
 mod token;

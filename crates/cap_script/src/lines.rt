@@ -1,14 +1,13 @@
 //! An iterator over the lines of a workload.
-ghost use Rattle.std.specs.Prelude.{◌≡◌, ◌≤◌, ◌<◌, ◌++◌, ◌∷◌, List, [], false, length, IfOk, IfErr, IfSome};
-ghost use Rattle.std.specs.Prelude.{MatchOption, MatchResult};
+ghost use Rattle.std.specs.Prelude.{◌≡◌, ◌≤◌, ◌<◌, List, length, IfOk, IfErr, IfSome, MatchResult};
+ghost use Rattle.cap_script.specs.FirstRefused.{IsRefusedFirst};
 ghost use Rattle.cap_script.specs.RefusedLines.{NoLines};
-ghost use Rattle.cap_script.specs.Script.{IsCut, IsLeft, IsRead, SpellsScript, TakesFirst, begins_at};
-ghost use Rattle.cap_script.specs.Script.{has_line_feed, is_ignored};
+ghost use Rattle.cap_script.specs.Script.{IsLeft, SpellsScript, TakesFirst, begins_at};
 ghost use Rattle.cap_script.specs.declared.line.Line.{Line};
 
 use crate::ScriptFault;
-use crate::laws::one_workload;
-use crate::line::{Line, is_ignored};
+use crate::line::Line;
+use crate::rest::Rest;
 use crate::token::{after_blanks, begins_worker};
 use cap_value::{AllocHandle, Fault, OutOfMemory};
 use std::marker::Model;
@@ -20,19 +19,15 @@ use std::marker::Model;
 #[derive(Drop)]
 pub struct Lines<'t, A: AllocHandle> {
     alloc: A,
-    rest: &'t str,
-    // The number of the first remaining line.
-    number: u64,
+    rest: Rest<'t>,
 }
 
 impl<'t, A: AllocHandle> Model for Lines<'t, A> {
-    ghost use Rattle.std.specs.Prelude.{◌+◌, ◌≤◌, ◌^◌, ℕ, List, length};
+    ghost use Rattle.std.specs.Prelude.{ℕ, List};
 
     ghost Value = { List ℕ };
 
-    ghost view = { λ l. l.rest.now };
-
-    ghost invariant = { λ l. l.number + length l.rest.now ≤ 2 ^ 63 };
+    ghost view = { λ l. l.rest.text.now };
 }
 
 impl<'t, A: AllocHandle> Lines<'t, A> {
@@ -46,21 +41,15 @@ impl<'t, A: AllocHandle> Lines<'t, A> {
         ensures spelled { IfOk result (λ rest. (lines : List (Line A)) × SpellsScript lines text.now) }
         // A text that spells lines within the limits is not refused.
         ensures none { IfErr result (λ fault. NoLines A fault text.now) }
+        // A fault is that of the first line that is neither ignored nor a command within the limits.
+        ensures first { IfErr result (λ fault. IsRefusedFirst A 1 fault text.now) }
     {
-        let mut rest = Lines::over(alloc, text);
-        while let Some(_line) = rest.read()? {}
-        Ok(Lines::over(alloc, text))
-    }
-
-    // The lines of this text, none of which is parsed.
-    pub(crate) fn over(alloc: A, text: &'t str) -> Self
-        ensures { result ≡ text.now }
-    {
-        Lines {
+        let mut rest = Rest::new(text);
+        while let Some(_line) = rest.read(alloc)? {}
+        Ok(Lines {
             alloc,
-            rest: text,
-            number: 1,
-        }
+            rest: Rest::new(text),
+        })
     }
 
     /// The next line, or none after the last. Where memory runs out, the line is still the next.
@@ -71,7 +60,7 @@ impl<'t, A: AllocHandle> Lines<'t, A> {
         ensures left { IfOk result (λ found. IfSome found (λ line. length self.new < length self.old)) }
     {
         // The line is valid, so the only fault is out of memory.
-        self.read().map_err(|_| OutOfMemory)
+        self.rest.read(self.alloc).map_err(|_| OutOfMemory)
     }
 
     /// Whether the next line begins with `@`.
@@ -80,68 +69,9 @@ impl<'t, A: AllocHandle> Lines<'t, A> {
             → (result ≡ begins_at lines) × SpellsScript lines self.new }
         ensures left { length self.new ≤ length self.old }
     {
-        match self.next_text() {
+        match self.rest.next_text::<A>() {
             Some((text, _)) => begins_worker(after_blanks(text)),
             None => false,
         }
     }
-
-    // The next line, or none after the last. A refused line is still the next.
-    pub(crate) fn read(&mut self) -> Result<Option<Line<A>>, Fault<ScriptFault>>
-        ensures read { IfOk result (λ found. IsRead found self.old self.new) }
-        ensures none { IfErr result (λ fault. NoLines A fault self.old) }
-        ensures next { (lines : List (Line A)) → SpellsScript lines self.old
-            → MatchResult result (λ found. TakesFirst found lines self.new) (λ fault. IsLeft lines self.new) }
-        ensures left { IfOk result (λ found. IfSome found (λ line. length self.new < length self.old)) }
-    {
-        one_workload::<A>();
-        let Some((text, behind)) = self.next_text() else {
-            return Ok(None);
-        };
-        match Line::parse(self.alloc, text) {
-            Ok(line) => {
-                self.rest = behind;
-                self.number += 1;
-                Ok(Some(line))
-            }
-            Err(fault) => Err(fault.in_line(self.number)),
-        }
-    }
-
-    // Skips ignored lines. The text of the next line, and the text after it.
-    fn next_text(&mut self) -> Option<(&'t str, &'t str)>
-        ensures here { MatchOption result (self.new ≡ [])
-            (λ parts. IsCut self.new parts.0.now parts.1.now × (is_ignored parts.0.now ≡ false)) }
-        ensures passed { (lines : List (Line A)) → SpellsScript lines self.old → SpellsScript lines self.new }
-        ensures back { (lines : List (Line A)) → SpellsScript lines self.new → SpellsScript lines self.old }
-        ensures left { length self.new ≤ length self.old }
-    {
-        while !self.rest.is_empty() {
-            let (line, behind) = first_line(self.rest);
-            if !is_ignored(line) {
-                return Some((line, behind));
-            }
-            self.rest = behind;
-            self.number += 1;
-        }
-        None
-    }
-}
-
-// The first line of the text, and the text after it.
-fn first_line(text: &str) -> (&str, &str)
-    ensures { IsCut text.now result.0.now result.1.now }
-{
-    match split_line(text) {
-        Some(parts) => parts,
-        None => (text, ""),
-    }
-}
-
-// The text before the first line feed, and the text after it.
-fn split_line(text: &str) -> Option<(&str, &str)>
-    ensures { MatchOption result (has_line_feed text.now ≡ false)
-        (λ parts. (text.now ≡ parts.0.now ++ 10 ∷ parts.1.now) × (has_line_feed parts.0.now ≡ false)) }
-{
-    text.split_once('\n')
 }

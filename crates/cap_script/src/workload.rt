@@ -1,10 +1,12 @@
 //! Reads a whole workload.
 ghost use Rattle.std.specs.Prelude.{◌≡◌, ◌++◌, ◌∷◌, [], IfOk, IfErr, OnOk};
+ghost use Rattle.cap_script.specs.FirstRefused.{IsRefusedFirst};
 ghost use Rattle.cap_script.specs.RefusedLines.{NoLines};
 ghost use Rattle.cap_script.specs.Script.{SpellsScript};
 ghost use Rattle.cap_script.specs.declared.line.Line.{Line};
 
-use crate::{Line, Lines, ScriptFault};
+use crate::rest::Rest;
+use crate::{Line, ScriptFault};
 use cap_value::{AllocHandle, Fault, OutOfMemory};
 
 /// The commands of a workload.
@@ -23,10 +25,12 @@ pub fn parse<A: AllocHandle>(alloc: A, text: &str) -> Result<Workload<A>, Fault<
     ensures spelled { IfOk result (λ workload. SpellsScript workload.lines.items text.now) }
     // A text that spells lines within the limits is not refused.
     ensures none { IfErr result (λ fault. NoLines A fault text.now) }
+    // A fault is that of the first line that is neither ignored nor a command within the limits.
+    ensures first { IfErr result (λ fault. IsRefusedFirst A 1 fault text.now) }
 {
-    let mut rest = Lines::over(alloc, text);
+    let mut rest = Rest::new(text);
     let mut lines = Vec::new(alloc);
-    while let Some(line) = rest.read()? {
+    while let Some(line) = rest.read(alloc)? {
         push_line(&mut lines, line)?;
     }
     Ok(Workload { lines })

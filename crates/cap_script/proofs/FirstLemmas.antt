@@ -1,0 +1,112 @@
+-- The first refused line of a text.
+use Rattle.std.proofs.Common.{◌≡◌, ◌+◌, ◌||◌, ℕ, Bool, true, false, eqb, length, List, [], ◌∷◌, ◌++◌, refl, sym, ap, subst, inl, inr, arith}
+use Rattle.std.proofs.lemmas.Bool.{eqb-true}
+use Rattle.cap_value.specs.declared.memory.Fault.{Fault}
+use Rattle.cap_value.specs.declared.memory.Fault.TheVariants as fault
+use Rattle.cap_value.specs.declared.memory.Fault.TheVariants.{Refused}
+use Rattle.cap_script.specs.FirstRefused.{IsFirstRefused, IsRefusedFirst, line_of}
+use Rattle.cap_script.specs.LineLimits.{LineWithin}
+use Rattle.cap_script.specs.RefusedLines.{LeavesLines, NoLine, in_line}
+use Rattle.cap_script.specs.Script.{AreLines, IsCut, SpellsLine, has_line_feed, is_ignored}
+use Rattle.cap_script.specs.declared.fault.LineFault.{LineFault}
+use Rattle.cap_script.specs.declared.fault.LineFault.TheVariants.{BadBlob, Limit, OutOfMemory, Syntax}
+use Rattle.cap_script.specs.declared.fault.ScriptFault.{ScriptFault}
+use Rattle.cap_script.specs.declared.fault.ScriptFault.TheVariants as script
+use Rattle.cap_script.specs.declared.line.Line.{Line}
+use Rattle.cap_script.proofs.LineLemmas.{are_more, ignored_more, not_empty}
+
+-- ---- the lines of a text
+
+neither : (a b : Bool) → a ≡ false → b ≡ false → a || b ≡ false
+neither true b e none = absurd cc
+neither false true e none = absurd cc
+neither false false e none = refl
+
+other_byte : (x : ℕ) (line : List ℕ) → eqb x 10 ≡ false → has_line_feed line ≡ false → has_line_feed (x ∷ line) ≡ false
+other_byte x line other none = neither (eqb x 10) (has_line_feed line) other none
+
+byte_more : (x : ℕ) (text : List ℕ) (texts : List (List ℕ)) (b : Bool) → eqb x 10 ≡ b → AreLines texts text → (more : List (List ℕ)) × AreLines more (x ∷ text)
+byte_more x text texts true is are = ([] ∷ texts, are_more texts (x ∷ text) [] text (ap (λ (n : ℕ). n ∷ text) (eqb-true x 10 is)) refl are)
+byte_more x text [] false is are = absurd are
+byte_more x text (t ∷ []) false is (e, none) = ((x ∷ t) ∷ [], (ap (λ (l : List ℕ). x ∷ l) e, other_byte x t is none))
+byte_more x text (t ∷ u ∷ texts) false is (rest, e, none, are) = ((x ∷ t) ∷ u ∷ texts, (rest, ap (λ (l : List ℕ). x ∷ l) e, other_byte x t is none, are))
+
+lines_in : (text : List ℕ) → (texts : List (List ℕ)) × AreLines texts text
+lines_in [] = ([] ∷ [], (refl, refl))
+lines_in (x ∷ text) = let (texts, are) = lines_in text in byte_more x text texts (eqb x 10) refl are
+
+lines_behind : (text line rest : List ℕ) → IsCut text line rest → (others : List (List ℕ)) × AreLines (line ∷ others) text
+lines_behind text line rest (none, inl e) = let (texts, are) = lines_in rest in (texts, are_more texts text line rest e none are)
+lines_behind text line rest (none, inr (e, end)) = ([], (e, none))
+
+-- no line of an empty text says something
+none_said : (before behind : List (List ℕ)) (refused : List ℕ) → AreLines (before ++ refused ∷ behind) [] → is_ignored refused ≡ false → ⊥
+none_said [] [] refused are said = let bad : is_ignored [] ≡ false = subst (λ (l : List ℕ). is_ignored l ≡ false) (sym are.0) said in absurd cc
+none_said [] (b ∷ behind) refused are said = not_empty refused are.0 are.1
+none_said (x ∷ []) behind refused are said = not_empty x are.0 are.1
+none_said (x ∷ y ∷ before) behind refused are said = not_empty x are.0 are.1
+
+line_more : (before behind : List (List ℕ)) (refused text line rest : List ℕ) → IsCut text line rest → is_ignored refused ≡ false → AreLines (before ++ refused ∷ behind) rest → AreLines (line ∷ (before ++ refused ∷ behind)) text
+line_more before behind refused text line rest (none, inl e) said are = are_more (before ++ refused ∷ behind) text line rest e none are
+line_more before behind refused text line rest (none, inr (e, end)) said are =
+    absurd (none_said before behind refused (subst (λ (l : List ℕ). AreLines (before ++ refused ∷ behind) l) end are) said)
+
+-- out of memory
+pub first_memory : (A : Type 0) (n : ℕ) (told : Fault ScriptFault) (text : List ℕ) → told ≡ fault.OutOfMemory → IsRefusedFirst A n told text
+first_memory A n told text is = subst (λ (f : Fault ScriptFault). IsRefusedFirst A n f text) (sym is) tt
+
+module _ {A : Type 0} where
+  -- ---- the first refused line, behind one more line
+
+  pub behind_one_ignored : (n : ℕ) (why : ScriptFault) (text line rest : List ℕ) → IsCut text line rest → is_ignored line ≡ true → IsFirstRefused A (n + 1) why rest → IsFirstRefused A n why text
+  behind_one_ignored n why text line rest cut ignored so = record {
+    before = line ∷ so.before;
+    refused = so.refused;
+    behind = so.behind;
+    are_lines = line_more so.before so.behind so.refused text line rest cut so.said so.are_lines;
+    number = omega (arith, so.number);
+    spelled = (so.spelled.0, ignored_more so.spelled.0 line so.before ignored so.spelled.1);
+    said = so.said;
+    none = so.none;
+  }
+
+  pub behind_one_line : (n : ℕ) (why : ScriptFault) (made : Line A) (text line rest : List ℕ) → IsCut text line rest → SpellsLine made line → IsFirstRefused A (n + 1) why rest → IsFirstRefused A n why text
+  behind_one_line n why made text line rest cut spells so = record {
+    before = line ∷ so.before;
+    refused = so.refused;
+    behind = so.behind;
+    are_lines = line_more so.before so.behind so.refused text line rest cut so.said so.are_lines;
+    number = omega (arith, so.number);
+    spelled = (made ∷ so.spelled.0, inr (spells, so.spelled.1));
+    said = so.said;
+    none = so.none;
+  }
+
+  -- ---- the first line is refused
+
+  first_is : (n : ℕ) (why : ScriptFault) (text line rest : List ℕ) → IsCut text line rest → is_ignored line ≡ false → line_of why ≡ n → ((made : Line A) → SpellsLine made line → LeavesLines (Refused why) (LineWithin made))
+      → IsFirstRefused A n why text
+  first_is n why text line rest cut said number none =
+      let parts = lines_behind text line rest cut in
+      record {
+        before = [];
+        refused = line;
+        behind = parts.0;
+        are_lines = parts.1;
+        number = omega (arith, number);
+        spelled = ([], tt);
+        said = said;
+        none = none;
+      }
+
+  pub first_here : (fault : LineFault) (n : ℕ) (text line rest : List ℕ) → IsCut text line rest → is_ignored line ≡ false → NoLine A fault line → IsRefusedFirst A n (in_line n fault) text
+  first_here OutOfMemory n text line rest cut said none = tt
+  first_here (Syntax at) n text line rest cut said none = first_is n (script.Syntax n at) text line rest cut said refl none
+  first_here (Limit why) n text line rest cut said none = first_is n (script.Limit n why) text line rest cut said refl none
+  first_here (BadBlob why) n text line rest cut said none = first_is n (script.BadBlob n why) text line rest cut said refl none
+
+  -- ---- the whole text
+
+  pub first_over : (m n : ℕ) (fault : Fault ScriptFault) (rest text : List ℕ) → ((why : ScriptFault) → IsFirstRefused A m why rest → IsFirstRefused A n why text) → IsRefusedFirst A m fault rest → IsRefusedFirst A n fault text
+  first_over m n fault.OutOfMemory rest text on so = tt
+  first_over m n (Refused why) rest text on so = on why so
