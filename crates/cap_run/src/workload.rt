@@ -11,9 +11,10 @@ ghost use Rattle.cap_run.specs.Code.Calls.{RunsLines, unclosed_outcome, work};
 ghost use Rattle.cap_run.specs.Options.{IsThreadCount};
 ghost use Rattle.cap_run.specs.Run.{IsSpelled, Known};
 ghost use Rattle.cap_run.specs.Reads.{EndsReads};
-ghost use Rattle.cap_run.specs.RunFault.{IsUnread, exit_status, is_read};
+ghost use Rattle.cap_run.specs.RunFault.{IsNoWorkload, IsOfText, IsUnread, exit_status, is_read, is_script};
 ghost use Rattle.cap_run.specs.Workload.{WritesWorkload};
 ghost use Rattle.cap_run.specs.Writes.{EndsWrites};
+ghost use Rattle.cap_script.specs.FirstRefused.{SpellsWithin};
 ghost use Rattle.cap_script.specs.Script.{SpellsScript};
 ghost use Rattle.cap_script.specs.declared.line.Line.{Line};
 
@@ -61,6 +62,14 @@ pub fn run_workload<
         → IsErrAnd result (λ fault. (fault ≡ RunFault.NotUtf8) ⊎ IsUnread fault)) }
     ensures text { IfSome (R.remaining reader.old) (λ given.
         result ≡ Err RunFault.NotUtf8 → ¬ (IsUtf8 given)) }
+
+    // A text that is refused is refused at its first line that spells no command within the limits, and no text
+    // that spells lines within the limits is. Every other text is, but for a failed read and out of memory.
+    ensures refused { IfSome (R.remaining reader.old) (λ given. IfErr result (λ fault. IsOfText A fault given)) }
+    ensures read { IfSome (R.remaining reader.old) (λ given. SpellsWithin A given
+        → IfErr result (λ fault. is_script fault ≡ false)) }
+    ensures no_lines { IfSome (R.remaining reader.old) (λ given. ¬ (SpellsWithin A given)
+        → IsErrAnd result IsNoWorkload) }
 
     // When a failed read is reported, as far as the outcomes of the reads are known.
     ensures reported { EndsReads R.gave R.failed result reader.old reader.new }

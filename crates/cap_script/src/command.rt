@@ -4,6 +4,7 @@ ghost use Rattle.cap_apply.specs.declared.policy.Answer.{Answer};
 ghost use Rattle.cap_apply.specs.declared.policy.Policy.{Policy};
 ghost use Rattle.cap_script.specs.Commands.{SpelledBlob, SpelledCommand, SpelledPolicy};
 ghost use Rattle.cap_script.specs.Forms.{NotSpelled, Word};
+ghost use Rattle.cap_script.specs.LineLimits.{CommandWithin, SchemaWithin, ShowWithin};
 ghost use Rattle.cap_script.specs.RefusedLines.{NoBlob, NoCommand, NoSchema};
 ghost use Rattle.cap_script.specs.Words.{answer_word, head_word, letters};
 
@@ -28,6 +29,7 @@ pub(crate) fn command<A: AllocHandle>(
 ) -> Result<(Command<A>, Show<A>), LineFault>
     ensures next { IfOk result (λ made.
         SpelledCommand made.0 made.1 cursor.old.rest.now cursor.new.rest.now) }
+    ensures within { IfOk result (λ made. CommandWithin made.0 × ShowWithin made.1) }
     ensures none { IfErr result (λ fault. NoCommand A fault cursor.old.rest.now) }
 {
     let word = cursor.word()?;
@@ -43,6 +45,7 @@ fn command_of<A: AllocHandle>(
 ) -> Result<(Command<A>, Show<A>), LineFault>
     ensures next { (line : List ℕ) → Word (head_word head) line cursor.old.rest.now
         → IfOk result (λ made. SpelledCommand made.0 made.1 line cursor.new.rest.now) }
+    ensures within { IfOk result (λ made. CommandWithin made.0 × ShowWithin made.1) }
     ensures none { (line : List ℕ) → Word (head_word head) line cursor.old.rest.now
         → IfErr result (λ fault. NoCommand A fault line) }
 {
@@ -66,6 +69,7 @@ fn create<A: AllocHandle>(
 ) -> Result<(Command<A>, Show<A>), LineFault>
     ensures next { (line : List ℕ) → Word (codes "create") line cursor.old.rest.now
         → IfOk result (λ made. SpelledCommand made.0 made.1 line cursor.new.rest.now) }
+    ensures within { IfOk result (λ made. CommandWithin made.0 × ShowWithin made.1) }
     ensures none { (line : List ℕ) → Word (codes "create") line cursor.old.rest.now
         → IfErr result (λ fault. NoCommand A fault line) }
 {
@@ -77,6 +81,7 @@ fn create<A: AllocHandle>(
 // Reads the columns of a table: one letter a column, `k` for a column of the primary key and `v` for another.
 fn schema<A: AllocHandle>(alloc: A, cursor: &mut Cursor<'_>) -> Result<Schema<A>, LineFault>
     ensures next { IfOk result (λ made. Word (letters made) cursor.old.rest.now cursor.new.rest.now) }
+    ensures within { IfOk result (λ made. SchemaWithin made) }
     ensures none { IfErr result (λ fault. NoSchema fault cursor.old.rest.now) }
 {
     let word = cursor.word()?;
@@ -91,6 +96,7 @@ fn commit<A: AllocHandle>(
 ) -> Result<(Command<A>, Show<A>), LineFault>
     ensures next { (line : List ℕ) → Word (codes "commit") line cursor.old.rest.now
         → IfOk result (λ made. SpelledCommand made.0 made.1 line cursor.new.rest.now) }
+    ensures within { IfOk result (λ made. CommandWithin made.0 × ShowWithin made.1) }
     ensures none { (line : List ℕ) → Word (codes "commit") line cursor.old.rest.now
         → IfErr result (λ fault. NoCommand A fault line) }
 {
@@ -105,6 +111,7 @@ fn commit_at<A: AllocHandle>(
 ) -> Result<(Command<A>, Show<A>), LineFault>
     ensures next { (line : List ℕ) → Word (codes "commitat") line cursor.old.rest.now
         → IfOk result (λ made. SpelledCommand made.0 made.1 line cursor.new.rest.now) }
+    ensures within { IfOk result (λ made. CommandWithin made.0 × ShowWithin made.1) }
     ensures none { (line : List ℕ) → Word (codes "commitat") line cursor.old.rest.now
         → IfErr result (λ fault. NoCommand A fault line) }
 {
@@ -120,6 +127,7 @@ fn apply<A: AllocHandle>(
 ) -> Result<(Command<A>, Show<A>), LineFault>
     ensures next { (line : List ℕ) → Word (codes "apply") line cursor.old.rest.now
         → IfOk result (λ made. SpelledCommand made.0 made.1 line cursor.new.rest.now) }
+    ensures within { IfOk result (λ made. CommandWithin made.0 × ShowWithin made.1) }
     ensures none { (line : List ℕ) → Word (codes "apply") line cursor.old.rest.now
         → IfErr result (λ fault. NoCommand A fault line) }
 {
@@ -168,6 +176,7 @@ fn get<A: AllocHandle>(
 ) -> Result<(Command<A>, Show<A>), LineFault>
     ensures next { (line : List ℕ) → Word (codes "get") line cursor.old.rest.now
         → IfOk result (λ made. SpelledCommand made.0 made.1 line cursor.new.rest.now) }
+    ensures within { IfOk result (λ made. CommandWithin made.0 × ShowWithin made.1) }
     ensures none { (line : List ℕ) → Word (codes "get") line cursor.old.rest.now
         → IfErr result (λ fault. NoCommand A fault line) }
 {
@@ -183,6 +192,7 @@ fn scan<A: AllocHandle>(
 ) -> Result<(Command<A>, Show<A>), LineFault>
     ensures next { (line : List ℕ) → Word (codes "scan") line cursor.old.rest.now
         → IfOk result (λ made. SpelledCommand made.0 made.1 line cursor.new.rest.now) }
+    ensures within { IfOk result (λ made. CommandWithin made.0 × ShowWithin made.1) }
     ensures none { (line : List ℕ) → Word (codes "scan") line cursor.old.rest.now
         → IfErr result (λ fault. NoCommand A fault line) }
 {
@@ -197,6 +207,7 @@ fn save<A: AllocHandle>(
 ) -> Result<(Command<A>, Show<A>), LineFault>
     ensures next { (line : List ℕ) → Word (codes "save") line cursor.old.rest.now
         → IfOk result (λ made. SpelledCommand made.0 made.1 line cursor.new.rest.now) }
+    ensures within { IfOk result (λ made. CommandWithin made.0 × ShowWithin made.1) }
     ensures none { (line : List ℕ) → Word (codes "save") line cursor.old.rest.now
         → IfErr result (λ fault. NoCommand A fault line) }
 {

@@ -1,5 +1,6 @@
 //! A line of a workload.
 ghost use Rattle.std.specs.Prelude.{◌≡◌, IfOk, IfErr};
+ghost use Rattle.cap_script.specs.LineLimits.{LineWithin};
 ghost use Rattle.cap_script.specs.RefusedLines.{NoLine};
 ghost use Rattle.cap_script.specs.Script.{SpellsLine, is_ignored};
 
@@ -43,6 +44,7 @@ impl<A: AllocHandle> Line<A> {
     // The line with this text, which is not ignored.
     pub(crate) fn parse(alloc: A, text: &str) -> Result<Self, LineFault>
         ensures spelled { IfOk result (λ line. SpellsLine line text.now) }
+        ensures within { IfOk result (λ line. LineWithin line) }
         ensures none { IfErr result (λ fault. NoLine A fault text.now) }
     {
         one_filter();

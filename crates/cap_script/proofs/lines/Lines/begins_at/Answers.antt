@@ -16,3 +16,6 @@ pub returns-in-None-clause-next : goal.returns-in-None-clause-next
 returns-in-None-clause-next g c = λ lines spelled.
     let left = c.in-None.ensures.passed lines spelled in
     (sym (ap (λ (ls : List (Line g.row.A.Denot)). begins_at ls) (none_left lines c.next_text.new.self.text.now c.in-None.ensures.here left)), left)
+
+pub invariant_of-self : goal.invariant_of-self
+invariant_of-self g c = ?

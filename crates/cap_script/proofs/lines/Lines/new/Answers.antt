@@ -1,5 +1,6 @@
 use Rattle.std.proofs.Common.{ℕ, List, [], ◌∷◌, Option, IfSome, subst}
-use Rattle.cap_script.specs.FirstRefused.{IsFirstRefused, IsRefusedFirst}
+use Rattle.cap_script.specs.FirstRefused.{IsFirstRefused, IsRefusedFirst, SpellsWithin}
+use Rattle.cap_script.specs.LineLimits.{LineWithin}
 use Rattle.cap_script.specs.RefusedLines.{NoLines}
 use Rattle.cap_script.specs.Script.{IsRead, SpellsScript, TakesFirst}
 use Rattle.cap_script.specs.declared.fault.ScriptFault.{ScriptFault}
@@ -10,16 +11,17 @@ use Rattle.cap_script.proofs.lines.Lines.new.Goals as goal
 
 pub loop-line-init : goal.loop-line-init
 loop-line-init g c = (
-  λ lines spelled. (lines, subst (λ (t : List ℕ). SpellsScript lines t) c.new-rest.ensures.text spelled),
+  λ lines spelled within. (lines, subst (λ (t : List ℕ). SpellsScript lines t) c.new-rest.ensures.text spelled, within),
   λ lines spelled. (lines, rw c.new-rest.ensures.text spelled, λ within. within),
   λ why so. subst (λ (t : List ℕ). IsFirstRefused g.row.A.Denot 1 why t) c.new-rest.ensures.text (subst (λ (n : ℕ). IsFirstRefused g.row.A.Denot n why c.new-rest.result.text.now) c.new-rest.ensures.number so),
 )
 
 pub loop-line-preserved : goal.loop-line-preserved
 loop-line-preserved g c = (
-  λ lines spelled.
+  λ lines spelled within.
       let read = subst (λ (o : Option (Line g.row.A.Denot)). IsRead o c.loop-line.rest.text.now c.read.new.self.text.now) c.in-Some.is c.in_ok-_line.ensures.read in
-      c.loop-line.invariant.0 (c.in-Some._line ∷ lines) (read lines spelled),
+      let one = subst (λ (o : Option (Line g.row.A.Denot)). IfSome o LineWithin) c.in-Some.is c.in_ok-_line.ensures.within in
+      c.loop-line.invariant.0 (c.in-Some._line ∷ lines) (read lines spelled) (one, within),
   λ lines spelled.
       let (left, here, within) = c.loop-line.invariant.1 lines spelled in
       left_behind {A = g.row.A.Denot} c.in-Some._line lines left c.read.new.self.text.now within (subst (λ (o : Option (Line g.row.A.Denot)). TakesFirst o left c.read.new.self.text.now) c.in-Some.is (c.in_ok-_line.ensures.next left here)),
@@ -28,10 +30,10 @@ loop-line-preserved g c = (
       c.loop-line.invariant.2 why (later why so),
 )
 
-pub returns-clause-spelled : goal.returns-clause-spelled
-returns-clause-spelled g c =
+pub returns-clause-within : goal.returns-clause-within
+returns-clause-within g c =
     let read = subst (λ (o : Option (Line g.row.A.Denot)). IsRead o c.loop-line.rest.text.now c.read.new.self.text.now) c.in_default.is c.in_ok-_line.ensures.read in
-    c.loop-line.invariant.0 [] read
+    c.loop-line.invariant.0 [] read tt
 
 pub returns-in_err-_line-clause-none : goal.returns-in_err-_line-clause-none
 returns-in_err-_line-clause-none g c =
