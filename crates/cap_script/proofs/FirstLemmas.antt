@@ -4,7 +4,7 @@ use Rattle.std.proofs.lemmas.Bool.{eqb-true}
 use Rattle.cap_value.specs.declared.memory.Fault.{Fault}
 use Rattle.cap_value.specs.declared.memory.Fault.TheVariants as fault
 use Rattle.cap_value.specs.declared.memory.Fault.TheVariants.{Refused}
-use Rattle.cap_script.specs.FirstRefused.{IsFirstRefused, IsRefusedFirst, line_of}
+use Rattle.cap_script.specs.FirstRefused.{IsFirstRefused, TellsFirstRefused, line_of}
 use Rattle.cap_script.specs.LineLimits.{LineWithin}
 use Rattle.cap_script.specs.RefusedLines.{LeavesLines, NoLine, in_line}
 use Rattle.cap_script.specs.Script.{AreLines, IsCut, SpellsLine, has_line_feed, is_ignored}
@@ -52,8 +52,8 @@ line_more before behind refused text line rest (none, inr (e, end)) said are =
     absurd (none_said before behind refused (subst (λ (l : List ℕ). AreLines (before ++ refused ∷ behind) l) end are) said)
 
 -- out of memory
-pub first_memory : (A : Type 0) (n : ℕ) (told : Fault ScriptFault) (text : List ℕ) → told ≡ fault.OutOfMemory → IsRefusedFirst A n told text
-first_memory A n told text is = subst (λ (f : Fault ScriptFault). IsRefusedFirst A n f text) (sym is) tt
+pub first_memory : (A : Type 0) (n : ℕ) (told : Fault ScriptFault) (text : List ℕ) → told ≡ fault.OutOfMemory → TellsFirstRefused A n told text
+first_memory A n told text is = subst (λ (f : Fault ScriptFault). TellsFirstRefused A n f text) (sym is) tt
 
 module _ {A : Type 0} where
   -- ---- the first refused line, behind one more line
@@ -99,7 +99,7 @@ module _ {A : Type 0} where
         none = none;
       }
 
-  pub first_here : (fault : LineFault) (n : ℕ) (text line rest : List ℕ) → IsCut text line rest → is_ignored line ≡ false → NoLine A fault line → IsRefusedFirst A n (in_line n fault) text
+  pub first_here : (fault : LineFault) (n : ℕ) (text line rest : List ℕ) → IsCut text line rest → is_ignored line ≡ false → NoLine A fault line → TellsFirstRefused A n (in_line n fault) text
   first_here OutOfMemory n text line rest cut said none = tt
   first_here (Syntax at) n text line rest cut said none = first_is n (script.Syntax n at) text line rest cut said refl none
   first_here (Limit why) n text line rest cut said none = first_is n (script.Limit n why) text line rest cut said refl none
@@ -107,6 +107,6 @@ module _ {A : Type 0} where
 
   -- ---- the whole text
 
-  pub first_over : (m n : ℕ) (fault : Fault ScriptFault) (rest text : List ℕ) → ((why : ScriptFault) → IsFirstRefused A m why rest → IsFirstRefused A n why text) → IsRefusedFirst A m fault rest → IsRefusedFirst A n fault text
+  pub first_over : (m n : ℕ) (fault : Fault ScriptFault) (rest text : List ℕ) → ((why : ScriptFault) → IsFirstRefused A m why rest → IsFirstRefused A n why text) → TellsFirstRefused A m fault rest → TellsFirstRefused A n fault text
   first_over m n fault.OutOfMemory rest text on so = tt
   first_over m n (Refused why) rest text on so = on why so

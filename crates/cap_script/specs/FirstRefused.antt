@@ -31,5 +31,5 @@ module _ (A : Type 0) where
     pub none : (line : Line A) → SpellsLine line refused → LeavesLines (Refused fault) (LineWithin line)
 
   -- a fault of the text is that of its first refused line
-  abbrev pub IsRefusedFirst : ℕ → Fault ScriptFault → List ℕ → Type 0
-  IsRefusedFirst first fault text = MatchFault fault ⊤ (λ why. IsFirstRefused first why text)
+  abbrev pub TellsFirstRefused : ℕ → Fault ScriptFault → List ℕ → Type 0
+  TellsFirstRefused first fault text = MatchFault fault ⊤ (λ why. IsFirstRefused first why text)

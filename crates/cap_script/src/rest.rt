@@ -1,7 +1,7 @@
 //! The part of a workload's text that is left to parse.
 ghost use Rattle.std.specs.Prelude.{◌≡◌, ◌+◌, ◌≤◌, ◌<◌, ◌^◌, ◌++◌, ◌∷◌, List, [], false, length};
 ghost use Rattle.std.specs.Prelude.{IfOk, IfErr, IfSome, MatchOption, MatchResult};
-ghost use Rattle.cap_script.specs.FirstRefused.{IsFirstRefused, IsRefusedFirst};
+ghost use Rattle.cap_script.specs.FirstRefused.{IsFirstRefused, TellsFirstRefused};
 ghost use Rattle.cap_script.specs.RefusedLines.{NoLines};
 ghost use Rattle.cap_script.specs.Script.{IsCut, IsLeft, IsRead, SpellsScript, TakesFirst};
 ghost use Rattle.cap_script.specs.Script.{has_line_feed, is_ignored};
@@ -39,7 +39,7 @@ impl<'t> Rest<'t> {
         ensures read { IfOk result (λ found. IsRead found self.old.text.now self.new.text.now) }
         ensures none { IfErr result (λ fault. NoLines A fault self.old.text.now) }
         ensures first { IfErr result (λ fault.
-            IsRefusedFirst A self.old.number fault self.old.text.now) }
+            TellsFirstRefused A self.old.number fault self.old.text.now) }
         ensures later { IfOk result (λ found. IfSome found (λ line. (fault : ScriptFault)
             → IsFirstRefused A self.new.number fault self.new.text.now
             → IsFirstRefused A self.old.number fault self.old.text.now)) }

@@ -13,7 +13,8 @@ use Rattle.std.proofs.lemmas.List.Elements.{filter_map-append}
 use Rattle.hex.specs.Hex.{encode_lower, encode_with, lower_digits}
 use Rattle.cap_changes.specs.Entries.{TableEntries}
 use Rattle.cap_value.specs.declared.value.Value.{Value}
-use Rattle.cap_show.specs.ShowText.{comma_text, doubled, group_text, is_first_after, list_text, next_text, value_text}
+use Rattle.cap_show.specs.Code.DefinedFields.{comma_text, is_first_after, next_text}
+use Rattle.cap_show.specs.ShowText.{doubled, group_text, list_text, value_text}
 
 -- the front of a list that is one item longer
 pub take_item : {X : Type 0} (xs : List X) (i : ℕ) (x : X) → i < length xs → x ≡ get_or xs i x → take (i + 1) xs ≡ take i xs ++ x ∷ []

@@ -1,5 +1,5 @@
 -- Changesets and patchsets as text: a line for the blob, for each group and for each change.
-use Rattle.std.specs.Prelude.{ℕ, Bool, false, List, [], ◌∷◌, ◌++◌, ◌==◌, Option, Some, None, codes, if◌then◌else◌}
+use Rattle.std.specs.Prelude.{ℕ, Bool, List, [], ◌∷◌, ◌++◌, ◌==◌, Option, Some, None, codes, if◌then◌else◌}
 use Rattle.std.specs.Fmt.{signed_decimal}
 use Rattle.std.specs.List.{filter_map, flat_map, join_by}
 use Rattle.hex.specs.Hex.{encode_lower}
@@ -34,15 +34,6 @@ column_text is_key = if is_key then codes "k" else codes "v"
 abbrev pub flag_text : Bool → List ℕ
 flag_text indirect = if indirect then codes "indirect" else codes "direct"
 
--- what stands before a value
-abbrev pub comma_text : Bool → List ℕ
-comma_text is_first = if is_first then [] else codes ","
-
--- whether the next defined field is the first
-abbrev pub is_first_after : {X : Type 0} → Bool → Option X → Bool
-is_first_after is_first None = is_first
-is_first_after is_first (Some value) = false
-
 module _ {A : Type 0} where
   abbrev pub value_text : Value A → List ℕ
   value_text Null = codes "null"
@@ -63,11 +54,6 @@ module _ {A : Type 0} where
   abbrev pub defined_text : RecordFields A → List ℕ
   defined_text fields =
       codes "(" ++ (join_by value_text (codes ",") (filter_map (λ field. field) fields) ++ codes ")")
-
-  -- what a field of them adds
-  abbrev pub next_text : Bool → Option (Value A) → List ℕ
-  next_text is_first None = []
-  next_text is_first (Some value) = comma_text is_first ++ value_text value
 
   -- the line of a change of a changeset
   abbrev pub change_text : RowChange A → List ℕ

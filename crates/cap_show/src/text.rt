@@ -3,6 +3,7 @@ ghost use Rattle.hex.specs.Hex.{encode_lower};
 ghost use Rattle.std.specs.Fmt.{WritesOnOk};
 ghost use Rattle.std.specs.List.{filter_map, flat_map, join_by};
 ghost use Rattle.std.specs.Prelude.{◌≡◌, ◌<◌, ◌++◌, ◌∷◌, [], MatchOption, codes};
+ghost use Rattle.cap_show.specs.Code.DefinedFields.{comma_text, is_first_after, next_text};
 ghost use Rattle.cap_show.specs.ShowText as spec;
 
 use cap_changes::FieldRecord;
@@ -249,8 +250,8 @@ fn write_if_defined<A: AllocHandle, W: Write>(
     is_first: &mut bool,
     field: &Option<Value<A>>,
 ) -> fmt::Result
-    ensures text { WritesOnOk W.write_str_gives f.old result (spec.next_text is_first.old field.now) f.new }
-    ensures first { is_first.new ≡ spec.is_first_after is_first.old field.now }
+    ensures text { WritesOnOk W.write_str_gives f.old result (next_text is_first.old field.now) f.new }
+    ensures first { is_first.new ≡ is_first_after is_first.old field.now }
 {
     match field {
         Some(value) => {
@@ -269,14 +270,14 @@ fn write_value<A: AllocHandle, W: Write>(
     value: &Value<A>,
 ) -> fmt::Result
     ensures { WritesOnOk W.write_str_gives f.old result
-        (spec.comma_text is_first ++ spec.value_text value.now) f.new }
+        (comma_text is_first ++ spec.value_text value.now) f.new }
 {
     write_comma(f, is_first)?;
     ValueText(value).fmt(f)
 }
 
 fn write_comma<W: Write>(f: &mut Formatter<W>, is_first: bool) -> fmt::Result
-    ensures { WritesOnOk W.write_str_gives f.old result (spec.comma_text is_first) f.new }
+    ensures { WritesOnOk W.write_str_gives f.old result (comma_text is_first) f.new }
 {
     if is_first { Ok(()) } else { f.write_str(",") }
 }

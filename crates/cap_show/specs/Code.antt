@@ -1,0 +1,2 @@
+-- The state in the code, for its own contracts. No rule is defined here.
+pub mod DefinedFields
