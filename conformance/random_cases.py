@@ -160,7 +160,7 @@ class Maker:
 
     def apply(self):
         content = self.pick(self.blobs) if self.blobs and self.chance(0.6) else self.blob_by_hand()
-        self.add(f"apply x'{content.hex()}' {self.policy()}")
+        self.add(f"apply x'{content.hex()}' {self.policy()}{self.pick((' report', ''))}")
 
     # Sessions
 
@@ -192,7 +192,7 @@ class Maker:
         self.add(f"{word} {self.session()}{self.pick((' places', ' places', ''))}")
 
     def restart(self):
-        self.add(f"restart {self.session()}")
+        self.add(f"restart {self.session()}{self.pick((' places', ''))}")
 
     def capture_and_restart(self):
         """The changeset with positions, which both sides apply. That of the restart has 01 throughout."""
@@ -276,6 +276,6 @@ def target_of(maker, first, parts):
         if maker.server.tables:
             maker.commit()
     blobs = maker.pick((range(1, 2 * parts, 2), [2 * parts + 1], [2 * parts + 2]))
-    maker.lines += ["session", "attachall 1"] + [f"apply x'{{{number}}}' {maker.policy()}" for number in blobs]
+    maker.lines += ["session", "attachall 1"] + [f"apply x'{{{number}}}' {maker.policy()} report" for number in blobs]
     maker.lines += ["changeset 1 places"] + [f"scan {name}" for name in sorted(maker.server.tables)]
     return maker.end()

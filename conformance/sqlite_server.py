@@ -7,7 +7,8 @@ program on purpose, the way that leaves both comparable is taken, and DIFFERENCE
 - A commit and an application are first tried with all sessions disabled, since a session of SQLite keeps what a
   rolled back transaction touched.
 - A diff attaches the table first, since SQLite's compares nothing of a table that is not attached.
-- `changeset S` writes 01 as the flag of each key column, and `changeset S places` what SQLite wrote.
+- `changeset S` and `restart S` write 01 as the flag of each key column, and `changeset S places` and
+  `restart S places` what SQLite wrote.
 """
 from contextlib import contextmanager
 from types import SimpleNamespace
@@ -384,33 +385,33 @@ class SqliteServer:
     def do_patchset(self, number, has_places):
         return self.capture("patchset", self.state(number).session.patchset(), has_places)
 
-    def do_restart(self, number):
-        answered = self.do_changeset(number, False)
+    def do_restart(self, number, has_places):
+        answered = self.do_changeset(number, has_places)
         self.state(number).restart()
         return answered
 
     # Applying
 
-    def do_apply(self, content, on_data, on_notfound, on_conflict):
+    def do_apply(self, content, on_data, on_notfound, on_conflict, has_report):
         answers = {"data": on_data, "notfound": on_notfound, "conflict": on_conflict}
         self.rehearse(lambda: self.apply(content, answers))
         told, skipped = self.apply(content, answers)
         for state in self.sessions.values():
             state.note(told.tables)
-        counts = f", applied {told.made}, omitted {told.omitted}, skipped {skipped}"
-        return self.written(counts)
+        counts = self.written(f", applied {told.made}, omitted {told.omitted}, skipped {len(skipped)}")
+        return [counts, *report_lines(content, told.conflicts, skipped)] if has_report else counts
 
     def apply(self, content, answers):
-        """Applies the blob, and answers what SQLite told of it and how many groups it passed over."""
+        """Applies the blob, and answers what SQLite told of it and the numbers of the groups that it passed over."""
         told = self.connection.apply(content, answers.__getitem__)
-        skipped = [group for group in blob.read(content) if group.changes and is_skipped(group, told.warnings)]
+        skipped = [number for number, group in enumerate(blob.read(content))
+                   if group.changes and is_skipped(group, told.warnings)]
         if told.code in (ABORT, MISUSE):
-            *_, made, omitted = told.conflicts[-1]
-            at = made + omitted + changes_passed_over(content, skipped, made + omitted)
+            at = change_of(content, skipped, told.conflicts[-1])
             raise Refusal("E16 Misuse" if told.code == MISUSE else "E15 Aborted", at)
         if told.code != sqlite.OK:
             raise sqlite.SqliteError(told.code, "sqlite3changeset_apply")
-        return told, len(skipped)
+        return told, skipped
 
 
 def is_skipped(group, warnings):
@@ -420,11 +421,25 @@ def is_skipped(group, warnings):
                or warning.startswith(f"table {name} has ") for warning in warnings)
 
 
+def report_lines(content, conflicts, skipped):
+    """What `apply .. report` prints behind the counts."""
+    told = [(change_of(content, skipped, conflict), *conflict[:2]) for conflict in conflicts]
+    return [*(f"conflict {change} {kind} {answer}" for change, kind, answer in told),
+            *(f"omitted {change}" for change, _, answer in told if answer == "omit"),
+            *(f"skipped {number}" for number in skipped)]
+
+
+def change_of(content, skipped, conflict):
+    """The number of the change that had the conflict."""
+    *_, made, omitted = conflict
+    return made + omitted + changes_passed_over(content, skipped, made + omitted)
+
+
 def changes_passed_over(content, skipped, considered):
     """How many changes are in groups that were passed over, before the change behind so many considered ones."""
     passed = 0
-    for group in blob.read(content):
-        if group in skipped:
+    for number, group in enumerate(blob.read(content)):
+        if number in skipped:
             passed += len(group.changes)
         elif considered < len(group.changes):
             break

@@ -172,11 +172,16 @@ def capture_of(tokens):
     return number, not tokens.is_done() and tokens.word("places") == "places"
 
 
+def application_of(tokens):
+    blob, answers = tokens.take("blob"), [tokens.word("omit", "replace", "abort") for _ in range(3)]
+    return blob, *answers, not tokens.is_done() and tokens.word("report") == "report"
+
+
 FORMS = {
     "create": lambda tokens: (tokens.word(), tokens.word()),
     "commit": lambda tokens: (None, ops_of(tokens)),
     "commitat": lambda tokens: (tokens.number(), ops_of(tokens)),
-    "apply": lambda tokens: (tokens.take("blob"), *(tokens.word("omit", "replace", "abort") for _ in range(3))),
+    "apply": application_of,
     "get": lambda tokens: (tokens.word(), row_of(tokens)),
     "scan": lambda tokens: (tokens.word(),),
     "save": lambda tokens: (tokens.word(),),
@@ -190,7 +195,7 @@ FORMS = {
     "diff": lambda tokens: (tokens.number(), tokens.word(), tokens.word()),
     "changeset": capture_of,
     "patchset": capture_of,
-    "restart": lambda tokens: (tokens.number(),),
+    "restart": capture_of,
 }
 
 

@@ -13,10 +13,11 @@ use Rattle.cap_core.specs.declared.reply.Reply.{Reply}
 use Rattle.cap_history.specs.Beginnings.{prefix-length, prefix-of-none, prefix-trans}
 use Rattle.cap_history.specs.History.{own}
 use Rattle.cap_history.specs.Seat.{SeatState, calls, newcomer}
+use Rattle.cap_run.proofs.OrderLemmas.{each_met_called, order_block}
 use Rattle.cap_run.proofs.SeatLemmas.{calls-begin, count_few, is_of, lines-other, lines-own, nat_eq-other, nat_eq-same, number-at, own-one, own-other, reply_texts-none, reports, same-nat_eq, same_length, seat_of-most, texts-other, texts-own, zip-at}
 use Rattle.cap_run.proofs.WorkerLemmas.{lines_of-parts, lines_of-some}
 use Rattle.cap_run.specs.Run.{Ended, on_a_line, reply_lines}
-use Rattle.cap_run.specs.Code.Calls.{AreNumbered, AreSeats, Gathers, HasCalledLines, HasCalledOwn, HasSeen, HasWorked, HaveCalled, IsFaultOf, OneHasSeen, Work, lines_of, reply_texts, texts_of, work}
+use Rattle.cap_run.specs.Code.Calls.{AreNumbered, AreSeats, EachAt, EachSawIn, Gathers, GoesOn, HasMet, first_seen, HasCalledLines, HasCalledOwn, HasSeen, HasWorked, HaveCalled, IsFaultOf, OneHasSeen, Work, lines_of, reply_texts, texts_of, work}
 use Rattle.cap_run.specs.Workload.{HasCount, calls_of, seat_of}
 use Rattle.cap_script.specs.ReplyText.{reply_text}
 use Rattle.cap_script.specs.declared.line.Line.{Line}
@@ -24,6 +25,11 @@ use Rattle.cap_server.specs.declared.fault.CallFault.{CallFault}
 
 pub take-begins : {X : Type 0} (n : ℕ) (xs : List X) → IsPrefix (take n xs) xs
 take-begins n xs = (drop n xs, take-append-drop n xs)
+
+get_or-any : {X : Type 0} (xs : List X) (place : ℕ) (d e : X) → place < length xs → get_or xs place d ≡ get_or xs place e
+get_or-any [] place d e within = absurd (omega (arith, within))
+get_or-any (x ∷ xs) zero d e within = refl
+get_or-any (x ∷ xs) (suc place) d e within = get_or-any xs place d e (omega (arith, within))
 
 module _ {A : Type 0} where
   -- ---- the texts of all workers, in the order of the lines
@@ -320,23 +326,59 @@ module _ {A : Type 0} where
       subst (λ (w : Work A). HasWorked threads lines (get_or old place d) w) at (zip-at (HasWorked threads lines) old new place d one each there) in
       let long : place < length (seats_of new) = omega (arith, length-map new (λ (w : Work A). w.seat), within) in
       let seat_is : get_or (seats_of new) place one.seat ≡ one.seat = get_or-map (λ (w : Work A). w.seat) new place one one.seat within ∙ ap (λ (w : Work A). w.seat) at in
-      reports (λ count. length one.seat.seen ≡ count) (λ count. Any (λ (seat : SeatState A). length seat.seen ≡ count) (seats_of new)) (λ count same. (place, one.seat, long, seat_is, same)) (Err fault)
+      reports (λ count. length one.seat.seen ≡ count) (λ count. Any (λ (seat : SeatState A). count ≤ length seat.seen) (seats_of new)) (λ count same. (place, one.seat, long, seat_is, omega (arith, same))) (Err fault)
       (subst (λ (e : Ended). HasSeen e one.seat) ended its.events)
 
+  -- ---- seats that meet before and after a block
+
+  met_numbers : (front : List (Event A)) (number : ℕ → ℕ) (old new : List (SeatState A)) → AllZip (HasMet front) old new → AreNumbered number old → AreNumbered number new
+  met_numbers front number [] [] met so = tt
+  met_numbers front number [] (y ∷ new) met so = absurd met
+  met_numbers front number (x ∷ old) [] met so = absurd met
+  met_numbers front number (x ∷ old) (y ∷ new) met so = (met.0.number ∙ so.0, met_numbers front (λ place. number (suc place)) old new met.1 so.1)
+
+  -- they are still numbered by their places
+  pub met_seats : (threads : ℕ) (front : List (Event A)) (old new : List (SeatState A)) → AllZip (HasMet front) old new → AreSeats threads old → AreSeats threads new
+  met_seats threads front old new met so = (same_length (HasMet front) old new met ∙ so.0, met_numbers front (λ place. place) old new met so.1)
+
+  -- and have seen what the fault reports
+  met_reported : (front : List (Event A)) (ended : Ended) (old new : List (SeatState A)) → AllZip (HasMet front) old new → OneHasSeen ended old → OneHasSeen ended new
+  met_reported front ended old new met seen =
+      reports (λ count. Any (λ (seat : SeatState A). count ≤ length seat.seen) old) (λ count. Any (λ (seat : SeatState A). count ≤ length seat.seen) new)
+      (λ count one.
+      let place = one.0 in
+      let seat = one.1 in
+      let other = get_or new place seat in
+      let within : place < length new = omega (arith, one.2, same_length (HasMet front) old new met) in
+      let both : HasMet front seat other = subst (λ (s : SeatState A). HasMet front s other) one.3 (zip-at (HasMet front) old new place seat seat met one.2) in
+      (place, other, within, get_or-any new place other seat within, omega (arith, one.4, prefix-length seat.seen other.seen both.seen))) ended seen
+
+  worked_goes : (threads : ℕ) (lines : List (Line A)) (old : List (SeatState A)) (new : List (Work A)) → AllZip (HasWorked threads lines) old new → AllZip GoesOn old (seats_of new)
+  worked_goes threads lines [] [] each = tt
+  worked_goes threads lines [] (y ∷ new) each = absurd each
+  worked_goes threads lines (x ∷ old) [] each = absurd each
+  worked_goes threads lines (x ∷ old) (y ∷ new) each = (each.0.goes_on, worked_goes threads lines old new each.1)
+
   -- the workers have called the lines of a block, and the texts were gathered
-  pub block_called : (threads : ℕ) (lines : List (Line A)) (ended : Ended) (text : List ℕ) (old : List (SeatState A)) (new : List (Work A)) → AllZip (HasWorked threads lines) old new → AreSeats threads old
-      → Gathers threads lines (all_texts new) ended text → IsFaultOf new ended → HaveCalled threads lines ended text old (seats_of new)
-  block_called threads lines ended text old new each seats gathers fault =
+  pub block_called : (threads : ℕ) (lines : List (Line A)) (ended : Ended) (text : List ℕ) (first old : List (SeatState A)) (new : List (Work A)) (last : List (SeatState A)) → EachAt lines
+      → AllZip (HasMet (first_seen first)) first old → AllZip (HasWorked threads lines) old new → AllZip (HasMet []) (seats_of new) last → EachSawIn (first_seen last) last → AreSeats threads first
+      → Gathers threads lines (all_texts new) ended text → IsFaultOf new ended → HaveCalled threads lines ended text first last
+  block_called threads lines ended text first old new last at before each after shown numbered gathers fault =
+      let seats = met_seats threads (first_seen first) first old before numbered in
       let replies_by = replies_of threads lines old new each in
       let has : Has threads lines gathers.parts replies_by = λ number.
       subst (λ (l : List (List ℕ)). IsPrefix (texts_of threads number lines gathers.parts) l) (texts_at threads lines (λ place. place) old new each seats.1 number) (gathers.of_seats number) in
       let all = merged threads lines gathers.parts replies_by (count_few ended (length gathers.parts) (length lines) gathers.count) has in
+      let count = subst (λ (n : ℕ). HasCount ended n (length lines)) (sym all.counted) gathers.count in
+      let made = calls_of threads lines all.replies in
+      let called = each-ended threads lines ended old new each seats.1 gathers.parts gathers.count gathers.of_seats all in
       record {
         replies = all.replies;
-        count = subst (λ (n : ℕ). HasCount ended n (length lines)) (sym all.counted) gathers.count;
+        count = count;
         text_is = gathers.text_is ∙ ap concat all.parts_are ∙ concat-texts lines all.replies;
-        seats = each-ended threads lines ended old new each seats.1 gathers.parts gathers.count gathers.of_seats all;
-        events = works_seen threads lines ended old new each fault;
+        seats = each_met_called (first_seen first) [] ended made first old (seats_of new) last before called after;
+        events = met_reported [] ended (seats_of new) last after (works_seen threads lines ended old new each fault);
+        order = λ met. order_block threads lines ended all.replies first old (seats_of new) last at count called before (worked_goes threads lines old new each) after shown met;
       }
 
   -- ---- the same of whatever has a seat, texts and an end
@@ -351,11 +393,14 @@ module _ {A : Type 0} where
     texts-made : (new : List W) → all_texts (map made_of new) ≡ map texts new
     texts-made new = map-map (λ (w : Work A). w.texts) made_of new
 
-    pub worked_called : (threads : ℕ) (block : List (Line A)) (out : Ended) (text : List ℕ) (old new : List W) → AllZip (HasWorked threads block) (map seat old) (map made_of new) → AreSeats threads (map seat old)
-        → Gathers threads block (map texts new) out text → IsFaultOf (map made_of new) out → HaveCalled threads block out text (map seat old) (map seat new)
-    worked_called threads block out text old new each seats gathers fault =
-        subst (λ (l : List (SeatState A)). HaveCalled threads block out text (map seat old) l) (seats-made new)
-        (block_called threads block out text (map seat old) (map made_of new) each seats (subst (λ (l : List (List (List ℕ))). Gathers threads block l out text) (sym (texts-made new)) gathers) fault)
+    pub worked_called : (threads : ℕ) (block : List (Line A)) (out : Ended) (text : List ℕ) (first old new last : List W) → EachAt block
+        → AllZip (HasMet (first_seen (map seat first))) (map seat first) (map seat old) → AllZip (HasWorked threads block) (map seat old) (map made_of new)
+        → AllZip (HasMet []) (map seat new) (map seat last) → EachSawIn (first_seen (map seat last)) (map seat last) → AreSeats threads (map seat first)
+        → Gathers threads block (map texts new) out text → IsFaultOf (map made_of new) out → HaveCalled threads block out text (map seat first) (map seat last)
+    worked_called threads block out text first old new last at before each after shown seats gathers fault =
+        block_called threads block out text (map seat first) (map seat old) (map made_of new) (map seat last) at before each
+        (subst (λ (l : List (SeatState A)). AllZip (HasMet []) l (map seat last)) (sym (seats-made new)) after) shown seats
+        (subst (λ (l : List (List (List ℕ))). Gathers threads block l out text) (sym (texts-made new)) gathers) fault
 
     -- there is a worker for each seat
     pub worked_some : (threads place : ℕ) (block : List (Line A)) (seats : List (SeatState A)) (workers : List W) → AllZip (HasWorked threads block) seats (map made_of workers) → AreSeats threads seats → place ≤ threads

@@ -1,9 +1,9 @@
 -- The one history of a run, and what the run wrote.
-use Rattle.std.proofs.Common.{◌≡◌, ℕ, zero, suc, ◌+◌, ◌<◌, ◌≤◌, List, [], ◌∷◌, ◌++◌, Option, Some, Result, Ok, Err, length, map, get_or, inl, inr, refl, slice_get, sym, ap, subst, ◌∙◌, append-nil, length-append, arith}
+use Rattle.std.proofs.Common.{◌≡◌, ℕ, zero, suc, ◌+◌, ◌<◌, ◌≤◌, List, [], ◌∷◌, ◌++◌, Option, Some, Result, Ok, Err, length, map, get_or, inl, inr, ◌⊎◌, drop, length-drop, append_assoc, refl, slice_get, sym, ap, subst, ◌∙◌, append-nil, length-append, arith}
 use Rattle.std.proofs.lemmas.Bool.{cases_lt}
 use Rattle.std.proofs.lemmas.List.Elements.{AllZip-get_or}
 use Rattle.std.proofs.lemmas.List.FromFn.{get_or-map-range_with_len, length-map-range_with_len}
-use Rattle.std.specs.List.{All, AllZip, Any, range_with_len}
+use Rattle.std.specs.List.{All, AllByRecursion, AllZip, Any, range_with_len}
 use Rattle.std.proofs.KnownBytes.{Keeps-refl}
 use Rattle.std.specs.Io.KnownBytes.{Appends}
 use mathlib.Core.List.{IsPrefix}
@@ -15,14 +15,16 @@ use Rattle.cap_history.specs.History.{own}
 use Rattle.cap_history.specs.Own.{own-append}
 use Rattle.cap_history.specs.Seat.{SeatState, calls, newcomer}
 use Rattle.cap_run.proofs.GatherLemmas.{calls-beyond}
+use Rattle.cap_run.proofs.OrderLemmas.{calls_of-parts, ends_sooner, none-behind, own-prefix, prefix-both, prefix-rest, same-rest, split-first}
 use Rattle.cap_run.proofs.SeatLemmas.{calls-begin, calls_of-longer, count_few, newcomers_seats, number-at, reply_lines-longer, reports, still_seats}
 use Rattle.cap_run.specs.Run.{AppendsFront, Ended, IsSpelled, ending, reply_lines}
-use Rattle.cap_run.specs.Code.Calls.{AreSeats, HasCalledOwn, HaveCalled, OneHasSeen, RunsLines, unclosed_outcome}
-use Rattle.cap_run.specs.Workload.{AreCalls, AreOfOneHistory, ReportsEvents, WritesAll, WritesSome, WritesUnclosed, WritesWorkload, calls_of}
+use Rattle.cap_run.specs.Code.Calls.{AreSeats, EachSawIn, FirstHasMet, HasCalledOwn, HasCut, HaveCalled, OneHasSeen, RunsLines, first_seen, unclosed_outcome}
+use Rattle.cap_run.specs.Workload.{AreCalls, AreOfOneHistory, EachBlock, EndsBlock, IsDivided, ReportsEvents, WritesAll, WritesSome, WritesUnclosed, WritesWorkload, calls_of}
 use Rattle.cap_run.specs.RunFault.{RunsNothing}
 use Rattle.cap_run.specs.declared.fault.RunFault.{RunFault}
 use Rattle.cap_run.specs.declared.fault.RunFault.TheVariants.{Concat, Blob, Call, Close, Memory, NotHex, NotUtf8, Patchset, Read, Script, Write}
 use Rattle.cap_script.specs.declared.line.Line.{Line}
+use Rattle.cap_server.specs.declared.fault.CallFault.TheVariants.{OutOfMemory}
 use Rattle.cap_server.specs.Close.{FirstHasSeen, HasAll, IsClosed, IsMissing, StandsAt}
 use Rattle.cap_server.specs.Fault.{MatchCloseFault}
 use Rattle.cap_server.specs.declared.fault.CloseFault.{CloseFault}
@@ -42,11 +44,24 @@ pub calls-none : (A : Type 0) (ended : Ended) → AreCalls {A = A} ended [] []
 calls-none A (Ok done) = refl
 calls-none A (Err fault) = prefix-of-none []
 
+opened-met : (A : Type 0) (first count : ℕ) → AllByRecursion (λ seat. IsPrefix seat.answered seat.seen) (map (newcomer {A = A}) (range_with_len first count))
+    × EachSawIn [] (map (newcomer {A = A}) (range_with_len first count))
+opened-met A first zero = (tt, tt)
+opened-met A first (suc count) = let rest = opened-met A (first + 1) count in ((prefix-of-none [], rest.0), (prefix-of-none [], rest.1))
+
+first-opened : (A : Type 0) (first count : ℕ) → first_seen (map (newcomer {A = A}) (range_with_len first count)) ≡ []
+first-opened A first zero = refl
+first-opened A first (suc count) = refl
+
+-- new seats have seen nothing
+pub opened_met : (A : Type 0) (threads : ℕ) → FirstHasMet (map (newcomer {A = A}) (range_with_len 0 (threads + 1)))
+opened_met A threads =
+    let seats = map (newcomer {A = A}) (range_with_len 0 (threads + 1)) in
+    let each = opened-met A 0 (threads + 1) in
+    (each.0, subst (λ (h : List (Event A)). EachSawIn h seats) (sym (first-opened A 0 (threads + 1))) each.1)
+
 module _ {A : Type 0} where
   -- ---- the history that a closed server leaves
-
-  pub own-prefix : (number : ℕ) (xs ys : List (Event A)) → IsPrefix xs ys → IsPrefix (own number xs) (own number ys)
-  own-prefix number xs ys so = (own number so.0, sym (own-append number xs so.0) ∙ ap (own number) so.1)
 
   -- each seat has its own index
   pub stands_at : (threads : ℕ) (seats : List (SeatState A)) (number : ℕ) → AreSeats threads seats → number < threads + 1 → StandsAt seats number number
@@ -90,6 +105,123 @@ module _ {A : Type 0} where
             subst (λ (l : List (Event A)). AreCalls ended (own number made) l) (sym same) its.calls_are
       ]
 
+  -- ---- the ends of blocks divide it
+
+  first-shown : (seats : List (SeatState A)) (history : List (Event A)) → All (λ seat. IsPrefix seat.seen history) seats → IsPrefix (first_seen seats) history
+  first-shown [] history shown = prefix-of-none history
+  first-shown (seat ∷ seats) history shown = shown 0 seat (omega arith)
+
+  -- the own calls of one seat: the first part has no more than those before
+  divided : (ended : Ended) (before behind all front rest history : List (Event A)) → all ≡ before ++ behind → history ≡ front ++ rest → AreCalls ended all history → IsPrefix before front → IsPrefix front before
+      → AreCalls ended before front × AreCalls ended behind rest
+  divided ended before behind all front rest history calls_parts parts are begins ends =
+      (first ended, later ended (subst (λ (l : List (Event A)). AreCalls ended l history) calls_parts are)) where
+        first : (e : Ended) → AreCalls e before front
+        first (Ok done) = prefix-both front before ends begins
+        first (Err fault) = begins
+
+        later : (e : Ended) → AreCalls e (before ++ behind) history → AreCalls e behind rest
+        later (Ok done) is = same-rest before rest behind (sym (parts ∙ ap (λ (l : List (Event A)). l ++ rest) (prefix-both front before ends begins)) ∙ is)
+        later (Err fault) begun =
+            prefix-rest before behind rest (subst (λ (l : List (Event A)). IsPrefix (before ++ behind) l) (parts ∙ ap (λ (l : List (Event A)). l ++ rest) (prefix-both front before ends begins)) begun)
+
+  cut-at : (threads : ℕ) (front made : List (Event A)) (seats : List (SeatState A)) (number : ℕ) → AllZip (HasCut front made) (opened threads) seats → number < threads + 1
+      → HasCut front made (newcomer number) (get_or seats number (newcomer 0))
+  cut-at threads front made seats number each within =
+      let there : number < length (opened threads) = omega (arith, length-map-range_with_len (newcomer {A = A}) 0 (threads + 1), within) in
+      subst (λ (s : SeatState A). HasCut front made s (get_or seats number (newcomer 0))) (get_or-map-range_with_len newcomer 0 (threads + 1) number number (newcomer 0) within (omega arith))
+      (AllZip-get_or (HasCut front made) (opened threads) seats number (newcomer 0) (newcomer 0) each there)
+
+  -- the own calls of one seat in lines, of those before and of those behind
+  own-parts : (threads number : ℕ) (lines before behind : List (Line A)) (replies : List (Reply A)) → lines ≡ before ++ behind
+      → own number (calls_of threads lines replies) ≡ own number (calls_of threads before replies) ++ own number (calls_of threads behind (drop (length before) replies))
+  own-parts threads number lines before behind replies is =
+      ap (λ (l : List (Line A)). own number (calls_of threads l replies)) is ∙ ap (own number) (calls_of-parts threads before behind replies)
+      ∙ own-append number (calls_of threads before replies) (calls_of threads behind (drop (length before) replies))
+
+  -- a seat of a closed server has no more calls in a front than before it
+  closed-front : (threads : ℕ) (made : List (Event A)) (front history : List (Event A)) (seats : List (SeatState A)) (number : ℕ) → AreSeats threads seats → AllZip (HasCut front made) (opened threads) seats
+      → IsPrefix front history → All (λ seat. own seat.number history ≡ calls seat) seats → number < threads + 1 → IsPrefix (own number front) (own number made)
+  closed-front threads made front history seats number numbered cuts shown own_calls within =
+      let cut = cut-at threads front made seats number cuts within in
+      let seat = get_or seats number (newcomer 0) in
+      let there : number < length seats = omega (arith, numbered.0, within) in
+      elim cut.no_more [
+        | inl none ↦
+            let same : own number history ≡ calls seat = ap (λ (n : ℕ). own n history) (sym (number-at (λ p. p) seats number (newcomer 0) numbered.1 there)) ∙ own_calls number (newcomer 0) there in
+            subst (λ (l : List (Event A)). IsPrefix (own number front) l) (same ∙ none) (own-prefix number front history shown)
+        | inr few ↦ few
+      ]
+
+  pub closed-blocks : (threads : ℕ) (lines : List (Line A)) (ended : Ended) (text : List ℕ) (seats : List (SeatState A)) (events : ℕ) (core : State A) (so : HaveCalled threads lines ended text (opened threads) seats)
+      → 1 ≤ threads → AreSeats threads seats → (closed : IsClosed seats events core) → EachBlock lines so.replies (IsDivided (AreCalls ended) threads so.replies closed.history)
+  closed-blocks threads lines ended text seats events core so some numbered closed before line behind is ends less =
+      let order = so.order (opened_met A threads) in
+      let cut = order.blocks before line behind is ends less in
+      let until = before ++ line ∷ [] in
+      let made = calls_of threads until so.replies in
+      let shown : IsPrefix cut.front closed.history = prefix-trans cut.front (first_seen seats) closed.history cut.seen (first-shown seats closed.history closed.seen) in
+      let whole : lines ≡ until ++ behind = is ∙ sym (append_assoc before (line ∷ []) behind) in
+      let each = λ (number : ℕ).
+      divided ended (own number made) (own number (calls_of threads behind (drop (length until) so.replies))) (own number (calls_of threads lines so.replies)) (own number cut.front) (own number shown.0) (own number closed.history)
+      (own-parts threads number lines until behind so.replies whole) (ap (own number) (sym shown.1) ∙ own-append number cut.front shown.0)
+      (closed-calls threads lines ended text seats events core so some numbered closed number)
+      (elim (cases_lt threads number) [
+        | inl beyond ↦ subst (λ (l : List (Event A)). IsPrefix l (own number cut.front)) (sym (calls-beyond threads number until so.replies some beyond)) (prefix-of-none (own number cut.front))
+        | inr within ↦ (cut-at threads cut.front made seats number cut.seats (omega (arith, within))).has
+      ])
+      (elim (cases_lt threads number) [
+        | inl beyond ↦
+            let none : own number closed.history ≡ [] = closed.no_others number (missing threads seats number numbered beyond) in
+            prefix-trans (own number cut.front) [] (own number made) (subst (λ (l : List (Event A)). IsPrefix (own number cut.front) l) none (own-prefix number cut.front closed.history shown)) (prefix-of-none (own number made))
+        | inr within ↦ closed-front threads made cut.front closed.history seats number numbered cut.seats shown closed.own_calls (omega (arith, within))
+      ]) in
+      record { front = cut.front; rest = shown.0; parts = sym shown.1; first = λ number. (each number).0; later = λ number. (each number).1 }
+
+  -- what a seat has called behind a front stands in the rest of whatever history it has seen
+  behind-front : (ended : Ended) (before behind all front rest history seat_calls : List (Event A)) → all ≡ before ++ behind → history ≡ front ++ rest → AreCalls ended all seat_calls → IsPrefix seat_calls history → IsPrefix before front
+      → (seat_calls ≡ before) ⊎ IsPrefix front before → IsPrefix behind rest
+  behind-front ended before behind all front rest history seat_calls calls_parts parts are shown begins (inl none) =
+      let begun : IsPrefix (before ++ behind) before = subst (λ (l : List (Event A)). IsPrefix (before ++ behind) l) none (subst (λ (l : List (Event A)). IsPrefix l seat_calls) calls_parts (calls-begin ended all seat_calls are)) in
+      subst (λ (l : List (Event A)). IsPrefix l rest) (sym (none-behind before behind begun)) (prefix-of-none rest)
+  behind-front ended before behind all front rest history seat_calls calls_parts parts are shown begins (inr few) =
+      (divided (Err OutOfMemory) before behind (before ++ behind) front rest history refl parts
+      (prefix-trans (before ++ behind) seat_calls history (subst (λ (l : List (Event A)). IsPrefix l seat_calls) calls_parts (calls-begin ended all seat_calls are)) shown) begins few).1
+
+  pub seen-blocks : (threads : ℕ) (lines : List (Line A)) (ended : Ended) (text : List ℕ) (seats : List (SeatState A)) (history : List (Event A)) (so : HaveCalled threads lines ended text (opened threads) seats)
+      → 1 ≤ threads → AreSeats threads seats → All (λ seat. IsPrefix seat.seen history) seats → EachBlock lines so.replies (IsDivided IsPrefix threads so.replies history)
+  seen-blocks threads lines ended text seats history so some numbered seen before line behind is ends less =
+      let order = so.order (opened_met A threads) in
+      let cut = order.blocks before line behind is ends less in
+      let until = before ++ line ∷ [] in
+      let made = calls_of threads until so.replies in
+      let later = calls_of threads behind (drop (length until) so.replies) in
+      let shown : IsPrefix cut.front history = prefix-trans cut.front (first_seen seats) history cut.seen (first-shown seats history seen) in
+      let whole : lines ≡ until ++ behind = is ∙ sym (append_assoc before (line ∷ []) behind) in
+      record {
+        front = cut.front;
+        rest = shown.0;
+        parts = sym shown.1;
+        first = λ number. elim (cases_lt threads number) [
+          | inl beyond ↦ subst (λ (l : List (Event A)). IsPrefix l (own number cut.front)) (sym (calls-beyond threads number until so.replies some beyond)) (prefix-of-none (own number cut.front))
+          | inr within ↦ (cut-at threads cut.front made seats number cut.seats (omega (arith, within))).has
+        ];
+        later = λ number. elim (cases_lt threads number) [
+          | inl beyond ↦
+              subst (λ (l : List (Event A)). IsPrefix l (own number shown.0)) (sym (calls-beyond threads number behind (drop (length until) so.replies) some beyond)) (prefix-of-none (own number shown.0))
+          | inr within ↦
+              let small : number < threads + 1 = omega (arith, within) in
+              let seat = get_or seats number (newcomer 0) in
+              let there : number < length seats = omega (arith, numbered.0, small) in
+              let its = called-at threads ended (calls_of threads lines so.replies) seats number so.seats small in
+              let at = cut-at threads cut.front made seats number cut.seats small in
+              let answered : IsPrefix seat.answered history = prefix-trans seat.answered seat.seen history (its.seen (prefix-of-none [])) (seen number (newcomer 0) there) in
+              behind-front ended (own number made) (own number later) (own number (calls_of threads lines so.replies)) (own number cut.front) (own number shown.0) (own number history) (calls seat)
+              (own-parts threads number lines until behind so.replies whole) (ap (own number) (sym shown.1) ∙ own-append number cut.front shown.0) its.calls_are
+              (subst (λ (n : ℕ). IsPrefix (own n seat.answered) (own number history)) (sym at.number) (own-prefix number seat.answered history answered)) at.has at.no_more
+        ];
+      }
+
   -- such a history, with as many events at least as the fault reports
   abbrev pub OneHistory : (List (Event A) → List (Event A) → Type 0) → ℕ → List (Line A) → List (Reply A) → Ended → Type 0
   OneHistory Are threads lines replies ended = (so : AreOfOneHistory Are threads lines replies) × ReportsEvents (λ count. count ≤ length so.history) ended
@@ -97,7 +229,7 @@ module _ {A : Type 0} where
   -- what one of the seats has seen begins it
   pub seen-events : (ended : Ended) (seats : List (SeatState A)) (history : List (Event A)) → All (λ seat. IsPrefix seat.seen history) seats → OneHasSeen ended seats → ReportsEvents (λ count. count ≤ length history) ended
   seen-events ended seats history shown seen =
-      reports (λ count. Any (λ (seat : SeatState A). length seat.seen ≡ count) seats) (λ count. count ≤ length history)
+      reports (λ count. Any (λ (seat : SeatState A). count ≤ length seat.seen) seats) (λ count. count ≤ length history)
       (λ count one.
       let begins : IsPrefix one.1.seen history = subst (λ (seat : SeatState A). IsPrefix seat.seen history) one.3 (shown one.0 one.1 one.2) in
       omega (arith, prefix-length one.1.seen history begins, one.4)) ended seen
@@ -105,7 +237,13 @@ module _ {A : Type 0} where
   pub closed_history : (threads : ℕ) (lines : List (Line A)) (ended : Ended) (text : List ℕ) (seats : List (SeatState A)) (events : ℕ) (core : State A) (so : HaveCalled threads lines ended text (opened threads) seats)
       → 1 ≤ threads → AreSeats threads seats → IsClosed seats events core → OneHistory (AreCalls ended) threads lines so.replies ended
   closed_history threads lines ended text seats events core so some numbered closed = (
-    record { history = closed.history; legal = closed.legal; blobs = closed.blobs; calls_are = closed-calls threads lines ended text seats events core so some numbered closed },
+    record {
+      history = closed.history;
+      legal = closed.legal;
+      blobs = closed.blobs;
+      calls_are = closed-calls threads lines ended text seats events core so some numbered closed;
+      blocks = closed-blocks threads lines ended text seats events core so some numbered closed;
+    },
     seen-events ended seats closed.history closed.seen so.events,
   )
 
@@ -116,6 +254,15 @@ module _ {A : Type 0} where
       legal = so.legal;
       blobs = so.blobs;
       calls_are = λ number. calls-begin ended (own number (calls_of threads lines replies)) (own number so.history) (so.calls_are number);
+      blocks = λ before line behind is ends less.
+          let part = so.blocks before line behind is ends less in
+          record {
+            front = part.front;
+            rest = part.rest;
+            parts = part.parts;
+            first = λ number. calls-begin ended (own number (calls_of threads (before ++ line ∷ []) replies)) (own number part.front) (part.first number);
+            later = λ number. calls-begin ended (own number (calls_of threads behind (drop (length (before ++ line ∷ [])) replies))) (own number part.rest) (part.later number);
+          };
     },
     events,
   )
@@ -129,6 +276,7 @@ module _ {A : Type 0} where
           history = first.history;
           legal = first.legal;
           blobs = first.blobs;
+          blocks = seen-blocks threads lines ended text seats first.history so some numbered first.seen;
           calls_are = λ number.
               elim (cases_lt threads number) [
                 | inl beyond ↦
@@ -158,6 +306,21 @@ module _ {A : Type 0} where
       history = so.history;
       legal = so.legal;
       blobs = so.blobs;
+      blocks = λ before line behind is ends less.
+          let cut = split-first lines others before line behind is (omega (arith, few, less)) in
+          let sooner = ends_sooner line cut.0 others (subst (λ (l : List (Line A)). EndsBlock line l) cut.2 ends) in
+          let part = so.blocks before line cut.0 cut.1 sooner less in
+          let left = drop (length (before ++ line ∷ [])) replies in
+          let long : length lines ≡ length before + suc (length cut.0) = ap length cut.1 ∙ length-append before (line ∷ cut.0) in
+          let fewer : length left ≤ length cut.0 = omega (arith, length-drop (length (before ++ line ∷ [])) replies, length-append before (line ∷ []), few, long) in
+          let same : calls_of threads behind left ≡ calls_of threads cut.0 left = ap (λ (l : List (Line A)). calls_of threads l left) cut.2 ∙ calls_of-longer threads cut.0 others left fewer in
+          record {
+            front = part.front;
+            rest = part.rest;
+            parts = part.parts;
+            first = part.first;
+            later = λ number. subst (λ (l : List (Event A)). IsPrefix (own number l) (own number part.rest)) (sym same) (part.later number);
+          };
       calls_are = λ number. subst (λ (l : List (Event A)). IsPrefix (own number l) (own number so.history)) (sym (calls_of-longer threads lines others replies few)) (so.calls_are number);
     },
     events,

@@ -1,12 +1,17 @@
 -- What is known of a run's input.
-use Rattle.std.proofs.Common.{◌≡◌, ◌∙◌, ap, ℕ, ◌+◌, false, add-one, List, Option, Some, None, ◌⊎◌, Result, Ok, Err, IfSome, IfErr, IsUtf8, arith, inl, inr, subst, sym}
+use Rattle.std.proofs.Common.{◌≡◌, ◌∙◌, ap, ℕ, ◌+◌, false, add-one, List, Option, Some, None, ◌⊎◌, Result, Ok, Err, IfSome, IfErr, IsUtf8, arith, inl, inr, refl, subst, sym}
+use Rattle.cap_value.specs.declared.memory.Fault.TheVariants.{Refused}
 use Rattle.cap_run.specs.Run.{IsSpelled}
 use Rattle.cap_codec.specs.StreamCalls.{AllWent, Calls}
 use Rattle.cap_run.specs.Reads.{EndsAtFault, EndsReads}
-use Rattle.cap_run.specs.RunFault.{exit_status, is_read, IsUnread, IsUnspelled, RunsNothing}
+use Rattle.cap_run.specs.RunFault.{exit_status, is_read, is_script, IsNoWorkload, IsOfText, IsUnread, IsUnspelled, RunsNothing}
 use Rattle.cap_run.specs.declared.fault.RunFault.{RunFault}
 use Rattle.cap_run.specs.declared.fault.RunFault.TheVariants.{Concat, Blob, Call, Close, Memory, NotHex, NotUtf8, Patchset, Read, Script, Write}
+use Rattle.cap_script.specs.FirstRefused.{SpellsWithin}
+use Rattle.cap_script.specs.RefusedLines.{NoLines}
 use Rattle.cap_script.specs.Script.{SpellsScript}
+use Rattle.cap_script.specs.declared.fault.ScriptFault.{ScriptFault}
+use Rattle.cap_script.specs.declared.fault.ScriptFault.TheVariants as script
 use Rattle.cap_script.specs.declared.line.Line.{Line}
 
 -- a fault after the text was read is not one of the text
@@ -36,6 +41,93 @@ not_of_input P (Err fault) later = λ refused. absurd (omega (arith, later, refu
 pub input_spelled : {A : Type 0} (lines : List (Line A)) (known : Option (List ℕ)) (bytes text : List ℕ) → text ≡ bytes → IfSome known (λ given. bytes ≡ given) → SpellsScript lines text → IsSpelled known lines
 input_spelled lines None bytes text same whole spelled = tt
 input_spelled lines (Some given) bytes text same whole spelled = subst (λ (l : List ℕ). SpellsScript lines l) (same ∙ whole) spelled
+
+-- ---- which texts are refused
+
+-- what is so of the text that was read, and what is so of each text
+pub known_text : (P : List ℕ → Type 0) (known : Option (List ℕ)) (bytes text : List ℕ) → text ≡ bytes → IfSome known (λ given. bytes ≡ given) → P text → IfSome known P
+known_text P None bytes text same whole p = tt
+known_text P (Some given) bytes text same whole p = subst P (same ∙ whole) p
+
+pub each_text : (P : List ℕ → Type 0) (known : Option (List ℕ)) → ((given : List ℕ) → P given) → IfSome known P
+each_text P None p = tt
+each_text P (Some given) p = p given
+
+no_script_later : (fault : RunFault) → exit_status fault ≡ 3 → is_script fault ≡ false
+no_script_later (Script fault) later = absurd (omega (arith, later))
+no_script_later NotUtf8 later = refl
+no_script_later NotHex later = refl
+no_script_later (Blob fault) later = refl
+no_script_later Patchset later = refl
+no_script_later (Concat fault) later = refl
+no_script_later (Call fault) later = refl
+no_script_later Read later = refl
+no_script_later Write later = refl
+no_script_later Memory later = refl
+no_script_later Close later = refl
+
+of_no_text : (A : Type 0) (fault : RunFault) (text : List ℕ) → is_script fault ≡ false → IsOfText A fault text
+of_no_text A (Script fault) text none = absurd cc
+of_no_text A NotUtf8 text none = tt
+of_no_text A NotHex text none = tt
+of_no_text A (Blob fault) text none = tt
+of_no_text A Patchset text none = tt
+of_no_text A (Concat fault) text none = tt
+of_no_text A (Call fault) text none = tt
+of_no_text A Read text none = tt
+of_no_text A Write text none = tt
+of_no_text A Memory text none = tt
+of_no_text A Close text none = tt
+
+-- no text was read
+pub unread_no_script : (fault : RunFault) → (fault ≡ NotUtf8) ⊎ IsUnread fault → is_script fault ≡ false
+unread_no_script fault (inl e) = ap is_script e
+unread_no_script fault (inr (inl e)) = ap is_script e
+unread_no_script fault (inr (inr e)) = ap is_script e
+
+pub unread_of_text : (A : Type 0) (fault : RunFault) (text : List ℕ) → (fault ≡ NotUtf8) ⊎ IsUnread fault → IsOfText A fault text
+unread_of_text A fault text unread = of_no_text A fault text (unread_no_script fault unread)
+
+pub unspelled_no_workload : (fault : RunFault) → IsUnspelled fault → IsNoWorkload fault
+unspelled_no_workload (Script fault) unspelled = inl refl
+unspelled_no_workload Memory unspelled = inr (inr (inr refl))
+unspelled_no_workload NotUtf8 unspelled = absurd unspelled
+unspelled_no_workload NotHex unspelled = absurd unspelled
+unspelled_no_workload (Blob fault) unspelled = absurd unspelled
+unspelled_no_workload Patchset unspelled = absurd unspelled
+unspelled_no_workload (Concat fault) unspelled = absurd unspelled
+unspelled_no_workload (Call fault) unspelled = absurd unspelled
+unspelled_no_workload Read unspelled = absurd unspelled
+unspelled_no_workload Write unspelled = absurd unspelled
+unspelled_no_workload Close unspelled = absurd unspelled
+
+pub unspelled_early : (fault : RunFault) → IsUnspelled fault → RunsNothing fault
+unspelled_early (Script fault) unspelled = tt
+unspelled_early Memory unspelled = tt
+unspelled_early NotUtf8 unspelled = tt
+unspelled_early NotHex unspelled = tt
+unspelled_early (Blob fault) unspelled = tt
+unspelled_early Patchset unspelled = tt
+unspelled_early (Concat fault) unspelled = tt
+unspelled_early Read unspelled = tt
+unspelled_early (Call fault) unspelled = absurd unspelled
+unspelled_early Write unspelled = absurd unspelled
+unspelled_early Close unspelled = absurd unspelled
+
+-- a refused text spells no lines within the limits
+pub refused_within : (A : Type 0) (why : ScriptFault) (text : List ℕ) → NoLines A (Refused why) text → SpellsWithin A text → ⊥
+refused_within A (script.Limit line why) text none (lines, spelled, within) = none lines spelled within
+refused_within A (script.Syntax line at) text none (lines, spelled, within) = none lines spelled
+refused_within A (script.BadBlob line why) text none (lines, spelled, within) = none lines spelled
+
+-- all of the text was parsed
+pub no_script_fault : {X : Type 0} (answer : Result X RunFault) → IfErr answer (λ fault. exit_status fault ≡ 3) → IfErr answer (λ fault. is_script fault ≡ false)
+no_script_fault (Ok x) later = tt
+no_script_fault (Err fault) later = no_script_later fault later
+
+pub fault_of_text : {X : Type 0} (A : Type 0) (answer : Result X RunFault) (text : List ℕ) → IfErr answer (λ fault. exit_status fault ≡ 3) → IfErr answer (λ fault. IsOfText A fault text)
+fault_of_text A (Ok x) text later = tt
+fault_of_text A (Err fault) text later = of_no_text A fault text (no_script_later fault later)
 
 -- ---- when a failed read is reported
 

@@ -2,7 +2,9 @@ mod Crossing
 mod GatherLemmas
 mod HistoryLemmas
 mod InputLemmas
+mod MeetingLemmas
 mod NextLemmas
+mod OrderLemmas
 mod OutputLemmas
 mod PieceLemmas
 mod RunLemmas

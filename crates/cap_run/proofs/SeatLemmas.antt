@@ -13,6 +13,7 @@ use Rattle.cap_history.specs.Beginnings.{prefix-self}
 use Rattle.cap_history.specs.History.{own}
 use Rattle.cap_history.specs.Own.{own-append}
 use Rattle.cap_history.specs.Seat.{SeatState, calls, newcomer}
+use Rattle.cap_run.proofs.OrderLemmas.{order_alone, order_longer, order_more, order_none}
 use Rattle.cap_run.specs.Run.{Ended, events_max, on_a_line, reply_lines}
 use Rattle.cap_run.specs.Code.Calls.{AreNumbered, AreSeats, HasAnswered, HasCalledOwn, HasSeen, HaveCalled, KeepsCalls, lines_of, reply_texts, texts_of}
 use Rattle.cap_run.specs.Workload.{AreCalls, HasCount, ReportsEvents, calls_of, seat_of}
@@ -151,7 +152,14 @@ module _ {A : Type 0} where
   each_none ended (seat ∷ seats) = (own_none ended seat, each_none ended seats)
 
   pub called_none : (threads : ℕ) (seats : List (SeatState A)) → HaveCalled threads [] (Ok tt) [] seats seats
-  called_none threads seats = record { replies = []; count = refl; text_is = refl; seats = each_none (Ok tt) seats; events = tt }
+  called_none threads seats = record {
+    replies = [];
+    count = refl;
+    text_is = refl;
+    seats = each_none (Ok tt) seats;
+    events = tt;
+    order = λ met. order_none threads [] seats met;
+  }
 
   -- out of memory for the first of some lines
   pub called_refused : (threads : ℕ) (lines : List (Line A)) (seats : List (SeatState A)) → 0 < length lines → HaveCalled threads lines (Err call.OutOfMemory) [] seats seats
@@ -161,6 +169,7 @@ module _ {A : Type 0} where
     text_is = sym (reply_lines-none lines);
     seats = subst (λ (made : List (Event A)). AllZip (HasCalledOwn (Err call.OutOfMemory) made) seats seats) (sym (calls_of-none threads lines)) (each_none (Err call.OutOfMemory) seats);
     events = tt;
+    order = λ met. order_none threads lines seats met;
   }
 
   pub own_more : (ended : Ended) (made more : List (Event A)) (a b c : SeatState A) → HasCalledOwn (Ok tt) made a b → HasCalledOwn ended more b c → HasCalledOwn ended (made ++ more) a c
@@ -195,6 +204,9 @@ module _ {A : Type 0} where
     seats = subst (λ (made : List (Event A)). AllZip (HasCalledOwn ended made) a c) (sym (calls_of-append threads lines others first.replies second.replies first.count))
         (each_more ended (calls_of threads lines first.replies) (calls_of threads others second.replies) a b c first.seats second.seats);
     events = second.events;
+    order = λ met.
+        let so = first.order met in
+        order_more threads lines others first.replies second.replies a b c first.count first.seats so (second.order so.met);
   }
 
   -- the lines behind the one that has no reply
@@ -208,6 +220,7 @@ module _ {A : Type 0} where
         text_is = so.text_is ∙ sym (reply_lines-longer lines others so.replies few);
         seats = subst (λ (made : List (Event A)). AllZip (HasCalledOwn (Err fault) made) a b) (sym (calls_of-longer threads lines others so.replies few)) so.seats;
         events = so.events;
+        order = λ met. order_longer threads lines others so.replies a b few (so.order met);
       }
 
   -- ---- numbers of seats
@@ -255,34 +268,39 @@ module _ {A : Type 0} where
       let event = event_by 0 line.command answered.reply in
       let its : own old.number (event ∷ []) ≡ event ∷ [] = own-one old.number 0 event [] refl (ap (λ n. nat_eq 0 n) so.0) in
       let made : event_by old.number line.command answered.reply ≡ event = ap (λ (n : ℕ). event_by n line.command answered.reply) so.0 in
+      let each = subst (λ (l : List (Event A)). AllZip (HasCalledOwn (Ok tt) l) (old ∷ seats) (new ∷ seats)) (sym (first-own threads line answered.reply alone)) (
+        record {
+          number = answered.number;
+          calls_are = answered.calls_are ∙ ap (λ (e : Event A). calls old ++ e ∷ []) made ∙ ap (λ (l : List (Event A)). calls old ++ l) (sym its);
+          seen = λ before. answered.seen;
+        },
+        others_none (Ok tt) event (λ place. place) seats refl so.1,
+      ) in
       record {
         replies = answered.reply ∷ [];
         count = refl;
         text_is = answered.text_is ∙ sym (append-nil (on_a_line (reply_text line answered.reply)));
-        seats = subst (λ (l : List (Event A)). AllZip (HasCalledOwn (Ok tt) l) (old ∷ seats) (new ∷ seats)) (sym (first-own threads line answered.reply alone)) (
-          record {
-            number = answered.number;
-            calls_are = answered.calls_are ∙ ap (λ (e : Event A). calls old ++ e ∷ []) made ∙ ap (λ (l : List (Event A)). calls old ++ l) (sym its);
-            seen = λ before. answered.seen;
-          },
-          others_none (Ok tt) event (λ place. place) seats refl so.1,
-        );
+        seats = each;
         events = tt;
+        order = λ met. order_alone threads line (Ok tt) (answered.reply ∷ []) old new seats refl each answered.goes_on met;
       }
 
   -- it has none
   pub first_refused : (threads : ℕ) (fault : CallFault) (line : Line A) (old new : SeatState A) (seats : List (SeatState A)) → KeepsCalls old new → HasSeen (Err fault) new
       → HaveCalled threads (line ∷ []) (Err fault) [] (old ∷ seats) (new ∷ seats)
-  first_refused threads fault line old new seats so events = record {
-    replies = [];
-    count = omega arith;
-    text_is = refl;
-    seats = (
-      record { number = so.number; calls_are = subst (λ (l : List (Event A)). IsPrefix l (calls new)) (sym (append-nil (calls old))) so.begins; seen = so.seen },
-      each_none (Err fault) seats,
-    );
-    events = reports (λ count. length new.seen ≡ count) (λ count. Any (λ (seat : SeatState A). length seat.seen ≡ count) (new ∷ seats)) (λ count same. (0, new, omega arith, refl, same)) (Err fault) events;
-  }
+  first_refused threads fault line old new seats so events =
+      let each : AllZip (HasCalledOwn (Err fault) []) (old ∷ seats) (new ∷ seats) = (
+        record { number = so.number; calls_are = subst (λ (l : List (Event A)). IsPrefix l (calls new)) (sym (append-nil (calls old))) so.begins; seen = so.seen },
+        each_none (Err fault) seats,
+      ) in
+      record {
+        replies = [];
+        count = omega arith;
+        text_is = refl;
+        seats = each;
+        events = reports (λ count. length new.seen ≡ count) (λ count. Any (λ (seat : SeatState A). count ≤ length seat.seen) (new ∷ seats)) (λ count same. (0, new, omega arith, refl, omega (arith, same))) (Err fault) events;
+        order = λ met. order_alone threads line (Err fault) [] old new seats (omega arith) each so.goes_on met;
+      }
 
   -- ---- workers, each with a seat
 

@@ -10,6 +10,7 @@ use Rattle.cap_core.specs.declared.command.Command.{Command}
 use Rattle.cap_history.specs.Beginnings.{prefix-append, prefix-self, prefix-trans}
 use Rattle.cap_history.specs.History.{own}
 use Rattle.cap_history.specs.Seat.{HasCalled, SeatState, SeesMore, calls}
+use Rattle.cap_run.proofs.OrderLemmas.{goes_called, goes_later, goes_same, goes_seen}
 use Rattle.cap_run.proofs.SeatLemmas.{calls-begin, calls_of-append, calls_of-longer, calls_of-none, is_of, lines-own, nat_eq-other, nat_eq-same, reply_texts-none}
 use Rattle.cap_run.specs.Run.{Ended, on_a_line}
 use Rattle.cap_run.specs.Code.Calls.{HasAnswered, HasCalledLines, HasSeen, HasWorked, KeepsCalls, Work, lines_of, reply_texts, work}
@@ -22,7 +23,7 @@ use Rattle.cap_server.specs.declared.fault.CallFault.TheVariants as call
 
 module _ {A : Type 0} where
   pub lines_none : (threads : ℕ) (seat : SeatState A) → HasCalledLines threads [] (Ok tt) [] seat seat
-  lines_none threads seat = record { replies = []; count = refl; texts_are = refl; number = refl; calls_are = sym (append-nil (calls seat)); seen = λ so. so; events = tt }
+  lines_none threads seat = record { replies = []; count = refl; texts_are = refl; number = refl; calls_are = sym (append-nil (calls seat)); seen = λ so. so; goes_on = goes_same seat; events = tt }
 
   -- no line of some is called, out of memory
   pub lines_refused : (threads : ℕ) (lines : List (Line A)) (seat : SeatState A) → 0 < length lines → HasCalledLines threads lines (Err call.OutOfMemory) [] seat seat
@@ -34,6 +35,7 @@ module _ {A : Type 0} where
     calls_are = subst (λ (l : List (Event A)). IsPrefix (calls seat ++ l) (calls seat)) (sym (calls_of-none threads lines))
         (subst (λ (l : List (Event A)). IsPrefix l (calls seat)) (sym (append-nil (calls seat))) (prefix-self (calls seat)));
     seen = λ so. so;
+    goes_on = goes_same seat;
     events = tt;
   }
 
@@ -65,6 +67,7 @@ module _ {A : Type 0} where
         calls_are = answered.calls_are ∙ ap₂ (λ (l : List (Event A)) (e : Event A). l ++ e ∷ []) so.calls_are made
             ∙ append_assoc (calls a) (calls_of threads lines so.replies) (event ∷ []) ∙ ap (λ (l : List (Event A)). calls a ++ l) (sym (calls_of-append threads lines (line ∷ []) so.replies (answered.reply ∷ []) so.count));
         seen = λ before. answered.seen;
+        goes_on = goes_later a b c so.goes_on answered.goes_on;
         events = tt;
       }
 
@@ -81,6 +84,7 @@ module _ {A : Type 0} where
         calls_are = subst (λ (l : List (Event A)). IsPrefix (calls a ++ l) (calls c)) (sym (calls_of-longer threads lines others so.replies few))
             (subst (λ (l : List (Event A)). IsPrefix l (calls c)) so.calls_are keeps.begins);
         seen = λ before. keeps.seen (so.seen before);
+        goes_on = goes_later a b c so.goes_on keeps.goes_on;
         events = events;
       }
 
@@ -180,6 +184,7 @@ module _ {A : Type 0} where
         calls_are = subst (λ (l : List (Event A)). IsPrefix (calls seat ++ l) (calls before.seat)) (sym (calls_of-none threads lines))
             (subst (λ (l : List (Event A)). IsPrefix l (calls before.seat)) (sym (append-nil (calls seat))) begins);
         seen = so.seen;
+        goes_on = so.goes_on;
         events = tt;
       } in
       subst (λ (w : Work A). HasWorked threads block seat w) (sym is) stopped
@@ -204,10 +209,10 @@ module _ {A : Type 0} where
 
   pub answered_of : (line : Line A) (text : List ℕ) (reply : Reply A) (old new : SeatState A) → HasCalled old new line.command reply → text ≡ on_a_line (reply_text line reply) → HasAnswered line text old new
   answered_of line text reply old new so is =
-      record { reply = reply; text_is = is; number = so.number; calls_are = all-called old new line.command reply so; seen = all-seen new so.answered }
+      record { reply = reply; text_is = is; number = so.number; calls_are = all-called old new line.command reply so; seen = all-seen new so.answered; goes_on = goes_called old new line.command reply so }
 
   pub keeps_same : (seat : SeatState A) → KeepsCalls seat seat
-  keeps_same seat = record { number = refl; begins = prefix-self (calls seat); seen = λ so. so }
+  keeps_same seat = record { number = refl; begins = prefix-self (calls seat); seen = λ so. so; goes_on = goes_same seat }
 
   -- the call was answered, but the reply had no text
   pub keeps_called : (old new : SeatState A) (command : Command A) (reply : Reply A) → HasCalled old new command reply → KeepsCalls old new
@@ -215,6 +220,7 @@ module _ {A : Type 0} where
     number = so.number;
     begins = subst (λ (h : List (Event A)). IsPrefix (calls old) h) (sym (all-called old new command reply so)) (prefix-append (calls old) (event_by old.number command reply ∷ []));
     seen = λ before. all-seen new so.answered;
+    goes_on = goes_called old new command reply so;
   }
 
   keeps-seen : (old new : SeatState A) → SeesMore old new → KeepsCalls old new
@@ -224,6 +230,7 @@ module _ {A : Type 0} where
         number = so.number;
         begins = subst (λ (h : List (Event A)). IsPrefix (calls old) h) (sym same) (prefix-self (calls old));
         seen = λ before. subst (λ (h : List (Event A)). IsPrefix h new.seen) (sym so.answered) (prefix-trans old.answered old.seen new.seen before so.seen);
+        goes_on = goes_seen old new so;
       }
 
   -- what the fault of a call reports is what the seat has seen

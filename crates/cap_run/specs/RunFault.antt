@@ -1,10 +1,11 @@
 -- How a run ends.
-use Rattle.std.specs.Prelude.{◌≡◌, ◌⊎◌, ℕ, Bool, true, false, Result, Ok, Err}
+use Rattle.std.specs.Prelude.{◌≡◌, ◌⊎◌, ℕ, List, Bool, true, false, Result, Ok, Err}
 use Rattle.cap_value.specs.declared.memory.Fault.{Fault}
 use Rattle.cap_value.specs.declared.memory.Fault.TheVariants.{Refused, OutOfMemory}
 use Rattle.cap_run.specs.declared.fault.RunFault.{RunFault}
 use Rattle.cap_run.specs.declared.fault.RunFault.TheVariants.{Script, NotUtf8, NotHex, Blob, Call, Read}
 use Rattle.cap_run.specs.declared.fault.RunFault.TheVariants.{Write, Memory, Close, Patchset, Concat}
+use Rattle.cap_script.specs.FirstRefused.{IsFirstRefused}
 
 -- the exit status: 1 where the input is refused, and 3 where a call, a read, a write or the closing of the
 -- server failed, or out of memory
@@ -29,6 +30,20 @@ IsUnread fault = (fault ≡ Read) ⊎ (fault ≡ Memory)
 abbrev pub is_read : RunFault → Bool
 is_read Read = true
 is_read fault = false
+
+-- whether the text spells no workload
+abbrev pub is_script : RunFault → Bool
+is_script (Script fault) = true
+is_script fault = false
+
+-- A text is refused at its first line that spells no command within the limits. Lines are counted from 1.
+abbrev pub IsOfText : (A : Type 0) → RunFault → List ℕ → Type 0
+IsOfText A (Script why) text = IsFirstRefused A 1 why text
+IsOfText A fault text = Unit {0}
+
+-- the text is refused, or the input was not read to its end
+abbrev pub IsNoWorkload : RunFault → Type 0
+IsNoWorkload fault = (is_script fault ≡ true) ⊎ (fault ≡ NotUtf8) ⊎ IsUnread fault
 
 -- nothing was run
 abbrev pub RunsNothing : RunFault → Type 0

@@ -1,6 +1,6 @@
 -- The output of a workload on threads.
-use Rattle.std.specs.Prelude.{◌≡◌, ℕ, ◌+◌, ◌%◌, ◌<◌, ◌≤◌, List, [], ◌∷◌, ◌++◌, Option, Some, None, Result, Ok}
-use Rattle.std.specs.Prelude.{Err, length}
+use Rattle.std.specs.Prelude.{◌≡◌, ◌⊎◌, ℕ, ◌+◌, ◌%◌, ◌<◌, ◌≤◌, List, [], ◌∷◌, ◌++◌, Option, Some, None}
+use Rattle.std.specs.Prelude.{Result, Ok, Err, drop, length}
 use Rattle.std.specs.Io.KnownBytes.{Appends, Keeps}
 use mathlib.Core.List.{IsPrefix}
 use Rattle.cap_core.specs.Answer.{IsLegal, event_by}
@@ -43,14 +43,39 @@ module _ {A : Type 0} where
   AreCalls (Ok done) some all = all ≡ some
   AreCalls (Err fault) some all = IsPrefix some all
 
+  -- A block ends with this line: it or the line behind it is without `@`, or there is none behind it. A line
+  -- without `@` is a block of its own.
+  abbrev pub EndsBlock : Line A → List (Line A) → Type 0
+  EndsBlock line [] = Unit {0}
+  EndsBlock line (next ∷ behind) = (line.worker ≡ None) ⊎ (next.worker ≡ None)
+
+  -- so it is of the lines up to the end of each block that have replies, and the lines behind it
+  abbrev pub EachBlock : List (Line A) → List (Reply A) → (List (Line A) → List (Line A) → Type 0) → Type 0
+  EachBlock lines replies IsSo = (before : List (Line A)) (line : Line A) (behind : List (Line A))
+      → lines ≡ before ++ line ∷ behind → EndsBlock line behind → length before < length replies
+      → IsSo (before ++ line ∷ []) behind
+
+  -- The history is in two parts. The first has the calls of the lines before, and the second those of the
+  -- lines behind: each seat's own calls there are these, or these are a prefix of them.
+  pub record IsDivided (Are : List (Event A) → List (Event A) → Type 0) (threads : ℕ)
+      (replies : List (Reply A)) (history : List (Event A)) (before behind : List (Line A)) : Type 0 where
+    pub front : List (Event A)
+    pub rest : List (Event A)
+    pub parts : history ≡ front ++ rest
+    pub first : (number : ℕ) → Are (own number (calls_of threads before replies)) (own number front)
+    pub later : (number : ℕ)
+        → Are (own number (calls_of threads behind (drop (length before) replies))) (own number rest)
+
   -- One legal history, whose blobs fit, has the calls of the lines that have replies, each seat's in the
-  -- order of its lines: its own calls in that history are these, or these are a prefix of them.
+  -- order of its lines: its own calls in that history are these, or these are a prefix of them. The end of
+  -- each block divides it.
   pub record AreOfOneHistory (Are : List (Event A) → List (Event A) → Type 0) (threads : ℕ)
       (lines : List (Line A)) (replies : List (Reply A)) : Type 0 where
     pub history : List (Event A)
     pub legal : IsLegal history
     pub blobs : BlobsFit history
     pub calls_are : (number : ℕ) → Are (own number (calls_of threads lines replies)) (own number history)
+    pub blocks : EachBlock lines replies (IsDivided Are threads replies history)
 
   -- A run of the lines that ended so has this text: the replies in the order of the lines, up to the first
   -- line that has none, and then its fault. The history has at least as many events as the fault reports.

@@ -84,11 +84,12 @@ Sessions:
 Changes:
   changeset S         print a session's changes, with old values: changeset 1
   patchset S          print them without old values: patchset 1
-  .. S places         either, with key flags as SQLite's own applier wants them: changeset 1 places
   restart S           print them as changeset does, and forget them: restart 1
+  .. S places         each, with key flags as SQLite's own applier wants them: changeset 1 places
   apply x'..' D N C   apply a changeset or patchset; D, N and C say omit, replace or abort, for
                       rows that differ, are missing, or are there already:
                       apply x'5402..' omit omit replace
+  .. D N C report     print each conflict too, each omitted change and each skipped group
 
 OP is insert T (V,..), update T REF set I = V , .. or delete T REF; cascade before it marks it as
 indirect. REF is key(V,..), or loose N for the row without a key that has the number N. V is null, 1,

@@ -13,6 +13,7 @@ mod fault;
 mod gate;
 mod input;
 mod limits;
+mod meeting;
 mod output;
 mod pieces;
 mod program_options;

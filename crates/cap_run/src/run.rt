@@ -8,8 +8,10 @@ ghost use Rattle.cap_core.specs.declared.event.Event.{Event};
 ghost use Rattle.cap_run.specs.Run.{AppendsFront, BeginsRun, EndsAt, IsRun, MatchFault, Writes, WritesInput};
 ghost use Rattle.cap_run.specs.Run.{ending, events_max, on_a_line, run_outcome};
 ghost use Rattle.cap_run.specs.Reads.{EndsReads};
-ghost use Rattle.cap_run.specs.RunFault.{exit_status, is_read, IsUnread, IsUnspelled};
+ghost use Rattle.cap_run.specs.RunFault.{exit_status, is_read, is_script, IsNoWorkload, IsOfText, IsUnread};
+ghost use Rattle.cap_run.specs.RunFault.{IsUnspelled};
 ghost use Rattle.cap_run.specs.Writes.{EndsWrites};
+ghost use Rattle.cap_script.specs.FirstRefused.{SpellsWithin};
 ghost use Rattle.cap_script.specs.ReplyText.{reply_text};
 ghost use Rattle.cap_script.specs.Script.{SpellsScript};
 ghost use Rattle.cap_script.specs.declared.line.Line.{Line};
@@ -31,9 +33,9 @@ use cap_value::{AllocHandle, Fault};
 /// then its fault, and the run ends.
 ///
 /// The contracts say exactly which input is refused as not UTF-8, where it is known what the reader gives. A
-/// failed read and out of memory may come before any other answer. `cap_script::Lines::new` documents which
-/// other texts are refused, and with which fault; that is tested. The contracts determine the whole output,
-/// for writers whose content is known.
+/// failed read and out of memory may come before any other answer. They say which other texts are refused, and
+/// at which line; the offset within it is tested. The contracts determine the whole output, for writers whose
+/// content is known.
 pub fn run_core<A: AllocHandle, R: Source, W: RunOutput>(
     alloc: A,
     reader: &mut R,
@@ -44,6 +46,14 @@ pub fn run_core<A: AllocHandle, R: Source, W: RunOutput>(
         → IsErrAnd result (λ fault. (fault ≡ RunFault.NotUtf8) ⊎ IsUnread fault)) }
     ensures text { IfSome (R.remaining reader.old) (λ given.
         result ≡ Err RunFault.NotUtf8 → ¬ (IsUtf8 given)) }
+
+    // A text that is refused is refused at its first line that spells no command within the limits, and no text
+    // that spells lines within the limits is. Every other text is, but for a failed read and out of memory.
+    ensures refused { IfSome (R.remaining reader.old) (λ given. IfErr result (λ fault. IsOfText A fault given)) }
+    ensures read { IfSome (R.remaining reader.old) (λ given. SpellsWithin A given
+        → IfErr result (λ fault. is_script fault ≡ false)) }
+    ensures no_lines { IfSome (R.remaining reader.old) (λ given. ¬ (SpellsWithin A given)
+        → IsErrAnd result IsNoWorkload) }
 
     // When a failed read is reported, as far as the outcomes of the reads are known.
     ensures reported { EndsReads R.gave R.failed result reader.old reader.new }
@@ -91,12 +101,16 @@ fn text_of<A: AllocHandle>(bytes: Vec<u8, A>) -> Result<String<A>, RunFault>
 pub(crate) fn lines_of<A: AllocHandle>(alloc: A, text: &str) -> Result<Lines<'_, A>, RunFault>
     ensures whole { IfOk result (λ lines. lines ≡ text.now) }
     ensures spelled { IfOk result (λ lines. (spelled : List (Line A)) × SpellsScript spelled text.now) }
+    ensures within { IfOk result (λ lines. SpellsWithin A text.now) }
     ensures early { IfErr result IsUnspelled }
+    ensures refused { IfErr result (λ fault. IsOfText A fault text.now) }
+    ensures read { IfErr result (λ fault. SpellsWithin A text.now → is_script fault ≡ false) }
 {
-    Lines::new(alloc, text).map_err(|fault| match fault {
-        Fault::Refused(fault) => RunFault::Script(fault),
-        Fault::OutOfMemory => RunFault::Memory,
-    })
+    match Lines::new(alloc, text) {
+        Ok(lines) => Ok(lines),
+        Err(Fault::Refused(fault)) => Err(RunFault::Script(fault)),
+        Err(Fault::OutOfMemory) => Err(RunFault::Memory),
+    }
 }
 
 // Runs the lines on a new server, and writes their replies.

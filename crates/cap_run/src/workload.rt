@@ -5,19 +5,21 @@ ghost use Rattle.std.specs.Prelude.{false, string_bytes, vec_capacity, vec_len};
 ghost use Rattle.std.specs.List.{AllZip};
 ghost use denote.Param.Send.{Frees};
 ghost use Rattle.cap_history.specs.Seat.{SeatState};
-ghost use Rattle.cap_run.specs.Code.Calls.{AreSeats, EndSo, Gathers, HasAnswered, HasSeen, HasWorked};
+ghost use Rattle.cap_run.specs.Code.Calls.{AreSeats, EachAt, EndSo, Gathers, HasAnswered, HasSeen, HasWorked};
 ghost use Rattle.cap_run.specs.Code.Calls.{HaveCalled, IsFaultOf, IsNext, IsWholeBlock, KeepsCalls};
 ghost use Rattle.cap_run.specs.Code.Calls.{RunsLines, unclosed_outcome, work};
 ghost use Rattle.cap_run.specs.Options.{IsThreadCount};
 ghost use Rattle.cap_run.specs.Run.{IsSpelled, Known};
 ghost use Rattle.cap_run.specs.Reads.{EndsReads};
-ghost use Rattle.cap_run.specs.RunFault.{IsUnread, exit_status, is_read};
+ghost use Rattle.cap_run.specs.RunFault.{IsNoWorkload, IsOfText, IsUnread, exit_status, is_read, is_script};
 ghost use Rattle.cap_run.specs.Workload.{WritesWorkload};
 ghost use Rattle.cap_run.specs.Writes.{EndsWrites};
+ghost use Rattle.cap_script.specs.FirstRefused.{SpellsWithin};
 ghost use Rattle.cap_script.specs.Script.{SpellsScript};
 ghost use Rattle.cap_script.specs.declared.line.Line.{Line};
 
 use crate::block::run_block;
+use crate::meeting::{each_meets_first, first_meets_each};
 use crate::output::{write_ending, write_long, write_pending};
 use crate::run::{lines_of, read_text, run_outcome};
 use crate::worker::{Shared, Worker, answer_line, seat_of};
@@ -62,6 +64,14 @@ pub fn run_workload<
     ensures text { IfSome (R.remaining reader.old) (λ given.
         result ≡ Err RunFault.NotUtf8 → ¬ (IsUtf8 given)) }
 
+    // A text that is refused is refused at its first line that spells no command within the limits, and no text
+    // that spells lines within the limits is. Every other text is, but for a failed read and out of memory.
+    ensures refused { IfSome (R.remaining reader.old) (λ given. IfErr result (λ fault. IsOfText A fault given)) }
+    ensures read { IfSome (R.remaining reader.old) (λ given. SpellsWithin A given
+        → IfErr result (λ fault. is_script fault ≡ false)) }
+    ensures no_lines { IfSome (R.remaining reader.old) (λ given. ¬ (SpellsWithin A given)
+        → IsErrAnd result IsNoWorkload) }
+
     // When a failed read is reported, as far as the outcomes of the reads are known.
     ensures reported { EndsReads R.gave R.failed result reader.old reader.new }
 
@@ -73,6 +83,7 @@ pub fn run_workload<
 
     // The output is the replies in the order of the lines that the input spells. They are the replies of one
     // legal history that has each line's call once, each seat's in the order of its lines, and no other call.
+    // The calls of a block stand there behind those of all lines before it, and before those of all behind it.
     // Where the run ends at a fault, it is the first replies, and each seat's calls are a prefix of its calls
     // in such a history; where that fault is `Close`, it is all replies. The history has at least as many
     // events as the fault reports: 2^63 - 1 where it is full.
@@ -332,7 +343,8 @@ fn answer_next<
     (workers, outcome)
 }
 
-// Calls the lines of a block. The texts of the replies are appended to `pending`.
+// Calls the lines of a block. The texts of the replies are appended to `pending`. The seats meet before and
+// after it, so each of its calls stands in the history behind all earlier calls, and before all later ones.
 fn answer_block<
     J: Naming + Send + Sync,
     A: AllocHandle + Send + Sync,
@@ -347,14 +359,18 @@ fn answer_block<
     requires threads { IsThreadCount shared.now.threads }
     requires frees { Frees A.Allocator A.dealloc_token }
     requires seats { AreSeats shared.now.threads (map (λ w. w.seat) workers.items) }
+    requires at { EachAt block.now }
     ensures seats { AreSeats shared.now.threads (map (λ w. w.seat) result.0.items) }
     ensures len { vec_len result.0 ≡ vec_len workers }
     ensures called { (text : List ℕ) × (string_bytes pending.new ≡ string_bytes pending.old ++ text)
         × HaveCalled shared.now.threads block.now result.1 text (map (λ w. w.seat) workers.items)
         (map (λ w. w.seat) result.0.items) }
 {
-    let workers = run_block(shared, block, workers);
+    let mut workers = workers;
+    each_meets_first(&mut workers);
+    let mut workers = run_block(shared, block, workers);
     let outcome = gather(shared.threads, block, workers.as_slice(), pending);
+    first_meets_each(&mut workers);
     (workers, outcome)
 }
 

@@ -1,19 +1,20 @@
 -- The first refused line of a text.
-use Rattle.std.proofs.Common.{◌≡◌, ◌+◌, ◌||◌, ℕ, Bool, true, false, eqb, length, List, [], ◌∷◌, ◌++◌, refl, sym, ap, subst, inl, inr, arith}
+use Rattle.std.proofs.Common.{◌≡◌, ◌+◌, ◌||◌, ℕ, Bool, true, false, eqb, length, List, [], ◌∷◌, ◌++◌, Option, Some, IfSome, refl, sym, ap, subst, inl, inr, arith}
 use Rattle.std.proofs.lemmas.Bool.{eqb-true}
 use Rattle.cap_value.specs.declared.memory.Fault.{Fault}
 use Rattle.cap_value.specs.declared.memory.Fault.TheVariants as fault
 use Rattle.cap_value.specs.declared.memory.Fault.TheVariants.{Refused}
-use Rattle.cap_script.specs.FirstRefused.{IsFirstRefused, TellsFirstRefused, line_of}
-use Rattle.cap_script.specs.LineLimits.{LineWithin}
+use Rattle.cap_script.specs.FirstRefused.{IsFirstRefused, TellsFirstRefused, SpellsWithin, line_of}
+use Rattle.cap_script.specs.LineLimits.{AreWithinLimits, LineWithin}
 use Rattle.cap_script.specs.RefusedLines.{LeavesLines, NoLine, in_line}
-use Rattle.cap_script.specs.Script.{AreLines, IsCut, SpellsLine, has_line_feed, is_ignored}
+use Rattle.cap_script.specs.Script.{AreLines, IsCut, IsRead, SpellsLine, SpellsLines, SpellsScript, TakesFirst, has_line_feed, is_ignored}
 use Rattle.cap_script.specs.declared.fault.LineFault.{LineFault}
 use Rattle.cap_script.specs.declared.fault.LineFault.TheVariants.{BadBlob, Limit, OutOfMemory, Syntax}
 use Rattle.cap_script.specs.declared.fault.ScriptFault.{ScriptFault}
 use Rattle.cap_script.specs.declared.fault.ScriptFault.TheVariants as script
 use Rattle.cap_script.specs.declared.line.Line.{Line}
-use Rattle.cap_script.proofs.LineLemmas.{are_more, ignored_more, not_empty}
+use Rattle.cap_script.proofs.LineLemmas.{are_more, ignored_more, not_empty, nothing_spelled}
+use Rattle.cap_script.proofs.NoLines.{left_behind}
 
 -- ---- the lines of a text
 
@@ -51,6 +52,12 @@ line_more before behind refused text line rest (none, inl e) said are = are_more
 line_more before behind refused text line rest (none, inr (e, end)) said are =
     absurd (none_said before behind refused (subst (λ (l : List ℕ). AreLines (before ++ refused ∷ behind) l) end are) said)
 
+-- a refused text spells no lines within the limits
+pub never_refused : (why : ScriptFault) (P : Type 0) → P → LeavesLines (Refused why) P → ⊥
+never_refused (script.Limit line why) P p left = left p
+never_refused (script.Syntax line at) P p left = left
+never_refused (script.BadBlob line why) P p left = left
+
 -- out of memory
 pub first_memory : (A : Type 0) (n : ℕ) (told : Fault ScriptFault) (text : List ℕ) → told ≡ fault.OutOfMemory → TellsFirstRefused A n told text
 first_memory A n told text is = subst (λ (f : Fault ScriptFault). TellsFirstRefused A n f text) (sym is) tt
@@ -65,19 +72,19 @@ module _ {A : Type 0} where
     behind = so.behind;
     are_lines = line_more so.before so.behind so.refused text line rest cut so.said so.are_lines;
     number = omega (arith, so.number);
-    spelled = (so.spelled.0, ignored_more so.spelled.0 line so.before ignored so.spelled.1);
+    spelled = (so.spelled.0, ignored_more so.spelled.0 line so.before ignored so.spelled.1, so.spelled.2);
     said = so.said;
     none = so.none;
   }
 
-  pub behind_one_line : (n : ℕ) (why : ScriptFault) (made : Line A) (text line rest : List ℕ) → IsCut text line rest → SpellsLine made line → IsFirstRefused A (n + 1) why rest → IsFirstRefused A n why text
-  behind_one_line n why made text line rest cut spells so = record {
+  pub behind_one_line : (n : ℕ) (why : ScriptFault) (made : Line A) (text line rest : List ℕ) → IsCut text line rest → SpellsLine made line → LineWithin made → IsFirstRefused A (n + 1) why rest → IsFirstRefused A n why text
+  behind_one_line n why made text line rest cut spells within so = record {
     before = line ∷ so.before;
     refused = so.refused;
     behind = so.behind;
     are_lines = line_more so.before so.behind so.refused text line rest cut so.said so.are_lines;
     number = omega (arith, so.number);
-    spelled = (made ∷ so.spelled.0, inr (spells, so.spelled.1));
+    spelled = (made ∷ so.spelled.0, inr (spells, so.spelled.1), (within, so.spelled.2));
     said = so.said;
     none = so.none;
   }
@@ -94,7 +101,7 @@ module _ {A : Type 0} where
         behind = parts.0;
         are_lines = parts.1;
         number = omega (arith, number);
-        spelled = ([], tt);
+        spelled = ([], tt, tt);
         said = said;
         none = none;
       }
@@ -110,3 +117,33 @@ module _ {A : Type 0} where
   pub first_over : (m n : ℕ) (fault : Fault ScriptFault) (rest text : List ℕ) → ((why : ScriptFault) → IsFirstRefused A m why rest → IsFirstRefused A n why text) → TellsFirstRefused A m fault rest → TellsFirstRefused A n fault text
   first_over m n fault.OutOfMemory rest text on so = tt
   first_over m n (Refused why) rest text on so = on why so
+
+  -- nothing is left
+  pub none_within : (rest : List ℕ) → rest ≡ [] → SpellsWithin A rest
+  none_within rest end = ([], nothing_spelled A rest end, tt)
+
+  -- the lines behind one that was read
+  pub within_behind : (made : Line A) (lines : List (Line A)) (rest : List ℕ) → AreWithinLimits lines → TakesFirst (Some made) lines rest → SpellsWithin A rest
+  within_behind made lines rest within takes =
+      let (others, more, on) = left_behind made lines lines rest (λ w. w) takes in (others, more, on within)
+
+module _ (A : Type 0) where
+  -- what is known of a text while its lines are read one by one
+  abbrev pub SoFar : ℕ → List ℕ → List ℕ → Type 0
+  SoFar number rest text =
+      ((lines : List (Line A)) → SpellsScript lines rest → AreWithinLimits lines → SpellsWithin A text)
+      × ((lines : List (Line A)) → SpellsScript lines text → (left : List (Line A)) × SpellsScript left rest × (AreWithinLimits lines → AreWithinLimits left))
+      × ((why : ScriptFault) → IsFirstRefused A number why rest → IsFirstRefused A 1 why text)
+
+  pub one_line_more : (made : Line A) (found : Option (Line A)) (number later : ℕ) (rest behind text : List ℕ) → found ≡ Some made → IsRead found rest behind → IfSome found LineWithin
+      → ((lines : List (Line A)) → SpellsScript lines rest → TakesFirst found lines behind) → IfSome found (λ line. (why : ScriptFault) → IsFirstRefused A later why behind → IsFirstRefused A number why rest)
+      → SoFar number rest text → SoFar later behind text
+  one_line_more made found number later rest behind text is read within next first so_far = (
+    λ lines spelled all.
+        so_far.0 (made ∷ lines) (subst (λ (o : Option (Line A)). IsRead o rest behind) is read lines spelled) (subst (λ (o : Option (Line A)). IfSome o LineWithin) is within, all),
+    λ lines spelled.
+        let (left, here, on) = so_far.1 lines spelled in
+        left_behind {A = A} made lines left behind on (subst (λ (o : Option (Line A)). TakesFirst o left behind) is (next left here)),
+    λ why so.
+        so_far.2 why (subst (λ (o : Option (Line A)). IfSome o (λ line. (why : ScriptFault) → IsFirstRefused A later why behind → IsFirstRefused A number why rest)) is first why so),
+  )

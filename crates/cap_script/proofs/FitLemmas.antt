@@ -13,15 +13,10 @@ use Rattle.cap_script.specs.Commands.{SpelledCommand}
 use Rattle.cap_script.specs.Script.{SpellsLine, SpellsLines, SpellsScript}
 use Rattle.cap_script.specs.declared.line.Line.{Line}
 use Rattle.cap_script.specs.declared.line.Show.{Show}
-use Rattle.cap_script.specs.declared.line.Show.TheVariants.{Changeset, Get, Patchset, Plain, Scan}
 
 module _ {A : Type 0} (fit : (blob : Contents A) (bytes : List ℕ) → Spells blob bytes → FitsItsTables blob) where
   command-fits : (c : Command A) (show : Show A) (line rest : List ℕ) → SpelledCommand c show line rest → BlobFits c
-  command-fits (command.Apply contents policy) Plain line rest spelled = fit contents spelled.2.1.0 spelled.2.1.2
-  command-fits (command.Apply contents policy) (Get table row) line rest spelled = absurd spelled
-  command-fits (command.Apply contents policy) (Scan table) line rest spelled = absurd spelled
-  command-fits (command.Apply contents policy) (Changeset flags) line rest spelled = absurd spelled
-  command-fits (command.Apply contents policy) (Patchset flags) line rest spelled = absurd spelled
+  command-fits (command.Apply contents policy) show line rest spelled = fit contents spelled.2.1.0 spelled.2.1.2
   command-fits _ show line rest spelled = tt
 
   line-fits : (line : Line A) (text : List ℕ) → SpellsLine line text → BlobFits line.command

@@ -22,7 +22,7 @@ use Rattle.cap_codec.specs.declared.read.Contents.{Contents}
 use Rattle.cap_apply.specs.declared.policy.Answer.{Answer}
 use Rattle.cap_apply.specs.declared.policy.Policy.{Policy}
 use Rattle.cap_core.specs.declared.command.Command.{Command}
-use Rattle.cap_script.specs.Commands.{SpelledBlob, SpelledCommand, SpelledFilter, SpelledKeyFlags, SpelledPolicy}
+use Rattle.cap_script.specs.Commands.{SpelledBlob, SpelledCommand, SpelledFilter, SpelledKeyFlags, SpelledPolicy, SpelledReport}
 use Rattle.cap_script.specs.Forms.{Form, ◌▸◌, Natural, NotSpelled, Word}
 use Rattle.cap_script.specs.LineLimits.{CommandWithin, ShowWithin}
 use Rattle.cap_script.specs.Operations.{SpelledOperations, SpelledRow}
@@ -33,12 +33,13 @@ use Rattle.cap_script.specs.Words.{answer_word, flag_word, head_word, letters}
 use Rattle.cap_script.specs.declared.fault.LineFault.{LineFault}
 use Rattle.cap_script.specs.declared.fault.LineFault.TheVariants.{Limit, OutOfMemory}
 use Rattle.cap_script.specs.declared.line.Show.{Show}
+use Rattle.cap_script.specs.declared.line.Show.TheVariants.{Plain, Get, Scan, Changeset, Patchset, Report}
 use Rattle.cap_script.specs.declared.words.Head.{Head}
 use Rattle.cap_script.specs.declared.words.Head.TheVariants as head
 use Rattle.cap_script.specs.declared.words.SessionWord.{SessionWord}
 use Rattle.cap_script.specs.declared.words.SessionWord.TheVariants as session
 use Rattle.cap_script.proofs.NoneLemmas.{leaves_map}
-use Rattle.cap_script.proofs.OneCommands.{Said, SpelledSaid, by_word, command_of, one_head, one_schema, show_of}
+use Rattle.cap_script.proofs.OneCommands.{Said, SpelledSaid, by_word, command_of, one_head, one_schema, same_policy, show_of}
 use Rattle.cap_script.proofs.OneForms.{moved, same_natural, same_word}
 use Rattle.cap_script.proofs.OneTokens.{one_blob}
 
@@ -88,13 +89,19 @@ module _ (A : Type 0) where
       leaves_map fault (λ within. within.0) (none ops rest (moved (SpelledOperations ops) mid p.0 rest (same_natural n base here mid p.0 number p.1).1 p.2))
 
   pub no_applied : (fault : LineFault) (here : List ℕ) → NoBlob A fault here → NoSaid A fault head.Apply here
-  no_applied fault here none (contents, policy) rest p = leaves_map fault (λ within. tt) (none contents p.0 p.1)
+  no_applied fault here none (contents, policy, show) rest p = leaves_map fault (λ within. tt) (none contents p.0 p.1)
 
   -- what is behind a blob
   pub no_policy : (fault : LineFault) (read : Contents A) (here mid : List ℕ) → SpelledBlob read here mid → ((policy : Policy) → NotSpelled (SpelledPolicy policy) mid) → NoSaid A fault head.Apply here
-  no_policy fault read here mid found none (contents, policy) rest p =
+  no_policy fault read here mid found none (contents, policy, show) rest p =
       let bytes = one_blob found.0 p.1.0 (behind_blanks here) mid p.0 found.1 p.1.1 in
-      absurd (none policy rest (moved (SpelledPolicy policy) mid p.0 rest bytes.1 p.2))
+      absurd (none policy p.2.0 (moved (SpelledPolicy policy) mid p.0 p.2.0 bytes.1 p.2.1))
+
+  pub no_report : (fault : LineFault) (read : Contents A) (answers : Policy) (here mid there : List ℕ) → SpelledBlob read here mid → SpelledPolicy answers mid there → ((show : Show A) → NotSpelled (SpelledReport show) there) → NoSaid A fault head.Apply here
+  no_report fault read answers here mid there found answered none (contents, policy, show) rest p =
+      let bytes = one_blob found.0 p.1.0 (behind_blanks here) mid p.0 found.1 p.1.1 in
+      let behind = (same_policy answers policy mid there p.2.0 answered (moved (SpelledPolicy policy) mid p.0 p.2.0 bytes.1 p.2.1)).1 in
+      absurd (none show rest (moved (SpelledReport show) there p.2.0 rest behind p.2.2))
 
   pub no_got_name : (fault : LineFault) (here : List ℕ) → NoName fault here → NoSaid A fault head.Get here
   no_got_name fault here none (table, row) rest p = leaves_map fault (λ within. within.1.0) (none table p.0 p.1)
@@ -122,7 +129,7 @@ module _ (A : Type 0) where
   no_session fault session.Diff here none x rest p = absurd (none x.0 p.0 p.1)
   no_session fault session.Changeset here none x rest p = absurd (none x.0 p.0 p.1)
   no_session fault session.Patchset here none x rest p = absurd (none x.0 p.0 p.1)
-  no_session fault session.Restart here none x rest p = absurd (none x rest p)
+  no_session fault session.Restart here none x rest p = absurd (none x.0 p.0 p.1)
 
   -- behind the number of the session
   behind_number : {X : Type 0} (form : X → Form) (n m : ℕ) (x : X) (here mid rest : List ℕ) → Natural n here mid → (Natural m ▸ form x) here rest → form x mid rest
@@ -146,6 +153,9 @@ module _ (A : Type 0) where
   pub no_patchset : (fault : LineFault) (n : ℕ) (here mid : List ℕ) → Natural n here mid → ((flags : KeyFlags) → NotSpelled (SpelledKeyFlags flags) mid) → NoSaid A fault (head.Of session.Patchset) here
   no_patchset fault n here mid number none (m, flags) rest p = absurd (none flags rest (behind_number SpelledKeyFlags n m flags here mid rest number p))
 
+  pub no_restart : (fault : LineFault) (n : ℕ) (here mid : List ℕ) → Natural n here mid → ((flags : KeyFlags) → NotSpelled (SpelledKeyFlags flags) mid) → NoSaid A fault (head.Of session.Restart) here
+  no_restart fault n here mid number none (m, flags) rest p = absurd (none flags rest (behind_number SpelledKeyFlags n m flags here mid rest number p))
+
   pub no_diff_from : (fault : LineFault) (n : ℕ) (here mid : List ℕ) → Natural n here mid → NoName fault mid → NoSaid A fault (head.Of session.Diff) here
   no_diff_from fault n here mid number none (m, from, table) rest p =
       leaves_map fault (λ within. within.0.0) (none from p.2.0 (moved (Word from) mid p.0 p.2.0 (same_natural n m here mid p.0 number p.1).1 p.2.1))
@@ -166,6 +176,14 @@ or_err None e r N S P is found f = rw is (f found)
 pub no_key_flags : (line : List ℕ) → (behind_blanks line ≡ [] → ⊥) → NotSpelled (Word (codes "places")) line → (flags : KeyFlags) → NotSpelled (SpelledKeyFlags flags) line
 no_key_flags line ended none Ones rest p = ended p.0
 no_key_flags line ended none Places rest p = none rest p
+
+pub no_report_word : {A : Type 0} (line : List ℕ) → (behind_blanks line ≡ [] → ⊥) → NotSpelled (Word (codes "report")) line → (show : Show A) → NotSpelled (SpelledReport show) line
+no_report_word line ended none Plain rest p = ended p.0
+no_report_word line ended none Report rest p = none rest p
+no_report_word line ended none (Get table row) rest p = p
+no_report_word line ended none (Scan table) rest p = p
+no_report_word line ended none (Changeset flags) rest p = p
+no_report_word line ended none (Patchset flags) rest p = p
 
 pub no_first_answer : (line : List ℕ) → ((answer : Answer) → NotSpelled (Word (answer_word answer)) line) → (policy : Policy) → NotSpelled (SpelledPolicy policy) line
 no_first_answer line none policy rest p = none policy.on_data p.0 p.1

@@ -18,7 +18,7 @@ use Rattle.cap_script.specs.Words.{verb_word}
 use Rattle.cap_script.specs.declared.fault.LineFault.{LineFault}
 use Rattle.cap_script.specs.declared.words.Verb.{Verb}
 use Rattle.cap_script.proofs.MoreLemmas.{GoesOn}
-use Rattle.cap_script.proofs.NoForms.{all_at}
+use Rattle.cap_script.proofs.NoForms.{all_at, all_more, all_one}
 use Rattle.cap_script.proofs.NoneLemmas.{leaves_map}
 use Rattle.cap_script.proofs.OneForms.{moved, no_cascade, no_verb, same_field, same_natural, same_operation, same_row, same_sign, same_word, two_words, verb_first, verb_of}
 use Rattle.cap_script.proofs.OneTokens.{differ}
@@ -203,6 +203,15 @@ module _ {A : Type 0} where
   -- the next operation is within the limits where all are
   pub next_within : (items : List (Op A)) (is_full : Bool) → is_full ≡ leb 10000 (length items) → (x : Op A) (xs : List (Op A)) → OpsWithin (items ++ x ∷ xs) → OpWithin x × (is_full ≡ false)
   next_within items is_full is x xs within = (all_at OpWithin items x xs within.1, is ∙ not_full (length items) (room_for items x xs within))
+
+  -- operations that are within the limits, one by one
+  pub ops_one : (ops : List (Op A)) (op : Op A) → ops ≡ op ∷ [] → OpWithin op → OpsWithin ops
+  ops_one ops op is one = let long : length ops ≡ 1 = ap length is in (omega (arith, long), all_one OpWithin ops op is one)
+
+  pub ops_more : (ops new : List (Op A)) (op : Op A) → new ≡ ops ++ op ∷ [] → length ops < 10000 → OpsWithin ops → OpWithin op → OpsWithin new
+  ops_more ops new op is room within one =
+      let long : length new ≡ length (ops ++ op ∷ []) = ap length is in
+      (omega (arith, long, length-append ops (op ∷ []), room), all_more OpWithin ops new op is within.1 one)
 
   -- no room for one more
   pub no_push : (fault : LineFault) (items : List (Op A)) (op : Op A) (line there : List ℕ) → GoesOn SpelledOperations MoreOperations (items ++ op ∷ []) line there → Leaves fault (length items < 10000) → NoOperations A fault line

@@ -16,14 +16,14 @@ use Rattle.cap_database.specs.declared.op.Op.{Op}
 use Rattle.cap_core.specs.declared.command.Command.{Command}
 use Rattle.cap_core.specs.declared.command.Command.TheVariants as command
 use Rattle.cap_script.specs.Forms.{Form, ◌▸◌, Word, Natural}
-use Rattle.cap_script.specs.Commands.{SpelledBatch, SpelledBlob, SpelledCommand, SpelledFilter, SpelledKeyFlags, SpelledPolicy}
+use Rattle.cap_script.specs.Commands.{SpelledBatch, SpelledBlob, SpelledCommand, SpelledFilter, SpelledKeyFlags, SpelledPolicy, SpelledReport}
 use Rattle.cap_script.specs.Operations.{SpelledOperations, SpelledRow}
 use Rattle.cap_script.specs.Script.{AreLines, SpelledWorker, SpellsLine, SpellsLines, SpellsScript, has_line_feed, is_ignored}
 use Rattle.cap_script.specs.Tokens.{Begins, behind_blanks, begins, integer, is_letter}
 use Rattle.cap_script.specs.Words.{answer_word, flag_word, head_word, letters}
 use Rattle.cap_script.specs.declared.line.Line.{Line}
 use Rattle.cap_script.specs.declared.line.Show.{Show}
-use Rattle.cap_script.specs.declared.line.Show.TheVariants.{Plain, Get, Scan, Changeset, Patchset}
+use Rattle.cap_script.specs.declared.line.Show.TheVariants.{Plain, Get, Scan, Changeset, Patchset, Report}
 use Rattle.cap_script.specs.declared.words.Head.{Head}
 use Rattle.cap_script.specs.declared.words.Head.TheVariants as head
 use Rattle.cap_script.specs.declared.words.SessionWord.TheVariants as session
@@ -145,7 +145,7 @@ same_texts (x ∷ z ∷ xs) (y ∷ w ∷ ys) text p q =
 same_answer : (x y : Answer) (line a b : List ℕ) → Word (answer_word x) line a → Word (answer_word y) line b → (x ≡ y) × (a ≡ b)
 same_answer x y line a b p q = let same = same_word (answer_word x) (answer_word y) line a b p q in (one_answer x y same.0, same.1)
 
-same_policy : (x y : Policy) (line a b : List ℕ) → SpelledPolicy x line a → SpelledPolicy y line b → (x ≡ y) × (a ≡ b)
+pub same_policy : (x y : Policy) (line a b : List ℕ) → SpelledPolicy x line a → SpelledPolicy y line b → (x ≡ y) × (a ≡ b)
 same_policy x y line a b p q =
     let differing = same_answer x.on_data y.on_data line p.0 q.0 p.1 q.1 in
     let found = same_answer x.on_notfound y.on_notfound p.0 p.2.0 q.2.0 p.2.1 (moved (Word (answer_word y.on_notfound)) p.0 q.0 q.2.0 differing.1 q.2.1) in
@@ -165,14 +165,32 @@ same_flag x y line a b p q = let same = same_word (flag_word x) (flag_word y) li
 same_filter : OneFilter → (x y : Rule) (line a b : List ℕ) → SpelledFilter x line a → SpelledFilter y line b → (x ≡ y) × (a ≡ b)
 same_filter filters x y line a b p q = (filters line x y p.0 q.0, p.1 ∙ sym q.1)
 
-no_places : (line rest : List ℕ) → behind_blanks line ≡ [] → Word (codes "places") line rest → ⊥
-no_places line rest none p = let bad : false ≡ true = subst (λ (l : List ℕ). begins is_letter l ≡ true) none p.1 in absurd cc
+no_word : (word line rest : List ℕ) → behind_blanks line ≡ [] → Word word line rest → ⊥
+no_word word line rest none p = let bad : false ≡ true = subst (λ (l : List ℕ). begins is_letter l ≡ true) none p.1 in absurd cc
 
 same_key_flags : (x y : KeyFlags) (line a b : List ℕ) → SpelledKeyFlags x line a → SpelledKeyFlags y line b → (x ≡ y) × (a ≡ b)
 same_key_flags Ones Ones line a b p q = (refl, p.1 ∙ sym q.1)
 same_key_flags Places Places line a b p q = (refl, (same_word (codes "places") (codes "places") line a b p q).1)
-same_key_flags Ones Places line a b p q = absurd (no_places line b p.0 q)
-same_key_flags Places Ones line a b p q = absurd (no_places line a q.0 p)
+same_key_flags Ones Places line a b p q = absurd (no_word (codes "places") line b p.0 q)
+same_key_flags Places Ones line a b p q = absurd (no_word (codes "places") line a q.0 p)
+
+same_report : {A : Type 0} (x y : Show A) (line a b : List ℕ) → SpelledReport x line a → SpelledReport y line b → (x ≡ y) × (a ≡ b)
+same_report Plain Plain line a b p q = (refl, p.1 ∙ sym q.1)
+same_report Report Report line a b p q = (refl, (same_word (codes "report") (codes "report") line a b p q).1)
+same_report Plain Report line a b p q = absurd (no_word (codes "report") line b p.0 q)
+same_report Report Plain line a b p q = absurd (no_word (codes "report") line a q.0 p)
+same_report Plain (Get table row) line a b p q = absurd q
+same_report Plain (Scan table) line a b p q = absurd q
+same_report Plain (Changeset flags) line a b p q = absurd q
+same_report Plain (Patchset flags) line a b p q = absurd q
+same_report Report (Get table row) line a b p q = absurd q
+same_report Report (Scan table) line a b p q = absurd q
+same_report Report (Changeset flags) line a b p q = absurd q
+same_report Report (Patchset flags) line a b p q = absurd q
+same_report (Get table row) y line a b p q = absurd p
+same_report (Scan table) y line a b p q = absurd p
+same_report (Changeset flags) y line a b p q = absurd p
+same_report (Patchset flags) y line a b p q = absurd p
 
 -- who gives a command
 pub same_worker : (x y : Option ℕ) (line a b : List ℕ) → SpelledWorker x line a → SpelledWorker y line b → (x ≡ y) × (a ≡ b)
@@ -193,7 +211,7 @@ abbrev pub Said : Type 0 → Head → Type 0
 Said A head.Create = List ℕ × List Bool
 Said A head.Commit = List (Op A)
 Said A head.CommitAt = ℕ × List (Op A)
-Said A head.Apply = Contents A × Policy
+Said A head.Apply = Contents A × Policy × Show A
 Said A head.Get = List ℕ × RowRef A
 Said A head.Scan = List ℕ
 Said A head.Save = List ℕ
@@ -208,7 +226,7 @@ Said A (head.Of session.IsEmpty) = ℕ
 Said A (head.Of session.Diff) = ℕ × List ℕ × List ℕ
 Said A (head.Of session.Changeset) = ℕ × KeyFlags
 Said A (head.Of session.Patchset) = ℕ × KeyFlags
-Said A (head.Of session.Restart) = ℕ
+Said A (head.Of session.Restart) = ℕ × KeyFlags
 
 -- bytes spell one blob
 abbrev pub OneBlob : Type 0 → Type 0
@@ -218,7 +236,7 @@ abbrev pub SpelledSaid : (A : Type 0) (word : Head) → Said A word → Form
 SpelledSaid A head.Create x = Word x.0 ▸ Word (letters x.1)
 SpelledSaid A head.Commit x = SpelledOperations x
 SpelledSaid A head.CommitAt x = Natural x.0 ▸ SpelledOperations x.1
-SpelledSaid A head.Apply x = SpelledBlob x.0 ▸ SpelledPolicy x.1
+SpelledSaid A head.Apply x = SpelledBlob x.0 ▸ SpelledPolicy x.1 ▸ SpelledReport x.2
 SpelledSaid A head.Get x = Word x.0 ▸ SpelledRow x.1
 SpelledSaid A head.Scan x = Word x
 SpelledSaid A head.Save x = Word x
@@ -233,7 +251,7 @@ SpelledSaid A (head.Of session.AttachAll) x = Natural x
 SpelledSaid A (head.Of session.IsEmpty) x = Natural x
 SpelledSaid A (head.Of session.Changeset) x = Natural x.0 ▸ SpelledKeyFlags x.1
 SpelledSaid A (head.Of session.Patchset) x = Natural x.0 ▸ SpelledKeyFlags x.1
-SpelledSaid A (head.Of session.Restart) x = Natural x
+SpelledSaid A (head.Of session.Restart) x = Natural x.0 ▸ SpelledKeyFlags x.1
 
 -- a number and what follows it
 numbered : {X : Type 0} (form : X → Form) → ((x y : X) (line a b : List ℕ) → form x line a → form y line b → (x ≡ y) × (a ≡ b)) → (m n : ℕ) (x y : X) (line a b : List ℕ) → (Natural m ▸ form x) line a → (Natural n ▸ form y) line b
@@ -263,14 +281,15 @@ module _ {A : Type 0} where
   command_of (head.Of session.Diff) x = command.Diff x.0 x.1 x.2
   command_of (head.Of session.Changeset) x = command.Capture x.0
   command_of (head.Of session.Patchset) x = command.Capture x.0
-  command_of (head.Of session.Restart) x = command.Restart x
+  command_of (head.Of session.Restart) x = command.Restart x.0
 
   abbrev pub show_of : (word : Head) → Said A word → Show A
+  show_of head.Apply x = x.2
   show_of head.Get x = Get x.0 x.1
   show_of head.Scan x = Scan x
   show_of (head.Of session.Changeset) x = Changeset x.1
   show_of (head.Of session.Patchset) x = Patchset x.1
-  show_of (head.Of session.Restart) x = Changeset Ones
+  show_of (head.Of session.Restart) x = Changeset x.1
   show_of _ x = Plain
 
   -- a command by its word
@@ -291,7 +310,7 @@ module _ {A : Type 0} where
   pub by_word : (made : Command A) (show : Show A) (line rest : List ℕ) → SpelledCommand made show line rest → ByWord made show line rest
   by_word (command.CreateTable table schema) Plain line rest p = record { word = head.Create; said = (table, schema); behind = p.0; first = p.1; others = p.2; made_is = refl; show_is = refl }
   by_word (command.Commit batch) Plain line rest p = batch_by_word batch.seen batch.base batch.ops line rest p
-  by_word (command.Apply contents policy) Plain line rest p = record { word = head.Apply; said = (contents, policy); behind = p.0; first = p.1; others = p.2; made_is = refl; show_is = refl }
+  by_word (command.Apply contents policy) show line rest p = record { word = head.Apply; said = (contents, policy, show); behind = p.0; first = p.1; others = p.2; made_is = refl; show_is = refl }
   by_word command.Read (Get table row) line rest p = record { word = head.Get; said = (table, row); behind = p.0; first = p.1; others = p.2; made_is = refl; show_is = refl }
   by_word command.Read (Scan table) line rest p = record { word = head.Scan; said = table; behind = p.0; first = p.1; others = p.2; made_is = refl; show_is = refl }
   by_word (command.SaveAs database) Plain line rest p = record { word = head.Save; said = database; behind = p.0; first = p.1; others = p.2; made_is = refl; show_is = refl }
@@ -306,7 +325,7 @@ module _ {A : Type 0} where
   by_word (command.Diff number from table) Plain line rest p = record { word = head.Of session.Diff; said = (number, from, table); behind = p.0; first = p.1; others = p.2; made_is = refl; show_is = refl }
   by_word (command.Capture number) (Changeset flags) line rest p = record { word = head.Of session.Changeset; said = (number, flags); behind = p.0; first = p.1; others = p.2; made_is = refl; show_is = refl }
   by_word (command.Capture number) (Patchset flags) line rest p = record { word = head.Of session.Patchset; said = (number, flags); behind = p.0; first = p.1; others = p.2; made_is = refl; show_is = refl }
-  by_word (command.Restart number) (Changeset Ones) line rest p = record { word = head.Of session.Restart; said = number; behind = p.0; first = p.1; others = p.2; made_is = refl; show_is = refl }
+  by_word (command.Restart number) (Changeset flags) line rest p = record { word = head.Of session.Restart; said = (number, flags); behind = p.0; first = p.1; others = p.2; made_is = refl; show_is = refl }
   by_word made show line rest p = absurd p
 
   same_blob : OneBlob A → (x y : Contents A) (line a b : List ℕ) → SpelledBlob x line a → SpelledBlob y line b → (x ≡ y) × (a ≡ b)
@@ -323,8 +342,9 @@ module _ {A : Type 0} where
   same_said blobs filters head.CommitAt x y line a b p q = numbered SpelledOperations same_operations x.0 y.0 x.1 y.1 line a b p q
   same_said blobs filters head.Apply x y line a b p q =
       let blob = same_blob blobs x.0 y.0 line p.0 q.0 p.1 q.1 in
-      let policy = same_policy x.1 y.1 p.0 a b p.2 (moved (SpelledPolicy y.1) p.0 q.0 b blob.1 q.2) in
-      (ap₂ (λ (c : Contents A) (z : Policy). (c, z)) blob.0 policy.0, policy.1)
+      let policy = same_policy x.1 y.1 p.0 p.2.0 q.2.0 p.2.1 (moved (SpelledPolicy y.1) p.0 q.0 q.2.0 blob.1 q.2.1) in
+      let report = same_report x.2 y.2 p.2.0 a b p.2.2 (moved (SpelledReport y.2) p.2.0 q.2.0 b policy.1 q.2.2) in
+      (rw (blob.0, policy.0, report.0) refl, report.1)
   same_said blobs filters head.Get x y line a b p q =
       let table = same_word x.0 y.0 line p.0 q.0 p.1 q.1 in
       let row = same_row x.1 y.1 p.0 a b p.2 (moved (SpelledRow y.1) p.0 q.0 b table.1 q.2) in
@@ -346,7 +366,7 @@ module _ {A : Type 0} where
   same_said blobs filters (head.Of session.IsEmpty) x y line a b p q = same_natural x y line a b p q
   same_said blobs filters (head.Of session.Changeset) x y line a b p q = numbered SpelledKeyFlags same_key_flags x.0 y.0 x.1 y.1 line a b p q
   same_said blobs filters (head.Of session.Patchset) x y line a b p q = numbered SpelledKeyFlags same_key_flags x.0 y.0 x.1 y.1 line a b p q
-  same_said blobs filters (head.Of session.Restart) x y line a b p q = same_natural x y line a b p q
+  same_said blobs filters (head.Of session.Restart) x y line a b p q = numbered SpelledKeyFlags same_key_flags x.0 y.0 x.1 y.1 line a b p q
 
   pub same_by_word : OneBlob A → OneFilter → (v w : Head) (x : Said A v) (y : Said A w) (line a b : List ℕ) → v ≡ w → SpelledSaid A v x line a → SpelledSaid A w y line b
       → (command_of v x ≡ command_of w y) × (show_of v x ≡ show_of w y) × (a ≡ b)

@@ -1,5 +1,6 @@
 -- The text of rows, one value and one row at a time.
 use Rattle.std.proofs.Common.{◌≡◌, ℕ, ◌+◌, ◌<◌, List, ◌∷◌, ◌++◌, Option, Result, Ok, Err, Bor, length, get_or, drop, drop-cons, add-one, sym, ap, ap₂, ◌∙◌, append_assoc, codes}
+use Rattle.std.specs.List.{flat_map}
 use Rattle.std.specs.Option.{option_copied}
 use Rattle.std.specs.Result.{result_map_both}
 use Rattle.cap_value.specs.declared.refusal.Refusal.{Refusal}
@@ -12,6 +13,13 @@ use Rattle.cap_script.specs.RowText.{more_values, named_row_text, rows_text, val
 -- the item at a place, and what comes after it
 pub drop-item : {X : Type 0} (xs : List X) (i : ℕ) (x : X) → i < length xs → x ≡ get_or xs i x → drop i xs ≡ x ∷ drop (i + 1) xs
 drop-item xs i x lt is = drop-cons xs i x lt ∙ ap₂ (λ y k. y ∷ drop k xs) (sym is) (sym (add-one i))
+
+-- a text that is written piece by piece, one piece more
+pub one_more_at : {X : Type 0} (f : X → List ℕ) (xs : List X) (i : ℕ) (d : X) (old new all : List ℕ) → i < length xs → new ≡ old ++ f (get_or xs i d) → old ++ flat_map f (drop i xs) ≡ all → new ++ flat_map f (drop (i + 1) xs) ≡ all
+one_more_at f xs i d old new all lt more so_far =
+    let rest : drop i xs ≡ get_or xs i d ∷ drop (i + 1) xs = drop-cons xs i d lt ∙ ap (λ k. get_or xs i d ∷ drop k xs) (sym (add-one i)) in
+    ap (λ (l : List ℕ). l ++ flat_map f (drop (i + 1) xs)) more ∙ append_assoc old (f (get_or xs i d)) (flat_map f (drop (i + 1) xs))
+    ∙ ap (λ ys. old ++ flat_map f ys) (sym rest) ∙ so_far
 
 module _ {A : Type 0} where
   pub one_more_value : (out comma more : List ℕ) (value : Value A) (rest : Fields A) → comma ≡ out ++ codes "," → more ≡ comma ++ value_text value → more ++ more_values rest ≡ out ++ more_values (value ∷ rest)

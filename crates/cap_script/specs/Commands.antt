@@ -16,7 +16,7 @@ use Rattle.cap_script.specs.Operations.{SpelledOperations, SpelledRow}
 use Rattle.cap_script.specs.Tokens.{Next, blob}
 use Rattle.cap_script.specs.Words.{answer_word, flag_word, letters}
 use Rattle.cap_script.specs.declared.line.Show.{Show}
-use Rattle.cap_script.specs.declared.line.Show.TheVariants.{Plain, Get, Scan, Changeset, Patchset}
+use Rattle.cap_script.specs.declared.line.Show.TheVariants.{Plain, Get, Scan, Changeset, Patchset, Report}
 
 -- the answers to DATA, NOTFOUND and CONFLICT
 abbrev pub SpelledPolicy : Policy → Form
@@ -40,6 +40,12 @@ module _ {A : Type 0} where
       (bytes : List ℕ) × Next (blob bytes) line rest × SpellsBlob contents bytes
       × (length bytes ≤ 1000000000)
 
+  -- how the outcome of an apply is printed: nothing for its counts, or a word for its conflicts too
+  abbrev pub SpelledReport : Show A → Form
+  SpelledReport Plain = AtEnd
+  SpelledReport Report = Word (codes "report")
+  SpelledReport _ = Never
+
   -- without or with a base version; a transaction's batch is not spelled
   abbrev pub SpelledBatch : Option (SeenState A) → Option ℕ → List (Op A) → Form
   SpelledBatch None None ops = Word (codes "commit") ▸ SpelledOperations ops
@@ -51,8 +57,8 @@ module _ {A : Type 0} where
   SpelledCommand (command.CreateTable table schema) Plain =
       Word (codes "create") ▸ Word table ▸ Word (letters schema)
   SpelledCommand (command.Commit batch) Plain = SpelledBatch batch.seen batch.base batch.ops
-  SpelledCommand (command.Apply contents policy) Plain =
-      Word (codes "apply") ▸ SpelledBlob contents ▸ SpelledPolicy policy
+  SpelledCommand (command.Apply contents policy) show =
+      Word (codes "apply") ▸ SpelledBlob contents ▸ SpelledPolicy policy ▸ SpelledReport show
   SpelledCommand command.Read (Get table row) = Word (codes "get") ▸ Word table ▸ SpelledRow row
   SpelledCommand command.Read (Scan table) = Word (codes "scan") ▸ Word table
   SpelledCommand (command.SaveAs database) Plain = Word (codes "save") ▸ Word database
@@ -73,5 +79,6 @@ module _ {A : Type 0} where
       Word (codes "changeset") ▸ Natural session ▸ SpelledKeyFlags flags
   SpelledCommand (command.Capture session) (Patchset flags) =
       Word (codes "patchset") ▸ Natural session ▸ SpelledKeyFlags flags
-  SpelledCommand (command.Restart session) (Changeset Ones) = Word (codes "restart") ▸ Natural session
+  SpelledCommand (command.Restart session) (Changeset flags) =
+      Word (codes "restart") ▸ Natural session ▸ SpelledKeyFlags flags
   SpelledCommand _ _ = Never

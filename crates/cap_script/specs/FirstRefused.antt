@@ -3,9 +3,9 @@ use Rattle.std.specs.Prelude.{◌≡◌, ℕ, ◌+◌, false, List, ◌∷◌, �
 use Rattle.cap_value.specs.Memory.{MatchFault}
 use Rattle.cap_value.specs.declared.memory.Fault.{Fault}
 use Rattle.cap_value.specs.declared.memory.Fault.TheVariants.{Refused}
-use Rattle.cap_script.specs.LineLimits.{LineWithin}
+use Rattle.cap_script.specs.LineLimits.{AreWithinLimits, LineWithin}
 use Rattle.cap_script.specs.RefusedLines.{LeavesLines}
-use Rattle.cap_script.specs.Script.{AreLines, SpellsLine, SpellsLines, is_ignored}
+use Rattle.cap_script.specs.Script.{AreLines, SpellsLine, SpellsLines, SpellsScript, is_ignored}
 use Rattle.cap_script.specs.declared.fault.ScriptFault.{ScriptFault}
 use Rattle.cap_script.specs.declared.fault.ScriptFault.TheVariants.{BadBlob, Limit, Syntax}
 use Rattle.cap_script.specs.declared.line.Line.{Line}
@@ -17,16 +17,20 @@ line_of (Limit line why) = line
 line_of (BadBlob line why) = line
 
 module _ (A : Type 0) where
-  -- The lines before the refused one are ignored or spell commands. It is not ignored, and spells no command,
-  -- or at a limit none within the limits. Lines are counted with those that are ignored, from the number of the
-  -- text's first line.
+  -- the text spells lines within the limits
+  abbrev pub SpellsWithin : List ℕ → Type 0
+  SpellsWithin text = (lines : List (Line A)) × SpellsScript lines text × AreWithinLimits lines
+
+  -- The lines before the refused one are ignored or spell commands within the limits. It is not ignored, and
+  -- spells no command, or at a limit none within the limits. Lines are counted with those that are ignored, from
+  -- the number of the text's first line.
   pub record IsFirstRefused (first : ℕ) (fault : ScriptFault) (text : List ℕ) : Type 0 where
     pub before : List (List ℕ)
     pub refused : List ℕ
     pub behind : List (List ℕ)
     pub are_lines : AreLines (before ++ refused ∷ behind) text
     pub number : line_of fault ≡ first + length before
-    pub spelled : (lines : List (Line A)) × SpellsLines lines before
+    pub spelled : (lines : List (Line A)) × SpellsLines lines before × AreWithinLimits lines
     pub said : is_ignored refused ≡ false
     pub none : (line : Line A) → SpellsLine line refused → LeavesLines (Refused fault) (LineWithin line)
 

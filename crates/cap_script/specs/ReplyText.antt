@@ -1,11 +1,13 @@
 -- The text of a reply, as it is printed.
 use Rattle.std.specs.Prelude.{ℕ, Bool, if◌then◌else◌, List, [], ◌∷◌, ◌++◌, Some, None, codes, decimal, length}
+use Rattle.std.specs.List.{flat_map}
 use Rattle.hex.specs.Hex.{encode_lower}
 use Rattle.cap_changes.specs.Group.{TableChanges}
 use Rattle.cap_changes.specs.Patch.{patch_list_of}
 use Rattle.cap_codec.specs.Changeset.{list_bytes_with}
 use Rattle.cap_codec.specs.Patchset.{patch_list_bytes_with}
 use Rattle.cap_apply.specs.Report.{ReportState}
+use Rattle.cap_apply.specs.declared.conflict.Conflict.{Conflict}
 use Rattle.cap_core.specs.declared.command.Command.{Command}
 use Rattle.cap_core.specs.declared.command.Command.TheVariants as command
 use Rattle.cap_core.specs.declared.reply.Reply.{Reply}
@@ -13,9 +15,10 @@ use Rattle.cap_core.specs.declared.reply.Reply.TheVariants.{Done, Written, Appli
 use Rattle.cap_core.specs.declared.reply.Reply.TheVariants.{Capture, Refused}
 use Rattle.cap_script.specs.RefusalText.{refusal_text}
 use Rattle.cap_script.specs.RowText.{snapshot_text}
+use Rattle.cap_script.specs.Words.{answer_word, kind_word}
 use Rattle.cap_script.specs.declared.line.Line.{Line}
 use Rattle.cap_script.specs.declared.line.Show.{Show}
-use Rattle.cap_script.specs.declared.line.Show.TheVariants.{Changeset, Patchset}
+use Rattle.cap_script.specs.declared.line.Show.TheVariants.{Changeset, Patchset, Report}
 
 -- lower case hex digits, or `-` where there are no bytes
 abbrev pub hex_or_dash : List ℕ → List ℕ
@@ -31,7 +34,30 @@ applied_text version report =
     ++ (codes ", omitted " ++ (decimal (length report.omitted)
     ++ (codes ", skipped " ++ decimal (length report.skipped)))))))
 
+-- the change that had a conflict, the conflict's kind, and the answer to it
+abbrev pub conflict_text : Conflict → List ℕ
+conflict_text conflict =
+    10 ∷ (codes "conflict " ++ (decimal conflict.change
+    ++ (codes " " ++ (kind_word conflict.kind ++ (codes " " ++ answer_word conflict.answer)))))
+
+-- what became of a change or a group, and its number
+abbrev pub number_text : List ℕ → ℕ → List ℕ
+number_text word number = 10 ∷ (word ++ (codes " " ++ decimal number))
+
+-- the conflicts, the changes that were left out, and the groups that were skipped, each on a line of its own, after
+-- the line before
+abbrev pub report_text : ReportState → List ℕ
+report_text report =
+    flat_map conflict_text report.conflicts
+    ++ (flat_map (number_text (codes "omitted")) report.omitted
+    ++ flat_map (number_text (codes "skipped")) report.skipped)
+
 module _ {A : Type 0} where
+  -- the outcome of an apply
+  abbrev pub applied_shown : Show A → ℕ → ReportState → List ℕ
+  applied_shown Report version report = applied_text version report ++ report_text report
+  applied_shown _ version report = applied_text version report
+
   -- whether a session is empty is true or false, and a flag is on or off
   abbrev pub flag_text : Command A → Bool → List ℕ
   flag_text (command.IsEmpty session) flag = if flag then codes "true" else codes "false"
@@ -48,7 +74,7 @@ module _ {A : Type 0} where
   unfoldable pub reply_text : Line A → Reply A → List ℕ
   reply_text line Done = codes "ok"
   reply_text line (Written version) = codes "ok version " ++ decimal version
-  reply_text line (Applied version report) = applied_text version report
+  reply_text line (Applied version report) = applied_shown line.show version report
   reply_text line (Session number) = codes "session " ++ decimal number
   reply_text line (Snapshot snapshot) = snapshot_text line.show snapshot
   reply_text line (Flag flag) = flag_text line.command flag

@@ -1,5 +1,7 @@
 -- The words of commands.
 use Rattle.std.specs.Prelude.{ℕ, Bool, true, false, if◌then◌else◌, List, map, Option, Some, None, codes}
+use Rattle.cap_apply.specs.declared.conflict.ConflictKind.{ConflictKind}
+use Rattle.cap_apply.specs.declared.conflict.ConflictKind.TheVariants.{Data, NotFound, Conflict}
 use Rattle.cap_apply.specs.declared.policy.Answer.{Answer}
 use Rattle.cap_apply.specs.declared.policy.Answer.TheVariants.{Omit, Replace, Abort}
 use Rattle.cap_script.specs.declared.words.Head.{Head}
@@ -46,6 +48,12 @@ abbrev pub answer_word : Answer → List ℕ
 answer_word Omit = codes "omit"
 answer_word Replace = codes "replace"
 answer_word Abort = codes "abort"
+
+-- the kind of a conflict
+abbrev pub kind_word : ConflictKind → List ℕ
+kind_word Data = codes "data"
+kind_word NotFound = codes "notfound"
+kind_word Conflict = codes "conflict"
 
 -- the new value of a flag, or `ask` to query it
 abbrev pub flag_word : Option Bool → List ℕ

@@ -2,10 +2,12 @@
 ghost use Rattle.std.specs.Prelude.{List, ℕ, OnErr, IfOk, IfErr, codes};
 ghost use Rattle.cap_apply.specs.declared.policy.Answer.{Answer};
 ghost use Rattle.cap_apply.specs.declared.policy.Policy.{Policy};
-ghost use Rattle.cap_script.specs.Commands.{SpelledBlob, SpelledCommand, SpelledPolicy};
+ghost use Rattle.cap_script.specs.Commands.{SpelledBlob, SpelledCommand, SpelledPolicy, SpelledReport};
 ghost use Rattle.cap_script.specs.Forms.{NotSpelled, Word};
+ghost use Rattle.cap_script.specs.LineLimits.{CommandWithin, SchemaWithin, ShowWithin};
 ghost use Rattle.cap_script.specs.RefusedLines.{NoBlob, NoCommand, NoSchema};
 ghost use Rattle.cap_script.specs.Words.{answer_word, head_word, letters};
+ghost use Rattle.cap_script.specs.declared.line.Show.{Show};
 
 use crate::Show;
 use crate::cursor::Cursor;
@@ -28,6 +30,7 @@ pub(crate) fn command<A: AllocHandle>(
 ) -> Result<(Command<A>, Show<A>), LineFault>
     ensures next { IfOk result (λ made.
         SpelledCommand made.0 made.1 cursor.old.rest.now cursor.new.rest.now) }
+    ensures within { IfOk result (λ made. CommandWithin made.0 × ShowWithin made.1) }
     ensures none { IfErr result (λ fault. NoCommand A fault cursor.old.rest.now) }
 {
     let word = cursor.word()?;
@@ -43,6 +46,7 @@ fn command_of<A: AllocHandle>(
 ) -> Result<(Command<A>, Show<A>), LineFault>
     ensures next { (line : List ℕ) → Word (head_word head) line cursor.old.rest.now
         → IfOk result (λ made. SpelledCommand made.0 made.1 line cursor.new.rest.now) }
+    ensures within { IfOk result (λ made. CommandWithin made.0 × ShowWithin made.1) }
     ensures none { (line : List ℕ) → Word (head_word head) line cursor.old.rest.now
         → IfErr result (λ fault. NoCommand A fault line) }
 {
@@ -66,6 +70,7 @@ fn create<A: AllocHandle>(
 ) -> Result<(Command<A>, Show<A>), LineFault>
     ensures next { (line : List ℕ) → Word (codes "create") line cursor.old.rest.now
         → IfOk result (λ made. SpelledCommand made.0 made.1 line cursor.new.rest.now) }
+    ensures within { IfOk result (λ made. CommandWithin made.0 × ShowWithin made.1) }
     ensures none { (line : List ℕ) → Word (codes "create") line cursor.old.rest.now
         → IfErr result (λ fault. NoCommand A fault line) }
 {
@@ -77,6 +82,7 @@ fn create<A: AllocHandle>(
 // Reads the columns of a table: one letter a column, `k` for a column of the primary key and `v` for another.
 fn schema<A: AllocHandle>(alloc: A, cursor: &mut Cursor<'_>) -> Result<Schema<A>, LineFault>
     ensures next { IfOk result (λ made. Word (letters made) cursor.old.rest.now cursor.new.rest.now) }
+    ensures within { IfOk result (λ made. SchemaWithin made) }
     ensures none { IfErr result (λ fault. NoSchema fault cursor.old.rest.now) }
 {
     let word = cursor.word()?;
@@ -91,6 +97,7 @@ fn commit<A: AllocHandle>(
 ) -> Result<(Command<A>, Show<A>), LineFault>
     ensures next { (line : List ℕ) → Word (codes "commit") line cursor.old.rest.now
         → IfOk result (λ made. SpelledCommand made.0 made.1 line cursor.new.rest.now) }
+    ensures within { IfOk result (λ made. CommandWithin made.0 × ShowWithin made.1) }
     ensures none { (line : List ℕ) → Word (codes "commit") line cursor.old.rest.now
         → IfErr result (λ fault. NoCommand A fault line) }
 {
@@ -105,6 +112,7 @@ fn commit_at<A: AllocHandle>(
 ) -> Result<(Command<A>, Show<A>), LineFault>
     ensures next { (line : List ℕ) → Word (codes "commitat") line cursor.old.rest.now
         → IfOk result (λ made. SpelledCommand made.0 made.1 line cursor.new.rest.now) }
+    ensures within { IfOk result (λ made. CommandWithin made.0 × ShowWithin made.1) }
     ensures none { (line : List ℕ) → Word (codes "commitat") line cursor.old.rest.now
         → IfErr result (λ fault. NoCommand A fault line) }
 {
@@ -113,19 +121,22 @@ fn commit_at<A: AllocHandle>(
     Ok((Command::Commit(batch), Show::Plain))
 }
 
-// Reads a blob and a policy: the answers to DATA, NOTFOUND and CONFLICT, `x'..' D N C`.
+// Reads a blob, a policy, which is the answers to DATA, NOTFOUND and CONFLICT, and how the outcome is printed:
+// `x'..' D N C`.
 fn apply<A: AllocHandle>(
     alloc: A,
     cursor: &mut Cursor<'_>,
 ) -> Result<(Command<A>, Show<A>), LineFault>
     ensures next { (line : List ℕ) → Word (codes "apply") line cursor.old.rest.now
         → IfOk result (λ made. SpelledCommand made.0 made.1 line cursor.new.rest.now) }
+    ensures within { IfOk result (λ made. CommandWithin made.0 × ShowWithin made.1) }
     ensures none { (line : List ℕ) → Word (codes "apply") line cursor.old.rest.now
         → IfErr result (λ fault. NoCommand A fault line) }
 {
     let blob = contents(alloc, cursor)?;
     let policy = policy(cursor)?;
-    Ok((Command::Apply { blob, policy }, Show::Plain))
+    let show = report(cursor)?;
+    Ok((Command::Apply { blob, policy }, show))
 }
 
 // Reads the changeset or patchset in a blob, the next token.
@@ -161,6 +172,19 @@ fn answer(cursor: &mut Cursor<'_>) -> Result<Answer, LineFault>
     answer_of(word.text).ok_or(word.misfit)
 }
 
+// Reads how the outcome of an apply is printed: `report`, or nothing for its counts alone.
+fn report<A: AllocHandle>(cursor: &mut Cursor<'_>) -> Result<Show<A>, LineFault>
+    ensures next { IfOk result (λ made. SpelledReport made cursor.old.rest.now cursor.new.rest.now) }
+    ensures within { IfOk result (λ made. ShowWithin made) }
+    ensures none { OnErr result ((show : Show A) → NotSpelled (SpelledReport show) cursor.old.rest.now) }
+{
+    if cursor.takes_end() {
+        return Ok(Show::Plain);
+    }
+    cursor.keyword("report")?;
+    Ok(Show::Report)
+}
+
 // Reads a query for a row of a snapshot: `T REF`.
 fn get<A: AllocHandle>(
     alloc: A,
@@ -168,6 +192,7 @@ fn get<A: AllocHandle>(
 ) -> Result<(Command<A>, Show<A>), LineFault>
     ensures next { (line : List ℕ) → Word (codes "get") line cursor.old.rest.now
         → IfOk result (λ made. SpelledCommand made.0 made.1 line cursor.new.rest.now) }
+    ensures within { IfOk result (λ made. CommandWithin made.0 × ShowWithin made.1) }
     ensures none { (line : List ℕ) → Word (codes "get") line cursor.old.rest.now
         → IfErr result (λ fault. NoCommand A fault line) }
 {
@@ -183,6 +208,7 @@ fn scan<A: AllocHandle>(
 ) -> Result<(Command<A>, Show<A>), LineFault>
     ensures next { (line : List ℕ) → Word (codes "scan") line cursor.old.rest.now
         → IfOk result (λ made. SpelledCommand made.0 made.1 line cursor.new.rest.now) }
+    ensures within { IfOk result (λ made. CommandWithin made.0 × ShowWithin made.1) }
     ensures none { (line : List ℕ) → Word (codes "scan") line cursor.old.rest.now
         → IfErr result (λ fault. NoCommand A fault line) }
 {
@@ -197,6 +223,7 @@ fn save<A: AllocHandle>(
 ) -> Result<(Command<A>, Show<A>), LineFault>
     ensures next { (line : List ℕ) → Word (codes "save") line cursor.old.rest.now
         → IfOk result (λ made. SpelledCommand made.0 made.1 line cursor.new.rest.now) }
+    ensures within { IfOk result (λ made. CommandWithin made.0 × ShowWithin made.1) }
     ensures none { (line : List ℕ) → Word (codes "save") line cursor.old.rest.now
         → IfErr result (λ fault. NoCommand A fault line) }
 {

@@ -10,6 +10,7 @@ mod lines;
 mod operation;
 mod refusal_text;
 mod reply;
+mod report_text;
 mod rest;
 mod row_text;
 mod session_command;

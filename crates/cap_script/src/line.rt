@@ -1,5 +1,6 @@
 //! A line of a workload.
 ghost use Rattle.std.specs.Prelude.{◌≡◌, IfOk, IfErr};
+ghost use Rattle.cap_script.specs.LineLimits.{LineWithin};
 ghost use Rattle.cap_script.specs.RefusedLines.{NoLine};
 ghost use Rattle.cap_script.specs.Script.{SpellsLine, is_ignored};
 
@@ -26,6 +27,9 @@ pub enum Show<A: AllocHandle> {
     Changeset(KeyFlags),
     /// The patchset of a capture, with these key flags.
     Patchset(KeyFlags),
+    /// The outcome of an apply, with its conflicts, the changes that were left out and the groups that were
+    /// skipped.
+    Report,
 }
 
 /// A line of a workload: a command, its worker, and how its reply is printed.
@@ -43,6 +47,7 @@ impl<A: AllocHandle> Line<A> {
     // The line with this text, which is not ignored.
     pub(crate) fn parse(alloc: A, text: &str) -> Result<Self, LineFault>
         ensures spelled { IfOk result (λ line. SpellsLine line text.now) }
+        ensures within { IfOk result (λ line. LineWithin line) }
         ensures none { IfErr result (λ fault. NoLine A fault text.now) }
     {
         one_filter();

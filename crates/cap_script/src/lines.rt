@@ -1,6 +1,6 @@
 //! An iterator over the lines of a workload.
 ghost use Rattle.std.specs.Prelude.{◌≡◌, ◌≤◌, ◌<◌, List, length, IfOk, IfErr, IfSome, MatchResult};
-ghost use Rattle.cap_script.specs.FirstRefused.{TellsFirstRefused};
+ghost use Rattle.cap_script.specs.FirstRefused.{TellsFirstRefused, SpellsWithin};
 ghost use Rattle.cap_script.specs.RefusedLines.{NoLines};
 ghost use Rattle.cap_script.specs.Script.{IsLeft, SpellsScript, TakesFirst, begins_at};
 ghost use Rattle.cap_script.specs.declared.line.Line.{Line};
@@ -24,10 +24,14 @@ pub struct Lines<'t, A: AllocHandle> {
 
 impl<'t, A: AllocHandle> Model for Lines<'t, A> {
     ghost use Rattle.std.specs.Prelude.{ℕ, List};
+    ghost use Rattle.cap_script.specs.FirstRefused.{SpellsWithin};
 
     ghost Value = { List ℕ };
 
     ghost view = { λ l. l.rest.text.now };
+
+    // The rest spells lines within the limits.
+    ghost invariant = { λ l. ∥ SpellsWithin A l.rest.text.now ∥₁ };
 }
 
 impl<'t, A: AllocHandle> Lines<'t, A> {
@@ -36,9 +40,10 @@ impl<'t, A: AllocHandle> Lines<'t, A> {
     /// Refused with the first fault by line, and within a line by offset. At one token `Syntax` comes before
     /// `Limit`, and `Limit` before `BadBlob`.
     pub fn new(alloc: A, text: &'t str) -> Result<Self, Fault<ScriptFault>>
-        // All of the text remains, and it spells some lines.
+        // All of the text remains, and it spells some lines, which are within the limits.
         ensures whole { IfOk result (λ rest. rest ≡ text.now) }
         ensures spelled { IfOk result (λ rest. (lines : List (Line A)) × SpellsScript lines text.now) }
+        ensures within { IfOk result (λ rest. SpellsWithin A text.now) }
         // A text that spells lines within the limits is not refused.
         ensures none { IfErr result (λ fault. NoLines A fault text.now) }
         // A fault is that of the first line that is neither ignored nor a command within the limits.
@@ -59,8 +64,11 @@ impl<'t, A: AllocHandle> Lines<'t, A> {
             → MatchResult result (λ found. TakesFirst found lines self.new) (λ none. IsLeft lines self.new) }
         ensures left { IfOk result (λ found. IfSome found (λ line. length self.new < length self.old)) }
     {
-        // The line is valid, so the only fault is out of memory.
-        self.rest.read(self.alloc).map_err(|_| OutOfMemory)
+        match self.rest.read(self.alloc) {
+            Ok(found) => Ok(found),
+            Err(Fault::OutOfMemory) => Err(OutOfMemory),
+            Err(Fault::Refused(_)) => unreachable!(),
+        }
     }
 
     /// Whether the next line begins with `@`.

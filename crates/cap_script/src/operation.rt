@@ -1,7 +1,9 @@
 //! Reads the operations of a transaction.
 ghost use Rattle.std.specs.Prelude.{◌≡◌, ◌≤◌, ◌<◌, ◌++◌, ◌∷◌, [], false, None, List, ℕ, length, IfOk, IfErr};
 ghost use Rattle.std.specs.Prelude.{OnOk, codes};
+ghost use Rattle.std.specs.List.{AllByRecursion};
 ghost use Rattle.cap_script.specs.Forms.{◌▸◌, Word};
+ghost use Rattle.cap_script.specs.Limits.{NameWithin, OpWithin, OpsWithin, ValueWithin};
 ghost use Rattle.cap_script.specs.Operations.{SpelledAction, SpelledField, SpelledFields, SpelledOperation};
 ghost use Rattle.cap_script.specs.Operations.{SpelledOperations};
 ghost use Rattle.cap_script.specs.Refused.{Leaves, NoAction, NoField, NoFields, NoName, NoNextOperation};
@@ -20,6 +22,7 @@ use cap_value::{AllocHandle, Name, Refusal, Value};
 // Reads the name of a table or of a saved database.
 pub(crate) fn name<A: AllocHandle>(alloc: A, cursor: &mut Cursor<'_>) -> Result<Name<A>, LineFault>
     ensures next { IfOk result (λ made. Word made cursor.old.rest.now cursor.new.rest.now) }
+    ensures within { IfOk result (λ made. NameWithin made) }
     ensures none { IfErr result (λ fault. NoName fault cursor.old.rest.now) }
     ensures left { length cursor.new.rest.now ≤ length cursor.old.rest.now }
 {
@@ -38,6 +41,7 @@ pub(crate) fn batch<A: AllocHandle>(
     ensures seen { IfOk result (λ made. made.seen ≡ None) }
     ensures next { IfOk result (λ made.
         SpelledOperations made.ops cursor.old.rest.now cursor.new.rest.now) }
+    ensures within { IfOk result (λ made. OpsWithin made.ops) }
     ensures none { IfErr result (λ fault. NoOperations A fault cursor.old.rest.now) }
 {
     push(&mut batch, operation(alloc, cursor, false)?)?;
@@ -53,6 +57,7 @@ fn push<A: AllocHandle>(batch: &mut Batch<A>, op: Op<A>) -> Result<(), LineFault
     ensures base { OnOk result (batch.new.base ≡ batch.old.base) }
     ensures seen { OnOk result (batch.new.seen ≡ None) }
     ensures ops { OnOk result (batch.new.ops ≡ batch.old.ops ++ op ∷ []) }
+    ensures room { OnOk result (length batch.old.ops < 10000) }
     ensures full { IfErr result (λ fault. Leaves fault (length batch.old.ops < 10000)) }
 {
     Ok(batch.push(op)?)
@@ -66,6 +71,7 @@ fn operation<A: AllocHandle>(
     is_full: bool,
 ) -> Result<Op<A>, LineFault>
     ensures next { IfOk result (λ made. SpelledOperation made cursor.old.rest.now cursor.new.rest.now) }
+    ensures within { IfOk result (λ made. OpWithin made) }
     ensures none { IfErr result (λ fault. NoNextOperation A fault is_full cursor.old.rest.now) }
     ensures left { length cursor.new.rest.now ≤ length cursor.old.rest.now }
 {
@@ -100,6 +106,7 @@ fn has_room(is_full: bool) -> Result<(), LineFault>
 fn cascaded<A: AllocHandle>(alloc: A, cursor: &mut Cursor<'_>) -> Result<Op<A>, LineFault>
     ensures next { (line : List ℕ) → Word (codes "cascade") line cursor.old.rest.now
         → IfOk result (λ made. SpelledOperation made line cursor.new.rest.now) }
+    ensures within { IfOk result (λ made. OpWithin made) }
     ensures none { (line : List ℕ) → Word (codes "cascade") line cursor.old.rest.now
         → IfErr result (λ fault. NoOperation A fault line) }
     ensures left { length cursor.new.rest.now ≤ length cursor.old.rest.now }
@@ -119,6 +126,7 @@ fn operation_of<A: AllocHandle>(
     ensures cause { IfOk result (λ made. made.cause ≡ cause) }
     ensures next { (line : List ℕ) → Word (verb_word verb) line cursor.old.rest.now
         → IfOk result (λ made. SpelledAction made.table made.action line cursor.new.rest.now) }
+    ensures within { IfOk result (λ made. OpWithin made) }
     ensures none { (line : List ℕ) → Word (verb_word verb) line cursor.old.rest.now
         → IfErr result (λ fault. NoAction A fault line) }
     ensures left { length cursor.new.rest.now ≤ length cursor.old.rest.now }
@@ -161,6 +169,7 @@ fn assignments<A: AllocHandle>(
 ) -> Result<Assignments<A>, LineFault>
     ensures next { IfOk result (λ made.
         (Word (codes "set") ▸ SpelledFields made) cursor.old.rest.now cursor.new.rest.now) }
+    ensures within { IfOk result (λ made. AllByRecursion (λ field. ValueWithin field.1) made) }
     ensures none { IfErr result (λ fault. NoFields A fault cursor.old.rest.now) }
     ensures left { length cursor.new.rest.now ≤ length cursor.old.rest.now }
 {
@@ -179,6 +188,7 @@ fn assignment<A: AllocHandle>(
     cursor: &mut Cursor<'_>,
 ) -> Result<(usize, Value<A>), LineFault>
     ensures next { IfOk result (λ made. SpelledField made cursor.old.rest.now cursor.new.rest.now) }
+    ensures within { IfOk result (λ made. ValueWithin made.1) }
     ensures none { IfErr result (λ fault. NoField A fault cursor.old.rest.now) }
     ensures left { length cursor.new.rest.now ≤ length cursor.old.rest.now }
 {

@@ -3,9 +3,11 @@ ghost use Rattle.std.specs.Prelude.{◌≡◌, IfOk, string_bytes, codes, ◌++�
 ghost use Rattle.cap_changes.specs.Patch.{patch_list_of};
 ghost use Rattle.cap_codec.specs.Changeset.{list_bytes_with};
 ghost use Rattle.cap_codec.specs.Patchset.{patch_list_bytes_with};
-ghost use Rattle.cap_script.specs.ReplyText.{applied_text, capture_text, flag_text, hex_or_dash, reply_text};
+ghost use Rattle.cap_script.specs.ReplyText.{applied_shown, applied_text, capture_text, flag_text};
+ghost use Rattle.cap_script.specs.ReplyText.{hex_or_dash, reply_text, report_text};
 
 use crate::refusal_text::RefusalText;
+use crate::report_text::write_report;
 use crate::row_text::snapshot_text;
 use crate::{Line, Show};
 use cap_apply::Report;
@@ -14,7 +16,7 @@ use cap_core::{Capture, Command, Reply};
 use cap_value::{AllocHandle, OutOfMemory};
 
 /// The text of the reply to a line's command, without a line feed at its end. It has several lines where it
-/// prints rows.
+/// prints rows or the report of an apply.
 #[tactic(auto, unfolding(crate::specs::ReplyText::reply_text))]
 pub fn print_reply<A: AllocHandle>(
     alloc: A,
@@ -26,7 +28,7 @@ pub fn print_reply<A: AllocHandle>(
     match reply {
         Reply::Done => String::from_str(alloc, "ok"),
         Reply::Written { version } => format!(in alloc; "ok version {version}"),
-        Reply::Applied { version, report } => applied_text(alloc, *version, report),
+        Reply::Applied { version, report } => applied_text(alloc, &line.show, *version, report),
         Reply::Session(number) => format!(in alloc; "session {number}"),
         Reply::Snapshot(snapshot) => snapshot_text(alloc, &line.show, snapshot),
         Reply::Flag(flag) => String::from_str(alloc, flag_text(&line.command, *flag)),
@@ -41,6 +43,33 @@ pub fn print_reply<A: AllocHandle>(
 
 // The outcome of an apply.
 fn applied_text<A: AllocHandle>(
+    alloc: A,
+    show: &Show<A>,
+    version: u64,
+    report: &Report<A>,
+) -> Result<String<A>, OutOfMemory>
+    ensures { IfOk result (λ text. string_bytes text ≡ applied_shown show.now version report.now) }
+{
+    match show {
+        Show::Report => applied_with_report(alloc, version, report),
+        _ => applied_counts(alloc, version, report),
+    }
+}
+
+fn applied_with_report<A: AllocHandle>(
+    alloc: A,
+    version: u64,
+    report: &Report<A>,
+) -> Result<String<A>, OutOfMemory>
+    ensures { IfOk result (λ text.
+        string_bytes text ≡ applied_text version report.now ++ report_text report.now) }
+{
+    let mut text = applied_counts(alloc, version, report)?;
+    write_report(alloc, report, &mut text)?;
+    Ok(text)
+}
+
+fn applied_counts<A: AllocHandle>(
     alloc: A,
     version: u64,
     report: &Report<A>,

@@ -1,7 +1,8 @@
 //! The part of a workload's text that is left to parse.
 ghost use Rattle.std.specs.Prelude.{◌≡◌, ◌+◌, ◌≤◌, ◌<◌, ◌^◌, ◌++◌, ◌∷◌, List, [], false, length};
 ghost use Rattle.std.specs.Prelude.{IfOk, IfErr, IfSome, MatchOption, MatchResult};
-ghost use Rattle.cap_script.specs.FirstRefused.{IsFirstRefused, TellsFirstRefused};
+ghost use Rattle.cap_script.specs.FirstRefused.{IsFirstRefused, TellsFirstRefused, SpellsWithin};
+ghost use Rattle.cap_script.specs.LineLimits.{LineWithin};
 ghost use Rattle.cap_script.specs.RefusedLines.{NoLines};
 ghost use Rattle.cap_script.specs.Script.{IsCut, IsLeft, IsRead, SpellsScript, TakesFirst};
 ghost use Rattle.cap_script.specs.Script.{has_line_feed, is_ignored};
@@ -37,6 +38,7 @@ impl<'t> Rest<'t> {
         alloc: A,
     ) -> Result<Option<Line<A>>, Fault<ScriptFault>>
         ensures read { IfOk result (λ found. IsRead found self.old.text.now self.new.text.now) }
+        ensures within { IfOk result (λ found. IfSome found (λ line. LineWithin line)) }
         ensures none { IfErr result (λ fault. NoLines A fault self.old.text.now) }
         ensures first { IfErr result (λ fault.
             TellsFirstRefused A self.old.number fault self.old.text.now) }
@@ -47,6 +49,7 @@ impl<'t> Rest<'t> {
             → MatchResult result
             (λ found. TakesFirst found lines self.new.text.now)
             (λ fault. IsLeft lines self.new.text.now) }
+        ensures kept { SpellsWithin A self.old.text.now → SpellsWithin A self.new.text.now }
         ensures left { IfOk result (λ found. IfSome found (λ line.
             length self.new.text.now < length self.old.text.now)) }
     {

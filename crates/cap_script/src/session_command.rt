@@ -8,6 +8,7 @@ ghost use Rattle.cap_codec.specs.declared.key_flags.KeyFlags.{KeyFlags};
 ghost use Rattle.cap_filter.specs.Grammar.{Spells};
 ghost use Rattle.cap_script.specs.Commands.{SpelledCommand, SpelledFilter, SpelledKeyFlags};
 ghost use Rattle.cap_script.specs.Forms.{◌▸◌, Natural, NotSpelled, Word};
+ghost use Rattle.cap_script.specs.LineLimits.{CommandWithin, ShowWithin};
 ghost use Rattle.cap_script.specs.RefusedLines.{NoCommand, NoFilter};
 ghost use Rattle.cap_script.specs.Words.{flag_word, session_word};
 
@@ -29,6 +30,7 @@ pub(crate) fn session_command<A: AllocHandle>(
 ) -> Result<(Command<A>, Show<A>), LineFault>
     ensures next { (line : List ℕ) → Word (session_word word) line cursor.old.rest.now
         → IfOk result (λ made. SpelledCommand made.0 made.1 line cursor.new.rest.now) }
+    ensures within { IfOk result (λ made. CommandWithin made.0 × ShowWithin made.1) }
     ensures none { (line : List ℕ) → Word (session_word word) line cursor.old.rest.now
         → IfErr result (λ fault. NoCommand A fault line) }
 {
@@ -43,8 +45,8 @@ pub(crate) fn session_command<A: AllocHandle>(
             Ok((Command::Capture { session }, Show::Patchset(flags)))
         }
         SessionWord::Restart => {
-            let show = Show::Changeset(KeyFlags::Ones);
-            Ok((Command::Restart { session }, show))
+            let flags = key_flags(cursor)?;
+            Ok((Command::Restart { session }, Show::Changeset(flags)))
         }
         SessionWord::Drop => Ok((Command::DropSession { session }, Show::Plain)),
         SessionWord::AttachAll => Ok((Command::AttachAll { session }, Show::Plain)),
@@ -77,6 +79,7 @@ fn diff<A: AllocHandle>(
 ) -> Result<(Command<A>, Show<A>), LineFault>
     ensures next { (line : List ℕ) → (Word (codes "diff") ▸ Natural session) line cursor.old.rest.now
         → IfOk result (λ made. SpelledCommand made.0 made.1 line cursor.new.rest.now) }
+    ensures within { IfOk result (λ made. CommandWithin made.0 × ShowWithin made.1) }
     ensures none { (line : List ℕ) → (Word (codes "diff") ▸ Natural session) line cursor.old.rest.now
         → IfErr result (λ fault. NoCommand A fault line) }
 {
@@ -93,6 +96,7 @@ fn diff<A: AllocHandle>(
 // Reads a filter, which is the rest of the line.
 fn filter<A: AllocHandle>(alloc: A, cursor: &mut Cursor<'_>) -> Result<TableFilter<A>, LineFault>
     ensures next { IfOk result (λ made. SpelledFilter made cursor.old.rest.now cursor.new.rest.now) }
+    ensures within { IfOk result (λ made. IsTrue (is_within_limits made)) }
     ensures none { IfErr result (λ fault. NoFilter fault cursor.old.rest.now) }
 {
     let text = cursor.rest();
@@ -110,6 +114,7 @@ fn filter<A: AllocHandle>(alloc: A, cursor: &mut Cursor<'_>) -> Result<TableFilt
 // The filter that the text spells. The offset of a fault is within the text, or at its end.
 fn filter_of<A: AllocHandle>(alloc: A, text: &str) -> Result<TableFilter<A>, Fault<Refusal>>
     ensures found { IfOk result (λ made. Spells text.now made) }
+    ensures within { IfOk result (λ made. IsTrue (is_within_limits made)) }
     ensures only { (filter : Rule) → Spells text.now filter → IsTrue (is_within_limits filter)
         → AnswersUnlessMemory result (Ok filter) }
     ensures unfit { IfErr result (λ fault. (at : ℕ)

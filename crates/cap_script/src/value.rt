@@ -2,7 +2,7 @@
 ghost use Rattle.std.specs.Prelude.{◌≤◌, List, ℕ, length, IfOk, IfErr, codes};
 ghost use Rattle.std.specs.List.{AllByRecursion};
 ghost use Rattle.cap_script.specs.Forms.{Word};
-ghost use Rattle.cap_script.specs.Limits.{IsShort, ValueWithin};
+ghost use Rattle.cap_script.specs.Limits.{IsShort, RowWithin, ValueWithin};
 ghost use Rattle.cap_script.specs.Operations.{SpelledRow, SpelledValue, SpelledValues};
 ghost use Rattle.cap_script.specs.Refused.{NoRow, NoValue, NoValues, NoneSpelled};
 ghost use Rattle.cap_script.specs.Tokens.{Next, blob, text};
@@ -84,6 +84,7 @@ pub(crate) fn row_ref<A: AllocHandle>(
     cursor: &mut Cursor<'_>,
 ) -> Result<RowRef<A>, LineFault>
     ensures next { IfOk result (λ made. SpelledRow made cursor.old.rest.now cursor.new.rest.now) }
+    ensures within { IfOk result (λ made. RowWithin made) }
     ensures none { IfErr result (λ fault. NoRow A fault cursor.old.rest.now) }
     ensures left { length cursor.new.rest.now ≤ length cursor.old.rest.now }
 {
@@ -101,6 +102,7 @@ pub(crate) fn row_ref<A: AllocHandle>(
 fn key_ref<A: AllocHandle>(alloc: A, cursor: &mut Cursor<'_>) -> Result<RowRef<A>, LineFault>
     ensures next { (line : List ℕ) → Word (codes "key") line cursor.old.rest.now
         → IfOk result (λ made. SpelledRow made line cursor.new.rest.now) }
+    ensures within { IfOk result (λ made. RowWithin made) }
     ensures none { (line : List ℕ) → Word (codes "key") line cursor.old.rest.now
         → IfErr result (λ fault. NoRow A fault line) }
     ensures left { length cursor.new.rest.now ≤ length cursor.old.rest.now }

@@ -1,13 +1,13 @@
 //! The words of commands.
 ghost use Rattle.std.specs.Prelude.{◌≡◌, ◌≢◌, List, Bool, Option, IfOk, MatchOption};
-ghost use Rattle.cap_script.specs.Words.{answer_word, flag_word, head_word, key_letter, letters};
+ghost use Rattle.cap_script.specs.Words.{answer_word, flag_word, head_word, key_letter, kind_word, letters};
 ghost use Rattle.cap_script.specs.Words.{session_word, verb_word};
 ghost use Rattle.cap_script.specs.declared.words.Head.{Head};
 ghost use Rattle.cap_script.specs.declared.words.SessionWord.{SessionWord};
 ghost use Rattle.cap_script.specs.declared.words.Verb.{Verb};
 ghost use Rattle.cap_apply.specs.declared.policy.Answer.{Answer};
 
-use cap_apply::Answer;
+use cap_apply::{Answer, ConflictKind};
 use cap_value::{AllocHandle, OutOfMemory};
 
 // The first word of a command.
@@ -109,6 +109,26 @@ pub(crate) fn answer_of(word: &str) -> Option<Answer>
         "replace" => Some(Answer::Replace),
         "abort" => Some(Answer::Abort),
         _ => None,
+    }
+}
+
+pub(crate) fn answer_word(answer: Answer) -> &'static str
+    ensures { result.now ≡ answer_word answer }
+{
+    match answer {
+        Answer::Omit => "omit",
+        Answer::Replace => "replace",
+        Answer::Abort => "abort",
+    }
+}
+
+pub(crate) fn kind_word(kind: ConflictKind) -> &'static str
+    ensures { result.now ≡ kind_word kind }
+{
+    match kind {
+        ConflictKind::Data => "data",
+        ConflictKind::NotFound => "notfound",
+        ConflictKind::Conflict => "conflict",
     }
 }
 

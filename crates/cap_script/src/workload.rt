@@ -1,6 +1,7 @@
 //! Reads a whole workload.
 ghost use Rattle.std.specs.Prelude.{◌≡◌, ◌++◌, ◌∷◌, [], IfOk, IfErr, OnOk};
 ghost use Rattle.cap_script.specs.FirstRefused.{TellsFirstRefused};
+ghost use Rattle.cap_script.specs.LineLimits.{AreWithinLimits};
 ghost use Rattle.cap_script.specs.RefusedLines.{NoLines};
 ghost use Rattle.cap_script.specs.Script.{SpellsScript};
 ghost use Rattle.cap_script.specs.declared.line.Line.{Line};
@@ -21,8 +22,9 @@ pub struct Workload<A: AllocHandle> {
 /// Refused with the first fault by line, and within a line by offset. At one token `Syntax` comes before
 /// `Limit`, and `Limit` before `BadBlob`.
 pub fn parse<A: AllocHandle>(alloc: A, text: &str) -> Result<Workload<A>, Fault<ScriptFault>>
-    // The text spells the workload.
+    // The text spells the workload, which is within the limits.
     ensures spelled { IfOk result (λ workload. SpellsScript workload.lines.items text.now) }
+    ensures within { IfOk result (λ workload. AreWithinLimits workload.lines.items) }
     // A text that spells lines within the limits is not refused.
     ensures none { IfErr result (λ fault. NoLines A fault text.now) }
     // A fault is that of the first line that is neither ignored nor a command within the limits.

@@ -1,7 +1,7 @@
 -- The calls of the seats of a run, and the output so far.
-use Rattle.std.specs.Prelude.{◌≡◌, ◌⊎◌, ℕ, ◌+◌, List, [], ◌∷◌, ◌++◌, Result, Ok, Err, filter, get_or, is_some}
-use Rattle.std.specs.Prelude.{length, nat_eq, suc, true, false, if◌then◌else◌, OnOk}
-use Rattle.std.specs.List.{AllZip, Any, concat}
+use Rattle.std.specs.Prelude.{◌≡◌, ◌⊎◌, ◌≤◌, ℕ, ◌+◌, List, [], ◌∷◌, ◌++◌, Result, Ok, Err, filter, get_or}
+use Rattle.std.specs.Prelude.{is_some, length, nat_eq, suc, true, false, if◌then◌else◌, OnOk}
+use Rattle.std.specs.List.{AllByRecursion, AllZip, Any, concat}
 use Rattle.std.specs.Io.KnownBytes.{Appends}
 use mathlib.Core.List.{IsPrefix}
 use Rattle.cap_core.specs.Answer.{event_by}
@@ -16,7 +16,7 @@ use Rattle.cap_run.specs.declared.fault.RunFault.TheVariants.{Call, Close, Write
 use Rattle.cap_script.specs.ReplyText.{reply_text}
 use Rattle.cap_script.specs.Script.{SpellsScript, begins_at}
 use Rattle.cap_script.specs.declared.line.Line.{Line}
-use Rattle.cap_run.specs.Workload.{AreCalls, HasCount, ReportsEvents, calls_of, seat_of}
+use Rattle.cap_run.specs.Workload.{AreCalls, EachBlock, HasCount, ReportsEvents, calls_of, seat_of}
 
 -- a worker after its lines of a block: its seat, the texts of their replies, and the fault of the line after
 -- those
@@ -29,6 +29,38 @@ abbrev pub work : {A : Type 0} → SeatState A → List (List ℕ) → Ended →
 work seat texts ended = record { seat = seat; texts = texts; ended = ended }
 
 module _ {A : Type 0} where
+  -- what the seat has called since stands behind `front`: it has called nothing, or `front` has no calls of
+  -- the seat but the earlier ones
+  pub record CallsBehind (front : List (Event A)) (old new : SeatState A) : Type 0 where
+    pub number : new.number ≡ old.number
+    pub none_in : (calls new ≡ calls old) ⊎ IsPrefix (own old.number front) (calls old)
+
+  -- the seat has seen more, and what it has called stands behind all that it had seen
+  pub record GoesOn (old new : SeatState A) : Type 0 where
+    pub seen : IsPrefix old.seen new.seen
+    pub behind : CallsBehind old.seen old new
+
+  -- the seat's calls are as before; it has seen more, and at least `front`
+  pub record HasMet (front : List (Event A)) (old new : SeatState A) : Type 0 where
+    pub number : new.number ≡ old.number
+    pub answered : new.answered ≡ old.answered
+    pub seen : IsPrefix old.seen new.seen
+    pub meets : IsPrefix front new.seen
+
+  -- each seat has seen no more than `front`
+  abbrev pub EachSawIn : List (Event A) → List (SeatState A) → Type 0
+  EachSawIn front seats = AllByRecursion (λ seat. IsPrefix seat.seen front) seats
+
+  -- what the first seat has seen
+  abbrev pub first_seen : List (SeatState A) → List (Event A)
+  first_seen [] = []
+  first_seen (seat ∷ seats) = seat.seen
+
+  -- the first seat has seen all that the others have seen, and each seat has seen its own calls
+  abbrev pub FirstHasMet : List (SeatState A) → Type 0
+  FirstHasMet seats =
+      AllByRecursion (λ seat. IsPrefix seat.answered seat.seen) seats × EachSawIn (first_seen seats) seats
+
   -- the seat has made this line's call, and no other; the text is that of the reply
   pub record HasAnswered (line : Line A) (text : List ℕ) (old new : SeatState A) : Type 0 where
     pub reply : Reply A
@@ -36,12 +68,14 @@ module _ {A : Type 0} where
     pub number : new.number ≡ old.number
     pub calls_are : calls new ≡ calls old ++ event_by old.number line.command reply ∷ []
     pub seen : IsPrefix new.answered new.seen
+    pub goes_on : GoesOn old new
 
   -- the seat has the calls that it had, and may have more
   pub record KeepsCalls (old new : SeatState A) : Type 0 where
     pub number : new.number ≡ old.number
     pub begins : IsPrefix (calls old) (calls new)
     pub seen : IsPrefix old.answered old.seen → IsPrefix new.answered new.seen
+    pub goes_on : GoesOn old new
 
   -- the lines that are called from a seat
   abbrev pub lines_of : ℕ → ℕ → List (Line A) → List (Line A)
@@ -67,6 +101,7 @@ module _ {A : Type 0} where
     pub number : new.number ≡ old.number
     pub calls_are : AreCalls ended (calls old ++ calls_of threads lines replies) (calls new)
     pub seen : IsPrefix old.answered old.seen → IsPrefix new.answered new.seen
+    pub goes_on : GoesOn old new
     pub events : HasSeen ended new
 
   -- a worker that had this seat has called its lines of a block
@@ -102,9 +137,32 @@ module _ {A : Type 0} where
     pub calls_are : AreCalls ended (calls old ++ own old.number made) (calls new)
     pub seen : IsPrefix old.answered old.seen → IsPrefix new.answered new.seen
 
-  -- what the fault reports is what one of the seats has seen
+  -- one of the seats has seen as many events as the fault reports
   abbrev pub OneHasSeen : Ended → List (SeatState A) → Type 0
-  OneHasSeen ended seats = ReportsEvents (λ count. Any (λ seat. length seat.seen ≡ count) seats) ended
+  OneHasSeen ended seats = ReportsEvents (λ count. Any (λ seat. count ≤ length seat.seen) seats) ended
+
+  -- `front` has the calls that the seat had made before and its own of these, first. It has no more of the
+  -- seat's calls, or the seat has made no more.
+  pub record HasCut (front made : List (Event A)) (old new : SeatState A) : Type 0 where
+    pub number : new.number ≡ old.number
+    pub has : IsPrefix (calls old ++ own old.number made) (own old.number front)
+    pub no_more : (calls new ≡ calls old ++ own old.number made)
+        ⊎ IsPrefix (own old.number front) (calls old ++ own old.number made)
+
+  -- a history that the first seat has seen divides the calls of the seats after these
+  pub record AreCut (made : List (Event A)) (old new : List (SeatState A)) : Type 0 where
+    pub front : List (Event A)
+    pub seen : IsPrefix front (first_seen new)
+    pub seats : AllZip (HasCut front made) old new
+
+  -- The first seat has seen what the others have seen. What the seats have called stands behind all that it
+  -- had seen before, and what they have called behind the end of a block stands behind the calls up to there.
+  pub record AreInOrder (threads : ℕ) (lines : List (Line A)) (replies : List (Reply A))
+      (old new : List (SeatState A)) : Type 0 where
+    pub met : FirstHasMet new
+    pub seen : IsPrefix (first_seen old) (first_seen new)
+    pub behind : AllZip (CallsBehind (first_seen old)) old new
+    pub blocks : EachBlock lines replies (λ before behind. AreCut (calls_of threads before replies) old new)
 
   -- The seats have called these lines, each its own in their order, up to one that has no reply. This is the
   -- text of the replies, in the order of the lines.
@@ -115,6 +173,7 @@ module _ {A : Type 0} where
     pub text_is : text ≡ reply_lines lines replies
     pub seats : AllZip (HasCalledOwn ended (calls_of threads lines replies)) old new
     pub events : OneHasSeen ended new
+    pub order : FirstHasMet old → AreInOrder threads lines replies old new
 
   -- each seat's number is its index
   abbrev pub AreNumbered : (ℕ → ℕ) → List (SeatState A) → Type 0

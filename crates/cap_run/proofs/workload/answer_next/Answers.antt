@@ -1,5 +1,5 @@
-use Rattle.std.proofs.Common.{[], ◌∷◌, arith, refl, sym, subst, List}
-use Rattle.cap_run.specs.Code.Calls.{IsWholeBlock}
+use Rattle.std.proofs.Common.{◌∙◌, [], ◌∷◌, arith, refl, sym, subst, List}
+use Rattle.cap_run.specs.Code.Calls.{EachAt, IsWholeBlock}
 use Rattle.cap_run.proofs.NextLemmas.{next_alone, next_block, next_refused, of_ended}
 use Rattle.cap_run.proofs.SeatLemmas.{still_seats}
 use Rattle.cap_script.specs.declared.line.Line.{Line}
@@ -30,3 +30,10 @@ returns-clause-left g c = of_ended c.answer_alone-outcome.result (omega arith)
 pub returns-clause-called : goal.returns-clause-called
 returns-clause-called g c = λ rest spelled.
     next_alone c.args.shared.now.threads c.args.line rest c.answer_alone-outcome.result _ _ _ _ _ spelled c.answer_alone-outcome.ensures.called
+
+-- each line of the block begins with `@`
+pub answer_block-requires-clause-at : goal.answer_block-requires-clause-at
+answer_block-requires-clause-at g c κs within =
+    let spelled = c.requires.spelled in
+    let whole = c.in-Ok.ensures.block spelled.0 spelled.1 in
+    subst (λ (l : List (Line g.row.A.Denot)). EachAt l) (sym (c.as_slice.ensures.value ∙ whole.0.block_is)) (sym c.is_some.ensures ∙ c.if-is_some.true, whole.0.each)

@@ -1,8 +1,11 @@
-use Rattle.std.proofs.Common.{List, ℕ, string_bytes, subst, sym}
+use Rattle.std.proofs.Common.{◌≡◌, List, ℕ, IsErrAnd, false, inr, string_bytes, subst, sym}
 use Rattle.std.proofs.lemmas.Result.{err_from_is_err_and}
+use Rattle.cap_run.specs.RunFault.{IsNoWorkload, IsOfText, is_script}
+use Rattle.cap_script.specs.FirstRefused.{SpellsWithin}
 use Rattle.cap_script.specs.Script.{SpellsScript}
 use Rattle.cap_run.proofs.HistoryLemmas.{begins_nothing}
-use Rattle.cap_run.proofs.InputLemmas.{reads_passed, reads_unspelled, input_spelled, unread_early}
+use Rattle.cap_run.proofs.InputLemmas.{each_text, fault_of_text, known_text, no_script_fault, unread_no_script, unread_of_text, unspelled_early, unspelled_no_workload, reads_passed, reads_unspelled, input_spelled, unread_early}
+use Rattle.cap_run.proofs.OutputLemmas.{none_reported}
 use Rattle.cap_run.proofs.workload.run_workload.Goals as goal
 
 pub returns-clause-written : goal.returns-clause-written
@@ -35,3 +38,49 @@ pub serve_lines-requires-clause-spelled : goal.serve_lines-requires-clause-spell
 serve_lines-requires-clause-spelled g c κs within =
     let spelled = c.in_ok-lines.ensures.spelled in
     (spelled.0, subst (λ (l : List ℕ). SpellsScript spelled.0 l) (sym c.in_ok-lines.ensures.whole) spelled.1)
+
+-- which texts are refused
+pub returns-clause-refused : goal.returns-clause-refused
+returns-clause-refused g c = each_text _ (g.R.Source.remaining c.args.reader.now) (λ given. fault_of_text g.row.A.Denot c.serve_lines.result given c.serve_lines.ensures.status)
+
+pub returns-clause-read : goal.returns-clause-read
+returns-clause-read g c = each_text _ (g.R.Source.remaining c.args.reader.now) (λ given within. no_script_fault c.serve_lines.result c.serve_lines.ensures.status)
+
+pub returns-clause-no_lines : goal.returns-clause-no_lines
+returns-clause-no_lines g c =
+    known_text (λ given. ¬ (SpellsWithin g.row.A.Denot given) → IsErrAnd c.serve_lines.result IsNoWorkload) (g.R.Source.remaining c.args.reader.now) (string_bytes c.in_ok-text.text) c.as_str.result.now c.as_str.ensures.value c.in_ok-text.ensures.whole (λ none. absurd (none c.in_ok-lines.ensures.within))
+
+pub returns-in_err-lines-clause-refused : goal.returns-in_err-lines-clause-refused
+returns-in_err-lines-clause-refused g c =
+    let p = err_from_is_err_and c.from_residual-in_err-lines.result c.from_residual-in_err-lines.ensures.1 in
+    rw (p.1, p.2) (known_text (λ given. IsOfText g.row.A.Denot c.in_err-lines.field-0.0 given) (g.R.Source.remaining c.args.reader.now) (string_bytes c.in_ok-text.text) c.as_str.result.now c.as_str.ensures.value c.in_ok-text.ensures.whole c.in_err-lines.ensures.refused)
+
+pub returns-in_err-lines-clause-read : goal.returns-in_err-lines-clause-read
+returns-in_err-lines-clause-read g c =
+    let p = err_from_is_err_and c.from_residual-in_err-lines.result c.from_residual-in_err-lines.ensures.1 in
+    rw (p.1, p.2) (known_text (λ given. SpellsWithin g.row.A.Denot given → is_script c.in_err-lines.field-0.0 ≡ false) (g.R.Source.remaining c.args.reader.now) (string_bytes c.in_ok-text.text) c.as_str.result.now c.as_str.ensures.value c.in_ok-text.ensures.whole c.in_err-lines.ensures.read)
+
+pub returns-in_err-lines-clause-no_lines : goal.returns-in_err-lines-clause-no_lines
+returns-in_err-lines-clause-no_lines g c =
+    let p = err_from_is_err_and c.from_residual-in_err-lines.result c.from_residual-in_err-lines.ensures.1 in
+    rw (p.1, p.2) (each_text _ (g.R.Source.remaining c.args.reader.now) (λ given none. unspelled_no_workload c.in_err-lines.field-0.0 c.in_err-lines.ensures.early))
+
+pub returns-in_err-text-clause-refused : goal.returns-in_err-text-clause-refused
+returns-in_err-text-clause-refused g c =
+    let p = err_from_is_err_and c.from_residual.result c.from_residual.ensures.1 in
+    rw (p.1, p.2) (each_text _ (g.R.Source.remaining c.args.reader.now) (λ given. unread_of_text g.row.A.Denot c.in_err-text.field-0.0 given c.in_err-text.ensures.unread))
+
+pub returns-in_err-text-clause-read : goal.returns-in_err-text-clause-read
+returns-in_err-text-clause-read g c =
+    let p = err_from_is_err_and c.from_residual.result c.from_residual.ensures.1 in
+    rw (p.1, p.2) (each_text _ (g.R.Source.remaining c.args.reader.now) (λ given within. unread_no_script c.in_err-text.field-0.0 c.in_err-text.ensures.unread))
+
+pub returns-in_err-text-clause-no_lines : goal.returns-in_err-text-clause-no_lines
+returns-in_err-text-clause-no_lines g c =
+    let p = err_from_is_err_and c.from_residual.result c.from_residual.ensures.1 in
+    rw (p.1, p.2) (each_text _ (g.R.Source.remaining c.args.reader.now) (λ given none. inr c.in_err-text.ensures.unread))
+
+pub returns-in_err-lines-clause-write_reported : goal.returns-in_err-lines-clause-write_reported
+returns-in_err-lines-clause-write_reported g c =
+    let p = err_from_is_err_and c.from_residual-in_err-lines.result c.from_residual-in_err-lines.ensures.1 in
+    rw (p.1, p.2) (none_reported g.W.RunOutput.went g.W.RunOutput.failed c.in_err-lines.field-0.0 c.args.writer.now (unspelled_early c.in_err-lines.field-0.0 c.in_err-lines.ensures.early))

@@ -6,7 +6,7 @@ use Rattle.cap_script.specs.Limits.{ValueWithin}
 use Rattle.cap_script.specs.Operations.{SpelledField, SpelledFields}
 use Rattle.cap_script.specs.Refused.{NoFields}
 use Rattle.cap_script.proofs.MoreLemmas.{one_on, stuck}
-use Rattle.cap_script.proofs.NoForms.{all_at}
+use Rattle.cap_script.proofs.NoForms.{all_at, all_more, all_one}
 use Rattle.cap_script.proofs.NoOperations.{every_fault, first_field, no_first_field, no_set}
 use Rattle.cap_script.proofs.NoneLemmas.{passed}
 use Rattle.cap_script.proofs.OneForms.{same_field, with_or_without}
@@ -20,6 +20,7 @@ loop-alloc-preserved g c = (
       (c.loop-alloc.invariant.1 (c.in_ok-assignment-2.field-0 ∷ tail) rest (c.takes_sign.new.self.rest.now, c.takes_sign.ensures.next c.loop-alloc-test.true, (c.assignment-in-loop-alloc.new.cursor.rest.now, c.in_ok-assignment-2.ensures.next, more))),
   one_on 44 SpelledField (Without 44) same_field (with_or_without 44) (λ fields. Word (codes "set") ▸ SpelledFields fields) c.loop-alloc.fields.items c.push-in-loop-alloc.new.self.items c.in_ok-assignment-2.field-0 c.args.cursor.now.rest.now
       c.loop-alloc.cursor.rest.now c.takes_sign.new.self.rest.now c.assignment-in-loop-alloc.new.cursor.rest.now c.in_ok-push-2.ensures.items c.loop-alloc.invariant.2 (c.takes_sign.ensures.next c.loop-alloc-test.true) c.in_ok-assignment-2.ensures.next,
+  all_more (λ field. ValueWithin field.1) c.loop-alloc.fields.items c.push-in-loop-alloc.new.self.items c.in_ok-assignment-2.field-0 c.in_ok-push-2.ensures.items c.loop-alloc.invariant.3 c.in_ok-assignment-2.ensures.within,
 )
 
 pub returns-clause-next : goal.returns-clause-next
@@ -34,7 +35,11 @@ loop-alloc-init g c =
       search rules,
       search rules,
       first_field {A = g.row.A.Denot} c.in_ok-assignment.field-0 c.push.new.self.items c.args.cursor.now.rest.now c.keyword.new.self.rest.now c.assignment.new.cursor.rest.now one c.in_ok-keyword.ensures.next c.in_ok-assignment.ensures.next,
+      all_one (λ field. ValueWithin field.1) c.push.new.self.items c.in_ok-assignment.field-0 one c.in_ok-assignment.ensures.within,
     )
+
+pub returns-clause-within : goal.returns-clause-within
+returns-clause-within g c = rw c.new.ensures c.loop-alloc.invariant.3
 
 pub returns-in_err-keyword-clause-none : goal.returns-in_err-keyword-clause-none
 returns-in_err-keyword-clause-none g c =

@@ -5,7 +5,7 @@ use Rattle.cap_script.specs.Forms.{Without}
 use Rattle.cap_script.specs.Limits.{OpsWithin}
 use Rattle.cap_script.specs.Refused.{NoOperations}
 use Rattle.cap_script.proofs.MoreLemmas.{one_on, stuck}
-use Rattle.cap_script.proofs.NoOperations.{first_operation, next_within, no_first_operation, no_first_push, no_push}
+use Rattle.cap_script.proofs.NoOperations.{first_operation, next_within, no_first_operation, no_first_push, no_push, ops_more, ops_one}
 use Rattle.cap_script.proofs.NoneLemmas.{passed}
 use Rattle.cap_script.proofs.OneForms.{same_operation, with_or_without}
 use Rattle.cap_script.proofs.SpellLemmas.{no_more, one_more}
@@ -19,6 +19,7 @@ loop-alloc-preserved g c = (
       (c.loop-alloc.invariant.2 (c.in_ok-operation-2.field-0 ∷ tail) rest (c.takes_sign.new.self.rest.now, c.takes_sign.ensures.next c.loop-alloc-test.true, (c.operation-in-loop-alloc.new.cursor.rest.now, c.in_ok-operation-2.ensures.next, more))),
   one_on 59 SpelledOperation (Without 59) same_operation (with_or_without 59) SpelledOperations c.loop-alloc.batch.ops c.push-in-loop-alloc.new.batch.ops c.in_ok-operation-2.field-0 c.args.cursor.now.rest.now c.loop-alloc.cursor.rest.now
       c.takes_sign.new.self.rest.now c.operation-in-loop-alloc.new.cursor.rest.now c.in_ok-push-2.ensures.ops c.loop-alloc.invariant.3 (c.takes_sign.ensures.next c.loop-alloc-test.true) c.in_ok-operation-2.ensures.next,
+  ops_more {A = g.row.A.Denot} c.loop-alloc.batch.ops c.push-in-loop-alloc.new.batch.ops c.in_ok-operation-2.field-0 c.in_ok-push-2.ensures.ops c.in_ok-push-2.ensures.room c.loop-alloc.invariant.4 c.in_ok-operation-2.ensures.within,
 )
 
 pub returns-clause-next : goal.returns-clause-next
@@ -33,7 +34,11 @@ loop-alloc-init g c =
       search rules,
       search rules,
       first_operation {A = g.row.A.Denot} c.in_ok-operation.field-0 c.push.new.batch.ops c.args.cursor.now.rest.now c.operation.new.cursor.rest.now one c.in_ok-operation.ensures.next,
+      ops_one {A = g.row.A.Denot} c.push.new.batch.ops c.in_ok-operation.field-0 one c.in_ok-operation.ensures.within,
     )
+
+pub returns-clause-within : goal.returns-clause-within
+returns-clause-within g c = c.loop-alloc.invariant.4
 
 pub returns-in_err-operation-clause-none : goal.returns-in_err-operation-clause-none
 returns-in_err-operation-clause-none g c =

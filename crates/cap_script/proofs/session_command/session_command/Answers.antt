@@ -1,7 +1,7 @@
 use Rattle.cap_script.specs.RefusedLines.{NoCommand}
 use Rattle.cap_script.specs.declared.words.Head.TheVariants as head
 use Rattle.cap_script.specs.declared.words.SessionWord.TheVariants as session
-use Rattle.cap_script.proofs.NoCommands.{no_attached, no_changeset, no_enabled, no_filter, no_indirect, no_patchset, no_said, no_session}
+use Rattle.cap_script.proofs.NoCommands.{no_attached, no_changeset, no_enabled, no_filter, no_indirect, no_patchset, no_restart, no_said, no_session}
 use Rattle.cap_script.proofs.NoOperations.{every_fault}
 use Rattle.cap_script.proofs.NoneLemmas.{passed}
 use Rattle.cap_script.proofs.session_command.session_command.Goals as goal
@@ -28,6 +28,11 @@ pub returns-in_err-flags-in-Patchset-clause-none : goal.returns-in_err-flags-in-
 returns-in_err-flags-in-Patchset-clause-none g c = λ line begun.
     every_fault c.from_residual-in_err-flags-in-Patchset.result (λ fault. NoCommand g.row.A.Denot fault line)
     (λ fault. no_said g.row.A.Denot fault (head.Of session.Patchset) line c.args.cursor.now.rest.now (rw c.in-Patchset.is at begun) (no_patchset g.row.A.Denot fault _ c.args.cursor.now.rest.now c.natural.new.self.rest.now c.in_ok-session.ensures.next c.in_err-flags-in-Patchset.ensures.none))
+
+pub returns-in_err-flags-in-Restart-clause-none : goal.returns-in_err-flags-in-Restart-clause-none
+returns-in_err-flags-in-Restart-clause-none g c = λ line begun.
+    every_fault c.from_residual-in_err-flags-in-Restart.result (λ fault. NoCommand g.row.A.Denot fault line)
+    (λ fault. no_said g.row.A.Denot fault (head.Of session.Restart) line c.args.cursor.now.rest.now (rw c.in-Restart.is at begun) (no_restart g.row.A.Denot fault _ c.args.cursor.now.rest.now c.natural.new.self.rest.now c.in_ok-session.ensures.next c.in_err-flags-in-Restart.ensures.none))
 
 pub returns-in_err-table-in-Attach-clause-none : goal.returns-in_err-table-in-Attach-clause-none
 returns-in_err-table-in-Attach-clause-none g c = λ line begun.

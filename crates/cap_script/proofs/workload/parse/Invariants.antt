@@ -10,6 +10,7 @@ abbrev pub invariant-loop-lines : goal.invariant-loop-lines
 invariant-loop-lines g l =
     ((more : List (Line g.row.A.Denot)) → SpellsScript more l.rest.text.now → SpellsScript (l.lines.items ++ more) l.text)
     × ((lines : List (Line g.row.A.Denot)) → SpellsScript lines l.text → (left : List (Line g.row.A.Denot)) × SpellsScript left l.rest.text.now × (AreWithinLimits lines → AreWithinLimits left))
+    × AreWithinLimits l.lines.items
     × ((why : ScriptFault) → IsFirstRefused g.row.A.Denot l.rest.number why l.rest.text.now → IsFirstRefused g.row.A.Denot 1 why l.text)
 
 abbrev pub decreases-loop-lines : goal.decreases-loop-lines

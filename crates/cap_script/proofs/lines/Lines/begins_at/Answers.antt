@@ -1,4 +1,5 @@
 use Rattle.std.proofs.Common.{◌∙◌, ℕ, List, ap, eqb, subst, sym}
+use Rattle.std.proofs.Math.Logic.{∥∥₁_map}
 use Rattle.cap_script.specs.Script.{SpellsScript, begins_at}
 use Rattle.cap_script.specs.Tokens.{begins}
 use Rattle.cap_script.specs.declared.line.Line.{Line}
@@ -16,3 +17,10 @@ pub returns-in_default-clause-next : goal.returns-in_default-clause-next
 returns-in_default-clause-next g c = λ lines spelled.
     let left = c.in_default.ensures.passed lines (subst (λ (t : List ℕ). SpellsScript lines t) (sym c.self.view_is) spelled) in
     (sym (ap (λ (ls : List (Line g.row.A.Denot)). begins_at ls) (none_left lines c.next_text.new.self.text.now c.in_default.ensures.here left)), left)
+
+-- without the ignored lines the text spells the same lines
+pub invariant_of-self : goal.invariant_of-self
+invariant_of-self g c = ∥∥₁_map c.self.invariant (λ (lines, spelled, within). (lines, c.in_default.ensures.passed lines spelled, within))
+
+pub invariant_of-self-2 : goal.invariant_of-self-2
+invariant_of-self-2 g c = ∥∥₁_map c.self.invariant (λ (lines, spelled, within). (lines, c.in-Some.ensures.passed lines spelled, within))

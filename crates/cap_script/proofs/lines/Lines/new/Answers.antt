@@ -1,37 +1,43 @@
-use Rattle.std.proofs.Common.{ℕ, List, [], ◌∷◌, Option, IfSome, subst}
+use Rattle.std.proofs.Common.{ℕ, List, [], Option, subst}
 use Rattle.cap_script.specs.FirstRefused.{IsFirstRefused, TellsFirstRefused}
 use Rattle.cap_script.specs.RefusedLines.{NoLines}
-use Rattle.cap_script.specs.Script.{IsRead, SpellsScript, TakesFirst}
-use Rattle.cap_script.specs.declared.fault.ScriptFault.{ScriptFault}
+use Rattle.cap_script.specs.Script.{IsRead, SpellsScript}
 use Rattle.cap_script.specs.declared.line.Line.{Line}
-use Rattle.cap_script.proofs.FirstLemmas.{first_over}
-use Rattle.cap_script.proofs.NoLines.{left_behind, none_left_over, passed_on}
+use Rattle.cap_script.proofs.FirstLemmas.{first_over, one_line_more}
+use Rattle.cap_script.proofs.NoLines.{none_left_over, passed_on}
 use Rattle.cap_script.proofs.lines.Lines.new.Goals as goal
 
 pub loop-line-init : goal.loop-line-init
 loop-line-init g c = (
-  λ lines spelled. (lines, subst (λ (t : List ℕ). SpellsScript lines t) c.new-rest.ensures.text spelled),
+  λ lines spelled within. (lines, subst (λ (t : List ℕ). SpellsScript lines t) c.new-rest.ensures.text spelled, within),
   λ lines spelled. (lines, rw c.new-rest.ensures.text spelled, λ within. within),
   λ why so. subst (λ (t : List ℕ). IsFirstRefused g.row.A.Denot 1 why t) c.new-rest.ensures.text (subst (λ (n : ℕ). IsFirstRefused g.row.A.Denot n why c.new-rest.result.text.now) c.new-rest.ensures.number so),
 )
 
 pub loop-line-preserved : goal.loop-line-preserved
-loop-line-preserved g c = (
-  λ lines spelled.
-      let read = subst (λ (o : Option (Line g.row.A.Denot)). IsRead o c.loop-line.rest.text.now c.read.new.self.text.now) c.in-Some.is c.in_ok-_line.ensures.read in
-      c.loop-line.invariant.0 (c.in-Some._line ∷ lines) (read lines spelled),
-  λ lines spelled.
-      let (left, here, within) = c.loop-line.invariant.1 lines spelled in
-      left_behind {A = g.row.A.Denot} c.in-Some._line lines left c.read.new.self.text.now within (subst (λ (o : Option (Line g.row.A.Denot)). TakesFirst o left c.read.new.self.text.now) c.in-Some.is (c.in_ok-_line.ensures.next left here)),
-  λ why so.
-      let later = subst (λ (o : Option (Line g.row.A.Denot)). IfSome o (λ line. (why : ScriptFault) → IsFirstRefused g.row.A.Denot c.read.new.self.number why c.read.new.self.text.now → IsFirstRefused g.row.A.Denot c.loop-line.rest.number why c.loop-line.rest.text.now)) c.in-Some.is c.in_ok-_line.ensures.later in
-      c.loop-line.invariant.2 why (later why so),
-)
+loop-line-preserved g c =
+    one_line_more g.row.A.Denot c.in-Some._line c.in_ok-_line.field-0 c.loop-line.rest.number c.read.new.self.number c.loop-line.rest.text.now c.read.new.self.text.now c.args.text.now c.in-Some.is c.in_ok-_line.ensures.read c.in_ok-_line.ensures.within
+    c.in_ok-_line.ensures.next c.in_ok-_line.ensures.later c.loop-line.invariant
 
-pub returns-clause-spelled : goal.returns-clause-spelled
-returns-clause-spelled g c =
+pub loop-line-preserved-in-Some : goal.loop-line-preserved-in-Some
+loop-line-preserved-in-Some g c =
+    one_line_more g.row.A.Denot c.in-Some._line c.in_ok-_line.field-0 c.loop-line.rest.number c.read.new.self.number c.loop-line.rest.text.now c.read.new.self.text.now c.args.text.now c.in-Some.is c.in_ok-_line.ensures.read c.in_ok-_line.ensures.within
+    c.in_ok-_line.ensures.next c.in_ok-_line.ensures.later c.loop-line.invariant
+
+pub loop-line-preserved-in-Some-2 : goal.loop-line-preserved-in-Some-2
+loop-line-preserved-in-Some-2 g c =
+    one_line_more g.row.A.Denot c.in-Some._line c.in_ok-_line.field-0 c.loop-line.rest.number c.read.new.self.number c.loop-line.rest.text.now c.read.new.self.text.now c.args.text.now c.in-Some.is c.in_ok-_line.ensures.read c.in_ok-_line.ensures.within
+    c.in_ok-_line.ensures.next c.in_ok-_line.ensures.later c.loop-line.invariant
+
+pub loop-line-preserved-in-Some-3 : goal.loop-line-preserved-in-Some-3
+loop-line-preserved-in-Some-3 g c =
+    one_line_more g.row.A.Denot c.in-Some._line c.in_ok-_line.field-0 c.loop-line.rest.number c.read.new.self.number c.loop-line.rest.text.now c.read.new.self.text.now c.args.text.now c.in-Some.is c.in_ok-_line.ensures.read c.in_ok-_line.ensures.within
+    c.in_ok-_line.ensures.next c.in_ok-_line.ensures.later c.loop-line.invariant
+
+pub returns-clause-within : goal.returns-clause-within
+returns-clause-within g c =
     let read = subst (λ (o : Option (Line g.row.A.Denot)). IsRead o c.loop-line.rest.text.now c.read.new.self.text.now) c.in_default.is c.in_ok-_line.ensures.read in
-    c.loop-line.invariant.0 [] read
+    c.loop-line.invariant.0 [] read tt
 
 pub returns-in_err-_line-clause-none : goal.returns-in_err-_line-clause-none
 returns-in_err-_line-clause-none g c =

@@ -1,7 +1,7 @@
 use Rattle.std.proofs.Common.{◌≡◌, ◌<◌, ℕ, List, [], ◌∷◌, ◌++◌, false, length, ap, arith, inl, inr, length-append, subst, sym}
 use Rattle.cap_script.specs.Script.{IsCut, is_ignored}
 use Rattle.cap_script.proofs.LineLemmas.{behind_line, cut_shorter, line_first, line_left, none_left, nothing_spelled}
-use Rattle.cap_script.proofs.FirstLemmas.{behind_one_line, first_here, first_over}
+use Rattle.cap_script.proofs.FirstLemmas.{behind_one_line, first_here, first_over, none_within, within_behind}
 use Rattle.cap_script.proofs.NoLines.{no_first}
 use Rattle.cap_script.proofs.rest.Rest.read.Goals as goal
 
@@ -54,10 +54,22 @@ returns-in-Err-clause-none g c =
     rw c.in_line.ensures
     (λ lines spelled. no_first {A = g.row.A.Denot} c.in-Err.fault _ lines c.next_text.new.self.text.now c.in-Some.text.now c.in-Some.behind.now here.0 here.1 c.in-Err.ensures.none (c.in-Some.ensures.passed lines spelled))
 
+pub returns-in_default-clause-kept : goal.returns-in_default-clause-kept
+returns-in_default-clause-kept g c = λ within. none_within {A = g.row.A.Denot} c.next_text.new.self.text.now c.in_default.ensures.here
+
+pub returns-in-Ok-clause-kept : goal.returns-in-Ok-clause-kept
+returns-in-Ok-clause-kept g c = λ (lines, spelled, within).
+    let here = c.in-Some.ensures.here in
+    within_behind {A = g.row.A.Denot} c.in-Ok.line lines c.in-Some.behind.now within
+    (behind_line c.one_workload.ensures c.in-Ok.line lines c.next_text.new.self.text.now c.in-Some.text.now c.in-Some.behind.now here.0 here.1 c.in-Ok.ensures.spelled (c.in-Some.ensures.passed lines spelled))
+
 pub returns-in-Ok-clause-later : goal.returns-in-Ok-clause-later
 returns-in-Ok-clause-later g c = λ why so.
     let here = c.in-Some.ensures.here in
-    c.in-Some.ensures.first why (behind_one_line {A = g.row.A.Denot} c.next_text.new.self.number why c.in-Ok.line c.next_text.new.self.text.now c.in-Some.text.now c.in-Some.behind.now here.0 c.in-Ok.ensures.spelled so)
+    c.in-Some.ensures.first why (behind_one_line {A = g.row.A.Denot} c.next_text.new.self.number why c.in-Ok.line c.next_text.new.self.text.now c.in-Some.text.now c.in-Some.behind.now here.0 c.in-Ok.ensures.spelled c.in-Ok.ensures.within so)
+
+pub returns-in-Err-clause-kept : goal.returns-in-Err-clause-kept
+returns-in-Err-clause-kept g c = λ (lines, spelled, within). (lines, c.in-Some.ensures.passed lines spelled, within)
 
 pub returns-in-Err-clause-first : goal.returns-in-Err-clause-first
 returns-in-Err-clause-first g c =
