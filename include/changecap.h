@@ -46,7 +46,7 @@ extern "C" {
 #define CHANGECAP_NOMEM     3 /* out of memory */
 #define CHANGECAP_PATCHSET  4 /* a patchset, where only a changeset serves */
 #define CHANGECAP_MISUSE    5 /* an argument that the call has no meaning for */
-#define CHANGECAP_REFUSED   6 /* the server refuses the command: its reply says why */
+#define CHANGECAP_REFUSED   6 /* the server refuses the command: its reply, or the fault, says why */
 #define CHANGECAP_COMMAND   7 /* the text is not one command: the fault is told */
 #define CHANGECAP_FULL      8 /* the server has answered 2^63 - 1 commands */
 #define CHANGECAP_KIND      9 /* a changeset where the blob before it is a patchset, or the other way round */
@@ -237,6 +237,63 @@ uint32_t changecap_server_call(changecap_server *server, const uint8_t *text, si
 /* Writes the text of the last reply, as docs/FORMAT.md has it, without a line feed at its end.
  *   OK (*len), ROOM (*len). */
 uint32_t changecap_server_reply(changecap_server *server, uint8_t *out, size_t room, size_t *len);
+
+/* ---- Commands by words and numbers ---- */
+
+/* Each is a command of docs/FORMAT.md that needs no text, and leaves the text of the last reply as it is. Where the status
+ * is REFUSED, fault->kind is the number of the refusal, 1 to 20 as in E1 to E20 of docs/BEHAVIOUR.md, and fault->at is 0.
+ * Unless the status is OK or REFUSED, the server is as it was. */
+
+/* Creates a table. Each of the bytes at key is a column, and is in the primary key unless the byte is 0. The name is 1 to
+ * 255 bytes of UTF-8 without a zero byte, the columns are 1 to 2,000.
+ *   OK (*version is the new version), REFUSED, MISUSE (no such name, or number of columns), NOMEM, FULL. */
+uint32_t changecap_create(changecap_server *server, const uint8_t *table, size_t n, const uint8_t *key, size_t columns,
+                          uint64_t *version, changecap_fault *fault);
+
+/* Makes a session, as sqlite3session_create. Sessions have numbers, from 1 on.
+ *   OK (*session), REFUSED, NOMEM, FULL. */
+uint32_t changecap_session_new(changecap_server *server, uint64_t *session, changecap_fault *fault);
+
+/* Ends a session, as sqlite3session_delete.
+ *   OK, REFUSED, NOMEM, FULL. */
+uint32_t changecap_session_drop(changecap_server *server, uint64_t session, changecap_fault *fault);
+
+/* Attaches a table, as sqlite3session_attach. The table need not be there yet.
+ *   OK, REFUSED, MISUSE (no such name), NOMEM, FULL. */
+uint32_t changecap_session_attach(changecap_server *server, uint64_t session, const uint8_t *table, size_t n,
+                                  changecap_fault *fault);
+
+/* Attaches from now on each table of which a row changes, as sqlite3session_attach without a name.
+ *   OK, REFUSED, NOMEM, FULL. */
+uint32_t changecap_session_attach_all(changecap_server *server, uint64_t session, changecap_fault *fault);
+
+#define CHANGECAP_OFF 0
+#define CHANGECAP_ON  1
+#define CHANGECAP_ASK 2 /* the flag stays as it is */
+
+/* Enables or disables a session, and makes its touches indirect or direct, as sqlite3session_enable and
+ * sqlite3session_indirect.
+ *   OK (*flag is its value from now on), REFUSED, MISUSE (set is none of the three), NOMEM, FULL. */
+uint32_t changecap_session_enable(changecap_server *server, uint64_t session, uint32_t set, uint32_t *flag,
+                                  changecap_fault *fault);
+uint32_t changecap_session_indirect(changecap_server *server, uint64_t session, uint32_t set, uint32_t *flag,
+                                    changecap_fault *fault);
+
+/* Asks whether a session has no records, as sqlite3session_isempty.
+ *   OK (*flag is 0 or 1), REFUSED, NOMEM, FULL. */
+uint32_t changecap_session_isempty(changecap_server *server, uint64_t session, uint32_t *flag, changecap_fault *fault);
+
+/* Write what a session has captured, as sqlite3session_changeset and sqlite3session_patchset. The third writes the
+ * changeset, and then deletes the session's records; its flags and tables stay.
+ *   OK (*len), ROOM (*len), REFUSED, MISUSE (no such key_flags), NOMEM, FULL.
+ * Where there is no room the command is not carried out: no record is deleted. Unless the status is OK, out is as it
+ * was. */
+uint32_t changecap_session_changeset(changecap_server *server, uint64_t session, uint32_t key_flags, uint8_t *out,
+                                     size_t room, size_t *len, changecap_fault *fault);
+uint32_t changecap_session_patchset(changecap_server *server, uint64_t session, uint32_t key_flags, uint8_t *out,
+                                    size_t room, size_t *len, changecap_fault *fault);
+uint32_t changecap_session_restart(changecap_server *server, uint64_t session, uint32_t key_flags, uint8_t *out,
+                                   size_t room, size_t *len, changecap_fault *fault);
 
 /* Ends the server and frees what it has. */
 void changecap_server_close(changecap_server *server);

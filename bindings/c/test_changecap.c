@@ -550,6 +550,137 @@ static void refused_server(void){
   }
 }
 
+/* ---- Commands by words and numbers ---- */
+
+typedef uint32_t (*capture)(changecap_server *, uint64_t, uint32_t, uint8_t *, size_t, size_t *, changecap_fault *);
+
+static uint32_t attached(changecap_server *server, uint64_t session, const char *name, changecap_fault *fault){
+  bytes table = copy_of((const uint8_t *)name, strlen(name));
+  uint32_t status = changecap_session_attach(server, session, table.at, table.n, fault);
+  free(table.at);
+  return status;
+}
+
+static uint32_t created(changecap_server *server, const char *name, const char *key, uint64_t *version, changecap_fault *fault){
+  bytes table = copy_of((const uint8_t *)name, strlen(name)), columns = copy_of((const uint8_t *)key, strlen(key));
+  for(size_t i = 0; i < columns.n; i++) columns.at[i] = (uint8_t)(columns.at[i] - '0');
+  uint32_t status = changecap_create(server, table.at, table.n, columns.at, columns.n, version, fault);
+  free(table.at);
+  free(columns.at);
+  return status;
+}
+
+/* What a session has captured: first it is told the length, then it gets a buffer that is just as long. */
+static uint32_t captured_by(capture call, changecap_server *server, uint64_t session, uint32_t key_flags, bytes *made,
+                            changecap_fault *fault){
+  size_t len = 12345;
+  uint8_t none = 0xaa;
+  uint32_t status = call(server, session, key_flags, &none, 0, &len, fault);
+  *made = copy_of(&none, 0);
+  CHECK(none == 0xaa);
+  if( status == CHANGECAP_OK ) CHECK(len == 0);
+  if( status != CHANGECAP_ROOM ) return status;
+  free(made->at);
+  made->n = len;
+  made->at = __real_malloc(len);
+  do{
+    len = 0;
+    status = call(server, session, key_flags, made->at, made->n, &len, fault);
+  }while( status == CHANGECAP_NOMEM );
+  CHECK(status == CHANGECAP_OK && len == made->n);
+  return status;
+}
+
+static int captures(capture call, changecap_server *server, uint32_t key_flags, const char *hex){
+  changecap_fault fault;
+  bytes made;
+  int same = captured_by(call, server, 1, key_flags, &made, &fault) == CHANGECAP_OK && is_hex(made, hex);
+  free(made.at);
+  return same;
+}
+
+static void worked_sessions(void){
+  changecap_server server = CHANGECAP_CLOSED;
+  changecap_fault fault = { 77, 77 };
+  uint64_t version = 77, session = 77;
+  uint32_t flag = 77;
+  bytes made;
+  CHECK(changecap_server_open(&server) == CHANGECAP_OK);
+  CHECK(created(&server, "t", "10", &version, &fault) == CHANGECAP_OK && version == 1 && replies(&server, ""));
+  CHECK(created(&server, "u", "901", &version, &fault) == CHANGECAP_OK && version == 2 && fault.kind == 77);
+  CHECK(created(&server, "", "10", &version, &fault) == CHANGECAP_MISUSE && fault.kind == 77 && version == 2);
+  CHECK(created(&server, "v", "", &version, &fault) == CHANGECAP_MISUSE);
+  CHECK(created(&server, "\xff", "1", &version, &fault) == CHANGECAP_MISUSE);
+  CHECK(created(&server, "t", "1", &version, &fault) == CHANGECAP_REFUSED && fault.kind == 9 && fault.at == 0);
+  CHECK(changecap_session_new(&server, &session, &fault) == CHANGECAP_OK && session == 1 && version == 2);
+  CHECK(attached(&server, 1, "t", &fault) == CHANGECAP_OK);
+  CHECK(attached(&server, 2, "t", &fault) == CHANGECAP_REFUSED && fault.kind == 18 && fault.at == 0);
+  CHECK(attached(&server, 1, "", &fault) == CHANGECAP_MISUSE);
+  CHECK(changecap_session_isempty(&server, 1, &flag, &fault) == CHANGECAP_OK && flag == 1);
+  CHECK(changecap_session_enable(&server, 1, CHANGECAP_ASK, &flag, &fault) == CHANGECAP_OK && flag == 1);
+  CHECK(changecap_session_indirect(&server, 1, CHANGECAP_ASK, &flag, &fault) == CHANGECAP_OK && flag == 0);
+  CHECK(changecap_session_indirect(&server, 1, 3, &flag, &fault) == CHANGECAP_MISUSE && flag == 0);
+  CHECK(called(&server, "commit insert t (1,'x') ; insert u (1,2,3)", &fault) == CHANGECAP_OK);
+  CHECK(changecap_session_isempty(&server, 1, &flag, &fault) == CHANGECAP_OK && flag == 0);
+  CHECK(captures(changecap_session_changeset, &server, CHANGECAP_KEYS_ONES, "5402010074001200010000000000000001030178"));
+  CHECK(captures(changecap_session_patchset, &server, CHANGECAP_KEYS_PLACES, "5002010074001200010000000000000001030178"));
+  CHECK(captured_by(changecap_session_changeset, &server, 1, 2, &made, &fault) == CHANGECAP_MISUSE);
+  free(made.at);
+  CHECK(captured_by(changecap_session_restart, &server, 9, 0, &made, &fault) == CHANGECAP_REFUSED && fault.kind == 18);
+  free(made.at);
+  CHECK(changecap_session_enable(&server, 1, CHANGECAP_OFF, &flag, &fault) == CHANGECAP_OK && flag == 0);
+  CHECK(called(&server, "commit insert t (2,null)", &fault) == CHANGECAP_OK);
+  CHECK(captures(changecap_session_restart, &server, CHANGECAP_KEYS_ONES, "5402010074001200010000000000000001030178"));
+  CHECK(captures(changecap_session_restart, &server, CHANGECAP_KEYS_ONES, ""));
+  CHECK(changecap_session_enable(&server, 1, CHANGECAP_ON, &flag, &fault) == CHANGECAP_OK && flag == 1);
+  CHECK(changecap_session_indirect(&server, 1, CHANGECAP_ON, &flag, &fault) == CHANGECAP_OK && flag == 1);
+  CHECK(changecap_session_attach_all(&server, 1, &fault) == CHANGECAP_OK);
+  CHECK(called(&server, "commit delete u key(1,3)", &fault) == CHANGECAP_OK);
+  CHECK(captures(changecap_session_changeset, &server, CHANGECAP_KEYS_PLACES,
+                 "540301000275000901010000000000000001010000000000000002010000000000000003"));
+  CHECK(changecap_session_drop(&server, 1, &fault) == CHANGECAP_OK);
+  CHECK(changecap_session_isempty(&server, 1, &flag, &fault) == CHANGECAP_REFUSED && fault.kind == 18 && flag == 1);
+  CHECK(changecap_session_drop(&server, 1, &fault) == CHANGECAP_REFUSED);
+  changecap_server_close(&server);
+}
+
+/* Each request for memory is refused in turn: a call that was not carried out is carried out when it comes again. */
+static void refused_sessions(void){
+  for(long at = 0, granted = 0; !granted; at++){
+    changecap_server server = CHANGECAP_CLOSED;
+    changecap_fault fault;
+    uint64_t version = 0, session = 0;
+    uint32_t flag, status;
+    bytes made;
+    CHECK(changecap_server_open(&server) == CHANGECAP_OK);
+    refused_at = at;
+    granted = 1;
+#define AGAIN(call) while( (status = (call)) == CHANGECAP_NOMEM ) granted = 0
+    AGAIN(created(&server, "t", "10", &version, &fault));
+    CHECK(status == CHANGECAP_OK && version == 1);
+    AGAIN(changecap_session_new(&server, &session, &fault));
+    CHECK(status == CHANGECAP_OK && session == 1);
+    AGAIN(attached(&server, 1, "t", &fault));
+    CHECK(status == CHANGECAP_OK);
+    AGAIN(called(&server, "commit insert t (1,'x')", &fault));
+    CHECK(status == CHANGECAP_OK);
+    AGAIN(changecap_session_isempty(&server, 1, &flag, &fault));
+    CHECK(status == CHANGECAP_OK && flag == 0);
+    while( (status = captured_by(changecap_session_restart, &server, 1, 0, &made, &fault)) == CHANGECAP_NOMEM ){
+      granted = 0;
+      free(made.at);
+    }
+    CHECK(status == CHANGECAP_OK && is_hex(made, "5402010074001200010000000000000001030178"));
+    free(made.at);
+    AGAIN(changecap_session_drop(&server, 1, &fault));
+    CHECK(status == CHANGECAP_OK);
+#undef AGAIN
+    granted = granted && refused_at >= 0;
+    refused_at = -1;
+    changecap_server_close(&server);
+  }
+}
+
 /* What holds of a blob alone, of this status and fault, and of its text. A concatenation does not change once more. */
 static void concat_and_json_agree(bytes blob, uint32_t status, changecap_fault fault){
   bytes nothing = { (uint8_t *)"", 0 }, once, twice, text;
@@ -690,6 +821,8 @@ int main(int words, char **word){
   worked_iterator();
   worked_server();
   refused_server();
+  worked_sessions();
+  refused_sessions();
   read_known(word[1]);
   known_faults();
   for(size_t i = 0; i < number; i++){

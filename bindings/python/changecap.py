@@ -8,8 +8,11 @@ else libchangecap.so of ../out beside this file, else the system's.
         print(change.table, change.operation, change.old, change.new)
 
     with changecap.Server() as server:
-        server.call("create t kv")
-        session = int(server.call("session").split()[1])
+        server.create_table("t", [True, False])
+        session = server.session()
+        session.attach("t")
+        server.call("commit insert t (1,'x')")
+        changeset = session.changeset()
 
 A value is None, int, str (TEXT) or bytes (BLOB).
 """
@@ -17,12 +20,13 @@ import ctypes
 import ctypes.util
 import os
 import threading
-from ctypes import POINTER, byref, c_int64, c_size_t, c_uint32, c_void_p
+from ctypes import POINTER, byref, c_int64, c_size_t, c_uint32, c_uint64, c_void_p
 from dataclasses import dataclass
 
 OK, MALFORMED, ROOM, NOMEM, PATCHSET, MISUSE, REFUSED, COMMAND, FULL, ROW, DONE = 0, 1, 2, 3, 4, 5, 6, 7, 8, 100, 101
 KIND, COLUMNS = 9, 10
 KEYS_ONES, KEYS_PLACES = 0, 1
+OFF, ON, ASK = 0, 1, 2
 UNDEFINED, INTEGER, TEXT, BLOB, NULL = 0, 1, 3, 4, 5
 OPERATIONS = {18: "insert", 23: "update", 9: "delete"}
 
@@ -52,7 +56,7 @@ class NotOneCommand(Error):
 
 
 class Refused(Error):
-    """A command that the server refuses. The text is its reply."""
+    """A command that the server refuses. The text is its reply. A call that has no text tells the number, as in E18."""
 
     def __init__(self, reply):
         super().__init__(REFUSED, reply)
@@ -108,6 +112,17 @@ _CALLS = {
     "server_call": [POINTER(_Handle), _BYTES, _LEN, POINTER(_Fault)],
     "server_reply": [POINTER(_Handle), _OUT, _LEN, POINTER(c_size_t)],
     "server_close": [POINTER(_Handle)],
+    "create": [POINTER(_Handle), _BYTES, _LEN, _BYTES, _LEN, POINTER(c_uint64), POINTER(_Fault)],
+    "session_new": [POINTER(_Handle), POINTER(c_uint64), POINTER(_Fault)],
+    "session_drop": [POINTER(_Handle), c_uint64, POINTER(_Fault)],
+    "session_attach": [POINTER(_Handle), c_uint64, _BYTES, _LEN, POINTER(_Fault)],
+    "session_attach_all": [POINTER(_Handle), c_uint64, POINTER(_Fault)],
+    "session_enable": [POINTER(_Handle), c_uint64, c_uint32, POINTER(c_uint32), POINTER(_Fault)],
+    "session_indirect": [POINTER(_Handle), c_uint64, c_uint32, POINTER(c_uint32), POINTER(_Fault)],
+    "session_isempty": [POINTER(_Handle), c_uint64, POINTER(c_uint32), POINTER(_Fault)],
+    "session_changeset": [POINTER(_Handle), c_uint64, c_uint32, _OUT, _LEN, POINTER(c_size_t), POINTER(_Fault)],
+    "session_patchset": [POINTER(_Handle), c_uint64, c_uint32, _OUT, _LEN, POINTER(c_size_t), POINTER(_Fault)],
+    "session_restart": [POINTER(_Handle), c_uint64, c_uint32, _OUT, _LEN, POINTER(c_size_t), POINTER(_Fault)],
 }
 
 
@@ -144,6 +159,8 @@ def _check(status, fault=None):
         raise Malformed(fault)
     if status == COMMAND:
         raise NotOneCommand(fault)
+    if status == REFUSED:
+        raise Refused(f"refused: E{fault.kind}")
     if status == NOMEM:
         raise MemoryError
     if status != OK:
@@ -270,6 +287,32 @@ class Server:
             raise Refused(reply)
         return reply
 
+    def _made(self, call, *words):
+        """What a call does with the open handle, the words and a fault."""
+        fault = _Fault()
+        with self._lock:
+            if not self._handle.at:
+                raise ValueError("the server is closed")
+            return call(byref(self._handle), *words, fault)
+
+    def _done(self, call, *words):
+        def status(handle, *rest):
+            _check(call(handle, *rest[:-1], byref(rest[-1])), rest[-1])
+
+        self._made(status, *words)
+
+    def create_table(self, table, key):
+        """Creates a table with these columns, each of them in the primary key or not, and answers the new version."""
+        name, columns, version = table.encode(), bytes(bool(it) for it in key), c_uint64()
+        self._done(_library.create, name, len(name), columns, len(columns), byref(version))
+        return version.value
+
+    def session(self):
+        """Makes a session."""
+        number = c_uint64()
+        self._done(_library.session_new, byref(number))
+        return Session(self, number.value)
+
     def close(self):
         """Ends the server. Closing it again does nothing."""
         with self._lock:
@@ -285,3 +328,57 @@ class Server:
     def __del__(self):
         if getattr(self, "_handle", None):
             self.close()
+
+
+class Session:
+    """A session of a server."""
+
+    def __init__(self, server, number):
+        self._server, self.number = server, number
+
+    def attach(self, table=None):
+        """Attaches a table, or each table of which a row changes from now on."""
+        if table is None:
+            self._server._done(_library.session_attach_all, self.number)
+        else:
+            name = table.encode()
+            self._server._done(_library.session_attach, self.number, name, len(name))
+
+    def _flag(self, call, *words):
+        flag = c_uint32()
+        self._server._done(call, self.number, *words, byref(flag))
+        return bool(flag.value)
+
+    def enable(self, value=None):
+        """Whether the session is enabled, after it was set so where a value is given."""
+        return self._flag(_library.session_enable, ASK if value is None else ON if value else OFF)
+
+    def indirect(self, value=None):
+        """Whether touches are indirect, after that was set where a value is given."""
+        return self._flag(_library.session_indirect, ASK if value is None else ON if value else OFF)
+
+    def is_empty(self):
+        """Whether the session has no records."""
+        return self._flag(_library.session_isempty)
+
+    def _captured(self, call, key_flags):
+        def taken(handle, fault):
+            return _taken(lambda *out: call(handle, self.number, key_flags, *out, byref(fault)), fault=fault)
+
+        return self._server._made(taken)
+
+    def changeset(self, key_flags=KEYS_PLACES):
+        """The changeset of what the session has captured."""
+        return self._captured(_library.session_changeset, key_flags)
+
+    def patchset(self, key_flags=KEYS_PLACES):
+        """The patchset of what the session has captured."""
+        return self._captured(_library.session_patchset, key_flags)
+
+    def restart(self, key_flags=KEYS_PLACES):
+        """The changeset. The session goes on without its records; its flags and tables stay."""
+        return self._captured(_library.session_restart, key_flags)
+
+    def drop(self):
+        """Ends the session."""
+        self._server._done(_library.session_drop, self.number)

@@ -174,6 +174,78 @@ class Servers(unittest.TestCase):
             server.call("scan t")
         server.close()
 
+    def test_sessions(self):
+        with changecap.Server() as server:
+            self.assertEqual(server.create_table("t", [True, False]), 1)
+            self.assertEqual(server.create_table("tt", [1, 0, 1]), 2)
+            session = server.session()
+            self.assertEqual(session.number, 1)
+            session.attach("t")
+            self.assertTrue(session.is_empty() and session.enable() and not session.indirect())
+            server.call("commit insert t (1,'x') ; insert tt (1,2,3)")
+            self.assertEqual((session.is_empty(), session.changeset()), (False, INSERT))
+            self.assertEqual(session.patchset(changecap.KEYS_ONES), changecap.patchset(INSERT))
+            self.assertFalse(session.enable(False))
+            server.call("commit delete t key(1)")
+            self.assertEqual((session.restart(), session.changeset()), (b"", b""))
+            both = server.session()
+            both.attach()
+            self.assertTrue(both.indirect(True))
+            server.call("commit insert t (1,'x') ; insert tt (4,5,6)")
+            self.assertEqual([(it.table, it.indirect) for it in changecap.iterate(both.changeset())],
+                             [("t", True), ("tt", True)])
+            key_flags = [both.changeset(it)[22:25].hex() for it in (changecap.KEYS_ONES, changecap.KEYS_PLACES)]
+            self.assertEqual(key_flags, ["010001", "010002"])
+            both.drop()
+            for call, status in ((both.is_empty, changecap.REFUSED), (both.changeset, changecap.REFUSED),
+                                 (lambda: server.create_table("t", [1]), changecap.REFUSED),
+                                 (lambda: server.create_table("", [1]), changecap.MISUSE),
+                                 (lambda: server.create_table("u", []), changecap.MISUSE),
+                                 (lambda: session.attach("a\0"), changecap.MISUSE),
+                                 (lambda: session.changeset(7), changecap.MISUSE)):
+                with self.assertRaises(changecap.Error) as raised:
+                    call()
+                self.assertEqual(raised.exception.status, status)
+
+    @unittest.skipUnless(sqlite, "no SQLite with the session extension")
+    def test_sessions_beside_sqlite(self):
+        for number in range(40):
+            self.beside_sqlite(random.Random(number))
+
+    def beside_sqlite(self, chance):
+        connection = sqlite.Connection()
+        with changecap.Server() as server:
+            connection.execute("CREATE TABLE t(a INTEGER, b INTEGER, c TEXT, PRIMARY KEY(a, b))")
+            server.create_table("t", [True, True, False])
+            ours, theirs = server.session(), connection.session()
+            ours.attach("t")
+            theirs.attach("t")
+            rows = {}
+            for _ in range(60):
+                a, b, c = chance.randrange(4), chance.randrange(3), chance.choice("xyz")
+                flag = chance.randrange(4)
+                if flag == 0:
+                    self.assertEqual(ours.enable(a > 1), a > 1)
+                    theirs.enable(int(a > 1))
+                elif flag == 1:
+                    self.assertEqual(ours.indirect(a > 1), a > 1)
+                    theirs.indirect(int(a > 1))
+                if (a, b) not in rows:
+                    server.call(f"commit insert t ({a},{b},'{c}')")
+                    connection.execute("INSERT INTO t VALUES(?, ?, ?)", (a, b, c))
+                    rows[a, b] = c
+                elif chance.randrange(2):
+                    server.call(f"commit update t key({a},{b}) set 2 = '{c}'")
+                    connection.execute("UPDATE t SET c = ? WHERE a = ? AND b = ?", (c, a, b))
+                else:
+                    server.call(f"commit delete t key({a},{b})")
+                    connection.execute("DELETE FROM t WHERE a = ? AND b = ?", (a, b))
+                    del rows[a, b]
+                self.assertEqual(changes_of(ours.changeset()), changes_of(theirs.changeset()))
+                self.assertEqual(changes_of(ours.patchset()), changes_of(theirs.patchset()))
+            theirs.delete()
+        connection.close()
+
     def test_threads_wait_for_each_other(self):
         with changecap.Server() as server:
             server.call("create t kv")

@@ -12,7 +12,7 @@ pub enum KeyFlags {
 }
 
 impl KeyFlags {
-    fn number(self) -> u32 {
+    pub(crate) fn number(self) -> u32 {
         match self {
             KeyFlags::Ones => 0,
             KeyFlags::Places => 1,
@@ -31,7 +31,7 @@ pub fn check(blob: &[u8]) -> Result<()> {
 }
 
 /// What a call writes, which gets a buffer of this length first.
-fn taken(room: usize, call: impl Fn(&mut [u8], &mut usize, &mut ffi::Fault) -> u32) -> Result<Vec<u8>> {
+pub(crate) fn taken(room: usize, call: impl Fn(&mut [u8], &mut usize, &mut ffi::Fault) -> u32) -> Result<Vec<u8>> {
     let mut out = vec![0; room];
     let (mut len, mut fault) = (0, ffi::Fault::default());
     loop {

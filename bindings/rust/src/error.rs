@@ -23,7 +23,7 @@ pub enum Error {
     OutOfMemory,
     /// There is no such column, or no change.
     Misuse,
-    /// The server refuses the command: its reply.
+    /// The server refuses the command: its reply, as in `refused: E18 NoSession`, or its number alone, `refused: E18`.
     Refused(String),
     /// The text is not one command: the number of the fault, as in `G1`, or 0, and its offset.
     Command(Fault),
@@ -43,6 +43,7 @@ impl Error {
             ffi::PATCHSET => Error::Patchset,
             ffi::KIND => Error::OtherKind,
             ffi::COLUMNS => Error::OtherColumns,
+            ffi::REFUSED => Error::Refused(format!("refused: E{}", fault.kind)),
             ffi::COMMAND => Error::Command(fault),
             ffi::FULL => Error::HistoryFull,
             _ => Error::Misuse,

@@ -48,6 +48,8 @@ impl Handle {
     pub const CLOSED: Handle = Handle { at: std::ptr::null_mut() };
 }
 
+pub type FlagCall = unsafe extern "C" fn(*mut Handle, u64, u32, *mut u32, *mut Fault) -> u32;
+pub type Capture = unsafe extern "C" fn(*mut Handle, u64, u32, *mut u8, usize, *mut usize, *mut Fault) -> u32;
 pub type Convert = unsafe extern "C" fn(*const u8, usize, u32, *mut u8, usize, *mut usize, *mut Fault) -> u32;
 
 unsafe extern "C" {
@@ -72,4 +74,16 @@ unsafe extern "C" {
     pub fn changecap_server_call(server: *mut Handle, text: *const u8, n: usize, fault: *mut Fault) -> u32;
     pub fn changecap_server_reply(server: *mut Handle, out: *mut u8, room: usize, len: *mut usize) -> u32;
     pub fn changecap_server_close(server: *mut Handle);
+
+    pub fn changecap_create(server: *mut Handle, table: *const u8, n: usize, key: *const u8, columns: usize, version: *mut u64, fault: *mut Fault) -> u32;
+    pub fn changecap_session_new(server: *mut Handle, session: *mut u64, fault: *mut Fault) -> u32;
+    pub fn changecap_session_drop(server: *mut Handle, session: u64, fault: *mut Fault) -> u32;
+    pub fn changecap_session_attach(server: *mut Handle, session: u64, table: *const u8, n: usize, fault: *mut Fault) -> u32;
+    pub fn changecap_session_attach_all(server: *mut Handle, session: u64, fault: *mut Fault) -> u32;
+    pub fn changecap_session_enable(server: *mut Handle, session: u64, set: u32, flag: *mut u32, fault: *mut Fault) -> u32;
+    pub fn changecap_session_indirect(server: *mut Handle, session: u64, set: u32, flag: *mut u32, fault: *mut Fault) -> u32;
+    pub fn changecap_session_isempty(server: *mut Handle, session: u64, flag: *mut u32, fault: *mut Fault) -> u32;
+    pub fn changecap_session_changeset(server: *mut Handle, session: u64, key_flags: u32, out: *mut u8, room: usize, len: *mut usize, fault: *mut Fault) -> u32;
+    pub fn changecap_session_patchset(server: *mut Handle, session: u64, key_flags: u32, out: *mut u8, room: usize, len: *mut usize, fault: *mut Fault) -> u32;
+    pub fn changecap_session_restart(server: *mut Handle, session: u64, key_flags: u32, out: *mut u8, room: usize, len: *mut usize, fault: *mut Fault) -> u32;
 }

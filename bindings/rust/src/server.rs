@@ -1,4 +1,5 @@
 //! A table server in memory, and its sessions.
+use crate::blob::taken;
 use crate::ffi;
 use crate::iter::bytes;
 use crate::{Changeset, Error, KeyFlags, Patchset, Result};
@@ -56,6 +57,17 @@ impl Connection {
         if status == ffi::REFUSED { Err(Error::Refused(reply)) } else { Ok(reply) }
     }
 
+    /// Creates a table with these columns, each of them in the primary key or not, and answers the new version.
+    pub fn create_table(&self, table: &str, key: &[bool]) -> Result<u64> {
+        let key: Vec<u8> = key.iter().map(|flag| u8::from(*flag)).collect();
+        let mut version = 0;
+        done(|fault| unsafe {
+            let (n, columns) = (table.len(), key.len());
+            ffi::changecap_create(self.handle.get(), table.as_ptr(), n, key.as_ptr(), columns, &mut version, fault)
+        })?;
+        Ok(version)
+    }
+
     /// Applies a changeset or a patchset: what is done where a row differs, where it is missing, and where its key is in
     /// use.
     pub fn apply(
@@ -82,73 +94,98 @@ pub struct Session<'c> {
     number: u64,
 }
 
+/// What a call answers by its status and its fault.
+fn done(call: impl FnOnce(&mut ffi::Fault) -> u32) -> Result<()> {
+    let mut fault = ffi::Fault::default();
+    match call(&mut fault) {
+        ffi::OK => Ok(()),
+        status => Err(Error::of(status, fault)),
+    }
+}
+
 impl<'c> Session<'c> {
     pub fn new(connection: &'c Connection) -> Result<Session<'c>> {
-        let reply = connection.execute("session")?;
-        let number = reply.strip_prefix("session ").and_then(|it| it.parse().ok()).ok_or(Error::Misuse)?;
+        let mut number = 0;
+        done(|fault| unsafe { ffi::changecap_session_new(connection.handle.get(), &mut number, fault) })?;
         Ok(Session { connection, number })
     }
 
-    fn command(&self, word: &str, rest: &str) -> Result<String> {
-        self.connection.execute(format!("{word} {} {rest}", self.number).trim_end())
+    fn at(&self) -> *mut ffi::Handle {
+        self.connection.handle.get()
     }
 
     /// Attaches a table, or all tables.
     pub fn attach(&mut self, table: Option<&str>) -> Result<()> {
-        match table {
-            Some(table) => self.command("attach", table)?,
-            None => self.command("attachall", "")?,
-        };
-        Ok(())
+        done(|fault| match table {
+            Some(table) => unsafe {
+                ffi::changecap_session_attach(self.at(), self.number, table.as_ptr(), table.len(), fault)
+            },
+            None => unsafe { ffi::changecap_session_attach_all(self.at(), self.number, fault) },
+        })
     }
 
     pub fn is_empty(&self) -> Result<bool> {
-        Ok(self.command("isempty", "")? == "true")
+        let mut flag = 0;
+        done(|fault| unsafe { ffi::changecap_session_isempty(self.at(), self.number, &mut flag, fault) })?;
+        Ok(flag != 0)
+    }
+
+    /// The value of a flag, which is set first where one is given.
+    fn flag(&self, call: ffi::FlagCall, set: Option<bool>) -> Result<bool> {
+        let mut flag = 0;
+        let set = set.map_or(2, u32::from);
+        done(|fault| unsafe { call(self.at(), self.number, set, &mut flag, fault) })?;
+        Ok(flag != 0)
+    }
+
+    pub fn is_enabled(&self) -> Result<bool> {
+        self.flag(ffi::changecap_session_enable, None)
     }
 
     pub fn set_enabled(&mut self, enabled: bool) -> Result<()> {
-        self.command("enable", if enabled { "on" } else { "off" }).map(drop)
+        self.flag(ffi::changecap_session_enable, Some(enabled)).map(drop)
+    }
+
+    pub fn is_indirect(&self) -> Result<bool> {
+        self.flag(ffi::changecap_session_indirect, None)
     }
 
     pub fn set_indirect(&mut self, indirect: bool) -> Result<()> {
-        self.command("indirect", if indirect { "on" } else { "off" }).map(drop)
+        self.flag(ffi::changecap_session_indirect, Some(indirect)).map(drop)
     }
 
-    fn captured(&self, word: &str, key_flags: KeyFlags) -> Result<Vec<u8>> {
-        let reply = self.command(word, if key_flags == KeyFlags::Places { "places" } else { "" })?;
-        let hex = reply.split(' ').nth(1).ok_or(Error::Misuse)?;
-        let digit = |byte: u8| (byte as char).to_digit(16).map(|it| it as u8);
-        if hex == "-" {
-            return Ok(Vec::new());
-        }
-        hex.as_bytes()
-            .chunks(2)
-            .map(|pair| Some(digit(pair[0])? << 4 | digit(*pair.get(1)?)?))
-            .collect::<Option<_>>()
-            .ok_or(Error::Misuse)
+    fn captured(&self, call: ffi::Capture, key_flags: KeyFlags) -> Result<Vec<u8>> {
+        taken(256, |out, len, fault| unsafe {
+            call(self.at(), self.number, key_flags.number(), out.as_mut_ptr(), out.len(), len, fault)
+        })
     }
 
     pub fn changeset(&self, key_flags: KeyFlags) -> Result<Changeset> {
-        Changeset::from_bytes(&self.captured("changeset", key_flags)?)
+        Changeset::from_bytes(&self.captured(ffi::changecap_session_changeset, key_flags)?)
     }
 
     pub fn patchset(&self, key_flags: KeyFlags) -> Result<Patchset> {
-        Patchset::from_bytes(&self.captured("patchset", key_flags)?)
+        Patchset::from_bytes(&self.captured(ffi::changecap_session_patchset, key_flags)?)
+    }
+
+    /// The changeset. The session goes on without its records; its flags and tables stay.
+    pub fn restart(&mut self, key_flags: KeyFlags) -> Result<Changeset> {
+        Changeset::from_bytes(&self.captured(ffi::changecap_session_restart, key_flags)?)
     }
 
     pub fn changeset_strm(&self, output: &mut dyn Write) -> Result<()> {
-        output.write_all(&self.captured("changeset", KeyFlags::Places)?)?;
+        output.write_all(&self.captured(ffi::changecap_session_changeset, KeyFlags::Places)?)?;
         Ok(())
     }
 
     pub fn patchset_strm(&self, output: &mut dyn Write) -> Result<()> {
-        output.write_all(&self.captured("patchset", KeyFlags::Places)?)?;
+        output.write_all(&self.captured(ffi::changecap_session_patchset, KeyFlags::Places)?)?;
         Ok(())
     }
 }
 
 impl Drop for Session<'_> {
     fn drop(&mut self) {
-        let _ended = self.command("drop", "");
+        let _ended = done(|fault| unsafe { ffi::changecap_session_drop(self.at(), self.number, fault) });
     }
 }

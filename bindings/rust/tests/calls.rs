@@ -116,6 +116,35 @@ fn a_server_and_its_sessions() {
     assert_eq!(std::thread::spawn(move || target.execute("scan t").unwrap()).join().unwrap(), "rows 1\n(1,'x')");
 }
 
+#[test]
+fn sessions_by_numbers() {
+    let source = Connection::open_in_memory().unwrap();
+    assert_eq!(source.create_table("t", &[true, false]).unwrap(), 1);
+    assert!(matches!(source.create_table("t", &[true]), Err(Error::Refused(why)) if why == "refused: E9"));
+    assert!(matches!(source.create_table("", &[true]), Err(Error::Misuse)));
+    assert!(matches!(source.create_table("u", &[]), Err(Error::Misuse)));
+    let mut session = Session::new(&source).unwrap();
+    session.attach(Some("t")).unwrap();
+    assert!(matches!(session.attach(Some("a\0b")), Err(Error::Misuse)));
+    assert!(session.is_enabled().unwrap() && !session.is_indirect().unwrap());
+    source.execute("commit insert t (1,'x')").unwrap();
+    session.set_enabled(false).unwrap();
+    assert!(!session.is_enabled().unwrap());
+    source.execute("commit insert t (2,null)").unwrap();
+    assert_eq!(session.changeset(KeyFlags::Ones).unwrap().as_bytes(), of_hex(INSERT));
+    assert_eq!(session.restart(KeyFlags::Places).unwrap().as_bytes(), of_hex(INSERT));
+    assert!(session.is_empty().unwrap());
+    session.set_enabled(true).unwrap();
+    session.set_indirect(true).unwrap();
+    assert!(session.is_indirect().unwrap());
+    source.execute("commit delete t key(1)").unwrap();
+    let indirect = session.changeset(KeyFlags::Places).unwrap();
+    assert_eq!(indirect.as_bytes(), of_hex("5402010074000901010000000000000001030178"));
+    let mut bytes = Vec::new();
+    session.patchset_strm(&mut bytes).unwrap();
+    assert_eq!(bytes, indirect.patchset(KeyFlags::Places).unwrap().as_bytes());
+}
+
 /// The blobs of the file that CHANGECAP_BLOBS names: 'HEX KIND AT' a line.
 #[test]
 fn known_faults() {

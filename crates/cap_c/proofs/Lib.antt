@@ -1,3 +1,4 @@
+mod BetweenLemmas
 mod IterAsBox
 mod PlaceLemmas
 mod ServerAsBox

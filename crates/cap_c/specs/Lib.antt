@@ -1,4 +1,7 @@
+pub mod Between
 pub mod Bits
+pub mod Captures
+pub mod Commands
 pub mod Fault
 pub mod Fields
 pub mod Iter
@@ -6,7 +9,10 @@ pub mod IterHandle
 pub mod IterTold
 pub mod Json
 pub mod KeyFlags
+pub mod Names
 pub mod Places
+pub mod Refusal
+pub mod Replies
 pub mod Server
 pub mod ServerHandle
 pub mod Status

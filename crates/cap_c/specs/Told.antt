@@ -1,5 +1,5 @@
 -- What a call leaves with its caller, by its status.
-use Rattle.std.specs.Prelude.{◌≡◌, ℕ, pos, List, [], ◌++◌, drop, length, Option, Some, None, Result, Ok, Err}
+use Rattle.std.specs.Prelude.{◌≡◌, ◌≤◌, ◌<◌, ℕ, pos, List, [], ◌++◌, drop, length, Option, Some, None, Result, Ok, Err}
 use Rattle.cap_value.specs.declared.value.Value.{Value}
 use Rattle.cap_value.specs.declared.value.Value.TheVariants.{Null, Int, Text, Blob}
 use Rattle.cap_blob.specs.declared.refusal.BytesRefusal.{BytesRefusal}
@@ -50,6 +50,17 @@ abbrev pub TellsBytes : Option (List ℕ) → ℕ → List ℕ → List ℕ → 
 TellsBytes (Some bytes) status old new len =
     (status ≡ room_status (length bytes) (length old)) × Writes bytes status old new len
 TellsBytes None status old new len = (status ≡ MISUSE) × (new ≡ old)
+
+-- The bytes of a capture, where there are any: a command that is refused has none. All of them are written.
+abbrev pub WritesAll : Option (List ℕ) → List ℕ → List ℕ → ℕ → ℕ → Type 0
+WritesAll None old new old_len len = (new ≡ old) × (len ≡ old_len)
+WritesAll (Some bytes) old new old_len len =
+    (length bytes ≤ length old) × (new ≡ begins_with bytes old) × (len ≡ length bytes)
+
+-- There are more bytes than there is room, and their number is told.
+abbrev pub LacksRoom : Option (List ℕ) → List ℕ → ℕ → Type 0
+LacksRoom None old len = ⊥
+LacksRoom (Some bytes) old len = (length old < length bytes) × (len ≡ length bytes)
 
 module _ {A : Type 0} where
   -- a field, by SQLite's numbers of storage classes

@@ -1,10 +1,13 @@
-//! The fault of a blob, as C sees it.
+//! The fault of a blob, and the refusal of a command, as C sees them.
 ghost use Rattle.std.specs.Prelude.{◌≡◌};
 ghost use Rattle.cap_c.specs.Fault.{kind_number, placed};
+ghost use Rattle.cap_c.specs.Refusal.{refusal_number, refused};
 
 use cap_codec::{BlobFault, FaultKind};
+use cap_value::Refusal;
 
-/// Why bytes are no blob, by the number of the kind (docs/FORMAT.md, "Faults"), and where.
+/// Why bytes are no blob, by the number of the kind (docs/FORMAT.md, "Faults"), and where. Or why a command is
+/// refused, by the number of the refusal, and which of its operations.
 #[repr(C)]
 #[derive(Clone, Copy, Drop)]
 pub struct PlacedFault {
@@ -20,6 +23,42 @@ impl PlacedFault {
             kind: kind_number(fault.kind),
             at: fault.at,
         }
+    }
+
+    pub(crate) fn refused(at: Option<u64>, why: Refusal) -> Self
+        ensures { result ≡ refused at why }
+    {
+        PlacedFault {
+            kind: refusal_number(why),
+            at: at.unwrap_or(0) as usize,
+        }
+    }
+}
+
+fn refusal_number(why: Refusal) -> u32
+    ensures { result ≡ refusal_number why }
+{
+    match why {
+        Refusal::TooLong => 1,
+        Refusal::BadSchema => 2,
+        Refusal::WrongWidth => 3,
+        Refusal::BadColumn => 4,
+        Refusal::Duplicate => 5,
+        Refusal::NoRow => 6,
+        Refusal::IdsSpent => 7,
+        Refusal::NoTable => 8,
+        Refusal::TableExists => 9,
+        Refusal::TooMany => 10,
+        Refusal::Stale { .. } => 11,
+        Refusal::BadFilter { .. } => 12,
+        Refusal::TooDeep => 13,
+        Refusal::Incompatible => 14,
+        Refusal::Aborted { .. } => 15,
+        Refusal::Misuse { .. } => 16,
+        Refusal::BadName => 17,
+        Refusal::NoSession => 18,
+        Refusal::NoDatabase => 19,
+        Refusal::NoMark => 20,
     }
 }
 

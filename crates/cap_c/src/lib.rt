@@ -3,7 +3,10 @@
 #![tactic(auto)]
 
 mod blobs;
+mod captured;
+mod captures;
 mod change_info;
+mod commands;
 mod concat;
 mod fault;
 mod iter;
@@ -14,6 +17,7 @@ mod iter_place;
 mod iter_told;
 mod json_text;
 mod key_flags;
+mod names;
 mod one_line;
 mod output;
 mod parts;
@@ -21,5 +25,8 @@ mod printer;
 mod server;
 mod server_calls;
 mod server_handle;
+mod sessions;
 mod status;
+mod tables;
+mod told;
 mod travels;

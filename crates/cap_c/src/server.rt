@@ -15,7 +15,7 @@ use std::alloc::Global;
 /// A server, and the text of its last reply.
 #[derive(Drop)]
 pub struct TextServer {
-    core: Core<Global>,
+    pub(crate) core: Core<Global>,
     output: Vec<u8, Global>,
 }
 

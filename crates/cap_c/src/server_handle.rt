@@ -6,6 +6,7 @@ ghost use Rattle.cap_c.specs.declared.server.TextServer.{TextServer as Text};
 
 use crate::parts::Parts;
 use crate::server::TextServer;
+use crate::travels::server_travels;
 use std::alloc::Global;
 use std::marker::Model;
 use std::{mem, ptr};
@@ -39,6 +40,7 @@ pub(crate) fn put(handle: &mut ServerHandle, server: Box<TextServer>)
     requires { handle.old.value ≡ None }
     ensures { handle.new.value ≡ Some server.value }
 {
+    server_travels(&server);
     *handle = of_parts(Parts::of(server));
 }
 

@@ -1,9 +1,14 @@
 //! What a handle owns may go from one thread to another.
 
 use crate::iter::BlobIter;
+use crate::server::TextServer;
 
 fn travels<T: Send>(_owned: &T) {}
 
 pub(crate) fn iter_travels(it: &BlobIter) {
     travels(it);
+}
+
+pub(crate) fn server_travels(server: &TextServer) {
+    travels(server);
 }

@@ -1,0 +1,7 @@
+use denote.Param.Send.{sendable}
+use Rattle.std.proofs.Crossing.{crosses, frees, send, sync}
+use Rattle.cap_core.proofs.Crossing.{core_send}
+use Rattle.cap_c.proofs.travels.server_travels.Goals as goal
+
+pub travels-requires-send-T : goal.travels-requires-send-T
+travels-requires-send-T c κs = search (core_send, send, sync, frees, sendable, crosses) depth 40 fits 100000

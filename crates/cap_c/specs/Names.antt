@@ -1,0 +1,18 @@
+-- Names, and the columns of tables, as C gives them.
+use Rattle.std.specs.Prelude.{◌≤◌, ℕ, List, length, IsTrue, IsUtf8}
+use Rattle.cap_value.specs.Bytes.{is_name}
+
+-- 1 to 255 bytes of UTF-8, none of them zero
+pub record IsName (bytes : List ℕ) : Type 0 where
+  pub utf8 : IsUtf8 bytes
+  pub short : IsTrue (is_name bytes)
+
+-- 1 to 2,000 columns
+pub record AreColumns (key : List ℕ) : Type 0 where
+  pub some : 1 ≤ length key
+  pub few : length key ≤ 2000
+
+-- a table may have this name and these columns
+pub record IsTable (table key : List ℕ) : Type 0 where
+  pub named : IsName table
+  pub columns : AreColumns key

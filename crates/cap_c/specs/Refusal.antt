@@ -1,0 +1,37 @@
+-- The refusal of a command, as C sees it.
+use Rattle.std.specs.Prelude.{ℕ, Option}
+use Rattle.std.specs.Option.{unwrap_or}
+use Rattle.cap_value.specs.declared.refusal.Refusal.{Refusal}
+use Rattle.cap_value.specs.declared.refusal.Refusal.TheVariants.{TooLong, BadSchema, WrongWidth, BadColumn}
+use Rattle.cap_value.specs.declared.refusal.Refusal.TheVariants.{Duplicate, NoRow, IdsSpent, NoTable}
+use Rattle.cap_value.specs.declared.refusal.Refusal.TheVariants.{TableExists, TooMany, Stale, BadFilter}
+use Rattle.cap_value.specs.declared.refusal.Refusal.TheVariants.{TooDeep, Incompatible, Aborted, Misuse}
+use Rattle.cap_value.specs.declared.refusal.Refusal.TheVariants.{BadName, NoSession, NoDatabase, NoMark}
+use Rattle.cap_c.specs.declared.fault.PlacedFault.{PlacedFault}
+
+-- the number in the text of a refusal: E1 to E20
+abbrev pub refusal_number : Refusal → ℕ
+refusal_number TooLong = 1
+refusal_number BadSchema = 2
+refusal_number WrongWidth = 3
+refusal_number BadColumn = 4
+refusal_number Duplicate = 5
+refusal_number NoRow = 6
+refusal_number IdsSpent = 7
+refusal_number NoTable = 8
+refusal_number TableExists = 9
+refusal_number TooMany = 10
+refusal_number (Stale base now item) = 11
+refusal_number (BadFilter at) = 12
+refusal_number TooDeep = 13
+refusal_number Incompatible = 14
+refusal_number (Aborted at) = 15
+refusal_number (Misuse at) = 16
+refusal_number BadName = 17
+refusal_number NoSession = 18
+refusal_number NoDatabase = 19
+refusal_number NoMark = 20
+
+-- with the number of the refused operation or change, or 0
+abbrev pub refused : Option ℕ → Refusal → PlacedFault
+refused at why = record { kind = refusal_number why; at = unwrap_or at 0 }

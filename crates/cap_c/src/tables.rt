@@ -1,0 +1,79 @@
+//! The calls on the tables of a server.
+ghost use Rattle.std.specs.Prelude.{◌≡◌, IsSome};
+ghost use Rattle.cap_core.specs.Answer.{answer};
+ghost use Rattle.cap_core.specs.declared.command.Command.TheVariants as command;
+ghost use Rattle.cap_c.specs.Between.{Between, Holds};
+ghost use Rattle.cap_c.specs.Commands.{NoCall, Runs, key_columns};
+ghost use Rattle.cap_c.specs.Names.{IsTable};
+ghost use Rattle.cap_c.specs.Replies.{fault_told, number_told};
+ghost use Rattle.cap_c.specs.Server.{IsAnswered};
+ghost use Rattle.cap_c.specs.declared.status.TheConstants.{MISUSE};
+
+use crate::fault::PlacedFault;
+use crate::names::{name_of, schema_of};
+use crate::server::TextServer;
+use crate::server_handle::{ServerHandle, put, take};
+use cap_core::Command;
+use std::alloc::Global;
+
+/// Creates a table. A byte for each column says whether it is in the primary key.
+#[unsafe(no_mangle)]
+pub extern "C" fn changecap_create(
+    alloc: Global,
+    handle: &mut ServerHandle,
+    table: &[u8],
+    key: &[u8],
+    version: &mut u64,
+    fault: &mut PlacedFault,
+) -> u32
+    requires opened { IsSome handle.old.value }
+    ensures ran { IsAnswered result → Between handle.old.value handle.new.value
+        (λ old new. Runs old new (command.CreateTable table.now (key_columns key.now)) result) }
+    ensures version { IsAnswered result → Holds handle.old.value (λ old. version.new
+        ≡ number_told (answer old.core (command.CreateTable table.now (key_columns key.now))) version.old) }
+    ensures fault { IsAnswered result → Holds handle.old.value (λ old. fault.new
+        ≡ fault_told (answer old.core (command.CreateTable table.now (key_columns key.now))) fault.old) }
+    // Only a name that is none, or a number of columns that no table may have, is misuse.
+    ensures misuse { result ≡ MISUSE → ¬ (IsTable table.now key.now) }
+    ensures table { IsAnswered result → IsTable table.now key.now }
+    ensures why { ¬ (IsAnswered result) → ¬ (result ≡ MISUSE) → Holds handle.old.value
+        (λ old. NoCall old result) }
+    ensures kept { ¬ (IsAnswered result) → handle.new.value ≡ handle.old.value }
+    ensures untold { ¬ (IsAnswered result) → (version.new ≡ version.old) × (fault.new ≡ fault.old) }
+{
+    let mut server = take(alloc, handle);
+    let status = create(alloc, &mut server, table, key, version, fault);
+    put(handle, server);
+    status
+}
+
+fn create(
+    alloc: Global,
+    server: &mut TextServer,
+    table: &[u8],
+    key: &[u8],
+    version: &mut u64,
+    fault: &mut PlacedFault,
+) -> u32
+    ensures ran { IsAnswered result →
+        Runs server.old server.new (command.CreateTable table.now (key_columns key.now)) result }
+    ensures version { IsAnswered result → version.new
+        ≡ number_told (answer server.old.core (command.CreateTable table.now (key_columns key.now))) version.old }
+    ensures fault { IsAnswered result → fault.new
+        ≡ fault_told (answer server.old.core (command.CreateTable table.now (key_columns key.now))) fault.old }
+    ensures misuse { result ≡ MISUSE → ¬ (IsTable table.now key.now) }
+    ensures table { IsAnswered result → IsTable table.now key.now }
+    ensures why { ¬ (IsAnswered result) → ¬ (result ≡ MISUSE) → NoCall server.old result }
+    ensures kept { ¬ (IsAnswered result) → server.new ≡ server.old }
+    ensures untold { ¬ (IsAnswered result) → (version.new ≡ version.old) × (fault.new ≡ fault.old) }
+{
+    let table = match name_of(alloc, table) {
+        Ok(table) => table,
+        Err(status) => return status,
+    };
+    let schema = match schema_of(alloc, key) {
+        Ok(schema) => schema,
+        Err(status) => return status,
+    };
+    server.tell_number(&Command::CreateTable { table, schema }, version, fault)
+}
