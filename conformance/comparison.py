@@ -12,6 +12,7 @@ from program import Fault
 from sqlite_server import SqliteServer
 
 CAPTURE = re.compile(r"(changeset|patchset) ([0-9a-f]+|-)$")
+REPORTED = re.compile(r"(conflict|omitted|skipped) \d+ ?")
 REFUSED = re.compile(r"refused at \d+: E1[56] \w+")
 
 
@@ -25,13 +26,16 @@ class Case:
 
 
 def split(lines, commands):
-    """The lines of each command's reply: one, or for all rows of a table one more for each row. A text that has a line
-    feed moves the replies after it, on both sides alike."""
+    """The lines of each command's reply: one, for all rows of a table one more for each row, and for an application
+    one more for each thing that is reported. A text that has a line feed moves the replies after it, on both sides
+    alike."""
     replies, at = [], 0
     for _ in commands:
-        rows = int(lines[at][5:]) if at < len(lines) and lines[at].startswith("rows ") else 0
-        replies.append(lines[at:at + 1 + rows])
-        at += 1 + rows
+        more = int(lines[at][5:]) if at < len(lines) and lines[at].startswith("rows ") else 0
+        while at + 1 + more < len(lines) and REPORTED.match(lines[at + 1 + more]):
+            more += 1
+        replies.append(lines[at:at + 1 + more])
+        at += 1 + more
     if at < len(lines):
         replies.append(lines[at:])
     return replies
@@ -46,8 +50,11 @@ def comparable(reply):
 
 
 def settled(reply):
-    """A reply to the same command with a blob whose changes have another order: which change was refused is open."""
-    return [REFUSED.sub("refused", line) for line in comparable(reply)]
+    """A reply to the same command with a blob whose changes have another order: the numbers of changes are open."""
+    lines = [REFUSED.sub("refused", line) for line in comparable(reply)]
+    if reply and reply[0].startswith("ok "):
+        return [lines[0], *sorted(REPORTED.sub(r"\1 ", line) for line in lines[1:])]
+    return lines
 
 
 def blobs_of(replies):
