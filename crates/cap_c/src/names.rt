@@ -1,5 +1,5 @@
 //! Names, and the columns of tables, as C gives them.
-ghost use Rattle.std.specs.Prelude.{◌≡◌, IfErr, IfOk, OnOk};
+ghost use Rattle.std.specs.Prelude.{◌≡◌, IfErr, IfOk, OnOk, false, true};
 ghost use Rattle.cap_value.specs.Bytes.{is_name};
 ghost use Rattle.cap_c.specs.Commands.{key_columns};
 ghost use Rattle.cap_c.specs.Names.{AreColumns, IsName};
@@ -35,23 +35,17 @@ fn is_name(bytes: &[u8]) -> bool
     !bytes.is_empty() && bytes.len() <= NAME_MAX && !bytes.contains(&0)
 }
 
-/// The columns of a table, one byte each, or the status where they are none.
-pub(crate) fn schema_of(alloc: Global, key: &[u8]) -> Result<Schema<Global>, u32>
-    ensures schema { IfOk result (λ schema. schema ≡ key_columns key.now) }
-    ensures are { OnOk result (AreColumns key.now) }
-    ensures misuse { IfErr result (λ status. status ≡ MISUSE → ¬ (AreColumns key.now)) }
-    ensures memory { IfErr result (λ status. ¬ (status ≡ MISUSE) → (status ≡ NO_MEMORY) × AreColumns key.now) }
+/// Whether a table may have as many columns.
+pub(crate) fn are_columns(key: &[u8]) -> bool
+    ensures are { result ≡ true → AreColumns key.now }
+    ensures none { result ≡ false → ¬ (AreColumns key.now) }
 {
-    if key.is_empty() || key.len() > COLUMNS_MAX {
-        return Err(MISUSE);
-    }
-    match schema(alloc, key) {
-        Ok(schema) => Ok(schema),
-        Err(_) => Err(NO_MEMORY),
-    }
+    !key.is_empty() && key.len() <= COLUMNS_MAX
 }
 
-fn schema(alloc: Global, key: &[u8]) -> Result<Schema<Global>, OutOfMemory>
+/// The columns of a table, one byte each.
+pub(crate) fn schema_of(alloc: Global, key: &[u8]) -> Result<Schema<Global>, OutOfMemory>
+    requires columns { AreColumns key.now }
     ensures { IfOk result (λ schema. schema ≡ key_columns key.now) }
 {
     let flags = key_columns(alloc, key)?;

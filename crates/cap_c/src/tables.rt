@@ -10,9 +10,10 @@ ghost use Rattle.cap_c.specs.Server.{IsAnswered};
 ghost use Rattle.cap_c.specs.declared.status.TheConstants.{MISUSE};
 
 use crate::fault::PlacedFault;
-use crate::names::{name_of, schema_of};
+use crate::names::{are_columns, name_of, schema_of};
 use crate::server::TextServer;
 use crate::server_handle::{ServerHandle, put, take};
+use crate::status::{MISUSE, NO_MEMORY};
 use cap_core::Command;
 use std::alloc::Global;
 
@@ -33,9 +34,9 @@ pub extern "C" fn changecap_create(
         ≡ number_told (answer old.core (command.CreateTable table.now (key_columns key.now))) version.old) }
     ensures fault { IsAnswered result → Holds handle.old.value (λ old. fault.new
         ≡ fault_told (answer old.core (command.CreateTable table.now (key_columns key.now))) fault.old) }
-    // Only a name that is none, or a number of columns that no table may have, is misuse.
+    // Exactly a name that is none, or a number of columns that no table may have, is misuse.
     ensures misuse { result ≡ MISUSE → ¬ (IsTable table.now key.now) }
-    ensures table { IsAnswered result → IsTable table.now key.now }
+    ensures table { ¬ (result ≡ MISUSE) → IsTable table.now key.now }
     ensures why { ¬ (IsAnswered result) → ¬ (result ≡ MISUSE) → Holds handle.old.value
         (λ old. NoCall old result) }
     ensures kept { ¬ (IsAnswered result) → handle.new.value ≡ handle.old.value }
@@ -62,18 +63,20 @@ fn create(
     ensures fault { IsAnswered result → fault.new
         ≡ fault_told (answer server.old.core (command.CreateTable table.now (key_columns key.now))) fault.old }
     ensures misuse { result ≡ MISUSE → ¬ (IsTable table.now key.now) }
-    ensures table { IsAnswered result → IsTable table.now key.now }
+    ensures table { ¬ (result ≡ MISUSE) → IsTable table.now key.now }
     ensures why { ¬ (IsAnswered result) → ¬ (result ≡ MISUSE) → NoCall server.old result }
     ensures kept { ¬ (IsAnswered result) → server.new ≡ server.old }
     ensures untold { ¬ (IsAnswered result) → (version.new ≡ version.old) × (fault.new ≡ fault.old) }
 {
+    if !are_columns(key) {
+        return MISUSE;
+    }
     let table = match name_of(alloc, table) {
         Ok(table) => table,
         Err(status) => return status,
     };
-    let schema = match schema_of(alloc, key) {
-        Ok(schema) => schema,
-        Err(status) => return status,
+    let Ok(schema) = schema_of(alloc, key) else {
+        return NO_MEMORY;
     };
     server.tell_number(&Command::CreateTable { table, schema }, version, fault)
 }
