@@ -1,5 +1,6 @@
 -- Recording the changes of one commit, or a diff, in a session.
-use Rattle.std.specs.Prelude.{ℕ, Bool, true, false, Option, None, List, [], ◌∷◌, map, fold, ◌||◌, if◌then◌else◌}
+use Rattle.std.specs.Prelude.{ℕ, Bool, true, false, ◌||◌, if◌then◌else◌, Option, None}
+use Rattle.std.specs.Prelude.{List, [], ◌∷◌, map, fold}
 use Rattle.std.specs.List.{filter_map}
 use Rattle.std.specs.Option.{option_map}
 use Rattle.cap_value.specs.Bytes.{bytes_eq}
