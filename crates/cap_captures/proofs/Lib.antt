@@ -3,5 +3,7 @@ pub mod CaptureLemmas
 pub mod RecordLemmas
 pub mod ApplyLemmas
 pub mod PeriodLemmas
+pub mod FlagLemmas
+pub mod OverLemmas
 pub mod EachLemmas
 pub mod AlikeLemmas

@@ -5,22 +5,20 @@ use Rattle.std.specs.Option.{ForSome, option_map, unwrap_or}
 use Rattle.std.specs.List.{AllByRecursion, cons_option, list_any}
 use Rattle.std.proofs.lemmas.List.{append-nil}
 use Rattle.cap_row.specs.Fields.{Fields}
-use Rattle.cap_row.specs.Key.{fields_cmp, fields_eq, fields_eq_decides}
+use Rattle.cap_row.specs.Key.{fields_cmp}
 use Rattle.cap_tree.specs.Tree.{IsOrdered}
 use Rattle.cap_database.specs.Operation.{run}
 use Rattle.cap_database.specs.Read.{row_at}
 use Rattle.cap_database.specs.Tables.{AreRising, Tables, create, schema_of, table_of}
 use Rattle.cap_database.specs.declared.op.Op.{Op}
-use Rattle.cap_changes.specs.Change.{change_of, new_field, old_field}
-use Rattle.cap_changes.specs.Column.{by_column}
+use Rattle.cap_changes.specs.Change.{change_of}
 use Rattle.cap_changes.specs.Group.{TableChanges}
 use Rattle.cap_changes.specs.declared.row_change.RowChange.{RowChange}
-use Rattle.cap_changes.specs.declared.row_change.RowChange.TheVariants.{Update}
 use Rattle.cap_session.specs.declared.record.Record.{Record}
 use Rattle.cap_session.specs.Records.{Records}
 use Rattle.cap_session.specs.Session.{AttachedTables, record_of, records_of as attached_records}
 use Rattle.cap_codec.specs.declared.read.Contents.TheVariants.{Changes}
-use Rattle.cap_group.proofs.JoinLemmas.{followed, followed_marked}
+use Rattle.cap_group.proofs.JoinLemmas.{followed}
 use Rattle.cap_group.specs.ChangeGroup.{concat_of}
 use Rattle.cap_group.specs.Rows.{Follow, IsRowUnder, together}
 use Rattle.cap_core.specs.declared.event.Event.{Event}
@@ -41,7 +39,7 @@ use Rattle.cap_core.proofs.RestartLemmas.{first-append, sooner, stays-listed, to
 use Rattle.cap_core.proofs.SessionLemmas.{cond-same}
 use Rattle.cap_core.proofs.StayLemmas.{event-keeps, row_stays}
 use Rattle.cap_core.proofs.TouchedLemmas.{is_sorted-records_of}
-use Rattle.cap_captures.specs.Captures.{HasCaptureOver, as_direct, capture_over, first_row, session_over}
+use Rattle.cap_captures.specs.Captures.{capture_over, first_row, session_over}
 use Rattle.cap_captures.specs.Rows.{AreInARow, all_row_changes, row_changes}
 use Rattle.cap_captures.proofs.CaptureLemmas.{AreKnown, captured-row, groups-known, no-table-row, record-in, row-under}
 use Rattle.cap_apply.specs.Apply.{apply}
@@ -54,8 +52,8 @@ use Rattle.cap_group.specs.ChangeKey.{change_key}
 use Rattle.cap_group.specs.Combined.{combined}
 use Rattle.cap_core.specs.AppliedCapture.{GivesRows, but_keyed}
 use Rattle.cap_captures.proofs.ApplyLemmas.{IsLeft, IsTurned, Turns, turned, turned-fits}
-use Rattle.cap_captures.proofs.ConcatLemmas.{IsMade, IsWhole, concatenated, concatenated-whole, last_under, some_same}
-use Rattle.cap_captures.proofs.RecordLemmas.{AllMarked, AreMarked, all-append, all-first, all-last, all-turn, flat-append, follow-next, image-touched, made-marked, record-marked, record_from, restarts-write, rows-append, rows-in, session-record, sooner-none, unchanged, with-columns}
+use Rattle.cap_captures.proofs.ConcatLemmas.{IsMade, IsWhole, concatenated-whole, last_under, some_same}
+use Rattle.cap_captures.proofs.RecordLemmas.{AllMarked, AreMarked, all-append, all-first, all-last, all-turn, flat-append, follow-next, image-touched, made-marked, none-same, record-marked, record_from, restarts-write, rows-append, rows-in, session-record, sooner-none, unchanged, with-columns}
 
 module _ {A : Type 0} where
   module _ (runs_keep : (tables : Tables A) (ops : List (Op A)) → IfOk (run tables ops) (λ left. (other : List ℕ) → schema_of left.database other ≡ schema_of tables other))
@@ -164,9 +162,9 @@ module _ {A : Type 0} where
 
     -- They lead from the first row to the one at the last restart.
     pub record Leads (later : List (Event A)) (name : List ℕ) (key : Fields A) : Type 0 where
-      none : Over later name key ≡ None → Led later name key ≡ []
-      under : (flags : List Bool) → schema_of (main (later ++ start)) name ≡ Some flags → ForSome (First later name key) (IsRowUnder flags key)
-      led : (flags : List Bool) → schema_of (main (later ++ start)) name ≡ Some flags → Follow flags key (First later name key) (Led later name key) (At later name key)
+      pub none : Over later name key ≡ None → Led later name key ≡ []
+      pub under : (flags : List Bool) → schema_of (main (later ++ start)) name ≡ Some flags → ForSome (First later name key) (IsRowUnder flags key)
+      pub led : (flags : List Bool) → schema_of (main (later ++ start)) name ≡ Some flags → Follow flags key (First later name key) (Led later name key) (At later name key)
 
     module _ (event : Event A) (later : List (Event A)) (steady : IsSteady session (event ∷ later) start) (rise : AreRising (main (later ++ start))) (rise_now : AreRising (main (event ∷ later ++ start)))
         (before : (name : List ℕ) (key : Fields A) → Leads later name key) where
@@ -176,7 +174,7 @@ module _ {A : Type 0} where
         captures-same =
             ap (λ b. captures session later start ++ cond b (session_changes (main (later ++ start)) (session_of (later ++ start) session) ∷ []) []) kept_on ∙ append-nil (captures session later start)
 
-        led-same : (name : List ℕ) (key : Fields A) → Led (event ∷ later) name key ≡ Led later name key
+        pub led-same : (name : List ℕ) (key : Fields A) → Led (event ∷ later) name key ≡ Led later name key
         led-same name key = ap (all_row_changes name key) captures-same
 
         -- a row that was not touched before
@@ -212,10 +210,10 @@ module _ {A : Type 0} where
           over-now : Over (event ∷ later) name key ≡ Some image
           over-now = over-more event later name key ∙ ap (λ o. sooner o (Here event later name key)) over
 
-          first-same : First later name key ≡ First (event ∷ later) name key
+          pub first-same : First later name key ≡ First (event ∷ later) name key
           first-same = ap (λ o. unwrap_or o (Now later name key)) over ∙ sym (ap (λ o. unwrap_or o (Now (event ∷ later) name key)) over-now)
 
-          at-same : At later name key ≡ At (event ∷ later) name key
+          pub at-same : At later name key ≡ At (event ∷ later) name key
           at-same = elim (Since later name key) as (λ o. Since later name key ≡ o → unwrap_or o (Now later name key) ≡ At (event ∷ later) name key) [
             | Some since ↦ λ is. sym (ap (λ o. unwrap_or o (Now (event ∷ later) name key)) (since-more event later name key kept_on ∙ ap (λ o. sooner o (Here event later name key)) is))
             | None ↦ λ is.
@@ -227,7 +225,7 @@ module _ {A : Type 0} where
                 ∙ sym (ap (λ o. unwrap_or o (Now (event ∷ later) name key)) here)
           ] refl
 
-          columns-before : (flags : List Bool) → schema_of (main (event ∷ later ++ start)) name ≡ Some flags → schema_of (main (later ++ start)) name ≡ Some flags
+          pub columns-before : (flags : List Bool) → schema_of (main (event ∷ later ++ start)) name ≡ Some flags → schema_of (main (later ++ start)) name ≡ Some flags
           columns-before flags known =
               let columns = over-columns later steady.2 name key image over in
               columns.1 ∙ ap Some (columns-same event later name flags columns.0 known columns.1)
@@ -262,7 +260,7 @@ module _ {A : Type 0} where
         pub main-same : main (event ∷ later ++ start) ≡ main (later ++ start)
         main-same = ap (λ (e : Effect A). e.database) quiet
 
-        nothing-here : (name : List ℕ) (key : Fields A) → Here event later name key ≡ None
+        pub nothing-here : (name : List ℕ) (key : Fields A) → Here event later name key ≡ None
         nothing-here name key =
             elim (Here event later name key) as (λ o. Here event later name key ≡ o → o ≡ None) [
               | None ↦ λ _. refl
@@ -277,13 +275,13 @@ module _ {A : Type 0} where
             no_later None = refl
             no_later (Some image) = refl
 
-        first-kept : (name : List ℕ) (key : Fields A) → First later name key ≡ First (event ∷ later) name key
+        pub first-kept : (name : List ℕ) (key : Fields A) → First later name key ≡ First (event ∷ later) name key
         first-kept name key = λ i. unwrap_or (sym (over-same name key) i) (row_at (sym main-same i) name key)
 
-        at-now : (name : List ℕ) (key : Fields A) → Now later name key ≡ At (event ∷ later) name key
+        pub at-now : (name : List ℕ) (key : Fields A) → Now later name key ≡ At (event ∷ later) name key
         at-now name key = ap (λ tables. row_at tables name key) (sym main-same) ∙ sym (ap (λ o. unwrap_or o (Now (event ∷ later) name key)) (since-restart event later name key restarted))
 
-        led-more : (name : List ℕ) (key : Fields A) → Led (event ∷ later) name key ≡ Led later name key ++ row_changes name key list
+        pub led-more : (name : List ℕ) (key : Fields A) → Led (event ∷ later) name key ≡ Led later name key ++ row_changes name key list
         led-more name key =
             ap (λ b. all_row_changes name key (captures session later start ++ cond b (list ∷ []) [])) restarted
             ∙ flat-append (row_changes name key) (captures session later start) (list ∷ [])
@@ -297,7 +295,7 @@ module _ {A : Type 0} where
         abbrev made-at : List Bool → List ℕ → Fields A → Option (RowChange A)
         made-at flags name key = option_and_then (λ r. change_of flags r.indirect r.image (Now later name key)) (record_of tables_now name key)
 
-        list-row : (name : List ℕ) (flags : List Bool) (key : Fields A) → schema_of (main (later ++ start)) name ≡ Some flags → row_changes name key list ≡ cons_option (made-at flags name key) []
+        pub list-row : (name : List ℕ) (flags : List Bool) (key : Fields A) → schema_of (main (later ++ start)) name ≡ Some flags → row_changes name key list ≡ cons_option (made-at flags name key) []
         list-row name flags key known =
             captured-row (main (later ++ start)) tables_now (session-distinct (later ++ start) session) name flags key known
             (λ records at. session-sorted (later ++ start) session name records at)
@@ -450,10 +448,10 @@ module _ {A : Type 0} where
     over-names later [] = refl
     over-names later (name ∷ names) = ap (λ ns. name ∷ ns) (over-names later names)
 
-    abbrev over-tables : List (Event A) → AttachedTables A
+    abbrev pub over-tables : List (Event A) → AttachedTables A
     over-tables later = (session_over session later start).tables
 
-    over-distinct : (later : List (Event A)) → AreDistinct (names_of (over-tables later))
+    pub over-distinct : (later : List (Event A)) → AreDistinct (names_of (over-tables later))
     over-distinct later = subst AreDistinct (sym (over-names later (attach_list session (later ++ start)))) (first_of_each-distinct (table_names (attachings session (later ++ start))))
 
     over-sorted : (later : List (Event A)) (name : List ℕ) (records : Records A) → attached_records (over-tables later) name ≡ Some records → IsOrdered fields_cmp records
@@ -462,11 +460,11 @@ module _ {A : Type 0} where
         subst (IsOrdered fields_cmp) (sym (records-named ts (attach_list session (later ++ start)) name records at))
         (ordered fields_cmp (ts name) (truth _ (is_sorted-records_of (touches_of name (touches_over session later start)))))
 
-    abbrev over-record : List (Event A) → List ℕ → Fields A → Option (Record A)
+    abbrev pub over-record : List (Event A) → List ℕ → Fields A → Option (Record A)
     over-record later name key = record_from (touches_over session later start) name key
 
     -- a touched row has its record, any other none
-    over-kept : (later : List (Event A)) → IsSteady session later start → (name : List ℕ) (key : Fields A) → record_of (over-tables later) name key ≡ over-record later name key
+    pub over-kept : (later : List (Event A)) → IsSteady session later start → (name : List ℕ) (key : Fields A) → record_of (over-tables later) name key ≡ over-record later name key
     over-kept later steady name key =
         let listed = is_among name (attach_list session (later ++ start)) in
         record-in (λ n. records_of (touches_of n (touches_over session later start))) (attach_list session (later ++ start)) name key
@@ -478,13 +476,9 @@ module _ {A : Type 0} where
               (touched-attached session later start steady name key r.image (sym (image-touched (touches_over session later start) name key) ∙ ap (option_map (λ (kept : Record A). kept.image)) is))
         ] refl
 
-    abbrev flag_or : Bool → Option (Record A) → Bool
+    abbrev pub flag_or : Bool → Option (Record A) → Bool
     flag_or indirect None = indirect
     flag_or indirect (Some r) = r.indirect
-
-    none-same : (flags : List Bool) (indirect : Bool) (row : Option (Fields A)) → change_of flags indirect row row ≡ None
-    none-same flags indirect None = refl
-    none-same flags indirect (Some row) = ap (λ b. cond b None (Some (Update indirect (by_column old_field flags row row) (by_column new_field flags row row)))) ((fields_eq_decides row row).1 refl)
 
     pub over-row : (later : List (Event A)) → IsSteady session later start → BlobsFitPast (later ++ start) → (name : List ℕ) (flags : List Bool) (key : Fields A) (indirect : Bool) → schema_of (main (later ++ start)) name ≡ Some flags
         → row_changes name key (capture_over session later start) ≡ cons_option (change_of flags (flag_or indirect (over-record later name key)) (First later name key) (Now later name key)) []
@@ -503,52 +497,11 @@ module _ {A : Type 0} where
           | Some r ↦ λ is. ap (λ row. cons_option (change_of flags r.indirect row (Now later name key)) []) (sym (image key r is))
         ] refl
 
-    over-marked : (later : List (Event A)) (name : List ℕ) (key : Fields A) (indirect : Bool) → AllMarked indirect (rows-in (touches_over session later start) name key) → flag_or indirect (over-record later name key) ≡ indirect
+    pub over-marked : (later : List (Event A)) (name : List ℕ) (key : Fields A) (indirect : Bool) → AllMarked indirect (rows-in (touches_over session later start) name key) → flag_or indirect (over-record later name key) ≡ indirect
     over-marked later name key indirect all = elim (over-record later name key) as (λ o. over-record later name key ≡ o → flag_or indirect o ≡ indirect) [
       | None ↦ λ _. refl
       | Some r ↦ λ is. record-marked (touches_over session later start) name key indirect r is all
     ] refl
-
-    -- ---- the concatenation
-
-    direct-same : (flags : List Bool) (one other : Bool) (first last : Option (Fields A)) → map as_direct (cons_option (change_of flags one first last) []) ≡ map as_direct (cons_option (change_of flags other first last) [])
-    direct-same flags one other None None = refl
-    direct-same flags one other None (Some now) = refl
-    direct-same flags one other (Some image) None = refl
-    direct-same flags one other (Some image) (Some now) =
-        elim (fields_eq image now) as (λ b. map as_direct (cons_option (cond b None (Some (Update one (by_column old_field flags image now) (by_column new_field flags image now)))) [])
-        ≡ map as_direct (cons_option (cond b None (Some (Update other (by_column old_field flags image now) (by_column new_field flags image now)))) [])) [ true ↦ refl | false ↦ refl ]
-
-    pub concatenated-captures : (event : Event A) (later : List (Event A)) → (is_accepted event.reply && restarts session event.command) ≡ true → IsSteady session (event ∷ later) start → BlobsFitPast (event ∷ later ++ start)
-        → (groups : List (TableChanges A)) × (concat_of (map Changes (captures session (event ∷ later) start)) ≡ Ok (Changes groups)) × HasCaptureOver session (event ∷ later) start groups
-    concatenated-captures event later restarted steady fits =
-        let all = event ∷ later in
-        let columns = schema_of (main (all ++ start)) in
-        let in_a_row = captures-follow event later restarted steady fits in
-        let made = concatenated columns (First all) (Now all) (captures session all start) in_a_row in
-        let none : (name : List ℕ) (key : Fields A) → columns name ≡ None → row_changes name key made.0 ≡ row_changes name key (capture_over session all start) =
-        λ name key is. made.2.others name key is ∙ sym (no-table-row (main (all ++ start)) name key (over-tables all) (over-distinct all) is) in (
-          made.0,
-          made.1,
-          record {
-            rows = λ name key. elim (columns name) as (λ o. columns name ≡ o → map as_direct (row_changes name key made.0) ≡ map as_direct (row_changes name key (capture_over session all start))) [
-              | None ↦ λ is. ap (map as_direct) (none name key is)
-              | Some flags ↦ λ known.
-                  let whole = followed flags key (First all name key) (Led all name key) (Now all name key) (in_a_row.under name flags key known) (in_a_row.rows name flags key known) in
-                  ap (map as_direct) (made.2.rows name flags key known ∙ ap (λ o. cons_option o []) whole.1)
-                  ∙ direct-same flags whole.0 (flag_or false (over-record all name key)) (First all name key) (Now all name key)
-                  ∙ ap (map as_direct) (sym (over-row all steady fits name flags key false known))
-            ] refl;
-            marks = λ name key marked. elim (columns name) as (λ o. columns name ≡ o → row_changes name key made.0 ≡ row_changes name key (capture_over session all start)) [
-              | None ↦ λ is. none name key is
-              | Some flags ↦ λ known.
-                  made.2.rows name flags key known
-                  ∙ ap (λ o. cons_option o []) (followed_marked flags key marked.0 (First all name key) (Led all name key) (Now all name key) (in_a_row.under name flags key known) (in_a_row.rows name flags key known) (led-marked all steady fits name key marked.0 marked.1))
-                  ∙ ap (λ i. cons_option (change_of flags i (First all name key) (Now all name key)) []) (sym (over-marked all name key marked.0 marked.1))
-                  ∙ sym (over-row all steady fits name flags key marked.0 known)
-            ] refl;
-          },
-        )
 
     -- ---- the concatenation, applied to a database with the first images
 

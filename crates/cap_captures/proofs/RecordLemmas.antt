@@ -89,6 +89,10 @@ module _ {A : Type 0} where
         | false ↦ λ e. ap is_indirect (sym (some_same e))
       ] is
 
+  pub none-same : (flags : List Bool) (indirect : Bool) (row : Option (Fields A)) → change_of flags indirect row row ≡ None
+  none-same flags indirect None = refl
+  none-same flags indirect (Some row) = ap (λ b. cond b None (Some (Update indirect (by_column old_field flags row row) (by_column new_field flags row row)))) ((fields_eq_decides row row).1 refl)
+
   pub unchanged : (flags : List Bool) (indirect : Bool) (first last : Option (Fields A)) → change_of flags indirect first last ≡ None → first ≡ last
   unchanged flags indirect None None none = refl
   unchanged flags indirect None (Some now) none = cc

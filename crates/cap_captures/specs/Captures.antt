@@ -1,5 +1,5 @@
 -- The one capture over captures in a row, and the changesets that have what it has.
-use Rattle.std.specs.Prelude.{◌≡◌, ℕ, Bool, false, Option, List, [], ◌∷◌, ◌++◌, ◌&&◌, map, filter}
+use Rattle.std.specs.Prelude.{◌≡◌, ℕ, Bool, true, false, Option, Some, List, [], ◌∷◌, ◌++◌, ◌&&◌, map, filter}
 use Rattle.std.specs.List.{AllByRecursion}
 use Rattle.std.specs.Option.{unwrap_or}
 use Rattle.std.specs.Ordering.{eq_by_cmp}
@@ -16,7 +16,7 @@ use Rattle.cap_core.specs.History.{main}
 use Rattle.cap_core.specs.Past.{Past, is_accepted}
 use Rattle.cap_core.specs.Restarts.{first_touched, touches_over}
 use Rattle.cap_core.specs.Session.{records_of, session_of}
-use Rattle.cap_core.specs.Touch.{Touch, attach_list, event_touches, restarts, touches_of}
+use Rattle.cap_core.specs.Touch.{Touch, attach_list, event_touches, restarts, touches, touches_of}
 use Rattle.cap_captures.specs.Rows.{row_changes}
 
 module _ {A : Type 0} where
@@ -59,13 +59,31 @@ module _ {A : Type 0} where
       (indirect : Bool) × AllByRecursion (λ touch. touch.1.indirect ≡ indirect)
       (filter (λ touch. eq_by_cmp fields_cmp key touch.0) (touches_of name touches))
 
-  -- A changeset has of each row what the one capture has, but for the indirect flag; and with that flag where
-  -- all touches of the row have the same.
+  -- the row is not as it was before the first of these touches of its key, if there is one
+  abbrev pub IsChangedSince : List (Touch A) → Past A → List ℕ → Fields A → Type 0
+  IsChangedSince touches past name key =
+      (image : Option (Fields A)) → first_touched touches name key ≡ Some image
+      → image ≡ row_at (main past) name key → ⊥
+
+  -- At each restart of the session among the later events the row has changed since the restart before it, where
+  -- it was touched since, and over all, where it was touched at all.
+  abbrev pub IsChangedEachTime : ℕ → List (Event A) → Past A → List ℕ → Fields A → Type 0
+  IsChangedEachTime session [] start name key = Unit {0}
+  IsChangedEachTime session (event ∷ later) start name key =
+      ((is_accepted event.reply && restarts session event.command) ≡ true
+      → IsChangedSince (touches session (later ++ start)) (later ++ start) name key
+      × IsChangedSince (touches_over session later start) (later ++ start) name key)
+      × IsChangedEachTime session later start name key
+
+  -- A changeset has of each row what the one capture has, but for the indirect flag; and with that flag where all
+  -- touches of the row have the same, and where the row has changed at each restart.
   pub record HasCaptureOver (session : ℕ) (later : List (Event A)) (start : Past A)
       (groups : List (TableChanges A)) : Type 0 where
     pub rows : (name : List ℕ) (key : Fields A) → map as_direct (row_changes name key groups)
         ≡ map as_direct (row_changes name key (capture_over session later start))
     pub marks : (name : List ℕ) (key : Fields A) → HaveOneMark (touches_over session later start) name key
+        → row_changes name key groups ≡ row_changes name key (capture_over session later start)
+    pub changed : (name : List ℕ) (key : Fields A) → IsChangedEachTime session later start name key
         → row_changes name key groups ≡ row_changes name key (capture_over session later start)
 
   -- Another session has the touches of this one in each of the later events, and is not restarted in them. Both

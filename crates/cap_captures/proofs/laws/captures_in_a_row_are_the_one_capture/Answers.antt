@@ -1,5 +1,5 @@
 use Rattle.cap_core.proofs.KeyedLemmas.{main-rises}
-use Rattle.cap_captures.proofs.PeriodLemmas.{concatenated-captures}
+use Rattle.cap_captures.proofs.OverLemmas.{concatenated-captures}
 use Rattle.cap_captures.proofs.laws.captures_in_a_row_are_the_one_capture.Goals as goal
 
 pub returns : goal.returns
