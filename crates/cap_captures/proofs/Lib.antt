@@ -7,3 +7,4 @@ pub mod FlagLemmas
 pub mod OverLemmas
 pub mod EachLemmas
 pub mod AlikeLemmas
+pub mod PartLemmas
