@@ -6,5 +6,5 @@ pub mod PeriodLemmas
 pub mod FlagLemmas
 pub mod OverLemmas
 pub mod EachLemmas
-pub mod AlikeLemmas
+pub mod UnrestartedLemmas
 pub mod PartLemmas

@@ -1,5 +1,6 @@
 -- The one capture over captures in a row, and the changesets that have what it has.
-use Rattle.std.specs.Prelude.{◌≡◌, ℕ, Bool, true, false, Option, Some, List, [], ◌∷◌, ◌++◌, ◌&&◌, map, filter}
+use Rattle.std.specs.Prelude.{◌≡◌, ℕ, Bool, true, false, Option, Some, List, [], ◌∷◌, ◌++◌, ◌&&◌}
+use Rattle.std.specs.Prelude.{map, filter, nat_eq, if◌then◌else◌}
 use Rattle.std.specs.List.{AllByRecursion}
 use Rattle.std.specs.Option.{unwrap_or}
 use Rattle.std.specs.Ordering.{eq_by_cmp}
@@ -10,13 +11,15 @@ use Rattle.cap_changes.specs.declared.row_change.RowChange.{RowChange}
 use Rattle.cap_changes.specs.declared.row_change.RowChange.TheVariants.{Insert, Update, Delete}
 use Rattle.cap_database.specs.Read.{row_at}
 use Rattle.cap_session.specs.Session.{SessionState}
+use Rattle.cap_core.specs.declared.command.Command.{Command}
+use Rattle.cap_core.specs.declared.command.Command.TheVariants.{Capture, Restart}
 use Rattle.cap_core.specs.declared.event.Event.{Event}
 use Rattle.cap_core.specs.Capture.{session_changes}
 use Rattle.cap_core.specs.History.{main}
 use Rattle.cap_core.specs.Past.{Past, is_accepted}
 use Rattle.cap_core.specs.Restarts.{first_touched, touches_over}
 use Rattle.cap_core.specs.Session.{records_of, session_of}
-use Rattle.cap_core.specs.Touch.{Touch, attach_list, event_touches, restarts, touches, touches_of}
+use Rattle.cap_core.specs.Touch.{Touch, attach_list, restarts, touches, touches_of}
 use Rattle.cap_captures.specs.Rows.{row_changes}
 
 module _ {A : Type 0} where
@@ -39,13 +42,20 @@ module _ {A : Type 0} where
       unwrap_or (first_touched (touches_over session later start) name key)
       (row_at (main (later ++ start)) name key)
 
-  -- each event touches both sessions alike, and is no restart of the other
-  abbrev pub AreTouchedSame : ℕ → ℕ → List (Event A) → Past A → Type 0
-  AreTouchedSame session other [] start = Unit {0}
-  AreTouchedSame session other (event ∷ later) start =
-      (event_touches other event (later ++ start) ≡ event_touches session event (later ++ start))
-      × ((is_accepted event.reply && restarts other event.command) ≡ false)
-      × AreTouchedSame session other later start
+  -- the command, but a capture of the session in place of its restart
+  abbrev pub without_restart : ℕ → Command A → Command A
+  without_restart session (Restart number) = if nat_eq number session then Capture number else Restart number
+  without_restart session command = command
+
+  -- The same commands, but for captures of the session in place of its restarts, in one history and in another.
+  -- Each is accepted in both or refused in both.
+  abbrev pub AreUnrestarted : ℕ → List (Event A) → List (Event A) → Type 0
+  AreUnrestarted session [] [] = Unit {0}
+  AreUnrestarted session [] (other ∷ others) = ⊥
+  AreUnrestarted session (event ∷ later) [] = ⊥
+  AreUnrestarted session (event ∷ later) (other ∷ others) =
+      (other.command ≡ without_restart session event.command)
+      × (is_accepted event.reply ≡ is_accepted other.reply) × AreUnrestarted session later others
 
   -- the change, as a direct one
   abbrev pub as_direct : RowChange A → RowChange A
@@ -65,8 +75,8 @@ module _ {A : Type 0} where
       (image : Option (Fields A)) → first_touched touches name key ≡ Some image
       → image ≡ row_at (main past) name key → ⊥
 
-  -- At each restart of the session among the later events the row has changed since the restart before it, where
-  -- it was touched since, and over all, where it was touched at all.
+  -- At each restart of the session among the later events the row has changed since the restart before it,
+  -- where it was touched since, and over all, where it was touched at all.
   abbrev pub IsChangedEachTime : ℕ → List (Event A) → Past A → List ℕ → Fields A → Type 0
   IsChangedEachTime session [] start name key = Unit {0}
   IsChangedEachTime session (event ∷ later) start name key =
@@ -75,19 +85,14 @@ module _ {A : Type 0} where
       × IsChangedSince (touches_over session later start) (later ++ start) name key)
       × IsChangedEachTime session later start name key
 
-  -- A changeset has of each row what the one capture has, but for the indirect flag; and with that flag where all
-  -- touches of the row have the same, and where the row has changed at each restart.
+  -- A changeset has of each row what the one capture has, but for the indirect flag; and with that flag where
+  -- all touches of the row have the same, and where the row has changed at each restart.
   pub record HasCaptureOver (session : ℕ) (later : List (Event A)) (start : Past A)
       (groups : List (TableChanges A)) : Type 0 where
     pub rows : (name : List ℕ) (key : Fields A) → map as_direct (row_changes name key groups)
         ≡ map as_direct (row_changes name key (capture_over session later start))
-    pub marks : (name : List ℕ) (key : Fields A) → HaveOneMark (touches_over session later start) name key
+    pub marks : (name : List ℕ) (key : Fields A)
+        → HaveOneMark (touches_over session later start) name key
         → row_changes name key groups ≡ row_changes name key (capture_over session later start)
     pub changed : (name : List ℕ) (key : Fields A) → IsChangedEachTime session later start name key
         → row_changes name key groups ≡ row_changes name key (capture_over session later start)
-
-  -- Another session has the touches of this one in each of the later events, and is not restarted in them. Both
-  -- have the same attach list in the end.
-  pub record AreTouchedAlike (session other : ℕ) (later : List (Event A)) (start : Past A) : Type 0 where
-    pub each : AreTouchedSame session other later start
-    pub attached : attach_list other (later ++ start) ≡ attach_list session (later ++ start)

@@ -5,7 +5,7 @@ mod laws;
 mod parts;
 
 pub use laws::{
-    a_session_without_restarts_captures_over_all, captures_in_a_row_are_the_one_capture,
-    concatenation_of_changesets_in_a_row, the_concatenation_applies_as_its_captures,
+    captures_in_a_row_are_the_one_capture, concatenation_of_changesets_in_a_row,
+    the_concatenation_applies_as_its_captures, the_one_capture_is_without_restarts,
 };
 pub use parts::captured_in_two_parts;
