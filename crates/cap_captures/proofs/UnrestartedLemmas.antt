@@ -3,28 +3,24 @@ use Rattle.std.proofs.Common.{◌≡◌, ℕ, ◌+◌, Bool, true, false, cond, 
 use Rattle.std.specs.Prelude.{filter}
 use Rattle.std.specs.Option.{option_map, unwrap_or}
 use Rattle.std.specs.List.{enumerate_from, filter_map}
-use Rattle.cap_filter.specs.Rule.{Rule}
-use Rattle.cap_row.specs.Fields.{Fields}
 use Rattle.cap_database.specs.Read.{row_at}
 use Rattle.cap_database.specs.Snapshot.{SnapshotState}
-use Rattle.cap_database.specs.Tables.{Tables}
 use Rattle.cap_database.specs.declared.change.Change.{Change}
 use Rattle.cap_compare.specs.declared.difference.Difference.{Difference}
 use Rattle.cap_session.specs.Note.{is_cascade}
 use Rattle.cap_session.specs.Session.{accepts_by}
-use Rattle.cap_session.specs.declared.rule.AutomaticRule.{AutomaticRule}
 use Rattle.cap_core.specs.declared.command.Command.{Command}
 use Rattle.cap_core.specs.declared.command.Command.TheVariants as command
 use Rattle.cap_core.specs.declared.event.Event.{Event}
 use Rattle.cap_core.specs.Capture.{changes_of, session_changes}
 use Rattle.cap_core.specs.Diff.{diff}
 use Rattle.cap_core.specs.Flags.{asks_enabled, asks_for_all, asks_indirect, filter_set, is_enabled, is_indirect, last_filter, later, rule, rule_by, wants_all}
-use Rattle.cap_core.specs.History.{Databases, effect_of, event_effect, is_write, main, name_saved, save_under, saved, snapshot, version}
+use Rattle.cap_core.specs.History.{effect_of, event_effect, is_write, main, name_saved, save_under, saved, snapshot, version}
 use Rattle.cap_core.specs.Outcome.{Effect, Refused, no_effect, outcome}
 use Rattle.cap_core.specs.Past.{Past, is_accepted}
 use Rattle.cap_core.specs.Restarts.{touches_over}
 use Rattle.cap_core.specs.Session.{records_of, session_of}
-use Rattle.cap_core.specs.Touch.{Attaching, found_in, Touch, attach_list, attaching_at, attachings, changes_touch, diff_by, diff_touches, event_attachings, event_changes, event_diff, event_touches, first_of_each, is_recorded, names_attached, names_compared, restarts, touches, touches_of}
+use Rattle.cap_core.specs.Touch.{Attaching, found_in, attaching_at, attachings, diff_by, diff_touches, event_attachings, event_changes, event_diff, event_touches, first_of_each, is_recorded, names_attached, names_compared, restarts, touches, touches_of}
 use Rattle.cap_captures.specs.Captures.{AreUnrestarted, capture_over, without_restart}
 
 and_none : (b : Bool) → (b && false) ≡ false

@@ -2,7 +2,6 @@
 use Rattle.std.specs.Prelude.{◌≡◌, ℕ, true, Some, List, [], ◌∷◌, ◌++◌, Ok, map, reverse}
 use Rattle.cap_database.specs.Tables.{AreRising, Tables}
 use Rattle.cap_changes.specs.Group.{TableChanges}
-use Rattle.cap_codec.specs.declared.read.Contents.{Contents}
 use Rattle.cap_codec.specs.declared.read.Contents.TheVariants.{Changes}
 use Rattle.cap_txn.specs.Batch.{BatchState}
 use Rattle.cap_apply.specs.Applied.{AppliedState}
@@ -15,7 +14,8 @@ use Rattle.cap_core.specs.Answer.{IsLegal, IsLegalPast, State, state}
 use Rattle.cap_core.specs.Past.{Past}
 use Rattle.cap_core.specs.Restarts.{AppliesAll, HoldsFirst, captures}
 use Rattle.cap_core.specs.Table.{BlobsFit}
-use Rattle.cap_captures.specs.Captures.{HasCaptureOver}
+use Rattle.cap_captures.specs.Captures.{HasCaptureOver, capture_over}
+use Rattle.cap_captures.specs.declared.parts.InParts.{InParts}
 
 module _ {A : Type 0} where
   -- what a legal history leaves, each blob of which fits its tables
@@ -27,22 +27,26 @@ module _ {A : Type 0} where
   abbrev pub commands_of : List (Event A) → List (Command A)
   commands_of events = map (λ event. event.command) events
 
-  -- After the history the session is enabled and restarted. Then each batch is committed, and the session restarted
-  -- after it. The blob has what the one capture over both has, and leaves of a database with the first images what
+  abbrev pub IsCommit : Command A → Type 0
+  IsCommit command = (batch : BatchState A) × (command ≡ Commit batch)
+
+  -- After the history the session is enabled and restarted. Then each commit is carried out, and the session
+  -- restarted after it. What is made has the concatenation of the two captures and the one capture over both. The
+  -- concatenation has of each row what the one capture has, and leaves of a database with the first images what
   -- the two captures leave of it.
-  pub record IsInParts (h : List (Event A)) (session : ℕ) (first second : BatchState A) (blob : Contents A)
+  pub record IsInParts (h : List (Event A)) (session : ℕ) (first second : Command A) (made : InParts A)
       : Type 0 where
     pub start : Past A
     pub later : List (Event A)
     pub event : Event A
     pub begun : commands_of start ≡ Restart session ∷ Enable session (Some true) ∷ commands_of (reverse h)
-    pub made : commands_of (event ∷ later)
-        ≡ Restart session ∷ Commit second ∷ Restart session ∷ Commit first ∷ []
+    pub then : commands_of (event ∷ later) ≡ Restart session ∷ second ∷ Restart session ∷ first ∷ []
     pub legal : IsLegalPast (event ∷ later ++ start)
     pub groups : List (TableChanges A)
-    pub changeset : blob ≡ Changes groups
+    pub changeset : made.together ≡ Changes groups
+    pub whole : made.whole ≡ capture_over session (event ∷ later) start
     pub captured : HasCaptureOver session (event ∷ later) start groups
     pub applies : (policy : Policy) (database : Tables A) → AreRising database
         → HoldsFirst database session (event ∷ later) start
-        → (left : AppliedState A) × (apply database blob policy ≡ Ok left)
+        → (left : AppliedState A) × (apply database made.together policy ≡ Ok left)
         × AppliesAll policy (captures session (event ∷ later) start) database left.database

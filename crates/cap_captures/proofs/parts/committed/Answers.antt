@@ -1,6 +1,5 @@
 use Rattle.std.proofs.Common.{[], ◌∷◌, ◌++◌, subst}
 use Rattle.cap_core.specs.Answer.{event_by}
-use Rattle.cap_core.specs.declared.command.Command.TheVariants as command
 use Rattle.cap_core.specs.declared.reply.Reply.{Reply}
 use Rattle.cap_captures.specs.Parts.{Stands}
 use Rattle.cap_captures.proofs.PartLemmas.{of_some}
@@ -8,7 +7,10 @@ use Rattle.cap_captures.proofs.parts.committed.Goals as goal
 
 pub returns-in-Written : goal.returns-in-Written
 returns-in-Written g c = (
-  c.in-Written.version,
-  λ h stands. subst (λ (r : Reply g.row.A.Denot). Stands (h ++ event_by 0 (command.Commit c.args.batch) r ∷ []) c.in-Some.field-0.core) c.in-Written.is
-      (of_some _ c.in_ok-core.field-0 c.in-Some.field-0 c.in-Some.is c.in_ok-core.ensures h stands),
+  (c.in-Commit.field-0, c.in-Commit.is),
+  (
+    c.in-Written.version,
+    λ h stands. subst (λ (r : Reply g.row.A.Denot). Stands (h ++ event_by 0 c.args.commit.now r ∷ []) c.in-Some.field-0.core) c.in-Written.is
+        (of_some _ c.in_ok-core.field-0 c.in-Some.field-0 c.in-Some.is c.in_ok-core.ensures h stands),
+  ),
 )

@@ -1,5 +1,5 @@
 use Rattle.std.proofs.Common.{sym}
-use Rattle.cap_captures.proofs.parts.carried_out.Goals as goal
+use Rattle.cap_captures.proofs.parts.answered_by.Goals as goal
 
 pub returns : goal.returns
 returns g c =
