@@ -47,8 +47,8 @@ module _ {A : Type 0} where
   without_restart session (Restart number) = if nat_eq number session then Capture number else Restart number
   without_restart session command = command
 
-  -- The same commands, but for captures of the session in place of its restarts, in one history and in another.
-  -- Each is accepted in both or refused in both.
+  -- The same commands, but for captures of the session in place of its restarts, in one history and in
+  -- another. Each is accepted in both or refused in both.
   abbrev pub AreUnrestarted : ℕ → List (Event A) → List (Event A) → Type 0
   AreUnrestarted session [] [] = Unit {0}
   AreUnrestarted session [] (other ∷ others) = ⊥

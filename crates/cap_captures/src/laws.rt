@@ -27,8 +27,8 @@ use cap_apply::{
 use cap_database::{tables_keep_columns, tables_keep_order};
 use cap_value::AllocHandle;
 
-/// Changesets of which each begins from the rows that the one before it leaves have a concatenation. It has of
-/// each row what the row's changes in them are together, and no other change.
+/// Changesets of which each begins from the rows that the one before it leaves have a concatenation. It has
+/// of each row what the row's changes in them are together, and no other change.
 pub fn concatenation_of_changesets_in_a_row<A: AllocHandle>()
     ensures { (columns : List ℕ → Option (List Bool)) (first last : List ℕ → Fields A → Option (Fields A))
         (lists : List (List (TableChanges A))) → AreInARow columns first last lists →
@@ -36,8 +36,8 @@ pub fn concatenation_of_changesets_in_a_row<A: AllocHandle>()
         × HasTogether columns lists groups }
 {}
 
-/// The one capture over all of a session's restarts is what the session captures where it has a capture in place of
-/// each restart, and the same commands otherwise.
+/// The one capture over all of a session's restarts is what the session captures where it has a capture in
+/// place of each restart, and the same commands otherwise.
 pub fn the_one_capture_is_without_restarts<A: AllocHandle>()
     ensures { (session : ℕ) (start : Past A) (later others : List (Event A)) → touches session start ≡ []
         → AreUnrestarted session later others
@@ -45,10 +45,10 @@ pub fn the_one_capture_is_without_restarts<A: AllocHandle>()
         ≡ capture_over session later start }
 {}
 
-/// Captures in a row, each by a restart of the session, have a concatenation. It has of each row the change that
-/// the one capture over all of them has: the same operation with the same records. It has the same indirect flag
-/// too, where all touches of the row have one, or where the row has changed at each restart. At the start the
-/// session has no touches; from then on it is enabled and not diffed.
+/// Captures in a row, each by a restart of the session, have a concatenation. It has of each row the change
+/// that the one capture over all of them has: the same operation with the same records. It has the same
+/// indirect flag too, where all touches of the row have one, or where the row has changed at each restart. At
+/// the start the session has no touches; from then on it is enabled and not diffed.
 pub fn captures_in_a_row_are_the_one_capture<A: AllocHandle>()
     ensures { (session : ℕ) (start : Past A) (later : List (Event A)) (event : Event A)
         → touches session start ≡ [] → (is_accepted event.reply && restarts session event.command) ≡ true
@@ -62,9 +62,10 @@ pub fn captures_in_a_row_are_the_one_capture<A: AllocHandle>()
     tables_keep_order::<A>();
 }
 
-/// Captures in a row, applied one after the other to a database that has, for each key touched over all of them,
-/// its table with the present columns and the first image, leave the database that their concatenation leaves. It
-/// has at each of these keys the row at the last restart, and all else as before. So it is under any policy.
+/// Captures in a row, applied one after the other to a database that has, for each key touched over all of
+/// them, its table with the present columns and the first image, leave the database that their concatenation
+/// leaves. It has at each of these keys the row at the last restart, and all else as before. So it is under
+/// any policy.
 pub fn the_concatenation_applies_as_its_captures<A: AllocHandle>()
     ensures { (policy : Policy) (session : ℕ) (start : Past A) (later : List (Event A)) (event : Event A)
         (database : Tables A) (blob : Contents A)
