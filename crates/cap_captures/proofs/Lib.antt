@@ -1,0 +1,10 @@
+pub mod ConcatLemmas
+pub mod CaptureLemmas
+pub mod RecordLemmas
+pub mod ApplyLemmas
+pub mod PeriodLemmas
+pub mod FlagLemmas
+pub mod OverLemmas
+pub mod EachLemmas
+pub mod UnrestartedLemmas
+pub mod PartLemmas

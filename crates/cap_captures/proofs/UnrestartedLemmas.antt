@@ -1,0 +1,171 @@
+-- A session that has captures in place of its restarts captures in the end what it would over its restarts.
+use Rattle.std.proofs.Common.{◌≡◌, ℕ, ◌+◌, Bool, true, false, cond, Option, Some, None, Result, List, [], ◌∷◌, ◌++◌, ◌&&◌, ◌||◌, suc, length, map, refl, sym, ap, subst, ◌∙◌, nat_eq}
+use Rattle.std.specs.Prelude.{filter}
+use Rattle.std.specs.Option.{option_map, unwrap_or}
+use Rattle.std.specs.List.{enumerate_from, filter_map}
+use Rattle.cap_database.specs.Read.{row_at}
+use Rattle.cap_database.specs.Snapshot.{SnapshotState}
+use Rattle.cap_database.specs.declared.change.Change.{Change}
+use Rattle.cap_compare.specs.declared.difference.Difference.{Difference}
+use Rattle.cap_session.specs.Note.{is_cascade}
+use Rattle.cap_session.specs.Session.{accepts_by}
+use Rattle.cap_core.specs.declared.command.Command.{Command}
+use Rattle.cap_core.specs.declared.command.Command.TheVariants as command
+use Rattle.cap_core.specs.declared.event.Event.{Event}
+use Rattle.cap_core.specs.Capture.{changes_of, session_changes}
+use Rattle.cap_core.specs.Diff.{diff}
+use Rattle.cap_core.specs.Flags.{asks_enabled, asks_for_all, asks_indirect, filter_set, is_enabled, is_indirect, last_filter, later, rule, rule_by, wants_all}
+use Rattle.cap_core.specs.History.{effect_of, event_effect, is_write, main, name_saved, save_under, saved, snapshot, version}
+use Rattle.cap_core.specs.Outcome.{Effect, Refused, no_effect, outcome}
+use Rattle.cap_core.specs.Past.{Past, is_accepted}
+use Rattle.cap_core.specs.Restarts.{touches_over}
+use Rattle.cap_core.specs.Session.{records_of, session_of}
+use Rattle.cap_core.specs.Touch.{Attaching, found_in, attaching_at, attachings, diff_by, diff_touches, event_attachings, event_changes, event_diff, event_touches, first_of_each, is_recorded, names_attached, names_compared, restarts, touches, touches_of}
+use Rattle.cap_captures.specs.Captures.{AreUnrestarted, capture_over, without_restart}
+
+and_none : (b : Bool) → (b && false) ≡ false
+and_none true = refl
+and_none false = refl
+
+module _ {A : Type 0} (session : ℕ) where
+  -- ---- commands that do the same, but for a restart
+
+  record IsAlike (c d : Command A) : Type 0 where
+    made : (now : SnapshotState A) → outcome now c ≡ outcome now d
+    writes : is_write c ≡ is_write d
+    names : name_saved c ≡ name_saved d
+    enables : asks_enabled session c ≡ asks_enabled session d
+    marks : asks_indirect session c ≡ asks_indirect session d
+    filters : filter_set session c ≡ filter_set session d
+    wants : asks_for_all session c ≡ asks_for_all session d
+    attaches : names_attached session c ≡ names_attached session d
+    diffs : (past : Past A) → diff_by session c past ≡ diff_by session d past
+
+  itself : (c : Command A) → IsAlike c c
+  itself c = record { made = λ now. refl; writes = refl; names = refl; enables = refl; marks = refl; filters = refl; wants = refl; attaches = refl; diffs = λ past. refl }
+
+  captured : (number : ℕ) → IsAlike (command.Restart number) (command.Capture number)
+  captured number = record { made = λ now. refl; writes = refl; names = refl; enables = refl; marks = refl; filters = refl; wants = refl; attaches = refl; diffs = λ past. refl }
+
+  alike : (c : Command A) → IsAlike c (without_restart session c)
+  alike (command.Restart number) = elim (nat_eq number session) as (λ b. IsAlike (command.Restart number) (cond b (command.Capture number) (command.Restart number))) [
+    | true ↦ captured number
+    | false ↦ itself (command.Restart number)
+  ]
+  alike c = itself c
+
+  no-restart : (c : Command A) → restarts session (without_restart session c) ≡ false
+  no-restart (command.Restart number) = elim (nat_eq number session) as (λ b. nat_eq number session ≡ b → restarts {A = A} session (cond b (command.Capture number) (command.Restart number)) ≡ false) [
+    | true ↦ λ _. refl
+    | false ↦ λ apart. apart
+  ] refl
+  no-restart _ = refl
+
+  -- ---- pasts with the same tables and flags
+
+  record AreSame (p q : Past A) : Type 0 where
+    count : length p ≡ length q
+    tables : main p ≡ main q
+    versions : version p ≡ version q
+    databases : saved p ≡ saved q
+    enabled : is_enabled session p ≡ is_enabled session q
+    indirect : is_indirect session p ≡ is_indirect session q
+    filters : last_filter session p ≡ last_filter session q
+    all : wants_all session p ≡ wants_all session q
+    moments : attachings session p ≡ attachings session q
+
+  same-itself : (p : Past A) → AreSame p p
+  same-itself p = record { count = refl; tables = refl; versions = refl; databases = refl; enabled = refl; indirect = refl; filters = refl; all = refl; moments = refl }
+
+  diff-same : (p q : Past A) → AreSame p q → (c : Command A) → diff_by session c p ≡ diff_by session c q
+  diff-same p q same (command.Diff number from name) = λ i. cond (nat_eq number session) (found_in name (diff (same.tables i) (same.databases i) from name)) None
+  diff-same p q same _ = refl
+
+  module _ (p q : Past A) (x y : Event A) (same : AreSame p q) (told : is_accepted x.reply ≡ is_accepted y.reply) (does : IsAlike x.command y.command) where
+    effect-same : event_effect (snapshot p) x ≡ event_effect (snapshot q) y
+    effect-same =
+        (λ i. cond (told i) (effect_of (same.tables i) (outcome (record { version = same.versions i; database = same.tables i }) x.command)) (no_effect (same.tables i)))
+        ∙ ap (λ (o : Result (Effect A) Refused). cond (is_accepted y.reply) (effect_of (main q) o) (no_effect (main q))) (does.made (snapshot q))
+
+    changes-same : event_changes x p ≡ event_changes y q
+    changes-same = ap (λ (e : Effect A). enumerate_from 0 e.changes) effect-same
+
+    diffs-same : event_diff session x p ≡ event_diff session y q
+    diffs-same = λ i. cond (told i) ((diff-same p q same x.command ∙ does.diffs q) i) None
+
+    rule-same : rule session p ≡ rule session q
+    rule-same = λ i. rule_by (same.filters i) (same.all i)
+
+    moments-same : event_attachings session x p ≡ event_attachings session y q
+    moments-same = λ i.
+        (cond (told i) (map (attaching_at (same.count i) 0) (does.attaches i)) [])
+        ++ map (attaching_at (same.count i) 0) (names_compared (diffs-same i))
+        ++ filter_map (λ (change : ℕ × Change A). cond (same.enabled i && accepts_by (rule-same i) change.1.table) (Some (attaching_at (same.count i) change.0 change.1.table)) None) (changes-same i)
+
+    all-moments : attachings session (x ∷ p) ≡ attachings session (y ∷ q)
+    all-moments = λ i. same.moments i ++ moments-same i
+
+    by_diff : (found : Option (List ℕ × List (Difference A))) → diff_touches session p found ≡ diff_touches session q found
+    by_diff None = refl
+    by_diff (Some compared) = λ i. map (λ (difference : Difference A). record {
+      event = same.count i;
+      change = 0;
+      table = compared.0;
+      key = difference.key;
+      image = difference.image;
+      indirect = same.indirect i;
+    }) compared.1
+
+    touches-same : event_touches session x p ≡ event_touches session y q
+    touches-same = λ i.
+        (cond (same.enabled i) (filter (is_recorded (all-moments i)) (filter_map (λ (change : ℕ × Change A). option_map (λ key. record {
+          event = same.count i;
+          change = change.0;
+          table = change.1.table;
+          key = key;
+          image = row_at (same.tables i) change.1.table key;
+          indirect = same.indirect i || is_cascade change.1.cause;
+        }) change.1.key) (changes-same i))) [])
+        ++ (by_diff (event_diff session x p) ∙ ap (diff_touches session q) diffs-same) i
+
+    same-more : AreSame (x ∷ p) (y ∷ q)
+    same-more = record {
+      count = ap (λ (n : ℕ). suc n) same.count;
+      tables = ap (λ (e : Effect A). e.database) effect-same;
+      versions = λ i. cond (told i && does.writes i) (same.versions i + 1) (same.versions i);
+      databases = λ i. cond (told i) (save_under (does.names i) (same.tables i) (same.databases i)) (same.databases i);
+      enabled = λ i. cond (told i) (unwrap_or (does.enables i) (same.enabled i)) (same.enabled i);
+      indirect = λ i. cond (told i) (unwrap_or (does.marks i) (same.indirect i)) (same.indirect i);
+      filters = λ i. cond (told i) (later (does.filters i) (same.filters i)) (same.filters i);
+      all = λ i. (told i && does.wants i) || same.all i;
+      moments = all-moments;
+    }
+
+  -- ---- with captures in place of restarts
+
+  module _ (start : Past A) (fresh : touches session start ≡ []) where
+    record IsWithout (later others : List (Event A)) : Type 0 where
+      same : AreSame (later ++ start) (others ++ start)
+      touched : touches session (others ++ start) ≡ touches_over session later start
+
+    without : (later others : List (Event A)) → AreUnrestarted session later others → IsWithout later others
+    without [] [] alike_all = record { same = same-itself start; touched = fresh }
+    without [] (other ∷ others) alike_all = absurd alike_all
+    without (event ∷ later) [] alike_all = absurd alike_all
+    without (event ∷ later) (other ∷ others) alike_all =
+        let before = without later others alike_all.2 in
+        let does : IsAlike event.command other.command = subst (IsAlike event.command) (sym alike_all.0) (alike event.command) in
+        let no : (is_accepted other.reply && restarts session other.command) ≡ false =
+        ap (λ b. is_accepted other.reply && b) (ap (restarts session) alike_all.0 ∙ no-restart event.command) ∙ and_none (is_accepted other.reply) in
+        record {
+          same = same-more (later ++ start) (others ++ start) event other before.same alike_all.1 does;
+          touched =
+              ap (λ b. cond b [] (touches session (others ++ start) ++ event_touches session other (others ++ start))) no
+              ∙ (λ i. before.touched i ++ sym (touches-same (later ++ start) (others ++ start) event other before.same alike_all.1 does) i);
+        }
+
+  pub one-capture : (start : Past A) (events others : List (Event A)) → touches session start ≡ [] → AreUnrestarted session events others
+      → session_changes (main (others ++ start)) (session_of (others ++ start) session) ≡ capture_over session events start
+  one-capture start events others fresh alike_all =
+      let so = without start fresh events others alike_all in
+      λ i. changes_of (sym so.same.tables i) (map (λ name. (name, records_of (touches_of name (so.touched i)))) (first_of_each (map (λ (moment : Attaching). moment.table) (sym so.same.moments i))))
