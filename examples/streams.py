@@ -6,6 +6,7 @@ output, and a write that fails a beginning of the output.
 """
 import contextlib
 import os
+import pty
 import resource
 import subprocess
 import time
@@ -85,6 +86,32 @@ def byte_by_byte(count, words, given, whole, label):
     count.note(found == (whole, b"", 0), f"{label}, byte by byte", f"{found}"[:200])
 
 
+def line_by_line(count, workload, replies):
+    """A shell prints the reply to each line before the next line is written. Each of these has one line."""
+    found = []
+    with subprocess.Popen([count.program, "shell"], stdin=subprocess.PIPE, stdout=subprocess.PIPE,
+                          stderr=subprocess.PIPE) as ran:
+        for line in workload.splitlines(keepends=True):
+            ran.stdin.write(line)
+            ran.stdin.flush()
+            found.append(ran.stdout.readline())
+        ran.stdin.close()
+        rest = ran.stdout.read(), ran.stderr.read(), ran.wait()
+    count.note((b"".join(found), rest) == (replies, (b"", b"", 0)), "shell, line by line", f"{found}, {rest}")
+
+
+def at_a_terminal(count):
+    """At a terminal a shell has a prompt on standard error before each line, and before the end of the input."""
+    terminal, given = pty.openpty()
+    with subprocess.Popen([count.program, "shell"], stdin=given, stdout=subprocess.PIPE, stderr=subprocess.PIPE) as ran:
+        os.close(given)
+        os.write(terminal, b"session\nfrob\nsession\n\x04")
+        found = ran.stdout.read(), ran.stderr.read(), ran.wait()
+    os.close(terminal)
+    prompts = b"changecap> changecap> line 2: G1 Syntax at 0\nchangecap> changecap> \n"
+    count.note(found == (b"session 1\nsession 2\n", prompts, 0), "shell at a terminal", f"{found}")
+
+
 def words_that_are_no_text(count):
     ran = subprocess.run([count.program, b"\xff"], stdin=subprocess.DEVNULL, stdout=subprocess.PIPE,
                          stderr=subprocess.PIPE)
@@ -126,13 +153,23 @@ def check(count, workload, replies):
         byte_by_byte(count, words, b"# " + b"-" * 2_000 + b"\n" + workload, replies, label)
         byte_by_byte(count, words, b"", b"", label)
     threads_that_cannot_be_started(count, ["run", "--threads", "4"], "run --threads 4")
+    for given, which in [(workload, "short"), (long, "long")]:
+        full_output(count, ["shell"], given, f"shell, {which}")
+        closed_output(count, ["shell"], given, f"shell, {which}")
+    output_that_closes(count, ["shell"], long, printed, "shell")
+    unread_input(count, ["shell"], "shell")
+    full_error(count, ["shell"], b"frob", "shell")
+    byte_by_byte(count, ["shell"], b"# " + b"-" * 2_000 + b"\n" + workload, replies, "shell")
+    line_by_line(count, workload, replies)
+    at_a_terminal(count)
     for word, printed in [("show", SHOWN), ("invert", INVERTED), ("patchset", PATCHED), ("concat", BLOB + b"\n")]:
         full_output(count, [word], BLOB, word)
         closed_output(count, [word], BLOB, word)
         unread_input(count, [word], word)
         full_error(count, [word], b"54zz", word)
         byte_by_byte(count, [word], BLOB, printed, word)
-    for words in [["--help"], ["--version"], ["run", "--help"], ["invert", "--help"], ["concat", "--help"]]:
+    for words in [["--help"], ["--version"], ["run", "--help"], ["shell", "--help"], ["invert", "--help"],
+                  ["concat", "--help"]]:
         full_output(count, words, b"", " ".join(words))
         closed_output(count, words, b"", " ".join(words))
     full_error(count, ["frob"], b"", "frob")

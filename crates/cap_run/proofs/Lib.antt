@@ -9,5 +9,7 @@ mod OutputLemmas
 mod PieceLemmas
 mod RunLemmas
 mod SeatLemmas
+mod ShellLemmas
+mod UnreadLemmas
 mod WorkerLemmas
 mod BlobListLemmas

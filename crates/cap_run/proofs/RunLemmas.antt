@@ -56,11 +56,11 @@ pub ok_through : {X E : Type 0} (D : Type 0) (P : X → Type 0) (r : Result X E)
 ok_through {X} D P (Ok y) x same met = let is : x ≡ y = ap (value_or {X = X} {D = D} x) same in subst P (sym is) met
 ok_through D P (Err e) x same met = absurd same
 
-IsLegal-none : (A : Type 0) → IsLegal {A = A} []
+pub IsLegal-none : (A : Type 0) → IsLegal {A = A} []
 unfolding IsLegal
 IsLegal-none A = tt
 
-fits-none : (A : Type 0) → BlobsFit {A = A} []
+pub fits-none : (A : Type 0) → BlobsFit {A = A} []
 unfolding BlobsFit
 fits-none A = tt
 
@@ -100,15 +100,15 @@ module _ {A : Type 0} where
   length-history_of (x ∷ lines) [] few = refl
   length-history_of (x ∷ lines) (y ∷ replies) few = ap suc (length-history_of lines replies (omega arith))
 
-  IsLegal-push : (h : List (Event A)) (c : Command A) → IsLegal h → IsLegal (h ++ event_by 0 c (reply_of h c) ∷ [])
+  pub IsLegal-push : (h : List (Event A)) (c : Command A) → IsLegal h → IsLegal (h ++ event_by 0 c (reply_of h c) ∷ [])
   unfolding IsLegal reply_of state
   IsLegal-push h c legal = subst IsLegalPast (sym (reverse-append h (event_by 0 c (reply_of h c) ∷ []))) (refl, legal)
 
-  fits-push : (h : List (Event A)) (c : Command A) (reply : Reply A) → BlobsFit h → BlobFits c → BlobsFit (h ++ event_by 0 c reply ∷ [])
+  pub fits-push : (h : List (Event A)) (c : Command A) (reply : Reply A) → BlobsFit h → BlobFits c → BlobsFit (h ++ event_by 0 c reply ∷ [])
   unfolding BlobsFit
   fits-push h c reply fits one = subst BlobsFitPast (sym (reverse-append h (event_by 0 c reply ∷ []))) (one, fits)
 
-  events-state : (h : List (Event A)) → (state h).events ≡ length h
+  pub events-state : (h : List (Event A)) → (state h).events ≡ length h
   unfolding state
   events-state h = length-reverse h
 

@@ -1,6 +1,6 @@
 -- Inputs that have several blobs.
-use Rattle.std.specs.Prelude.{ℕ, zero, suc, ◌+◌, ◌==◌, List, [], ◌∷◌, Option, Some, None, length, map}
-use Rattle.std.specs.Prelude.{drop, nat_le, take, if◌then◌else◌}
+use Rattle.std.specs.Prelude.{◌≡◌, ℕ, zero, suc, ◌+◌, ◌==◌, List, [], ◌∷◌, Option, Some, None, length, map}
+use Rattle.std.specs.Prelude.{drop, IfSome, nat_le, take, if◌then◌else◌}
 use Rattle.std.specs.Int.{from_be_bytes, w64}
 use Rattle.std.specs.List.{onto_first}
 use Rattle.std.specs.Option.{option_map_or}
@@ -11,6 +11,10 @@ use Rattle.cap_run.specs.declared.encoding.Encoding.TheVariants.{Binary, Hex}
 abbrev pub lines_of : List ℕ → List (List ℕ)
 lines_of [] = []
 lines_of (byte ∷ bytes) = if byte == 10 then [] ∷ lines_of bytes else onto_first byte (lines_of bytes)
+
+-- the input has these lines, where it is known
+abbrev pub HasLines : Option (List ℕ) → List (List ℕ) → Type 0
+HasLines input lines = IfSome input (λ given. lines ≡ lines_of given)
 
 -- the length of a blob, in eight bytes with the most significant first
 abbrev pub frame_len : List ℕ → ℕ

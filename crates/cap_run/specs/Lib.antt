@@ -9,6 +9,7 @@ pub mod Pieces
 pub mod Reads
 pub mod Run
 pub mod RunFault
+pub mod Shell
 pub mod Show
 pub mod Workload
 pub mod Writes

@@ -1,7 +1,7 @@
 -- The options, and the exit status where there are none.
 use Rattle.std.specs.Prelude.{ℕ, ◌≤◌}
 use Rattle.cap_run.specs.declared.program_options.Options.{Options}
-use Rattle.cap_run.specs.declared.program_options.Options.TheVariants.{Concat, Convert, Run, Show}
+use Rattle.cap_run.specs.declared.program_options.Options.TheVariants.{Concat, Convert, Run, Shell, Show}
 use Rattle.cap_run.specs.declared.program_options.OptionsFault.{OptionsFault}
 use Rattle.cap_run.specs.declared.program_options.OptionsFault.TheVariants.{Refused, Help, Memory}
 
@@ -18,6 +18,7 @@ IsThreadCount threads = (1 ≤ threads) × (threads ≤ 63)
 -- the threads of a run are as many as can run a workload
 abbrev pub IsInRange : Options → Type 0
 IsInRange (Run threads) = IsThreadCount threads
+IsInRange Shell = Unit {0}
 IsInRange (Show form encoding) = Unit {0}
 IsInRange (Convert conversion) = Unit {0}
 IsInRange (Concat concatenation) = Unit {0}

@@ -7,10 +7,13 @@ use Rattle.cap_codec.specs.declared.read.Contents.TheVariants.{Changes, Patches}
 use Rattle.cap_run.specs.declared.encoding.Encoding.{Encoding}
 use Rattle.cap_run.specs.declared.fault.RunFault.{RunFault}
 use Rattle.cap_run.specs.declared.fault.RunFault.TheVariants.{Blob}
+use Rattle.cap_run.specs.declared.show.Form.{Form}
+use Rattle.cap_run.specs.declared.show.Form.TheVariants.{Json, Sql, Text}
 use Rattle.cap_run.specs.Encoding.{decoded}
 use Rattle.cap_run.specs.RunFault.{after}
 use Rattle.cap_show.specs.Json as json
 use Rattle.cap_show.specs.ShowText.{changeset_text, patchset_text}
+use Rattle.cap_show.specs.Sql.{changeset_sql, patchset_sql}
 
 -- what bytes hold
 abbrev pub contents_of : (A : Type 0) → List ℕ → Result (Contents A) RunFault
@@ -29,3 +32,14 @@ lines_text (Patches patches) = patchset_text patches
 abbrev pub json_text : {A : Type 0} → Contents A → List ℕ
 json_text (Changes changes) = json.list_text json.change changes
 json_text (Patches patches) = json.list_text json.patch patches
+
+-- its changes as SQL statements
+abbrev pub sql_text : {A : Type 0} → Contents A → List ℕ
+sql_text (Changes changes) = changeset_sql changes
+sql_text (Patches patches) = patchset_sql patches
+
+-- what is shown of it in this form
+abbrev pub shown_text : {A : Type 0} → Form → Contents A → List ℕ
+shown_text Text contents = lines_text contents
+shown_text Sql contents = sql_text contents
+shown_text Json contents = json_text contents

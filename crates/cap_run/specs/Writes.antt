@@ -13,7 +13,8 @@ module _ {W : Type 0} (went failed : W → W → Type 0) where
   ReportsWrite (Ok zero) old new = failed old new
   ReportsWrite (Ok (suc count)) old new = went old new
   ReportsWrite (Err error) old new =
-      (error_kind error ≡ Interrupted → went old new) × ((error_kind error ≡ Interrupted → ⊥) → failed old new)
+      (error_kind error ≡ Interrupted → went old new)
+      × ((error_kind error ≡ Interrupted → ⊥) → failed old new)
 
   -- a flush fails where it answers an error
   abbrev pub ReportsFlush : Result (Unit {0}) Error → W → W → Type 0
@@ -34,3 +35,12 @@ module _ {W : Type 0} (went failed : W → W → Type 0) where
   abbrev pub EndsWrites : {X : Type 0} → Result X RunFault → W → W → Type 0
   EndsWrites (Ok x) old new = AllWent went old new
   EndsWrites (Err fault) old new = EndsAtWriteFault fault old new
+
+-- Two writers: at most one of them failed.
+module _ {W E : Type 0} (went failed : W → W → Type 0) (e_went e_failed : E → E → Type 0) where
+  -- a failed write is reported where one of the writers failed so, and the other did not fail
+  abbrev pub EndsBoth : {X : Type 0} → Result X RunFault → W → W → E → E → Type 0
+  EndsBoth (Ok x) old new e_old e_new = AllWent went old new × AllWent e_went e_old e_new
+  EndsBoth (Err fault) old new e_old e_new =
+      (EndsAtWriteFault went failed fault old new × AllWent e_went e_old e_new)
+      ⊎ (AllWent went old new × EndsAtWriteFault e_went e_failed fault e_old e_new)

@@ -33,9 +33,21 @@ as a changeset:
 
 `changecap run --help` has every command. `changecap show` prints what is in those digits, `changecap
 invert` prints the changeset that undoes them, and `changecap patchset` their patchset. `changecap concat`
-makes one changeset of several.";
+makes one changeset of several. Nothing runs before the end of the input, except in `changecap shell`,
+which runs each line as it is read.
+
+What is refused has a code. G1 Syntax, G2 (a limit, with its E) and G3 (a blob, with its D) are of a line
+of a workload, and tell its number. D1 Truncated, D2 BadHeader, D3 BadVarint, D4 BadName, D5 BadOp, D6
+BadField, D7 Real, D8 BadText, D9 BadRecord and D10 Mixed are of the bytes of a blob. E1 to E20 are of a
+command, as E5 Duplicate; the refusal is its reply, and the next command runs.
+
+The exit status is 0 where the input was run or printed, 1 where it is refused, 2 where the command line
+is, and 3 where memory ran out or a read or a write failed.";
 
 const RUN_ABOUT: &str = "Run the workload on standard input and print the reply to each command";
+
+const SHELL_ABOUT: &str =
+    "Run each line of standard input as it is read and print its reply at once";
 
 const SHOW_ABOUT: &str = "Print what is in the changeset or patchset on standard input";
 
@@ -97,7 +109,21 @@ indirect. REF is key(V,..), or loose N for the row without a key that has the nu
 not F, and(F,..) or or(F,..).
 
 A line may begin with @K, K from 0 to 63, and then belongs to worker K mod N:
-@1 commit insert t (2,'y'). Replies are printed in the order of the lines.";
+@1 commit insert t (2,'y'). Replies are printed in the order of the lines.
+
+The whole input is read first. Nothing runs before its end, or where one of its lines is refused.";
+
+const SHELL_EXAMPLE: &str =
+    "The lines are those of a workload: `changecap run --help` has every command. Each line runs before the
+next one is read. For example
+    printf '%s\\n' 'create t kv' 'comit insert t (1)' \"commit insert t (1,'x')\" | changecap shell
+prints
+    ok version 1
+    line 2: G1 Syntax at 0
+    ok version 2
+of which the second line is on standard error. A line that is refused changes nothing, and the next one is
+read. A line that begins with @K is run as any other. At a terminal there is a prompt on standard error.
+The end of the input ends the shell, with status 0.";
 
 const SHOW_EXAMPLE: &str = "The digits may be of either case and end with a line feed. For example
     echo 5402010074001200010000000000000001030178 | changecap show
@@ -145,6 +171,7 @@ fn command_line<'a>(alloc: Global) -> Result<Command<'a>, AllocError> {
         .bin_name("changecap")?
         .subcommand_required(true)
         .subcommand(run_command(alloc)?)?
+        .subcommand(shell_command(alloc))?
         .subcommand(show_command(alloc)?)?
         .subcommand(convert_command(alloc, "invert", INVERT_ABOUT, INVERT_EXAMPLE)?)?
         .subcommand(convert_command(alloc, "patchset", PATCHSET_ABOUT, PATCHSET_EXAMPLE)?)?
@@ -162,6 +189,12 @@ fn run_command<'a>(alloc: Global) -> Result<Command<'a>, AllocError> {
         .about(RUN_ABOUT)
         .after_help(LANGUAGE)
         .arg(threads)
+}
+
+fn shell_command<'a>(alloc: Global) -> Command<'a> {
+    Command::new(alloc, "shell")
+        .about(SHELL_ABOUT)
+        .after_help(SHELL_EXAMPLE)
 }
 
 fn show_command<'a>(alloc: Global) -> Result<Command<'a>, AllocError> {
@@ -205,10 +238,11 @@ fn flag<'a>(alloc: Global, word: &'a str, help: &'a str) -> Arg<'a> {
 
 /// Parses the words after the program's name.
 ///
-/// `run` runs a workload, on N threads with `--threads N`, N from 1 to 63, and otherwise on one. `show` shows
-/// a blob, with `--sql` or `--json` as such. `invert` and `patchset` convert one, and `concat` concatenates several, with key flags by places, or
-/// by ones with `--key-flags ones`. A blob is given and written as hex digits, or with `--binary` as its bytes.
-/// Other words are refused with a message. `--help` and `--version` give their text as a fault of status 0.
+/// `run` runs a workload, on N threads with `--threads N`, N from 1 to 63, and otherwise on one. `shell` runs
+/// each line as it is read. `show` shows a blob, with `--sql` or `--json` as such. `invert` and `patchset`
+/// convert one, and `concat` concatenates several, with key flags by places, or by ones with
+/// `--key-flags ones`. A blob is given and written as hex digits, or with `--binary` as its bytes. Other words
+/// are refused with a message. `--help` and `--version` give their text as a fault of status 0.
 pub fn options(alloc: Global, words: &[String]) -> Result<Options, OptionsFault>
     // The number of threads is in range.
     ensures range { IfOk result IsInRange }
@@ -232,6 +266,7 @@ fn asked_for(matches: &ArgMatches) -> Options
                 threads: threads.clamp(1, THREADS_MAX),
             }
         }
+        Some(("shell", _)) => Options::Shell,
         Some(("invert", invert)) => Options::Convert(conversion(Target::Inverse, invert)),
         Some(("patchset", patchset)) => Options::Convert(conversion(Target::Patchset, patchset)),
         Some(("concat", concat)) => Options::Concat(Concatenation {

@@ -15,7 +15,7 @@ use std::io::ErrorKind;
 pub const READS_MAX: u64 = 1 << 40;
 
 // The most bytes of one read.
-const READ_LEN: usize = 8192;
+pub(crate) const READ_LEN: usize = 8192;
 
 pub(crate) fn is_interrupted(error: &io::Error) -> bool
     ensures { IsTrue result ↔ (error_kind error.now ≡ ErrorKind.Interrupted) }

@@ -1,5 +1,6 @@
-//! Runs a workload: reads its text, calls a server with its commands, and prints the replies. Also shows a
-//! changeset or patchset, makes the inverse or the patchset of a changeset, and concatenates blobs.
+//! Runs a workload: reads its text, calls a server with its commands, and prints the replies. Also runs a
+//! shell, shows a changeset or patchset, makes the inverse or the patchset of a changeset, and concatenates
+//! blobs.
 #![tactic(auto)]
 
 mod blob_list;
@@ -19,7 +20,9 @@ mod pieces;
 mod program_options;
 mod run;
 mod run_output;
+mod shell;
 mod show;
+mod unread;
 mod worker;
 mod workload;
 
@@ -34,5 +37,6 @@ pub use limits::THREADS_MAX;
 pub use program_options::{Options, OptionsFault};
 pub use run::run_core;
 pub use run_output::RunOutput;
+pub use shell::run_shell;
 pub use show::{Form, show_blob};
 pub use workload::run_workload;

@@ -12,6 +12,8 @@ pub enum Options {
         /// The number of workers for the lines that begin with `@K`: 1 to 63.
         threads: u64,
     },
+    /// Run each line of standard input as it is read.
+    Shell,
     /// Show the blob on standard input.
     Show {
         /// How it is shown.

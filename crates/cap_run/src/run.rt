@@ -188,7 +188,7 @@ fn line_fault<A: AllocHandle>(core: &Core<A>) -> CallFault
 }
 
 // Runs a line's command. The text of the reply is appended to `pending`, as a line.
-fn run_line<A: AllocHandle>(
+pub(crate) fn run_line<A: AllocHandle>(
     alloc: A,
     core: &mut Core<A>,
     line: &Line<A>,

@@ -5,7 +5,7 @@ ghost use Rattle.cap_value.specs.Memory.{ShowsUnlessMemory};
 ghost use Rattle.cap_run.specs.Conversion.{WritesOutput};
 ghost use Rattle.cap_run.specs.Reads.{EndsReads, ShowsUnlessUnread};
 ghost use Rattle.cap_run.specs.RunFault.{exit_status, input_fault, is_read, IsUnread, RunsNothing};
-ghost use Rattle.cap_run.specs.Show.{contents_at, contents_of, json_text, lines_text};
+ghost use Rattle.cap_run.specs.Show.{contents_at, contents_of, json_text, lines_text, shown_text, sql_text};
 ghost use Rattle.cap_run.specs.Writes.{EndsWrites};
 
 use crate::encoding::read_bytes;
@@ -35,7 +35,7 @@ pub enum Form {
 ///
 /// The whole blob is read before anything is written. The contracts say exactly which input is refused and
 /// with which fault, where it is known what the reader gives. A failed read and out of memory may come before
-/// any other answer. No clause states the SQL that is written; it is tested.
+/// any other answer.
 pub fn show_blob<A: AllocHandle, R: Source, W: RunOutput>(
     alloc: A,
     form: Form,
@@ -49,15 +49,10 @@ pub fn show_blob<A: AllocHandle, R: Source, W: RunOutput>(
         (λ fault. IsErrAnd result (λ f. (f ≡ fault) ⊎ IsUnread f))) }
     ensures just { IfSome (R.remaining reader.old) (λ given. IfErr result (λ fault.
         exit_status fault ≡ 1 → contents_at A encoding given ≡ Err fault)) }
-    // What is written as JSON, where it is known what the reader gives: the document of the changes, or a
+    // What is written, where it is known what the reader gives: the text of the blob in this form, or a
     // beginning of it where a write failed.
-    ensures json { form ≡ Form.Json → IfSome (R.remaining reader.old) (λ given.
-        IfOk (contents_at A encoding given) (λ contents. WritesOutput (json_text contents) result
-        (W.contents writer.old) (W.contents writer.new))) }
-    // What is written as text, where it is known what the reader gives: the lines of the blob, or a beginning
-    // of them where a write failed.
-    ensures text { form ≡ Form.Text → IfSome (R.remaining reader.old) (λ given.
-        IfOk (contents_at A encoding given) (λ contents. WritesOutput (lines_text contents) result
+    ensures shown { IfSome (R.remaining reader.old) (λ given.
+        IfOk (contents_at A encoding given) (λ contents. WritesOutput (shown_text form contents) result
         (W.contents writer.old) (W.contents writer.new))) }
     // When a failed read is reported, as far as the outcomes of the reads are known.
     ensures reported { EndsReads R.gave R.failed result reader.old reader.new }
@@ -98,17 +93,15 @@ fn contents<A: AllocHandle>(alloc: A, bytes: &[u8]) -> Result<Contents<A>, Fault
     })
 }
 
-// Writes the content of the blob as text. All of the text is made before any of it is written.
+// Writes the content of the blob. All of its text is made before any of it is written.
 fn write_blob<A: AllocHandle, W: RunOutput>(
     alloc: A,
     form: Form,
     blob: &Contents<A>,
     writer: &mut W,
 ) -> Result<(), RunFault>
-    ensures json { form ≡ Form.Json
-        → WritesOutput (json_text blob.now) result (W.contents writer.old) (W.contents writer.new) }
-    ensures text { form ≡ Form.Text
-        → WritesOutput (lines_text blob.now) result (W.contents writer.old) (W.contents writer.new) }
+    ensures shown { WritesOutput (shown_text form blob.now) result
+        (W.contents writer.old) (W.contents writer.new) }
     ensures status { IfErr result (λ fault. exit_status fault ≡ 3) }
     ensures read { IfErr result (λ fault. is_read fault ≡ false) }
     ensures write_reported { EndsWrites W.went W.failed result writer.old writer.new }
@@ -124,8 +117,7 @@ fn shown<A: AllocHandle>(
     form: Form,
     blob: &Contents<A>,
 ) -> Result<Vec<u8, A>, OutOfMemory>
-    ensures json { form ≡ Form.Json → IfOk result (λ text. text.items ≡ json_text blob.now) }
-    ensures text { form ≡ Form.Text → IfOk result (λ text. text.items ≡ lines_text blob.now) }
+    ensures { IfOk result (λ text. text.items ≡ shown_text form blob.now) }
 {
     match form {
         Form::Text => lines_of(alloc, blob),
@@ -163,15 +155,22 @@ fn write_lines<A: AllocHandle, W: Write>(blob: &Contents<A>, output: &mut W) -> 
     }
 }
 
-fn sql_of<A: AllocHandle>(alloc: A, blob: &Contents<A>) -> Result<Vec<u8, A>, OutOfMemory> {
+fn sql_of<A: AllocHandle>(alloc: A, blob: &Contents<A>) -> Result<Vec<u8, A>, OutOfMemory>
+    ensures { IfOk result (λ text. text.items ≡ sql_text blob.now) }
+{
     let mut text = Vec::new(alloc);
-    let written = match blob {
-        Contents::Changes(changes) => write_changeset_sql(changes, &mut text),
-        Contents::Patches(patches) => write_patchset_sql(patches, &mut text),
-    };
     // A vector fails at a write only out of memory.
-    match written {
+    match write_sql(blob, &mut text) {
         Ok(()) => Ok(text),
         Err(_) => Err(OutOfMemory),
+    }
+}
+
+fn write_sql<A: AllocHandle, W: Write>(blob: &Contents<A>, output: &mut W) -> io::Result<()>
+    ensures { OnOk result (Appends (W.contents output.old) (W.contents output.new) (sql_text blob.now)) }
+{
+    match blob {
+        Contents::Changes(changes) => write_changeset_sql(changes, output),
+        Contents::Patches(patches) => write_patchset_sql(patches, output),
     }
 }

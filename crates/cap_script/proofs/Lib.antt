@@ -14,3 +14,4 @@ mod OneTokens
 mod RowLemmas
 mod SpellLemmas
 mod TokenLemmas
+mod OneLine

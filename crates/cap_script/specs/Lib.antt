@@ -1,9 +1,11 @@
 pub mod Commands
+pub mod FaultText
 pub mod FirstRefused
 pub mod Forms
 pub mod Limits
 pub mod LineLimits
 pub mod Operations
+pub mod ReadLine
 pub mod RefusalText
 pub mod Refused
 pub mod RefusedLines

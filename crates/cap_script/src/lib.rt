@@ -4,9 +4,11 @@
 mod command;
 mod cursor;
 mod fault;
+mod fault_text;
 mod laws;
 mod line;
 mod lines;
+mod one_line;
 mod operation;
 mod refusal_text;
 mod reply;
@@ -20,8 +22,10 @@ mod words;
 mod workload;
 
 pub use fault::ScriptFault;
+pub use fault_text::print_fault;
 pub use laws::{one_workload, spelled_commands_fit};
 pub use line::{Line, Show};
 pub use lines::Lines;
+pub use one_line::read_line;
 pub use reply::print_reply;
 pub use workload::{Workload, parse};

@@ -1,3 +1,4 @@
 pub mod Code
 pub mod Json
 pub mod ShowText
+pub mod Sql

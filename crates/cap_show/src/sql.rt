@@ -1,17 +1,22 @@
 //! Changesets and patchsets as SQL statements.
-ghost use Rattle.std.specs.Prelude.{◌≡◌, ◌∷◌, ◌++◌, [], OnOk, codes};
+ghost use Rattle.std.specs.Fmt.{WritesOnOk};
 ghost use Rattle.std.specs.Io.KnownBytes.{Appends};
+ghost use Rattle.std.specs.List.{flat_map};
+ghost use Rattle.std.specs.Prelude.{◌≡◌, ◌++◌, Bool, List, OnOk, false, option_copied, slice_get, ℕ};
+ghost use Rattle.cap_show.specs.Code.DefinedFields.{is_first_after, next_text};
+ghost use Rattle.cap_show.specs.Code.Equations.{asked_value, next_equation, separator_before};
+ghost use Rattle.cap_show.specs.Code.Equations as code;
+ghost use Rattle.cap_show.specs.Sql as spec;
 
-use crate::text::{write_blob, write_quoted};
-use cap_changes::{ChangeList, FieldRecord, Patch, PatchList, RowChange};
+use crate::text::{write_blob, write_comma, write_quoted};
+use cap_changes::{
+    ChangeList, Entry, FieldRecord, GroupList, Patch, PatchList, RowChange, TableGroup,
+};
 use cap_row::Schema;
-use cap_value::{AllocHandle, Value};
+use cap_value::{AllocHandle, Name, Value};
 use std::fmt::{Display, Formatter};
 use std::io::Write;
 use std::{fmt, io};
-
-// The statements of a blob without groups.
-const EMPTY: &[u8] = b"BEGIN;\nCOMMIT;\n";
 
 /// Writes a changeset as SQL, as SQLite's program `changeset` does: a statement for each change, between
 /// `BEGIN` and `COMMIT`. Columns are `c0`, `c1` and so on.
@@ -22,21 +27,11 @@ pub fn write_changeset_sql<A: AllocHandle, W: Write>(
     changes: &ChangeList<A>,
     output: &mut W,
 ) -> io::Result<()>
-    // A list without groups has no statement.
-    ensures empty { changes.now ≡ [] → OnOk result (Appends (W.contents output.old) (W.contents output.new)
-        (codes "BEGIN;" ++ 10 ∷ (codes "COMMIT;" ++ 10 ∷ []))) }
+    // Where it is known what the writer holds, it is followed by the statements of the list.
+    ensures sql { OnOk result (Appends (W.contents output.old) (W.contents output.new)
+        (spec.changeset_sql changes.now)) }
 {
-    if changes.groups().is_empty() {
-        return output.write_all(EMPTY);
-    }
-    writeln!(output, "BEGIN;")?;
-    for group in changes.groups() {
-        let table = Table(group.table().as_str(), group.schema());
-        for change in group.changes() {
-            write_change(&table, change, output)?;
-        }
-    }
-    writeln!(output, "COMMIT;")
+    write_list::<RowChange<A>, A, W>(changes, output)
 }
 
 /// Writes a patchset as SQL, as a changeset is. The error is the writer's.
@@ -44,95 +39,202 @@ pub fn write_patchset_sql<A: AllocHandle, W: Write>(
     patches: &PatchList<A>,
     output: &mut W,
 ) -> io::Result<()>
-    // A list without groups has no statement.
-    ensures empty { patches.now ≡ [] → OnOk result (Appends (W.contents output.old) (W.contents output.new)
-        (codes "BEGIN;" ++ 10 ∷ (codes "COMMIT;" ++ 10 ∷ []))) }
+    // Where it is known what the writer holds, it is followed by the statements of the list.
+    ensures sql { OnOk result (Appends (W.contents output.old) (W.contents output.new)
+        (spec.patchset_sql patches.now)) }
 {
-    if patches.groups().is_empty() {
-        return output.write_all(EMPTY);
-    }
-    writeln!(output, "BEGIN;")?;
-    for group in patches.groups() {
-        let table = Table(group.table().as_str(), group.schema());
-        for patch in group.changes() {
-            write_patch(&table, patch, output)?;
+    write_list::<Patch<A>, A, W>(patches, output)
+}
+
+// What a list holds, as a statement.
+trait SqlEntry<A: AllocHandle>: Entry {
+    // The statement of one, of a table of this name and with these key flags.
+    ghost sql: { List ℕ → List Bool → Self → List ℕ };
+
+    // Writes it.
+    fn write_sql<W: Write>(
+        &self,
+        table: &Name<A>,
+        schema: &Schema<A>,
+        output: &mut W,
+    ) -> io::Result<()>
+        ensures { OnOk result (Appends (W.contents output.old) (W.contents output.new)
+            (sql table.now schema.now self.now)) };
+}
+
+impl<A: AllocHandle> SqlEntry<A> for RowChange<A> {
+    ghost use Rattle.cap_show.specs.Sql.{change_sql};
+
+    ghost sql = { change_sql };
+
+    fn write_sql<W: Write>(
+        &self,
+        table: &Name<A>,
+        schema: &Schema<A>,
+        output: &mut W,
+    ) -> io::Result<()> {
+        match self {
+            RowChange::Insert { new, .. } => write_insert(table, new, output),
+            RowChange::Update { old, new, .. } => write_update(table, schema, old, new, output),
+            RowChange::Delete { old, .. } => write_delete(table, schema, old, output),
         }
     }
+}
+
+impl<A: AllocHandle> SqlEntry<A> for Patch<A> {
+    ghost use Rattle.cap_show.specs.Sql.{patch_sql};
+
+    ghost sql = { patch_sql };
+
+    fn write_sql<W: Write>(
+        &self,
+        table: &Name<A>,
+        schema: &Schema<A>,
+        output: &mut W,
+    ) -> io::Result<()> {
+        match self {
+            Patch::Insert { new, .. } => write_insert(table, new, output),
+            Patch::Update { new, .. } => write_update(table, schema, new, new, output),
+            Patch::Delete { key, .. } => write_delete(table, schema, key, output),
+        }
+    }
+}
+
+fn write_list<C: SqlEntry<A>, A: AllocHandle, W: Write>(
+    list: &GroupList<C, A>,
+    output: &mut W,
+) -> io::Result<()>
+    ensures { OnOk result (Appends (W.contents output.old) (W.contents output.new)
+        (spec.list_sql C.sql list.now)) }
+{
+    writeln!(output, "BEGIN;")?;
+    write_groups(list.groups(), output)?;
     writeln!(output, "COMMIT;")
 }
 
-// The name of a table, and its columns.
-#[derive(Drop)]
-struct Table<'a, A: AllocHandle>(&'a str, &'a Schema<A>);
-
-fn write_change<A: AllocHandle, W: Write>(
-    table: &Table<'_, A>,
-    change: &RowChange<A>,
+fn write_groups<C: SqlEntry<A>, A: AllocHandle, W: Write>(
+    groups: &[TableGroup<C, A>],
     output: &mut W,
-) -> io::Result<()> {
-    match change {
-        RowChange::Insert { new, .. } => write_insert(table, new, output),
-        RowChange::Update { old, new, .. } => write_update(table, old, new, output),
-        RowChange::Delete { old, .. } => write_delete(table, old, output),
+) -> io::Result<()>
+    ensures { OnOk result (Appends (W.contents output.old) (W.contents output.new)
+        (flat_map (spec.group_sql C.sql) groups.now)) }
+{
+    for group in groups {
+        write_group(group, output)?;
     }
+    Ok(())
 }
 
-fn write_patch<A: AllocHandle, W: Write>(
-    table: &Table<'_, A>,
-    patch: &Patch<A>,
+fn write_group<C: SqlEntry<A>, A: AllocHandle, W: Write>(
+    group: &TableGroup<C, A>,
     output: &mut W,
-) -> io::Result<()> {
-    match patch {
-        Patch::Insert { new, .. } => write_insert(table, new, output),
-        Patch::Update { new, .. } => write_update(table, new, new, output),
-        Patch::Delete { key, .. } => write_delete(table, key, output),
+) -> io::Result<()>
+    ensures { OnOk result (Appends (W.contents output.old) (W.contents output.new)
+        (spec.group_sql C.sql group.now)) }
+{
+    let (table, schema) = (group.table(), group.schema());
+    for change in group.changes() {
+        change.write_sql(table, schema, output)?;
     }
+    Ok(())
 }
 
 fn write_insert<A: AllocHandle, W: Write>(
-    table: &Table<'_, A>,
+    table: &Name<A>,
     new: &FieldRecord<A>,
     output: &mut W,
-) -> io::Result<()> {
-    let (name, values) = (Identifier(table.0), ValueList(new));
+) -> io::Result<()>
+    ensures { OnOk result (Appends (W.contents output.old) (W.contents output.new)
+        (spec.insert_text table.now new.now)) }
+{
+    let (name, values) = (Identifier(table.as_str()), ValueList(new));
     writeln!(output, "INSERT INTO {name} VALUES({values});")
 }
 
 // The record `key` has the key fields, and `new` the modified fields.
 fn write_update<A: AllocHandle, W: Write>(
-    table: &Table<'_, A>,
+    table: &Name<A>,
+    schema: &Schema<A>,
     key: &FieldRecord<A>,
     new: &FieldRecord<A>,
     output: &mut W,
-) -> io::Result<()> {
-    if !sets_a_field(table.1.flags(), new.fields()) {
+) -> io::Result<()>
+    ensures { OnOk result (Appends (W.contents output.old) (W.contents output.new)
+        (spec.update_text table.now schema.now key.now new.now)) }
+{
+    if modifies_nothing(schema.flags(), new.fields()) {
         return Ok(());
     }
-    let (name, set, row) = (
-        Identifier(table.0),
-        Equations(table.1, new, false),
-        Equations(table.1, key, true),
-    );
+    write_set(table, schema, key, new, output)
+}
+
+fn write_set<A: AllocHandle, W: Write>(
+    table: &Name<A>,
+    schema: &Schema<A>,
+    key: &FieldRecord<A>,
+    new: &FieldRecord<A>,
+    output: &mut W,
+) -> io::Result<()>
+    ensures { OnOk result (Appends (W.contents output.old) (W.contents output.new)
+        (spec.set_text table.now schema.now key.now new.now)) }
+{
+    let name = Identifier(table.as_str());
+    let set = Equations {
+        schema,
+        fields: new,
+        of_key: false,
+    };
+    let row = Equations {
+        schema,
+        fields: key,
+        of_key: true,
+    };
     writeln!(output, "UPDATE {name} SET {set} WHERE {row};")
 }
 
 fn write_delete<A: AllocHandle, W: Write>(
-    table: &Table<'_, A>,
+    table: &Name<A>,
+    schema: &Schema<A>,
     key: &FieldRecord<A>,
     output: &mut W,
-) -> io::Result<()> {
-    let (name, row) = (Identifier(table.0), Equations(table.1, key, true));
+) -> io::Result<()>
+    ensures { OnOk result (Appends (W.contents output.old) (W.contents output.new)
+        (spec.delete_text table.now schema.now key.now)) }
+{
+    let name = Identifier(table.as_str());
+    let row = Equations {
+        schema,
+        fields: key,
+        of_key: true,
+    };
     writeln!(output, "DELETE FROM {name} WHERE {row};")
 }
 
-// Whether a field outside the key is defined.
-fn sets_a_field<A: AllocHandle>(flags: &[bool], fields: &[Option<Value<A>>]) -> bool {
-    for (is_key, field) in flags.iter().zip(fields) {
-        if !*is_key && field.is_some() {
-            return true;
+// Whether no field outside the key is defined.
+fn modifies_nothing<A: AllocHandle>(flags: &[bool], fields: &[Option<Value<A>>]) -> bool
+    ensures { result ≡ code.is_empty (spec.equations false 0 flags.now fields.now) }
+{
+    for (column, field) in fields.iter().enumerate() {
+        if asked_value(false, flags, column, field).is_some() {
+            return false;
         }
     }
-    false
+    true
+}
+
+// The value of a field, if it is defined and its column is in the key, or outside it, as is asked for.
+fn asked_value<'a, A: AllocHandle>(
+    of_key: bool,
+    flags: &[bool],
+    column: usize,
+    field: &'a Option<Value<A>>,
+) -> Option<&'a Value<A>>
+    ensures { option_copied result ≡ code.asked_value of_key (slice_get flags.now column) field.now }
+{
+    match flags.get(column) {
+        Some(is_key) if *is_key == of_key => field.as_ref(),
+        _ => None,
+    }
 }
 
 // A name between double quotes, with each of those in it doubled.
@@ -140,16 +242,26 @@ fn sets_a_field<A: AllocHandle>(flags: &[bool], fields: &[Option<Value<A>>]) -> 
 struct Identifier<'a>(&'a str);
 
 impl<'a> Display for Identifier<'a> {
+    ghost use Rattle.std.specs.Prelude.{Some};
+    ghost use Rattle.cap_show.specs.Sql.{identifier};
+
+    ghost output = { λ shown. Some (identifier shown.0.now) };
+
     fn fmt<W: fmt::Write>(&self, f: &mut Formatter<W>) -> fmt::Result {
         write_quoted(f, self.0, '"')
     }
 }
 
-// A value as a literal. SQLite reads no text literal behind a zero byte, so a text with one is cast.
+// A value as a literal.
 #[derive(Drop)]
 struct Literal<'a, A: AllocHandle>(&'a Value<A>);
 
 impl<'a, A: AllocHandle> Display for Literal<'a, A> {
+    ghost use Rattle.std.specs.Prelude.{Some};
+    ghost use Rattle.cap_show.specs.Sql.{literal};
+
+    ghost output = { λ shown. Some (literal shown.0.now) };
+
     fn fmt<W: fmt::Write>(&self, f: &mut Formatter<W>) -> fmt::Result {
         match self.0 {
             Value::Null => f.write_str("NULL"),
@@ -160,14 +272,23 @@ impl<'a, A: AllocHandle> Display for Literal<'a, A> {
     }
 }
 
-fn write_text<W: fmt::Write>(f: &mut Formatter<W>, text: &str) -> fmt::Result {
+// Writes a text as a literal. SQLite reads none behind a zero byte, so a text with one is cast.
+fn write_text<W: fmt::Write>(f: &mut Formatter<W>, text: &str) -> fmt::Result
+    ensures { WritesOnOk W.write_str_gives f.old result (spec.text_literal text.now) f.new }
+{
     if text.as_bytes().contains(&0) {
-        f.write_str("CAST(")?;
-        write_blob(f, text.as_bytes())?;
-        f.write_str(" AS TEXT)")
+        write_cast(f, text.as_bytes())
     } else {
         write_quoted(f, text, '\'')
     }
+}
+
+fn write_cast<W: fmt::Write>(f: &mut Formatter<W>, bytes: &[u8]) -> fmt::Result
+    ensures { WritesOnOk W.write_str_gives f.old result (spec.cast_text bytes.now) f.new }
+{
+    f.write_str("CAST(")?;
+    write_blob(f, bytes)?;
+    f.write_str(" AS TEXT)")
 }
 
 // The defined fields of a record, with commas between them.
@@ -175,37 +296,115 @@ fn write_text<W: fmt::Write>(f: &mut Formatter<W>, text: &str) -> fmt::Result {
 struct ValueList<'a, A: AllocHandle>(&'a FieldRecord<A>);
 
 impl<'a, A: AllocHandle> Display for ValueList<'a, A> {
+    ghost use Rattle.std.specs.Prelude.{Some};
+    ghost use Rattle.cap_show.specs.Sql.{values};
+
+    ghost output = { λ shown. Some (values shown.0.now) };
+
     fn fmt<W: fmt::Write>(&self, f: &mut Formatter<W>) -> fmt::Result {
-        for (place, value) in self.0.fields().iter().flatten().enumerate() {
-            if place > 0 {
-                f.write_str(",")?;
-            }
-            Literal(value).fmt(f)?;
+        write_values(f, self.0.fields())
+    }
+}
+
+// Writes the defined fields with commas between them.
+fn write_values<A: AllocHandle, W: fmt::Write>(
+    f: &mut Formatter<W>,
+    fields: &[Option<Value<A>>],
+) -> fmt::Result
+    ensures { WritesOnOk W.write_str_gives f.old result (spec.values fields.now) f.new }
+{
+    let mut is_first = true;
+    for field in fields {
+        write_if_defined(f, &mut is_first, field)?;
+    }
+    Ok(())
+}
+
+// Writes a field if it is defined, after a comma unless it is the first.
+fn write_if_defined<A: AllocHandle, W: fmt::Write>(
+    f: &mut Formatter<W>,
+    is_first: &mut bool,
+    field: &Option<Value<A>>,
+) -> fmt::Result
+    ensures text { WritesOnOk W.write_str_gives f.old result
+        (next_text spec.literal is_first.old field.now) f.new }
+    ensures first { is_first.new ≡ is_first_after is_first.old field.now }
+{
+    match field {
+        Some(value) => {
+            let is_first_value = *is_first;
+            *is_first = false;
+            write_comma(f, is_first_value)?;
+            Literal(value).fmt(f)
         }
-        Ok(())
+        None => Ok(()),
     }
 }
 
 // The defined fields of a record that are in the key, or those that are not, each as `cN=V`.
 #[derive(Drop)]
-struct Equations<'a, A: AllocHandle>(&'a Schema<A>, &'a FieldRecord<A>, bool);
+struct Equations<'a, A: AllocHandle> {
+    schema: &'a Schema<A>,
+    fields: &'a FieldRecord<A>,
+    of_key: bool,
+}
 
 impl<'a, A: AllocHandle> Display for Equations<'a, A> {
+    ghost use Rattle.std.specs.Prelude.{Some};
+    ghost use Rattle.cap_show.specs.Sql.{joined};
+
+    ghost output = { λ shown. Some (joined shown.of_key shown.schema.now shown.fields.now) };
+
     fn fmt<W: fmt::Write>(&self, f: &mut Formatter<W>) -> fmt::Result {
-        let separator = if self.2 { " AND " } else { ", " };
-        let mut is_first = true;
-        let columns = self.0.flags().iter().zip(self.1.fields()).enumerate();
-        for (column, (is_key, field)) in columns {
-            if let Some(value) = field
-                && *is_key == self.2
-            {
-                if !is_first {
-                    f.write_str(separator)?;
-                }
-                is_first = false;
-                write!(f, "c{column}={}", Literal(value))?;
-            }
+        write_equations(f, self.of_key, self.schema.flags(), self.fields.fields())
+    }
+}
+
+fn write_equations<A: AllocHandle, W: fmt::Write>(
+    f: &mut Formatter<W>,
+    of_key: bool,
+    flags: &[bool],
+    fields: &[Option<Value<A>>],
+) -> fmt::Result
+    ensures { WritesOnOk W.write_str_gives f.old result (spec.joined of_key flags.now fields.now) f.new }
+{
+    let mut is_first = true;
+    for (column, field) in fields.iter().enumerate() {
+        let value = asked_value(of_key, flags, column, field);
+        write_next_equation(f, &mut is_first, of_key, column, value)?;
+    }
+    Ok(())
+}
+
+// Writes a column and its value, if there is one, after a separator unless it is the first.
+fn write_next_equation<A: AllocHandle, W: fmt::Write>(
+    f: &mut Formatter<W>,
+    is_first: &mut bool,
+    of_key: bool,
+    column: usize,
+    value: Option<&Value<A>>,
+) -> fmt::Result
+    ensures text { WritesOnOk W.write_str_gives f.old result
+        (next_equation is_first.old of_key column (option_copied value.entry)) f.new }
+    ensures first { is_first.new ≡ is_first_after is_first.old (option_copied value.entry) }
+{
+    match value {
+        Some(value) => {
+            let is_first_value = *is_first;
+            *is_first = false;
+            write_separator(f, is_first_value, of_key)?;
+            write!(f, "c{column}={}", Literal(value))
         }
-        Ok(())
+        None => Ok(()),
+    }
+}
+
+fn write_separator<W: fmt::Write>(f: &mut Formatter<W>, is_first: bool, of_key: bool) -> fmt::Result
+    ensures { WritesOnOk W.write_str_gives f.old result (separator_before is_first of_key) f.new }
+{
+    match (is_first, of_key) {
+        (true, _) => Ok(()),
+        (false, true) => f.write_str(" AND "),
+        (false, false) => f.write_str(", "),
     }
 }

@@ -250,7 +250,8 @@ fn write_if_defined<A: AllocHandle, W: Write>(
     is_first: &mut bool,
     field: &Option<Value<A>>,
 ) -> fmt::Result
-    ensures text { WritesOnOk W.write_str_gives f.old result (next_text is_first.old field.now) f.new }
+    ensures text { WritesOnOk W.write_str_gives f.old result
+        (next_text spec.value_text is_first.old field.now) f.new }
     ensures first { is_first.new ≡ is_first_after is_first.old field.now }
 {
     match field {
@@ -276,7 +277,7 @@ fn write_value<A: AllocHandle, W: Write>(
     ValueText(value).fmt(f)
 }
 
-fn write_comma<W: Write>(f: &mut Formatter<W>, is_first: bool) -> fmt::Result
+pub(crate) fn write_comma<W: Write>(f: &mut Formatter<W>, is_first: bool) -> fmt::Result
     ensures { WritesOnOk W.write_str_gives f.old result (comma_text is_first) f.new }
 {
     if is_first { Ok(()) } else { f.write_str(",") }

@@ -1,8 +1,8 @@
 -- What a run reports of a stream that keeps whether a call of its failed.
-use Rattle.std.proofs.Common.{◌≡◌, ◌∙◌, ℕ, zero, suc, Bool, true, false, Result, Ok, Err, ap, refl, sym}
+use Rattle.std.proofs.Common.{◌≡◌, ◌∙◌, ℕ, zero, suc, Bool, true, false, Result, Ok, Err, ap, inl, inr, refl, sym}
 use Rattle.cap_codec.specs.StreamCalls.{AllWent, Calls}
 use Rattle.cap_run.specs.Reads.{EndsReads}
-use Rattle.cap_run.specs.Writes.{EndsWrites}
+use Rattle.cap_run.specs.Writes.{EndsBoth, EndsWrites}
 use Rattle.cap_run.specs.declared.fault.RunFault.{RunFault}
 use Rattle.cap_run.specs.declared.fault.RunFault.TheVariants.{Blob, Call, Close, Concat, Memory, NotHex, NotUtf8, Patchset, Read, Script, Write}
 
@@ -50,3 +50,15 @@ module _ {S : Type 0} (has_failed : S → Bool) where
   write_reported (Err Write) a b so fresh failed = refl
   write_reported (Err Memory) a b so fresh failed = none_failed a b so fresh failed
   write_reported (Err Close) a b so fresh failed = none_failed a b so fresh failed
+
+-- ---- two writers
+
+pub first_reported : {S T X : Type 0} (s : S → Bool) (t : T → Bool) (result : Result X RunFault) (a b : S) (x y : T) → EndsBoth (Stays s) (Fails s) (Stays t) (Fails t) result a b x y → s a ≡ false → s b ≡ true → result ≡ Err Write
+first_reported s t (Ok v) a b x y so fresh failed = none_failed s a b so.0 fresh failed
+first_reported s t (Err fault) a b x y (inl so) fresh failed = write_reported s (Err fault) a b so.0 fresh failed
+first_reported s t (Err fault) a b x y (inr so) fresh failed = none_failed s a b so.0 fresh failed
+
+pub second_reported : {S T X : Type 0} (s : S → Bool) (t : T → Bool) (result : Result X RunFault) (a b : S) (x y : T) → EndsBoth (Stays s) (Fails s) (Stays t) (Fails t) result a b x y → t x ≡ false → t y ≡ true → result ≡ Err Write
+second_reported s t (Ok v) a b x y so fresh failed = none_failed t x y so.1 fresh failed
+second_reported s t (Err fault) a b x y (inl so) fresh failed = none_failed t x y so.1 fresh failed
+second_reported s t (Err fault) a b x y (inr so) fresh failed = write_reported t (Err fault) x y so.1 fresh failed

@@ -6,7 +6,7 @@ ghost use Rattle.std.specs.declared.io.ErrorKind.TheVariants.{Interrupted};
 use cap_codec::Source;
 use cap_run::{
     Concatenation, Conversion, Encoding, Form, NoGate, RunFault, RunOutput, concat_blobs,
-    convert_blob, run_core, run_workload, show_blob,
+    convert_blob, run_core, run_shell, run_workload, show_blob,
 };
 use std::alloc::Global;
 use std::io;
@@ -126,6 +126,23 @@ pub fn serve_watched<T: Threads + Wait + Sync, R: Read, W: Write>(
     ensures write { writer.new.has_failed ≡ true → result ≡ Err RunFault.Write }
 {
     run_workload(rt, alloc, &NoGate, 1, reader, writer)
+}
+
+/// Runs a shell. A call of the streams that failed is what the shell reports.
+pub fn shell_watched<R: Read, W: Write, E: Write>(
+    alloc: Global,
+    reader: &mut Watched<R>,
+    replies: &mut Watched<W>,
+    faults: &mut Watched<E>,
+) -> Result<(), RunFault>
+    requires reader { reader.old.has_failed ≡ false }
+    requires replies { replies.old.has_failed ≡ false }
+    requires faults { faults.old.has_failed ≡ false }
+    ensures read { reader.new.has_failed ≡ true → result ≡ Err RunFault.Read }
+    ensures write { replies.new.has_failed ≡ true → result ≡ Err RunFault.Write }
+    ensures tell { faults.new.has_failed ≡ true → result ≡ Err RunFault.Write }
+{
+    run_shell(alloc, reader, replies, faults)
 }
 
 /// Shows a blob. A call of the streams that failed is what the run reports.

@@ -1,15 +1,16 @@
-//! The program `changecap`. `run` runs the workload on standard input and prints the replies; `show` prints
-//! the changes in a blob; `invert` and `patchset` print the inverse and the patchset of a changeset; `concat`
-//! prints the concatenation of blobs.
+//! The program `changecap`. `run` runs the workload on standard input and prints the replies; `shell` runs
+//! each line as it is read; `show` prints the changes in a blob; `invert` and `patchset` print the inverse and
+//! the patchset of a changeset; `concat` prints the concatenation of blobs.
 #![tactic(auto)]
 
 ghost use Rattle.cap_run.specs.Options.{IsThreadCount};
 
 use cap_run::{
     NoGate, Options, OptionsFault, RunFault, concat_blobs, convert_blob, options, run_core,
-    run_workload, show_blob,
+    run_shell, run_workload, show_blob,
 };
 use std::alloc::AllocError;
+use std::io::{IsTerminal, Read, Write};
 use std::process::ExitCode;
 use std::rt::Env;
 use std::sync::Wait;
@@ -74,9 +75,48 @@ fn run<R: Input + Print + Eprint + AllocGlobal + Threads + Wait + Sync>(rt: &R, 
     report(rt, outcome)
 }
 
-// Does what the command line asks for, and gives the exit status.
-fn run_program<R: Input + Print + Eprint + Env + AllocGlobal + Threads + Wait + Sync>(
+// Standard input at a terminal: each read is of a line, and has a prompt before it.
+#[derive(Drop)]
+struct Prompting<'a, I: Read + Drop, P: Eprint> {
+    input: I,
+    to: &'a P,
+}
+
+impl<'a, I: Read + Drop, P: Eprint> Read for Prompting<'a, I, P> {
+    fn read(&mut self, buf: &mut [u8]) -> io::Result<usize> {
+        eprint!(self.to; "changecap> ")?;
+        self.input.read(buf)
+    }
+}
+
+// Runs the lines of standard input, each as it is read, and gives the exit status. At a terminal the end of
+// the input leaves the prompt on its line.
+fn shell<R: Input + Print + Eprint + AllocGlobal, E: Write>(
     rt: &R,
+    faults: &mut E,
+    at_terminal: bool,
+) -> u8 {
+    let mut replies = io::writer(rt);
+    if !at_terminal {
+        let outcome = run_shell(rt.alloc(), &mut rt.reader(), &mut replies, faults);
+        return report(rt, outcome);
+    }
+    let mut reader = Prompting {
+        input: rt.reader(),
+        to: rt,
+    };
+    let outcome = run_shell(rt.alloc(), &mut reader, &mut replies, faults);
+    match eprintln!(rt; "") {
+        Ok(()) => report(rt, outcome),
+        Err(_) => FAILED,
+    }
+}
+
+// Does what the command line asks for, and gives the exit status. What a shell tells goes to `faults`.
+fn run_program<R: Input + Print + Eprint + Env + AllocGlobal + Threads + Wait + Sync, E: Write>(
+    rt: &R,
+    faults: &mut E,
+    at_terminal: bool,
 ) -> Result<u8, AllocError> {
     let alloc = rt.alloc();
     let arguments = match env::args(rt) {
@@ -86,6 +126,7 @@ fn run_program<R: Input + Print + Eprint + Env + AllocGlobal + Threads + Wait + 
     let words: Vec<String> = arguments.skip(1).collect(alloc)?;
     match options(alloc, words.as_slice()) {
         Ok(Options::Run { threads }) => Ok(run(rt, threads)),
+        Ok(Options::Shell) => Ok(shell(rt, faults, at_terminal)),
         Ok(Options::Show { form, encoding }) => {
             let outcome = show_blob(alloc, form, encoding, &mut rt.reader(), &mut io::writer(rt));
             Ok(report(rt, outcome))
@@ -103,5 +144,6 @@ fn run_program<R: Input + Print + Eprint + Env + AllocGlobal + Threads + Wait + 
 }
 
 fn main(rt: HostRuntime) -> ExitCode {
-    ExitCode::from(run_program(&rt).unwrap_or(FAILED))
+    let at_terminal = rt.stdin().is_terminal();
+    ExitCode::from(run_program(&rt, &mut rt.stderr(), at_terminal).unwrap_or(FAILED))
 }

@@ -1,8 +1,9 @@
 use Rattle.std.proofs.Common.{◌≡◌, codes, take}
 use Rattle.std.specs.Fmt.{HasWritten, IsPlainFormatter}
 use Rattle.std.specs.List.{join_by}
+use Rattle.cap_show.specs.Code.Equations.{is_empty}
 use Rattle.cap_show.specs.ShowText.{value_text}
-use Rattle.cap_show.proofs.TextLemmas.{defined, is_empty}
+use Rattle.cap_show.proofs.TextLemmas.{defined}
 use Rattle.cap_show.proofs.text.write_defined.Given as goal
 
 abbrev pub invariant-loop-field : goal.invariant-loop-field

@@ -1,0 +1,139 @@
+-- The output of a shell, line by line: the reply to the line's command, or its fault.
+use Rattle.std.specs.Prelude.{◌≡◌, ℕ, ◌+◌, ◌<◌, List, [], ◌∷◌, ◌++◌, None, Some, Result, Ok, Err}
+use Rattle.std.specs.Prelude.{IsUtf8, codes, decimal, false, length}
+use Rattle.std.specs.Io.KnownBytes.{Appends, prepend_known}
+use Rattle.cap_core.specs.Answer.{IsLegal, event_by, reply_of}
+use Rattle.cap_core.specs.Table.{BlobsFit}
+use Rattle.cap_core.specs.declared.event.Event.{Event}
+use Rattle.cap_value.specs.declared.memory.Fault.TheVariants as fault
+use Rattle.cap_script.specs.FaultText.{fault_text}
+use Rattle.cap_script.specs.ReadLine.{HasFault, IsFound}
+use Rattle.cap_script.specs.ReplyText.{reply_text}
+use Rattle.cap_script.specs.Script.{has_line_feed}
+use Rattle.cap_script.specs.declared.fault.ScriptFault.{ScriptFault}
+use Rattle.cap_script.specs.declared.line.Line.{Line}
+use Rattle.cap_server.specs.declared.fault.CallFault.{CallFault}
+use Rattle.cap_server.specs.declared.fault.CallFault.TheVariants as call
+use Rattle.cap_run.specs.BlobList.{HasLines}
+use Rattle.cap_run.specs.Run.{AppendsFront, Ended, Known, ending, events_max, on_a_line}
+use Rattle.cap_run.specs.declared.fault.RunFault.{RunFault}
+use Rattle.cap_run.specs.declared.fault.RunFault.TheVariants.{Call, Read, Write}
+
+-- what a line of the input is: no text, ignored, a command, or refused
+pub data ReadLine (A : Type 0) : Type 0 where
+  NoText : ReadLine A
+  Ignored : ReadLine A
+  Spelled : (line : Line A) → ReadLine A
+  Refused : (why : ScriptFault) → ReadLine A
+
+-- what the writers of the replies and of the faults hold
+pub record Outputs : Type 0 where
+  pub replies : Known
+  pub faults : Known
+
+abbrev pub outputs : Known → Known → Outputs
+outputs replies faults = record { replies = replies; faults = faults }
+
+module _ {A : Type 0} where
+  -- ---- one line
+
+  -- the line with this number is that
+  abbrev pub IsReadAs : ℕ → List ℕ → ReadLine A → Type 0
+  IsReadAs number text NoText = ¬ (IsUtf8 text)
+  IsReadAs number text Ignored = IsUtf8 text × IsFound {A = A} None text
+  IsReadAs number text (Spelled line) = IsUtf8 text × IsFound (Some line) text
+  IsReadAs number text (Refused why) = IsUtf8 text × HasFault A number (fault.Refused why) text
+
+  -- the events after it
+  abbrev pub after_line : List (Event A) → ReadLine A → List (Event A)
+  after_line history NoText = history
+  after_line history Ignored = history
+  after_line history (Spelled line) =
+      history ++ event_by 0 line.command (reply_of history line.command) ∷ []
+  after_line history (Refused why) = history
+
+  -- what is printed for it: the reply to its command
+  abbrev pub reply_to : List (Event A) → ReadLine A → List ℕ
+  reply_to history NoText = []
+  reply_to history Ignored = []
+  reply_to history (Spelled line) = on_a_line (reply_text line (reply_of history line.command))
+  reply_to history (Refused why) = []
+
+  -- what is told of it: its fault
+  abbrev pub fault_of : ℕ → ReadLine A → List ℕ
+  fault_of number NoText = on_a_line (codes "line " ++ (decimal number ++ codes ": not UTF-8"))
+  fault_of number Ignored = []
+  fault_of number (Spelled line) = []
+  fault_of number (Refused why) = on_a_line (fault_text why)
+
+  -- ---- lines one after the other, the first of them with this number
+
+  abbrev pub AreReadAs : ℕ → List (List ℕ) → List (ReadLine A) → Type 0
+  AreReadAs number [] [] = Unit {0}
+  AreReadAs number [] (line ∷ lines) = ⊥
+  AreReadAs number (text ∷ texts) [] = ⊥
+  AreReadAs number (text ∷ texts) (line ∷ lines) =
+      IsReadAs number text line × AreReadAs (number + 1) texts lines
+
+  abbrev pub after_lines : List (Event A) → List (ReadLine A) → List (Event A)
+  after_lines history [] = history
+  after_lines history (line ∷ lines) = after_lines (after_line history line) lines
+
+  abbrev pub replies_to : List (Event A) → List (ReadLine A) → List ℕ
+  replies_to history [] = []
+  replies_to history (line ∷ lines) =
+      reply_to history line ++ replies_to (after_line history line) lines
+
+  abbrev pub faults_of : ℕ → List (ReadLine A) → List ℕ
+  faults_of number [] = []
+  faults_of number (line ∷ lines) = fault_of number line ++ faults_of (number + 1) lines
+
+  -- The lines of the input before the others are these. Their commands have a legal history, whose blobs fit.
+  pub record HasRun (input : Known) (others : List (List ℕ)) (lines : List (ReadLine A)) : Type 0 where
+    pub texts : List (List ℕ)
+    pub parts : HasLines input (texts ++ others)
+    pub read : AreReadAs 1 texts lines
+    pub legal : IsLegal (after_lines [] lines)
+    pub blobs : BlobsFit (after_lines [] lines)
+
+  -- ---- the output
+
+  -- the replies were written, then what ended the shell, and the faults
+  abbrev pub Prints : List (ReadLine A) → Ended → Outputs → Outputs → Type 0
+  Prints lines ended old new =
+      Appends old.replies new.replies (replies_to [] lines ++ ending ended)
+      × Appends old.faults new.faults (faults_of 1 lines)
+
+  -- a prefix of each was written
+  abbrev pub PrintsPart : List (ReadLine A) → Ended → Outputs → Outputs → Type 0
+  PrintsPart lines ended old new =
+      AppendsFront old.replies new.replies (replies_to [] lines ++ ending ended)
+      × AppendsFront old.faults new.faults (faults_of 1 lines)
+
+  -- out of memory may end a shell before any line, and a full history before a line that would exceed it
+  abbrev pub EndsBefore : CallFault → List (Event A) → List (List ℕ) → Type 0
+  EndsBefore call.OutOfMemory history others = 0 < length others
+  EndsBefore (call.Overtaken front) history others = ⊥
+  EndsBefore call.HistoryFull history others = (0 < length others) × (length history ≡ events_max)
+
+-- the lines begin with what was read of one, and go on with what the reader has left
+abbrev pub AreLeft : Known → List (List ℕ) → Type 0
+AreLeft left others =
+    (partial : List ℕ) × (has_line_feed partial ≡ false) × HasLines (prepend_known partial left) others
+
+-- The output of a shell, by its input and what the reader has left: of all lines; of the lines before the one
+-- at which it ended; of those that were read whole before a read failed; or a prefix, where a write failed.
+abbrev pub WritesShell : (A : Type 0) → Known → Known → Result (Unit {0}) RunFault →
+    Outputs → Outputs → Type 0
+WritesShell A input left (Ok done) old new =
+    (lines : List (ReadLine A)) × HasRun input [] lines × Prints lines (Ok tt) old new
+WritesShell A input left (Err (Call fault)) old new =
+    (lines : List (ReadLine A)) × (others : List (List ℕ)) × HasRun input others lines
+    × EndsBefore fault (after_lines [] lines) others × Prints lines (Err fault) old new
+WritesShell A input left (Err Read) old new =
+    (lines : List (ReadLine A)) × (others : List (List ℕ)) × HasRun input others lines × AreLeft left others
+    × Prints lines (Ok tt) old new
+WritesShell A input left (Err Write) old new =
+    (lines : List (ReadLine A)) × (others : List (List ℕ)) × (ended : Ended) × HasRun input others lines
+    × PrintsPart lines ended old new
+WritesShell A input left (Err fault) old new = ⊥
