@@ -1,10 +1,12 @@
 -- The first refused line of a text.
-use Rattle.std.proofs.Common.{◌≡◌, ◌+◌, ◌||◌, ℕ, Bool, true, false, eqb, length, List, [], ◌∷◌, ◌++◌, Option, Some, IfSome, refl, sym, ap, subst, inl, inr, arith}
+use Rattle.std.proofs.Common.{◌≡◌, ◌+◌, ◌-◌, ◌||◌, ℕ, Bool, true, false, eqb, length, List, [], ◌∷◌, ◌++◌, Option, Some, Err, IfSome, refl, sym, ap, subst, inl, inr, arith}
+use Rattle.std.specs.Option.{option_map}
 use Rattle.std.proofs.lemmas.Bool.{eqb-true}
 use Rattle.cap_value.specs.declared.memory.Fault.{Fault}
 use Rattle.cap_value.specs.declared.memory.Fault.TheVariants as fault
 use Rattle.cap_value.specs.declared.memory.Fault.TheVariants.{Refused}
 use Rattle.cap_script.specs.FirstRefused.{IsFirstRefused, TellsFirstRefused, SpellsWithin, line_of}
+use Rattle.cap_script.specs.LineFaults.{Tells, line_fault}
 use Rattle.cap_script.specs.LineLimits.{AreWithinLimits, LineWithin}
 use Rattle.cap_script.specs.RefusedLines.{LeavesLines, NoLine, in_line}
 use Rattle.cap_script.specs.Script.{AreLines, IsCut, IsRead, SpellsLine, SpellsLines, SpellsScript, TakesFirst, has_line_feed, is_ignored}
@@ -75,6 +77,7 @@ module _ {A : Type 0} where
     spelled = (so.spelled.0, ignored_more so.spelled.0 line so.before ignored so.spelled.1, so.spelled.2);
     said = so.said;
     none = so.none;
+    told = so.told;
   }
 
   pub behind_one_line : (n : ℕ) (why : ScriptFault) (made : Line A) (text line rest : List ℕ) → IsCut text line rest → SpellsLine made line → LineWithin made → IsFirstRefused A (n + 1) why rest → IsFirstRefused A n why text
@@ -87,13 +90,14 @@ module _ {A : Type 0} where
     spelled = (made ∷ so.spelled.0, inr (spells, so.spelled.1), (within, so.spelled.2));
     said = so.said;
     none = so.none;
+    told = so.told;
   }
 
   -- ---- the first line is refused
 
   first_is : (n : ℕ) (why : ScriptFault) (text line rest : List ℕ) → IsCut text line rest → is_ignored line ≡ false → line_of why ≡ n → ((made : Line A) → SpellsLine made line → LeavesLines (Refused why) (LineWithin made))
-      → IsFirstRefused A n why text
-  first_is n why text line rest cut said number none =
+      → option_map (in_line (line_of why) line) (line_fault A line) ≡ Some (Refused why) → IsFirstRefused A n why text
+  first_is n why text line rest cut said number none told =
       let parts = lines_behind text line rest cut in
       record {
         before = [];
@@ -104,13 +108,14 @@ module _ {A : Type 0} where
         spelled = ([], tt, tt);
         said = said;
         none = none;
+        told = told;
       }
 
-  pub first_here : (fault : LineFault) (n : ℕ) (text line rest : List ℕ) → IsCut text line rest → is_ignored line ≡ false → NoLine A fault line → TellsFirstRefused A n (in_line n fault) text
-  first_here OutOfMemory n text line rest cut said none = tt
-  first_here (Syntax at) n text line rest cut said none = first_is n (script.Syntax n at) text line rest cut said refl none
-  first_here (Limit why) n text line rest cut said none = first_is n (script.Limit n why) text line rest cut said refl none
-  first_here (BadBlob why) n text line rest cut said none = first_is n (script.BadBlob n why) text line rest cut said refl none
+  pub first_here : (fault : LineFault) (n : ℕ) (text line rest : List ℕ) → IsCut text line rest → is_ignored line ≡ false → NoLine A fault line → Tells {X = Line A} (Err fault) (line_fault A line) → TellsFirstRefused A n (in_line n line fault) text
+  first_here OutOfMemory n text line rest cut said none told = tt
+  first_here (Syntax left) n text line rest cut said none told = first_is n (script.Syntax n (length line - left)) text line rest cut said refl none (ap (option_map (in_line n line)) told)
+  first_here (Limit why) n text line rest cut said none told = first_is n (script.Limit n why) text line rest cut said refl none (ap (option_map (in_line n line)) told)
+  first_here (BadBlob why) n text line rest cut said none told = first_is n (script.BadBlob n why) text line rest cut said refl none (ap (option_map (in_line n line)) told)
 
   -- ---- the whole text
 

@@ -1,4 +1,5 @@
 pub mod Crossing
+mod FaultLemmas
 mod FirstLemmas
 mod FitLemmas
 mod LineLemmas
@@ -11,7 +12,9 @@ mod NoneLemmas
 mod OneCommands
 mod OneForms
 mod OneTokens
+mod ReadLemmas
 mod RowLemmas
+mod ScanLemmas
 mod SpellLemmas
 mod TokenLemmas
 mod OneLine

@@ -23,11 +23,11 @@ use Rattle.cap_script.proofs.NoneLemmas.{leaves_map}
 use Rattle.cap_script.proofs.OneCommands.{OneBlob, OneFilter, same_command, same_worker}
 use Rattle.cap_script.proofs.OneForms.{moved}
 
-in_line_leaves : (fault : LineFault) (n : ℕ) (P : Type 0) → Leaves fault P → LeavesLines (in_line n fault) P
-in_line_leaves OutOfMemory n P left = tt
-in_line_leaves (Limit why) n P left = left
-in_line_leaves (Syntax at) n P left = left
-in_line_leaves (BadBlob why) n P left = left
+in_line_leaves : (fault : LineFault) (n : ℕ) (line : List ℕ) (P : Type 0) → Leaves fault P → LeavesLines (in_line n line fault) P
+in_line_leaves OutOfMemory n line P left = tt
+in_line_leaves (Limit why) n line P left = left
+in_line_leaves (Syntax behind) n line P left = left
+in_line_leaves (BadBlob why) n line P left = left
 
 leaves_lines_map : (fault : Fault ScriptFault) {P Q : Type 0} → (Q → P) → LeavesLines fault P → LeavesLines fault Q
 leaves_lines_map fault.OutOfMemory f left = tt
@@ -60,13 +60,13 @@ module _ {A : Type 0} where
 
   -- ---- the lines of a text
 
-  first_by : (fault : LineFault) (n : ℕ) (lines : List (Line A)) (line : List ℕ) (others : List (List ℕ)) → is_ignored line ≡ false → NoLine A fault line → SpellsLines lines (line ∷ others) → LeavesLines (in_line n fault) (AreWithinLimits lines)
+  first_by : (fault : LineFault) (n : ℕ) (lines : List (Line A)) (line : List ℕ) (others : List (List ℕ)) → is_ignored line ≡ false → NoLine A fault line → SpellsLines lines (line ∷ others) → LeavesLines (in_line n line fault) (AreWithinLimits lines)
   first_by fault n [] line others said none spelled = absurd cc
   first_by fault n (x ∷ lines) line others said none (inl spelled) = absurd cc
-  first_by fault n (x ∷ lines) line others said none (inr spelled) = in_line_leaves fault n (AreWithinLimits (x ∷ lines)) (leaves_map fault (λ within. within.0) (none x spelled.0))
+  first_by fault n (x ∷ lines) line others said none (inr spelled) = in_line_leaves fault n line (AreWithinLimits (x ∷ lines)) (leaves_map fault (λ within. within.0) (none x spelled.0))
 
   -- the first line that says something is refused
-  pub no_first : (fault : LineFault) (n : ℕ) (lines : List (Line A)) (text line rest : List ℕ) → IsCut text line rest → is_ignored line ≡ false → NoLine A fault line → SpellsScript lines text → LeavesLines (in_line n fault) (AreWithinLimits lines)
+  pub no_first : (fault : LineFault) (n : ℕ) (lines : List (Line A)) (text line rest : List ℕ) → IsCut text line rest → is_ignored line ≡ false → NoLine A fault line → SpellsScript lines text → LeavesLines (in_line n line fault) (AreWithinLimits lines)
   no_first fault n lines text line rest cut said none spelled =
       let parts = by_first lines text line rest cut spelled in
       first_by fault n lines line parts.0 said none parts.2

@@ -181,7 +181,7 @@ one_text t u line a b p q =
 pub hex_run : (digits bytes : List ℕ) → decode_of digits ≡ Ok bytes → list_all is_hex_digit digits ≡ true
 hex_run digits bytes e = list_all-from_AllPass is_hex_digit digits (decode_of-ok digits bytes e).1
 
-hex_unlike : (c : ℕ) → is_hex_digit c ≡ true → eqb c quote ≡ false
+pub hex_unlike : (c : ℕ) → is_hex_digit c ≡ true → eqb c quote ≡ false
 hex_unlike c hex = ne_eqb c quote (λ e. let bad : false ≡ true = subst (λ (d : ℕ). is_hex_digit d ≡ true) e hex in absurd cc)
 
 pub hex_no_quote : (digits : List ℕ) → list_all is_hex_digit digits ≡ true → has_quote digits ≡ false

@@ -28,16 +28,6 @@ no_more P items h = subst P (append-nil items) h
 
 -- ---- filters
 
-place_by : (text : List ℕ) (at : ℕ) → IsUnfitAt text at → at ≤ length text
-unfolding IsUnfitAt
-place_by text at unfit = let e : at ≡ length text - unfit.0 = unfit.1 in omega (arith, e)
-
--- a token that does not fit begins in the text, or at its end
-pub place_within : {X : Type 0} (text : List ℕ) (view : Result Rule Refusal) (r : Result X (Fault Refusal)) → IfErr r (λ fault. (why : Refusal) → fault ≡ Refused why → view ≡ Err why)
-    → ((at : ℕ) → view ≡ Err (BadFilter at) → IsUnfitAt text at) → IfErr r (λ fault. (at : ℕ) → fault ≡ Refused (BadFilter at) → at ≤ length text)
-place_within text view (Ok x) h law = tt
-place_within text view (Err fault) h law = λ at e. place_by text at (law at (h (BadFilter at) e))
-
 refused_is : (view : Result Rule Refusal) (fault : Fault Refusal) → AnswersUnlessMemory {X = Rule} (Err fault) view → (why : Refusal) → fault ≡ Refused why → view ≡ Err why
 refused_is view (Refused e) answer why same = let P : Fault Refusal → Type 0 = λ f. AnswersUnlessMemory {X = Rule} (Err f) view in subst P same answer
 refused_is view OutOfMemory answer why same = absurd cc

@@ -3,14 +3,17 @@ pub mod FaultText
 pub mod FirstRefused
 pub mod Forms
 pub mod Limits
+pub mod LineFaults
 pub mod LineLimits
 pub mod Operations
 pub mod ReadLine
+pub mod Reading
 pub mod RefusalText
 pub mod Refused
 pub mod RefusedLines
 pub mod ReplyText
 pub mod RowText
+pub mod Scanning
 pub mod Script
 pub mod Starts
 pub mod Tokens

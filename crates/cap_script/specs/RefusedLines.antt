@@ -1,5 +1,5 @@
 -- What a fault of a line says of its command.
-use Rattle.std.specs.Prelude.{ℕ, Bool, List, IsTrue, ⊤}
+use Rattle.std.specs.Prelude.{ℕ, ◌-◌, Bool, List, length, IsTrue, ⊤}
 use Rattle.cap_value.specs.declared.memory.Fault.{Fault}
 use Rattle.cap_value.specs.declared.memory.Fault.TheVariants as fault
 use Rattle.cap_value.specs.declared.memory.Fault.TheVariants.{Refused}
@@ -20,12 +20,12 @@ use Rattle.cap_script.specs.declared.fault.ScriptFault.TheVariants as script
 use Rattle.cap_script.specs.declared.line.Line.{Line}
 use Rattle.cap_script.specs.declared.line.Show.{Show}
 
--- the fault of the workload, where this is the line
-abbrev pub in_line : ℕ → LineFault → Fault ScriptFault
-in_line line (Syntax at) = Refused (script.Syntax line at)
-in_line line (Limit why) = Refused (script.Limit line why)
-in_line line (BadBlob why) = Refused (script.BadBlob line why)
-in_line line OutOfMemory = fault.OutOfMemory
+-- the fault of the workload, where the line has this number and this text
+abbrev pub in_line : ℕ → List ℕ → LineFault → Fault ScriptFault
+in_line line text (Syntax left) = Refused (script.Syntax line (length text - left))
+in_line line text (Limit why) = Refused (script.Limit line why)
+in_line line text (BadBlob why) = Refused (script.BadBlob line why)
+in_line line text OutOfMemory = fault.OutOfMemory
 
 -- what the fault of a workload leaves of lines that the text spells all the same
 abbrev pub LeavesLines : Fault ScriptFault → Type 0 → Type 0

@@ -44,8 +44,8 @@ conflict_text conflict =
 abbrev pub number_text : List ℕ → ℕ → List ℕ
 number_text word number = 10 ∷ (word ++ (codes " " ++ decimal number))
 
--- the conflicts, the changes that were left out, and the groups that were skipped, each on a line of its own, after
--- the line before
+-- the conflicts, the changes that were left out, and the groups that were skipped, each on a line of its own,
+-- after the line before
 abbrev pub report_text : ReportState → List ℕ
 report_text report =
     flat_map conflict_text report.conflicts

@@ -4,7 +4,11 @@ ghost use Rattle.cap_apply.specs.declared.policy.Answer.{Answer};
 ghost use Rattle.cap_apply.specs.declared.policy.Policy.{Policy};
 ghost use Rattle.cap_script.specs.Commands.{SpelledBlob, SpelledCommand, SpelledPolicy, SpelledReport};
 ghost use Rattle.cap_script.specs.Forms.{NotSpelled, Word};
+ghost use Rattle.cap_script.specs.LineFaults.{answer, command, commands, contents, name, operations, policy};
+ghost use Rattle.cap_script.specs.LineFaults.{row};
+ghost use Rattle.cap_script.specs.LineFaults.{schema};
 ghost use Rattle.cap_script.specs.LineLimits.{CommandWithin, SchemaWithin, ShowWithin};
+ghost use Rattle.cap_script.specs.Reading.{Reads, ◌⋙◌, behind, keyword_or_end, natural};
 ghost use Rattle.cap_script.specs.RefusedLines.{NoBlob, NoCommand, NoSchema};
 ghost use Rattle.cap_script.specs.Words.{answer_word, head_word, letters};
 ghost use Rattle.cap_script.specs.declared.line.Show.{Show};
@@ -32,6 +36,7 @@ pub(crate) fn command<A: AllocHandle>(
         SpelledCommand made.0 made.1 cursor.old.rest.now cursor.new.rest.now) }
     ensures within { IfOk result (λ made. CommandWithin made.0 × ShowWithin made.1) }
     ensures none { IfErr result (λ fault. NoCommand A fault cursor.old.rest.now) }
+    ensures reads { Reads result cursor.new.rest.now (command A cursor.old.rest.now) }
 {
     let word = cursor.word()?;
     let head = head_of(word.text).ok_or(word.misfit)?;
@@ -49,6 +54,8 @@ fn command_of<A: AllocHandle>(
     ensures within { IfOk result (λ made. CommandWithin made.0 × ShowWithin made.1) }
     ensures none { (line : List ℕ) → Word (head_word head) line cursor.old.rest.now
         → IfErr result (λ fault. NoCommand A fault line) }
+    ensures reads { Reads result cursor.new.rest.now
+        (behind (commands A) (head_word head) cursor.old.rest.now) }
 {
     match head {
         Head::Create => create(alloc, cursor),
@@ -73,6 +80,7 @@ fn create<A: AllocHandle>(
     ensures within { IfOk result (λ made. CommandWithin made.0 × ShowWithin made.1) }
     ensures none { (line : List ℕ) → Word (codes "create") line cursor.old.rest.now
         → IfErr result (λ fault. NoCommand A fault line) }
+    ensures reads { Reads result cursor.new.rest.now ((name ⋙ schema) cursor.old.rest.now) }
 {
     let table = name(alloc, cursor)?;
     let schema = schema(alloc, cursor)?;
@@ -84,6 +92,7 @@ fn schema<A: AllocHandle>(alloc: A, cursor: &mut Cursor<'_>) -> Result<Schema<A>
     ensures next { IfOk result (λ made. Word (letters made) cursor.old.rest.now cursor.new.rest.now) }
     ensures within { IfOk result (λ made. SchemaWithin made) }
     ensures none { IfErr result (λ fault. NoSchema fault cursor.old.rest.now) }
+    ensures reads { Reads result cursor.new.rest.now (schema cursor.old.rest.now) }
 {
     let word = cursor.word()?;
     let flags = flags_of(alloc, word.text)?.ok_or(word.misfit)?;
@@ -100,6 +109,7 @@ fn commit<A: AllocHandle>(
     ensures within { IfOk result (λ made. CommandWithin made.0 × ShowWithin made.1) }
     ensures none { (line : List ℕ) → Word (codes "commit") line cursor.old.rest.now
         → IfErr result (λ fault. NoCommand A fault line) }
+    ensures reads { Reads result cursor.new.rest.now (operations cursor.old.rest.now) }
 {
     let batch = batch(alloc, cursor, Batch::blind(alloc))?;
     Ok((Command::Commit(batch), Show::Plain))
@@ -115,6 +125,8 @@ fn commit_at<A: AllocHandle>(
     ensures within { IfOk result (λ made. CommandWithin made.0 × ShowWithin made.1) }
     ensures none { (line : List ℕ) → Word (codes "commitat") line cursor.old.rest.now
         → IfErr result (λ fault. NoCommand A fault line) }
+    ensures reads { Reads result cursor.new.rest.now
+        ((natural ⋙ operations) cursor.old.rest.now) }
 {
     let base = cursor.natural()?;
     let batch = batch(alloc, cursor, Batch::based(alloc, base))?;
@@ -132,6 +144,8 @@ fn apply<A: AllocHandle>(
     ensures within { IfOk result (λ made. CommandWithin made.0 × ShowWithin made.1) }
     ensures none { (line : List ℕ) → Word (codes "apply") line cursor.old.rest.now
         → IfErr result (λ fault. NoCommand A fault line) }
+    ensures reads { Reads result cursor.new.rest.now
+        ((contents A ⋙ policy ⋙ keyword_or_end (codes "report")) cursor.old.rest.now) }
 {
     let blob = contents(alloc, cursor)?;
     let policy = policy(cursor)?;
@@ -143,6 +157,7 @@ fn apply<A: AllocHandle>(
 fn contents<A: AllocHandle>(alloc: A, cursor: &mut Cursor<'_>) -> Result<Contents<A>, LineFault>
     ensures next { IfOk result (λ made. SpelledBlob made cursor.old.rest.now cursor.new.rest.now) }
     ensures none { IfErr result (λ fault. NoBlob A fault cursor.old.rest.now) }
+    ensures reads { Reads result cursor.new.rest.now (contents A cursor.old.rest.now) }
 {
     let bytes = cursor.blob(alloc)?;
     if bytes.len() > BYTES_MAX {
@@ -154,6 +169,7 @@ fn contents<A: AllocHandle>(alloc: A, cursor: &mut Cursor<'_>) -> Result<Content
 fn policy(cursor: &mut Cursor<'_>) -> Result<Policy, LineFault>
     ensures next { IfOk result (λ made. SpelledPolicy made cursor.old.rest.now cursor.new.rest.now) }
     ensures none { OnErr result ((policy : Policy) → NotSpelled (SpelledPolicy policy) cursor.old.rest.now) }
+    ensures reads { Reads result cursor.new.rest.now (policy cursor.old.rest.now) }
 {
     Ok(Policy {
         on_data: answer(cursor)?,
@@ -167,6 +183,7 @@ fn answer(cursor: &mut Cursor<'_>) -> Result<Answer, LineFault>
     ensures next { IfOk result (λ made. Word (answer_word made) cursor.old.rest.now cursor.new.rest.now) }
     ensures none { OnErr result ((answer : Answer) →
         NotSpelled (Word (answer_word answer)) cursor.old.rest.now) }
+    ensures reads { Reads result cursor.new.rest.now (answer cursor.old.rest.now) }
 {
     let word = cursor.word()?;
     answer_of(word.text).ok_or(word.misfit)
@@ -177,6 +194,7 @@ fn report<A: AllocHandle>(cursor: &mut Cursor<'_>) -> Result<Show<A>, LineFault>
     ensures next { IfOk result (λ made. SpelledReport made cursor.old.rest.now cursor.new.rest.now) }
     ensures within { IfOk result (λ made. ShowWithin made) }
     ensures none { OnErr result ((show : Show A) → NotSpelled (SpelledReport show) cursor.old.rest.now) }
+    ensures reads { Reads result cursor.new.rest.now (keyword_or_end (codes "report") cursor.old.rest.now) }
 {
     if cursor.takes_end() {
         return Ok(Show::Plain);
@@ -195,6 +213,7 @@ fn get<A: AllocHandle>(
     ensures within { IfOk result (λ made. CommandWithin made.0 × ShowWithin made.1) }
     ensures none { (line : List ℕ) → Word (codes "get") line cursor.old.rest.now
         → IfErr result (λ fault. NoCommand A fault line) }
+    ensures reads { Reads result cursor.new.rest.now ((name ⋙ row) cursor.old.rest.now) }
 {
     let table = name(alloc, cursor)?;
     let row = row_ref(alloc, cursor)?;
@@ -211,6 +230,7 @@ fn scan<A: AllocHandle>(
     ensures within { IfOk result (λ made. CommandWithin made.0 × ShowWithin made.1) }
     ensures none { (line : List ℕ) → Word (codes "scan") line cursor.old.rest.now
         → IfErr result (λ fault. NoCommand A fault line) }
+    ensures reads { Reads result cursor.new.rest.now (name cursor.old.rest.now) }
 {
     let table = name(alloc, cursor)?;
     Ok((Command::Read, Show::Scan(table)))
@@ -226,6 +246,7 @@ fn save<A: AllocHandle>(
     ensures within { IfOk result (λ made. CommandWithin made.0 × ShowWithin made.1) }
     ensures none { (line : List ℕ) → Word (codes "save") line cursor.old.rest.now
         → IfErr result (λ fault. NoCommand A fault line) }
+    ensures reads { Reads result cursor.new.rest.now (name cursor.old.rest.now) }
 {
     let database = name(alloc, cursor)?;
     Ok((Command::SaveAs { database }, Show::Plain))

@@ -1,7 +1,12 @@
 //! Reads the tokens of a line.
-ghost use Rattle.std.specs.Prelude.{◌≡◌, ◌≤◌, ◌<◌, ◌^◌, ◌≢◌, ◌⊎◌, [], Bool, true, false, ℕ, ℤ, List};
-ghost use Rattle.std.specs.Prelude.{Option, length, IsTrue, string_bytes, OnOk, OnErr, IfOk, IfErr};
+ghost use Rattle.std.specs.Prelude.{◌≡◌, ◌≤◌, ◌<◌, ◌^◌, ◌-◌, ◌≢◌, ◌⊎◌, [], Bool, true, false, ℕ, ℤ, List};
+ghost use Rattle.std.specs.Prelude.{Option, Err, length, IsTrue, string_bytes, OnOk, OnErr, IfOk, IfErr};
+ghost use Rattle.std.specs.Prelude.{MatchResult};
 ghost use Rattle.cap_script.specs.Forms.{AtEnd, NotSpelled, Without};
+ghost use Rattle.cap_script.specs.LineFaults.{worker};
+ghost use Rattle.cap_script.specs.Reading.{Fails, Reads, Verdict, a_sign, a_word, at_end, judged, keyword};
+ghost use Rattle.cap_script.specs.Reading.{misfit};
+ghost use Rattle.cap_script.specs.Reading.{natural, on_natural, right_here};
 ghost use Rattle.cap_script.specs.Tokens.{Begins, Next, NextInteger, behind_blanks, blob, integer, sign};
 ghost use Rattle.cap_script.specs.Tokens.{text, word};
 ghost use Rattle.cap_script.specs.Script.{SpelledWorker};
@@ -26,8 +31,6 @@ const WORKER_MAX: u64 = 63;
 #[derive(Drop)]
 pub(crate) struct Cursor<'a> {
     rest: &'a str,
-    line_len: usize,
-    ghost within: { length rest.now ≤ line_len },
 }
 
 // A word of a line, and the fault of the line where the word is not expected.
@@ -41,25 +44,24 @@ impl<'a> Cursor<'a> {
     pub(crate) fn new(line: &'a str) -> Self
         ensures { result.rest.now ≡ line.now }
     {
-        Cursor {
-            rest: line,
-            line_len: line.len(),
-        }
+        Cursor { rest: line }
     }
 
     // The fault of a token that begins here and is not expected.
-    pub(crate) fn misfit(&self) -> LineFault {
+    pub(crate) fn misfit(&self) -> LineFault
+        ensures { result ≡ misfit self.now.rest.now }
+    {
         LineFault::Syntax {
-            at: (self.line_len - self.rest.len()) as u64,
+            left: self.rest.len(),
         }
     }
 
     // The fault of a token that begins at this offset in the rest and is not expected.
     pub(crate) fn misfit_at(&self, at: u64) -> LineFault
-        requires { at ≤ length self.now.rest.now }
+        ensures { result ≡ LineFault.Syntax (length self.now.rest.now - at) }
     {
         LineFault::Syntax {
-            at: (self.line_len - self.rest.len()) as u64 + at,
+            left: self.rest.len().saturating_sub(at as usize),
         }
     }
 
@@ -114,6 +116,7 @@ impl<'a> Cursor<'a> {
         requires { wanted < 128 }
         ensures next { OnOk result (Next (sign wanted) self.old.rest.now self.new.rest.now) }
         ensures none { OnErr result (NotSpelled (Next (sign wanted)) self.old.rest.now) }
+        ensures reads { Reads result self.new.rest.now (a_sign wanted self.old.rest.now) }
         ensures left { length self.new.rest.now ≤ length self.old.rest.now }
     {
         if self.takes_sign(wanted) {
@@ -138,6 +141,7 @@ impl<'a> Cursor<'a> {
     pub(crate) fn end(&mut self) -> Result<(), LineFault>
         ensures end { OnOk result (behind_blanks self.old.rest.now ≡ []) }
         ensures other { OnErr result (behind_blanks self.old.rest.now ≢ []) }
+        ensures reads { Reads result [] (at_end self.old.rest.now) }
     {
         if self.takes_end() {
             Ok(())
@@ -150,6 +154,12 @@ impl<'a> Cursor<'a> {
     pub(crate) fn word(&mut self) -> Result<Word<'a>, LineFault>
         ensures next { IfOk result (λ found. Next (word found.text.now) self.old.rest.now self.new.rest.now) }
         ensures none { OnErr result ((w : List ℕ) → NotSpelled (Next (word w)) self.old.rest.now) }
+        ensures misfit { IfOk result (λ found. found.misfit ≡ misfit (behind_blanks self.old.rest.now)) }
+        ensures place { IfErr result (λ fault. fault ≡ misfit (behind_blanks self.old.rest.now)) }
+        ensures reads { (judge : List ℕ → Verdict) → MatchResult result
+            (λ found. a_word judge self.old.rest.now
+            ≡ judged (behind_blanks self.old.rest.now) self.new.rest.now (judge found.text.now))
+            (λ fault. a_word judge self.old.rest.now ≡ Err fault) }
         ensures left { length self.new.rest.now ≤ length self.old.rest.now }
     {
         self.skip_spaces();
@@ -166,6 +176,7 @@ impl<'a> Cursor<'a> {
     pub(crate) fn keyword(&mut self, wanted: &str) -> Result<(), LineFault>
         ensures next { OnOk result (Next (word wanted.now) self.old.rest.now self.new.rest.now) }
         ensures none { OnErr result (NotSpelled (Next (word wanted.now)) self.old.rest.now) }
+        ensures reads { Reads result self.new.rest.now (keyword wanted.now self.old.rest.now) }
         ensures left { length self.new.rest.now ≤ length self.old.rest.now }
     {
         let found = self.word()?;
@@ -180,6 +191,7 @@ impl<'a> Cursor<'a> {
     pub(crate) fn integer(&mut self) -> Result<i64, LineFault>
         ensures next { IfOk result (λ number. NextInteger number self.old.rest.now self.new.rest.now) }
         ensures none { OnErr result ((number : ℤ) → NotSpelled (NextInteger number) self.old.rest.now) }
+        ensures place { IfErr result (λ fault. fault ≡ misfit (behind_blanks self.old.rest.now)) }
         ensures left { length self.new.rest.now ≤ length self.old.rest.now }
     {
         self.skip_spaces();
@@ -194,6 +206,7 @@ impl<'a> Cursor<'a> {
     pub(crate) fn natural(&mut self) -> Result<u64, LineFault>
         ensures next { IfOk result (λ n. Next (integer false n) self.old.rest.now self.new.rest.now) }
         ensures none { OnErr result ((n : ℕ) → NotSpelled (Next (integer false n)) self.old.rest.now) }
+        ensures reads { Reads result self.new.rest.now (natural self.old.rest.now) }
         ensures left { length self.new.rest.now ≤ length self.old.rest.now }
         ensures fits { IfOk result (λ n. n < 2 ^ 63) }
     {
@@ -205,6 +218,11 @@ impl<'a> Cursor<'a> {
     fn digits(&mut self) -> Result<u64, LineFault>
         ensures here { IfOk result (λ n. Begins (integer false n) self.old.rest.now self.new.rest.now) }
         ensures none { OnErr result ((n : ℕ) → NotSpelled (Begins (integer false n)) self.old.rest.now) }
+        ensures place { IfErr result (λ fault. fault ≡ misfit self.old.rest.now) }
+        ensures reads { (judge : ℕ → Verdict) → MatchResult result
+            (λ n. right_here (on_natural judge) self.old.rest.now
+            ≡ judged self.old.rest.now self.new.rest.now (judge n))
+            (λ fault. right_here (on_natural judge) self.old.rest.now ≡ Err fault) }
         ensures left { length self.new.rest.now ≤ length self.old.rest.now }
         ensures fits { IfOk result (λ n. n < 2 ^ 63) }
     {
@@ -224,6 +242,7 @@ impl<'a> Cursor<'a> {
         ensures next { IfOk result (λ made. SpelledWorker made self.old.rest.now self.new.rest.now) }
         ensures none { OnErr result
             ((worker : Option ℕ) → NotSpelled (SpelledWorker worker) self.old.rest.now) }
+        ensures reads { Reads result self.new.rest.now (worker self.old.rest.now) }
         ensures left { length self.new.rest.now ≤ length self.old.rest.now }
     {
         if !self.takes_sign('@') {
@@ -246,6 +265,7 @@ impl<'a> Cursor<'a> {
         ensures next { IfOk result (λ t. Next (text (string_bytes t)) self.old.rest.now self.new.rest.now) }
         ensures none { IfErr result (λ fault. (fault ≡ LineFault.OutOfMemory)
             ⊎ ((t : List ℕ) → NotSpelled (Next (text t)) self.old.rest.now)) }
+        ensures place { IfErr result (λ fault. Fails fault (Err (misfit (behind_blanks self.old.rest.now)))) }
         ensures left { length self.new.rest.now ≤ length self.old.rest.now }
     {
         self.skip_spaces();
@@ -261,6 +281,7 @@ impl<'a> Cursor<'a> {
         ensures next { IfOk result (λ bytes. Next (blob bytes.items) self.old.rest.now self.new.rest.now) }
         ensures none { IfErr result (λ fault. (fault ≡ LineFault.OutOfMemory)
             ⊎ ((bytes : List ℕ) → NotSpelled (Next (blob bytes)) self.old.rest.now)) }
+        ensures place { IfErr result (λ fault. Fails fault (Err (misfit (behind_blanks self.old.rest.now)))) }
         ensures left { length self.new.rest.now ≤ length self.old.rest.now }
     {
         self.skip_spaces();

@@ -39,8 +39,9 @@ pub enum ScriptFault {
 // Why a line has no command.
 #[derive(Clone, Copy, Debug, PartialEq, Eq, Drop)]
 pub(crate) enum LineFault {
-    // The token at this offset is not expected there, or the line ends there too early.
-    Syntax { at: u64 },
+    // A token is not expected where it stands: from its first byte on the line has this many bytes, none where
+    // it ends too early.
+    Syntax { left: usize },
     // The next token exceeds a limit.
     Limit(Refusal),
     // The bytes of the next token are neither a changeset nor a patchset.
@@ -49,12 +50,15 @@ pub(crate) enum LineFault {
 }
 
 impl LineFault {
-    // The fault of the workload, with this line number.
-    pub(crate) fn in_line(self, line: u64) -> Fault<ScriptFault>
-        ensures { result ≡ in_line line self }
+    // The fault of the workload, where the line has this number and this text.
+    pub(crate) fn in_line(self, line: u64, text: &str) -> Fault<ScriptFault>
+        ensures { result ≡ in_line line text.now self }
     {
         match self {
-            LineFault::Syntax { at } => Fault::Refused(ScriptFault::Syntax { line, at }),
+            LineFault::Syntax { left } => Fault::Refused(ScriptFault::Syntax {
+                line,
+                at: text.len().saturating_sub(left) as u64,
+            }),
             LineFault::Limit(why) => Fault::Refused(ScriptFault::Limit { line, why }),
             LineFault::BadBlob(fault) => Fault::Refused(ScriptFault::BadBlob { line, fault }),
             LineFault::OutOfMemory => Fault::OutOfMemory,

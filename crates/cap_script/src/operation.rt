@@ -1,11 +1,14 @@
 //! Reads the operations of a transaction.
-ghost use Rattle.std.specs.Prelude.{◌≡◌, ◌≤◌, ◌<◌, ◌++◌, ◌∷◌, [], false, None, List, ℕ, length, IfOk, IfErr};
+ghost use Rattle.std.specs.Prelude.{◌≡◌, ◌≤◌, ◌<◌, ◌++◌, ◌∷◌, [], true, false, None, List, ℕ, length, IfOk};
+ghost use Rattle.std.specs.Prelude.{IfErr};
 ghost use Rattle.std.specs.Prelude.{OnOk, codes};
 ghost use Rattle.std.specs.List.{AllByRecursion};
 ghost use Rattle.cap_script.specs.Forms.{◌▸◌, Word};
 ghost use Rattle.cap_script.specs.Limits.{NameWithin, OpWithin, OpsWithin, ValueWithin};
+ghost use Rattle.cap_script.specs.LineFaults.{field, fields, name, operation, operations, verbs};
 ghost use Rattle.cap_script.specs.Operations.{SpelledAction, SpelledField, SpelledFields, SpelledOperation};
 ghost use Rattle.cap_script.specs.Operations.{SpelledOperations};
+ghost use Rattle.cap_script.specs.Reading.{Reads, ◌⋙◌, a_word, behind, keyword, one_of};
 ghost use Rattle.cap_script.specs.Refused.{Leaves, NoAction, NoField, NoFields, NoName, NoNextOperation};
 ghost use Rattle.cap_script.specs.Refused.{NoOperation, NoOperations};
 ghost use Rattle.cap_script.specs.Words.{verb_word};
@@ -24,6 +27,7 @@ pub(crate) fn name<A: AllocHandle>(alloc: A, cursor: &mut Cursor<'_>) -> Result<
     ensures next { IfOk result (λ made. Word made cursor.old.rest.now cursor.new.rest.now) }
     ensures within { IfOk result (λ made. NameWithin made) }
     ensures none { IfErr result (λ fault. NoName fault cursor.old.rest.now) }
+    ensures reads { Reads result cursor.new.rest.now (name cursor.old.rest.now) }
     ensures left { length cursor.new.rest.now ≤ length cursor.old.rest.now }
 {
     let word = cursor.word()?;
@@ -43,6 +47,7 @@ pub(crate) fn batch<A: AllocHandle>(
         SpelledOperations made.ops cursor.old.rest.now cursor.new.rest.now) }
     ensures within { IfOk result (λ made. OpsWithin made.ops) }
     ensures none { IfErr result (λ fault. NoOperations A fault cursor.old.rest.now) }
+    ensures reads { Reads result cursor.new.rest.now (operations cursor.old.rest.now) }
 {
     push(&mut batch, operation(alloc, cursor, false)?)?;
     while cursor.takes_sign(';') {
@@ -59,6 +64,7 @@ fn push<A: AllocHandle>(batch: &mut Batch<A>, op: Op<A>) -> Result<(), LineFault
     ensures ops { OnOk result (batch.new.ops ≡ batch.old.ops ++ op ∷ []) }
     ensures room { OnOk result (length batch.old.ops < 10000) }
     ensures full { IfErr result (λ fault. Leaves fault (length batch.old.ops < 10000)) }
+    ensures memory { IfErr result (λ fault. length batch.old.ops < 10000 → fault ≡ LineFault.OutOfMemory) }
 {
     Ok(batch.push(op)?)
 }
@@ -73,6 +79,7 @@ fn operation<A: AllocHandle>(
     ensures next { IfOk result (λ made. SpelledOperation made cursor.old.rest.now cursor.new.rest.now) }
     ensures within { IfOk result (λ made. OpWithin made) }
     ensures none { IfErr result (λ fault. NoNextOperation A fault is_full cursor.old.rest.now) }
+    ensures reads { Reads result cursor.new.rest.now (operation is_full cursor.old.rest.now) }
     ensures left { length cursor.new.rest.now ≤ length cursor.old.rest.now }
 {
     let word = cursor.word()?;
@@ -93,7 +100,9 @@ fn operation<A: AllocHandle>(
 
 // Refuses an operation where the batch is full.
 fn has_room(is_full: bool) -> Result<(), LineFault>
-    ensures { IfErr result (λ fault. Leaves fault (is_full ≡ false)) }
+    ensures none { IfErr result (λ fault. Leaves fault (is_full ≡ false)) }
+    ensures room { OnOk result (is_full ≡ false) }
+    ensures full { IfErr result (λ fault. (is_full ≡ true) × (fault ≡ LineFault.Limit Refusal.TooMany)) }
 {
     if is_full {
         Err(LineFault::Limit(Refusal::TooMany))
@@ -109,6 +118,7 @@ fn cascaded<A: AllocHandle>(alloc: A, cursor: &mut Cursor<'_>) -> Result<Op<A>, 
     ensures within { IfOk result (λ made. OpWithin made) }
     ensures none { (line : List ℕ) → Word (codes "cascade") line cursor.old.rest.now
         → IfErr result (λ fault. NoOperation A fault line) }
+    ensures reads { Reads result cursor.new.rest.now (a_word (one_of verbs) cursor.old.rest.now) }
     ensures left { length cursor.new.rest.now ≤ length cursor.old.rest.now }
 {
     let word = cursor.word()?;
@@ -129,6 +139,7 @@ fn operation_of<A: AllocHandle>(
     ensures within { IfOk result (λ made. OpWithin made) }
     ensures none { (line : List ℕ) → Word (verb_word verb) line cursor.old.rest.now
         → IfErr result (λ fault. NoAction A fault line) }
+    ensures reads { Reads result cursor.new.rest.now (behind verbs (verb_word verb) cursor.old.rest.now) }
     ensures left { length cursor.new.rest.now ≤ length cursor.old.rest.now }
 {
     let table = name(alloc, cursor)?;
@@ -171,6 +182,8 @@ fn assignments<A: AllocHandle>(
         (Word (codes "set") ▸ SpelledFields made) cursor.old.rest.now cursor.new.rest.now) }
     ensures within { IfOk result (λ made. AllByRecursion (λ field. ValueWithin field.1) made) }
     ensures none { IfErr result (λ fault. NoFields A fault cursor.old.rest.now) }
+    ensures reads { Reads result cursor.new.rest.now
+        ((keyword (codes "set") ⋙ fields) cursor.old.rest.now) }
     ensures left { length cursor.new.rest.now ≤ length cursor.old.rest.now }
 {
     cursor.keyword("set")?;
@@ -190,6 +203,7 @@ fn assignment<A: AllocHandle>(
     ensures next { IfOk result (λ made. SpelledField made cursor.old.rest.now cursor.new.rest.now) }
     ensures within { IfOk result (λ made. ValueWithin made.1) }
     ensures none { IfErr result (λ fault. NoField A fault cursor.old.rest.now) }
+    ensures reads { Reads result cursor.new.rest.now (field cursor.old.rest.now) }
     ensures left { length cursor.new.rest.now ≤ length cursor.old.rest.now }
 {
     let column = cursor.natural()? as usize;

@@ -63,7 +63,7 @@ impl<'t> Rest<'t> {
                 self.number += 1;
                 Ok(Some(line))
             }
-            Err(fault) => Err(fault.in_line(self.number)),
+            Err(fault) => Err(fault.in_line(self.number, text)),
         }
     }
 

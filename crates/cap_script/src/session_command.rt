@@ -1,14 +1,17 @@
 //! Reads the commands on one session, after their first word.
-ghost use Rattle.std.specs.Prelude.{◌≡◌, ◌≤◌, List, ℕ, Bool, Option};
-ghost use Rattle.std.specs.Prelude.{Ok, IsTrue, OnErr, IfOk, IfErr, codes, length};
+ghost use Rattle.std.specs.Prelude.{◌≡◌, List, ℕ, Bool, Option};
+ghost use Rattle.std.specs.Prelude.{Ok, IsTrue, OnErr, IfOk, IfErr, codes};
 ghost use Rattle.cap_value.specs.Memory.{AnswersUnlessMemory};
 ghost use Rattle.cap_filter.specs.Limits.{is_within_limits};
+ghost use Rattle.cap_filter.specs.Reading.{filter_of};
 ghost use Rattle.cap_filter.specs.Rule.{Rule};
 ghost use Rattle.cap_codec.specs.declared.key_flags.KeyFlags.{KeyFlags};
 ghost use Rattle.cap_filter.specs.Grammar.{Spells};
 ghost use Rattle.cap_script.specs.Commands.{SpelledCommand, SpelledFilter, SpelledKeyFlags};
 ghost use Rattle.cap_script.specs.Forms.{◌▸◌, Natural, NotSpelled, Word};
+ghost use Rattle.cap_script.specs.LineFaults.{commands, filter, flag, name};
 ghost use Rattle.cap_script.specs.LineLimits.{CommandWithin, ShowWithin};
+ghost use Rattle.cap_script.specs.Reading.{Reads, ◌⋙◌, behind, keyword_or_end};
 ghost use Rattle.cap_script.specs.RefusedLines.{NoCommand, NoFilter};
 ghost use Rattle.cap_script.specs.Words.{flag_word, session_word};
 
@@ -33,6 +36,8 @@ pub(crate) fn session_command<A: AllocHandle>(
     ensures within { IfOk result (λ made. CommandWithin made.0 × ShowWithin made.1) }
     ensures none { (line : List ℕ) → Word (session_word word) line cursor.old.rest.now
         → IfErr result (λ fault. NoCommand A fault line) }
+    ensures reads { Reads result cursor.new.rest.now
+        (behind (commands A) (session_word word) cursor.old.rest.now) }
 {
     let session = cursor.natural()?;
     match word {
@@ -82,6 +87,7 @@ fn diff<A: AllocHandle>(
     ensures within { IfOk result (λ made. CommandWithin made.0 × ShowWithin made.1) }
     ensures none { (line : List ℕ) → (Word (codes "diff") ▸ Natural session) line cursor.old.rest.now
         → IfErr result (λ fault. NoCommand A fault line) }
+    ensures reads { Reads result cursor.new.rest.now ((name ⋙ name) cursor.old.rest.now) }
 {
     let from = name(alloc, cursor)?;
     let table = name(alloc, cursor)?;
@@ -98,6 +104,7 @@ fn filter<A: AllocHandle>(alloc: A, cursor: &mut Cursor<'_>) -> Result<TableFilt
     ensures next { IfOk result (λ made. SpelledFilter made cursor.old.rest.now cursor.new.rest.now) }
     ensures within { IfOk result (λ made. IsTrue (is_within_limits made)) }
     ensures none { IfErr result (λ fault. NoFilter fault cursor.old.rest.now) }
+    ensures reads { Reads result cursor.new.rest.now (filter cursor.old.rest.now) }
 {
     let text = cursor.rest();
     match filter_of(alloc, text) {
@@ -111,7 +118,7 @@ fn filter<A: AllocHandle>(alloc: A, cursor: &mut Cursor<'_>) -> Result<TableFilt
     }
 }
 
-// The filter that the text spells. The offset of a fault is within the text, or at its end.
+// The filter that the text spells.
 fn filter_of<A: AllocHandle>(alloc: A, text: &str) -> Result<TableFilter<A>, Fault<Refusal>>
     ensures found { IfOk result (λ made. Spells text.now made) }
     ensures within { IfOk result (λ made. IsTrue (is_within_limits made)) }
@@ -119,8 +126,7 @@ fn filter_of<A: AllocHandle>(alloc: A, text: &str) -> Result<TableFilter<A>, Fau
         → AnswersUnlessMemory result (Ok filter) }
     ensures unfit { IfErr result (λ fault. (at : ℕ)
         → fault ≡ Fault.Refused (Refusal.BadFilter at) → (filter : Rule) → Spells text.now filter → ⊥) }
-    ensures place { IfErr result (λ fault. (at : ℕ)
-        → fault ≡ Fault.Refused (Refusal.BadFilter at) → at ≤ length text.now) }
+    ensures reading { AnswersUnlessMemory result (filter_of text.now) }
 {
     unfit_place();
     TableFilter::parse(alloc, text)
@@ -131,6 +137,7 @@ fn key_flags(cursor: &mut Cursor<'_>) -> Result<KeyFlags, LineFault>
     ensures next { IfOk result (λ made. SpelledKeyFlags made cursor.old.rest.now cursor.new.rest.now) }
     ensures none { OnErr result
         ((flags : KeyFlags) → NotSpelled (SpelledKeyFlags flags) cursor.old.rest.now) }
+    ensures reads { Reads result cursor.new.rest.now (keyword_or_end (codes "places") cursor.old.rest.now) }
 {
     if cursor.takes_end() {
         return Ok(KeyFlags::Ones);
@@ -144,6 +151,7 @@ fn flag(cursor: &mut Cursor<'_>) -> Result<Option<bool>, LineFault>
     ensures next { IfOk result (λ made. Word (flag_word made) cursor.old.rest.now cursor.new.rest.now) }
     ensures none { OnErr result ((flag : Option Bool) →
         NotSpelled (Word (flag_word flag)) cursor.old.rest.now) }
+    ensures reads { Reads result cursor.new.rest.now (flag cursor.old.rest.now) }
 {
     let word = cursor.word()?;
     flag_of(word.text).ok_or(word.misfit)

@@ -1,11 +1,14 @@
 //! Reads values, and references to rows.
-ghost use Rattle.std.specs.Prelude.{◌≤◌, List, ℕ, length, IfOk, IfErr, codes};
+ghost use Rattle.std.specs.Prelude.{◌≡◌, ◌≤◌, List, ℕ, length, IfOk, IfErr, codes};
 ghost use Rattle.std.specs.List.{AllByRecursion};
 ghost use Rattle.cap_script.specs.Forms.{Word};
 ghost use Rattle.cap_script.specs.Limits.{IsShort, RowWithin, ValueWithin};
+ghost use Rattle.cap_script.specs.LineFaults.{row, value, values};
 ghost use Rattle.cap_script.specs.Operations.{SpelledRow, SpelledValue, SpelledValues};
+ghost use Rattle.cap_script.specs.Reading.{Reads};
 ghost use Rattle.cap_script.specs.Refused.{NoRow, NoValue, NoValues, NoneSpelled};
-ghost use Rattle.cap_script.specs.Tokens.{Next, blob, text};
+ghost use Rattle.cap_script.specs.Starts.{start_of};
+ghost use Rattle.cap_script.specs.Tokens.{Next, behind_blanks, blob, text};
 
 use crate::cursor::Cursor;
 use crate::fault::LineFault;
@@ -22,6 +25,7 @@ pub(crate) fn value<A: AllocHandle>(
     ensures next { IfOk result (λ made. SpelledValue made cursor.old.rest.now cursor.new.rest.now) }
     ensures within { IfOk result (λ made. ValueWithin made) }
     ensures none { IfErr result (λ fault. NoValue A fault cursor.old.rest.now) }
+    ensures reads { Reads result cursor.new.rest.now (value cursor.old.rest.now) }
     ensures left { length cursor.new.rest.now ≤ length cursor.old.rest.now }
 {
     match cursor.start() {
@@ -40,6 +44,8 @@ fn text<A: AllocHandle>(alloc: A, cursor: &mut Cursor<'_>) -> Result<Value<A>, L
     ensures within { IfOk result (λ made. ValueWithin made) }
     ensures none { IfErr result (λ fault.
         NoneSpelled fault IsShort (λ bytes. Next (text bytes)) cursor.old.rest.now) }
+    ensures reads { start_of (behind_blanks cursor.old.rest.now) ≡ Start.Quote
+        → Reads result cursor.new.rest.now (value cursor.old.rest.now) }
     ensures left { length cursor.new.rest.now ≤ length cursor.old.rest.now }
 {
     let text = cursor.quoted(alloc)?;
@@ -51,6 +57,8 @@ fn blob<A: AllocHandle>(alloc: A, cursor: &mut Cursor<'_>) -> Result<Value<A>, L
     ensures within { IfOk result (λ made. ValueWithin made) }
     ensures none { IfErr result (λ fault.
         NoneSpelled fault IsShort (λ bytes. Next (blob bytes)) cursor.old.rest.now) }
+    ensures reads { start_of (behind_blanks cursor.old.rest.now) ≡ Start.X
+        → Reads result cursor.new.rest.now (value cursor.old.rest.now) }
     ensures left { length cursor.new.rest.now ≤ length cursor.old.rest.now }
 {
     let bytes = cursor.blob(alloc)?;
@@ -66,6 +74,7 @@ pub(crate) fn values<A: AllocHandle>(
         SpelledValues made.items cursor.old.rest.now cursor.new.rest.now) }
     ensures within { IfOk result (λ made. AllByRecursion ValueWithin made.items) }
     ensures none { IfErr result (λ fault. NoValues A fault cursor.old.rest.now) }
+    ensures reads { Reads result cursor.new.rest.now (values cursor.old.rest.now) }
     ensures left { length cursor.new.rest.now ≤ length cursor.old.rest.now }
 {
     cursor.sign('(')?;
@@ -86,6 +95,7 @@ pub(crate) fn row_ref<A: AllocHandle>(
     ensures next { IfOk result (λ made. SpelledRow made cursor.old.rest.now cursor.new.rest.now) }
     ensures within { IfOk result (λ made. RowWithin made) }
     ensures none { IfErr result (λ fault. NoRow A fault cursor.old.rest.now) }
+    ensures reads { Reads result cursor.new.rest.now (row cursor.old.rest.now) }
     ensures left { length cursor.new.rest.now ≤ length cursor.old.rest.now }
 {
     let word = cursor.word()?;
@@ -105,6 +115,7 @@ fn key_ref<A: AllocHandle>(alloc: A, cursor: &mut Cursor<'_>) -> Result<RowRef<A
     ensures within { IfOk result (λ made. RowWithin made) }
     ensures none { (line : List ℕ) → Word (codes "key") line cursor.old.rest.now
         → IfErr result (λ fault. NoRow A fault line) }
+    ensures reads { Reads result cursor.new.rest.now (values cursor.old.rest.now) }
     ensures left { length cursor.new.rest.now ≤ length cursor.old.rest.now }
 {
     let values = values(alloc, cursor)?;
