@@ -19,11 +19,6 @@ pub record NoReply (old : TextServer) (status : ℕ) : Type 0 where
   pub full : status ≡ FULL → ¬ (HasRoom old.core.events)
   pub memory : ¬ (status ≡ FULL) → (status ≡ NO_MEMORY) × HasRoom old.core.events
 
--- The same of a command that may want memory before it is known whether the history is full.
-pub record NoCall (old : TextServer) (status : ℕ) : Type 0 where
-  pub full : status ≡ FULL → ¬ (HasRoom old.core.events)
-  pub memory : ¬ (status ≡ FULL) → status ≡ NO_MEMORY
-
 -- one byte a column, not zero for a column of the key
 abbrev pub key_columns : List ℕ → List Bool
 key_columns bytes = map (λ byte. not (byte == 0)) bytes
