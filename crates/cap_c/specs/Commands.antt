@@ -5,7 +5,7 @@ use Rattle.cap_core.specs.Answer.{answer}
 use Rattle.cap_core.specs.Past.{HasRoom}
 use Rattle.cap_core.specs.Transition.{next}
 use Rattle.cap_core.specs.declared.command.Command.{Command}
-use Rattle.cap_c.specs.Server.{IsAnswered, reply_status}
+use Rattle.cap_c.specs.Server.{reply_status}
 use Rattle.cap_c.specs.declared.server.TextServer.{TextServer}
 use Rattle.cap_c.specs.declared.status.TheConstants.{FULL, NO_MEMORY}
 
