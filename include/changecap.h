@@ -328,7 +328,8 @@ uint32_t changecap_session_attach(changecap_server *server, uint64_t session, co
 uint32_t changecap_session_attach_all(changecap_server *server, uint64_t session, changecap_fault *fault);
 
 /* Attaches from now on each table of which a row changes and whose name the filter accepts, as
- * sqlite3session_table_filter. The filter's text is that of docs/FORMAT.md ("Filter text"), as in and(starts 'a',not is 'ab').
+ * sqlite3session_table_filter. The filter's text is that of docs/FORMAT.md ("Filter text"), as in
+ * and(starts 'a',not is 'ab').
  *   OK, REFUSED, FILTER (*fault), MISUSE (the text is not UTF-8), NOMEM, FULL.
  * Of a text that is no filter fault->kind is 12, and fault->at is where the first token does not fit; or 13 where it has
  * more than 32 levels or 1,000 filters, and 0. */

@@ -507,7 +507,7 @@ static void worked_pieces(void){
   CHECK(decoded(front, 3, &fault, &changes) == CHANGECAP_MALFORMED && fault.kind == 1 && fault.at == front.n);
   CHECK(decoded(none, 3, &fault, &changes) == CHANGECAP_OK && changes == 0);
   blob.at[6] = 7;
-  CHECK(decoded(blob, 2, &fault, &changes) == CHANGECAP_MALFORMED && fault.kind == CHANGECAP_BAD_OP && fault.at == 5);
+  CHECK(decoded(blob, 2, &fault, &changes) == CHANGECAP_MALFORMED && fault.kind == CHANGECAP_BAD_OP && fault.at == 6);
   free(blob.at);
 }
 

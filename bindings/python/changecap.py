@@ -11,8 +11,9 @@ else libchangecap.so of ../out beside this file, else the system's.
         server.create_table("t", [True, False])
         session = server.session()
         session.attach("t")
-        server.call("commit insert t (1,'x')")
+        server.commit(("insert", "t", (1, "x")))
         changeset = session.changeset()
+        print(server.scan("t"))
 
 A value is None, int, str (TEXT) or bytes (BLOB).
 """

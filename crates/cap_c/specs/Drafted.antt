@@ -23,8 +23,8 @@ pub record IsText (bytes : List ℕ) : Type 0 where
   pub utf8 : IsUtf8 bytes
   pub short : length bytes ≤ 1000000000
 
--- A name, the number of a cause, and what is bound make an operation: where it names a row, by an id that is not 0 or
--- by the values of a key.
+-- A name, the number of a cause, and what is bound make an operation: where it names a row, by an id that is
+-- not 0, or by the values of a key.
 pub record CanPut (kind : ActionKind) (table : List ℕ) (id cause : ℕ) (draft : DraftState) : Type 0 where
   pub named : IsName table
   pub caused : IsSome (cause_of cause)

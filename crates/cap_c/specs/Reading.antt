@@ -1,6 +1,6 @@
 -- The rows that were read of a server, and the one at which the reading stands.
-use Rattle.std.specs.Prelude.{◌≡◌, ◌<◌, ℕ, ◌+◌, Bool, true, false, List, [], ◌∷◌, length, map, is_some, slice_get}
-use Rattle.std.specs.Prelude.{Option, Some, None, option_and_then, Result, Ok, Err, if◌then◌else◌}
+use Rattle.std.specs.Prelude.{◌≡◌, ◌<◌, ℕ, ◌+◌, Bool, true, false, List, [], ◌∷◌, length, map, is_some}
+use Rattle.std.specs.Prelude.{slice_get, Option, Some, None, option_and_then, Result, Ok, Err, if◌then◌else◌}
 use Rattle.std.specs.Option.{option_map}
 use Rattle.std.specs.Global.{Global}
 use Rattle.cap_value.specs.declared.refusal.Refusal.{Refusal}
@@ -21,7 +21,7 @@ use Rattle.cap_c.specs.declared.query.Query.{Query}
 use Rattle.cap_c.specs.declared.query.Query.TheVariants.{One, All}
 use Rattle.cap_c.specs.declared.status.TheConstants.{DONE, REFUSED}
 
--- Rows, each with its id, or 0 where it has a key. The row at which the reading stands, if any, and the next one.
+-- Rows, each with its id, or 0 where it has a key; the row at which the reading stands, if any; the next one.
 pub record ReadingState : Type 0 where
   pub rows : List (ℕ × Fields Global)
   pub current : Option ℕ

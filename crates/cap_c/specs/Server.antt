@@ -28,8 +28,8 @@ abbrev pub reply_status : {A : Type 0} → Reply A → ℕ
 reply_status (reply.Refused at why) = REFUSED
 reply_status said = DONE
 
--- The line's command was carried out, as `next` and `answer` say, and its reply is printed. The batch and the rows are
--- as they were.
+-- The line's command was carried out, as `next` and `answer` say, and its reply is printed. The batch and the
+-- rows are as they were.
 pub record RunsLine (old new : TextServer) (line : Line Global) (status : ℕ) : Type 0 where
   pub core : new.core ≡ next old.core line.command
   pub others : (new.draft ≡ old.draft) × (new.reading ≡ old.reading)

@@ -42,7 +42,8 @@ pub extern "C" fn changecap_apply(
     // What the bytes spell is applied.
     ensures ran { (policy : Answers) → policy_of on_data on_notfound on_conflict ≡ Some policy →
         (contents : Spelled Global) → blob_at blob.now ≡ Ok contents → IsAnswered result →
-        Between handle.old.value handle.new.value (λ old new. Runs old new (command.Apply contents policy) result) }
+        Between handle.old.value handle.new.value
+        (λ old new. Runs old new (command.Apply contents policy) result) }
     ensures spelled { IsAnswered result → (contents : Spelled Global) × (blob_at blob.now ≡ Ok contents) }
     ensures report { (policy : Answers) → policy_of on_data on_notfound on_conflict ≡ Some policy →
         (contents : Spelled Global) → blob_at blob.now ≡ Ok contents → IsAnswered result →
@@ -126,7 +127,8 @@ impl TextServer {
         ensures ran { IsAnswered result → Runs self.old self.new command.now result }
         ensures report { IsAnswered result →
             report.new ≡ report_told (answer self.old.core command.now) report.old }
-        ensures fault { IsAnswered result → fault.new ≡ fault_told (answer self.old.core command.now) fault.old }
+        ensures fault { IsAnswered result →
+            fault.new ≡ fault_told (answer self.old.core command.now) fault.old }
         ensures why { ¬ (IsAnswered result) → NoReply self.old result }
         ensures other { ¬ (result ≡ MALFORMED) × ¬ (result ≡ MISUSE) }
         ensures kept { ¬ (IsAnswered result) → self.new ≡ self.old }

@@ -168,7 +168,8 @@ pub extern "C" fn changecap_insert(
     // Exactly a batch without room is refused.
     ensures refused { result ≡ REFUSED → Holds handle.old.value (λ old. HasAllOps old.draft)
         × (fault.new ≡ refused None TooMany) }
-    ensures room { (result ≡ DONE) ⊎ (result ≡ NO_MEMORY) → Holds handle.old.value (λ old. ¬ (HasAllOps old.draft)) }
+    ensures room { ¬ (result ≡ MISUSE) → ¬ (result ≡ REFUSED) →
+        ((result ≡ DONE) ⊎ (result ≡ NO_MEMORY)) × Holds handle.old.value (λ old. ¬ (HasAllOps old.draft)) }
     ensures kept { ¬ (result ≡ DONE) → handle.new.value ≡ handle.old.value }
     ensures untold { ¬ (result ≡ REFUSED) → fault.new ≡ fault.old }
 {
@@ -178,8 +179,8 @@ pub extern "C" fn changecap_insert(
     status
 }
 
-/// Puts an UPDATE last in the batch: of the columns that are set, in the row with this id, or where it is 0 with the
-/// key that is bound.
+/// Puts an UPDATE last in the batch: of the columns that are set, in the row with this id, or where it is 0 with
+/// the key that is bound.
 #[unsafe(no_mangle)]
 pub extern "C" fn changecap_update(
     alloc: Global,
@@ -201,7 +202,8 @@ pub extern "C" fn changecap_update(
     // Exactly a batch without room is refused.
     ensures refused { result ≡ REFUSED → Holds handle.old.value (λ old. HasAllOps old.draft)
         × (fault.new ≡ refused None TooMany) }
-    ensures room { (result ≡ DONE) ⊎ (result ≡ NO_MEMORY) → Holds handle.old.value (λ old. ¬ (HasAllOps old.draft)) }
+    ensures room { ¬ (result ≡ MISUSE) → ¬ (result ≡ REFUSED) →
+        ((result ≡ DONE) ⊎ (result ≡ NO_MEMORY)) × Holds handle.old.value (λ old. ¬ (HasAllOps old.draft)) }
     ensures kept { ¬ (result ≡ DONE) → handle.new.value ≡ handle.old.value }
     ensures untold { ¬ (result ≡ REFUSED) → fault.new ≡ fault.old }
 {
@@ -233,7 +235,8 @@ pub extern "C" fn changecap_delete(
     // Exactly a batch without room is refused.
     ensures refused { result ≡ REFUSED → Holds handle.old.value (λ old. HasAllOps old.draft)
         × (fault.new ≡ refused None TooMany) }
-    ensures room { (result ≡ DONE) ⊎ (result ≡ NO_MEMORY) → Holds handle.old.value (λ old. ¬ (HasAllOps old.draft)) }
+    ensures room { ¬ (result ≡ MISUSE) → ¬ (result ≡ REFUSED) →
+        ((result ≡ DONE) ⊎ (result ≡ NO_MEMORY)) × Holds handle.old.value (λ old. ¬ (HasAllOps old.draft)) }
     ensures kept { ¬ (result ≡ DONE) → handle.new.value ≡ handle.old.value }
     ensures untold { ¬ (result ≡ REFUSED) → fault.new ≡ fault.old }
 {
@@ -283,7 +286,8 @@ impl TextServer {
         ensures bound { result ≡ DONE → Drafts self.old self.new (bound (held.Text text.now) self.old.draft) }
         ensures misuse { result ≡ MISUSE → ¬ (IsText text.now) }
         ensures text { ¬ (result ≡ MISUSE) → IsText text.now }
-        ensures kept { ¬ (result ≡ DONE) → ((result ≡ MISUSE) ⊎ (result ≡ NO_MEMORY)) × (self.new ≡ self.old) }
+        ensures kept { ¬ (result ≡ DONE) →
+            ((result ≡ MISUSE) ⊎ (result ≡ NO_MEMORY)) × (self.new ≡ self.old) }
     {
         if text.len() > BYTES_MAX {
             return MISUSE;
@@ -301,7 +305,8 @@ impl TextServer {
         ensures bound { result ≡ DONE → Drafts self.old self.new (bound (held.Blob blob.now) self.old.draft) }
         ensures misuse { result ≡ MISUSE → ¬ (length blob.now ≤ 1000000000) }
         ensures short { ¬ (result ≡ MISUSE) → length blob.now ≤ 1000000000 }
-        ensures kept { ¬ (result ≡ DONE) → ((result ≡ MISUSE) ⊎ (result ≡ NO_MEMORY)) × (self.new ≡ self.old) }
+        ensures kept { ¬ (result ≡ DONE) →
+            ((result ≡ MISUSE) ⊎ (result ≡ NO_MEMORY)) × (self.new ≡ self.old) }
     {
         if blob.len() > BYTES_MAX {
             return MISUSE;
@@ -317,7 +322,8 @@ impl TextServer {
             Sets column self.old.draft self.new.draft × Drafts self.old self.new self.new.draft }
         ensures misuse { result ≡ MISUSE → self.old.draft.values ≡ [] }
         ensures bound { ¬ (result ≡ MISUSE) → ¬ (self.old.draft.values ≡ []) }
-        ensures kept { ¬ (result ≡ DONE) → ((result ≡ MISUSE) ⊎ (result ≡ NO_MEMORY)) × (self.new ≡ self.old) }
+        ensures kept { ¬ (result ≡ DONE) →
+            ((result ≡ MISUSE) ⊎ (result ≡ NO_MEMORY)) × (self.new ≡ self.old) }
     {
         if self.draft.is_unbound() {
             return MISUSE;
@@ -342,7 +348,8 @@ impl TextServer {
         ensures misuse { result ≡ MISUSE → ¬ (CanPut kind table.now id cause self.old.draft) }
         ensures can { ¬ (result ≡ MISUSE) → CanPut kind table.now id cause self.old.draft }
         ensures refused { result ≡ REFUSED → HasAllOps self.old.draft × (fault.new ≡ refused None TooMany) }
-        ensures room { (result ≡ DONE) ⊎ (result ≡ NO_MEMORY) → ¬ (HasAllOps self.old.draft) }
+        ensures room { ¬ (result ≡ MISUSE) → ¬ (result ≡ REFUSED) →
+            ((result ≡ DONE) ⊎ (result ≡ NO_MEMORY)) × ¬ (HasAllOps self.old.draft) }
         ensures kept { ¬ (result ≡ DONE) → self.new ≡ self.old }
         ensures untold { ¬ (result ≡ REFUSED) → fault.new ≡ fault.old }
     {

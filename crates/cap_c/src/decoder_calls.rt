@@ -56,7 +56,8 @@ pub extern "C" fn changecap_decoder_feed(
     ensures same { (old : Fed) → (wrong : Wrong) → handle.old.value ≡ Some old →
         lasting (blob_at {A = Global} old.pieces) ≡ Err wrong → fault.new ≡ placed wrong }
     ensures fault { (old : Fed) → handle.old.value ≡ Some old → result ≡ MALFORMED → (wrong : Wrong)
-        × (lasting (blob_at {A = Global} (old.pieces ++ piece.now)) ≡ Err wrong) × (fault.new ≡ placed wrong) }
+        × (lasting (blob_at {A = Global} (old.pieces ++ piece.now)) ≡ Err wrong)
+        × (fault.new ≡ placed wrong) }
     ensures lasts { result ≡ MALFORMED → (new : Fed) × (wrong : Wrong) × (handle.new.value ≡ Some new)
         × (fault.new ≡ placed wrong) × (lasting (blob_at {A = Global} new.pieces) ≡ Err wrong) }
     ensures kept { result ≡ NO_MEMORY → handle.new.value ≡ handle.old.value }

@@ -220,7 +220,7 @@ fn copies_of_fields(
 }
 
 impl Draft {
-    /// Whether an operation of this kind can be made of what is bound: one that names a row has to have its name.
+    /// Whether what is bound makes an operation of this kind: where it names a row, the name is there.
     pub(crate) fn can_make(&self, kind: ActionKind, id: u64) -> bool
         ensures can { result ≡ true → ¬ (action_of kind id self.now ≡ None) }
         ensures none { result ≡ false → action_of kind id self.now ≡ None }

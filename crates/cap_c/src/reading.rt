@@ -1,8 +1,8 @@
 //! The rows that were read of a server, one after the other.
 ghost use Rattle.std.specs.Prelude.{◌≡◌};
 ghost use Rattle.std.specs.Option.{option_copied};
-ghost use Rattle.cap_c.specs.Reading.{GoesOn, before, column_bytes, column_told, columns_told, id_told, row_at};
-ghost use Rattle.cap_c.specs.Reading.{value_at};
+ghost use Rattle.cap_c.specs.Reading.{GoesOn, before, column_bytes, column_told, columns_told, id_told};
+ghost use Rattle.cap_c.specs.Reading.{row_at, value_at};
 ghost use Rattle.cap_c.specs.Told.{TellsBytes, TellsFound};
 
 use crate::change_info::{FieldValue, value_bytes, value_told};

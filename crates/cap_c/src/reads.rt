@@ -38,8 +38,9 @@ pub extern "C" fn changecap_get(
     fault: &mut PlacedFault,
 ) -> u32
     requires opened { IsSome handle.old.value }
-    ensures read { IsAnswered result → Between handle.old.value handle.new.value (λ old new. (name : Named Global) ×
-        (row_named id old.draft.values ≡ Some name) × Reads old new (asked.One name) table.now result) }
+    ensures read { IsAnswered result → Between handle.old.value handle.new.value
+        (λ old new. (name : Named Global) × (row_named id old.draft.values ≡ Some name)
+        × Reads old new (asked.One name) table.now result) }
     ensures fault { IsAnswered result → Holds handle.old.value
         (λ old. fault.new ≡ query_fault table.now old.core.main fault.old) }
     // Exactly bytes that are no name, or values that are no key, are misuse.
@@ -173,11 +174,14 @@ pub extern "C" fn changecap_column_bytes(
 
 impl TextServer {
     fn get(&mut self, alloc: Global, table: &[u8], id: u64, fault: &mut PlacedFault) -> u32
-        ensures read { IsAnswered result → (name : Named Global) × (row_named id self.old.draft.values ≡ Some name)
+        ensures read { IsAnswered result → (name : Named Global)
+            × (row_named id self.old.draft.values ≡ Some name)
             × Reads self.old self.new (asked.One name) table.now result }
         ensures fault { IsAnswered result → fault.new ≡ query_fault table.now self.old.core.main fault.old }
-        ensures misuse { result ≡ MISUSE → ¬ (IsName table.now × IsSome (row_named id self.old.draft.values)) }
-        ensures named { ¬ (result ≡ MISUSE) → IsName table.now × IsSome (row_named id self.old.draft.values) }
+        ensures misuse { result ≡ MISUSE →
+            ¬ (IsName table.now × IsSome (row_named id self.old.draft.values)) }
+        ensures named { ¬ (result ≡ MISUSE) →
+            IsName table.now × IsSome (row_named id self.old.draft.values) }
         ensures why { ¬ (IsAnswered result) → ¬ (result ≡ MISUSE) → NoReply self.old result }
         ensures kept { ¬ (IsAnswered result) → self.new ≡ self.old }
         ensures untold { ¬ (IsAnswered result) → fault.new ≡ fault.old }

@@ -36,7 +36,8 @@ pub extern "C" fn changecap_session_filter(
     requires opened { IsSome handle.old.value }
     // The filter is the one that the text spells.
     ensures ran { (filter : Rule) → filter_of text.now ≡ Ok filter → IsAnswered result →
-        Between handle.old.value handle.new.value (λ old new. Runs old new (command.SetFilter session filter) result) }
+        Between handle.old.value handle.new.value
+        (λ old new. Runs old new (command.SetFilter session filter) result) }
     ensures spelled { IsAnswered result → (filter : Rule) × (filter_of text.now ≡ Ok filter) }
     ensures fault { (filter : Rule) → filter_of text.now ≡ Ok filter → IsAnswered result →
         Holds handle.old.value
@@ -165,7 +166,8 @@ pub extern "C" fn changecap_session_diff(
     ensures ran { IsAnswered result → Between handle.old.value handle.new.value
         (λ old new. Runs old new (command.Diff session from.now table.now) result) }
     ensures fault { IsAnswered result → Holds handle.old.value
-        (λ old. fault.new ≡ fault_told (answer old.core (command.Diff session from.now table.now)) fault.old) }
+        (λ old. fault.new
+        ≡ fault_told (answer old.core (command.Diff session from.now table.now)) fault.old) }
     // Exactly bytes that are no names are misuse.
     ensures misuse { result ≡ MISUSE → ¬ (IsName from.now × IsName table.now) }
     ensures named { ¬ (result ≡ MISUSE) → IsName from.now × IsName table.now }
