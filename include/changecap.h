@@ -7,7 +7,7 @@
  * Every call
  *   - answers a status: CHANGECAP_OK, or why it did nothing;
  *   - keeps nothing of the caller's, and reads and writes it only until it returns;
- *   - may answer CHANGECAP_NOMEM, has then changed nothing, and may be made again.
+ *   - may answer CHANGECAP_NOMEM, has then changed nothing but where it is said, and may be made again.
  *
  * A caller sees to it that
  *   - no pointer is NULL, also where a length is 0: changecap_bytes() gives a pointer that is not;
@@ -51,6 +51,7 @@ extern "C" {
 #define CHANGECAP_FULL      8 /* the server has answered 2^63 - 1 commands */
 #define CHANGECAP_KIND      9 /* a changeset where the blob before it is a patchset, or the other way round */
 #define CHANGECAP_COLUMNS  10 /* a table that had other columns, or another key, before */
+#define CHANGECAP_FILTER   11 /* the text is no filter: the fault is told */
 #define CHANGECAP_ROW     100 /* the iterator is at a change */
 #define CHANGECAP_DONE    101 /* the iterator is behind the last change */
 
@@ -203,6 +204,41 @@ uint32_t changecap_iter_new_bytes(changecap_iter *it, size_t column, uint8_t *ou
 /* Closes the iterator and frees what it has. */
 void changecap_iter_close(changecap_iter *it);
 
+/* ---- A blob in pieces ---- */
+
+/* A decoder that gets a blob in pieces of any lengths, as it comes from a file or a socket. It keeps a copy of the bytes,
+ * and tells a fault with the piece that shows it.
+ *
+ *     changecap_decoder decoder = CHANGECAP_CLOSED;
+ *     changecap_iter it = CHANGECAP_CLOSED;
+ *     if( changecap_decoder_open(&decoder) == CHANGECAP_OK ){
+ *       while( (n = fread(piece, 1, sizeof piece, stdin)) > 0 )
+ *         if( (status = changecap_decoder_feed(&decoder, piece, n, &fault)) != CHANGECAP_OK ) break;
+ *       if( status == CHANGECAP_OK ) status = changecap_decoder_finish(&decoder, &it, &fault);
+ *       else changecap_decoder_close(&decoder);
+ *     }
+ */
+typedef struct changecap_decoder {
+  void *at; /* NULL while it is closed. Nothing of it is for the caller. */
+} changecap_decoder;
+
+/* Opens a closed decoder, without bytes.
+ *   OK, NOMEM. */
+uint32_t changecap_decoder_open(changecap_decoder *decoder);
+
+/* Takes the next piece. A fault is told where no further bytes can mend it, which is any but TRUNCATED; its offset is
+ * counted from the first byte of the first piece, and it is told again whatever follows. The rest takes an open decoder
+ * too.
+ *   OK, MALFORMED (*fault), NOMEM (the piece is not taken). */
+uint32_t changecap_decoder_feed(changecap_decoder *decoder, const uint8_t *piece, size_t n, changecap_fault *fault);
+
+/* Closes the decoder, whatever the status is, and opens a closed iterator before the first change of all the pieces.
+ *   OK, MALFORMED (*fault), NOMEM (the pieces are lost). Unless the status is OK the iterator stays closed. */
+uint32_t changecap_decoder_finish(changecap_decoder *decoder, changecap_iter *it, changecap_fault *fault);
+
+/* Closes the decoder and frees what it has. */
+void changecap_decoder_close(changecap_decoder *decoder);
+
 /* ---- A server ---- */
 
 /* A table server in memory. One call at a time may have it; callers of several threads share it behind a lock.
@@ -241,14 +277,38 @@ uint32_t changecap_server_reply(changecap_server *server, uint8_t *out, size_t r
 /* ---- Commands by words and numbers ---- */
 
 /* Each is a command of docs/FORMAT.md that needs no text, and leaves the text of the last reply as it is. Where the status
- * is REFUSED, fault->kind is the number of the refusal, 1 to 20 as in E1 to E20 of docs/BEHAVIOUR.md, and fault->at is 0.
- * Unless the status is OK or REFUSED, the server is as it was. */
+ * is REFUSED, fault->kind is the number of the refusal, 1 to 20 as in E1 to E20 of docs/BEHAVIOUR.md, and fault->at is the
+ * number of the refused change of a blob, from 0, and elsewhere 0. Unless the status is OK or REFUSED, the server is as it
+ * was. A name is 1 to 255 bytes of UTF-8 without a zero byte. */
 
-/* Creates a table. Each of the bytes at key is a column, and is in the primary key unless the byte is 0. The name is 1 to
- * 255 bytes of UTF-8 without a zero byte, the columns are 1 to 2,000.
+/* Creates a table. Each of the bytes at key is a column, and is in the primary key unless the byte is 0. The columns are 1
+ * to 2,000.
  *   OK (*version is the new version), REFUSED, MISUSE (no such name, or number of columns), NOMEM, FULL. */
 uint32_t changecap_create(changecap_server *server, const uint8_t *table, size_t n, const uint8_t *key, size_t columns,
                           uint64_t *version, changecap_fault *fault);
+
+/* Saves the tables under a name, for changecap_session_diff, and replaces what was saved under it.
+ *   OK, REFUSED, MISUSE (no such name), NOMEM, FULL. */
+uint32_t changecap_save(changecap_server *server, const uint8_t *database, size_t n, changecap_fault *fault);
+
+#define CHANGECAP_OMIT    0 /* the change is omitted */
+#define CHANGECAP_REPLACE 1 /* it is applied all the same; where there is no row, the blob is refused */
+#define CHANGECAP_ABORT   2 /* the blob is refused */
+
+typedef struct changecap_report {
+  uint64_t version;   /* the new version */
+  uint64_t applied;   /* changes that were applied, those that replaced a row among them */
+  uint64_t conflicts; /* changes that met a conflict */
+  uint64_t omitted;   /* changes that were omitted because of one */
+  uint64_t skipped;   /* groups that were skipped: there is no such table */
+} changecap_report;
+
+/* Applies a changeset or a patchset, as sqlite3changeset_apply: data is the answer where a row has other values than those
+ * before the change, notfound where there is no row, conflict where the key of an inserted row is in use. A blob that is
+ * refused changes no table.
+ *   OK (*report), REFUSED, MALFORMED (*fault), MISUSE (no such answer), NOMEM, FULL. */
+uint32_t changecap_apply(changecap_server *server, const uint8_t *blob, size_t n, uint32_t data, uint32_t notfound,
+                         uint32_t conflict, changecap_report *report, changecap_fault *fault);
 
 /* Makes a session, as sqlite3session_create. Sessions have numbers, from 1 on.
  *   OK (*session), REFUSED, NOMEM, FULL. */
@@ -266,6 +326,20 @@ uint32_t changecap_session_attach(changecap_server *server, uint64_t session, co
 /* Attaches from now on each table of which a row changes, as sqlite3session_attach without a name.
  *   OK, REFUSED, NOMEM, FULL. */
 uint32_t changecap_session_attach_all(changecap_server *server, uint64_t session, changecap_fault *fault);
+
+/* Attaches from now on each table of which a row changes and whose name the filter accepts, as
+ * sqlite3session_table_filter. The filter's text is that of docs/FORMAT.md ("Filter text"), as in
+ * and(starts 'a',not is 'ab').
+ *   OK, REFUSED, FILTER (*fault), MISUSE (the text is not UTF-8), NOMEM, FULL.
+ * Of a text that is no filter fault->kind is 12, and fault->at is where the first token does not fit; or 13 where it has
+ * more than 32 levels or 1,000 filters, and 0. */
+uint32_t changecap_session_filter(changecap_server *server, uint64_t session, const uint8_t *text, size_t n,
+                                  changecap_fault *fault);
+
+/* Records how a table differs from the one of the same name in a saved database, as sqlite3session_diff.
+ *   OK, REFUSED, MISUSE (no such names), NOMEM, FULL. */
+uint32_t changecap_session_diff(changecap_server *server, uint64_t session, const uint8_t *from, size_t n,
+                                const uint8_t *table, size_t m, changecap_fault *fault);
 
 #define CHANGECAP_OFF 0
 #define CHANGECAP_ON  1
@@ -294,6 +368,96 @@ uint32_t changecap_session_patchset(changecap_server *server, uint64_t session, 
                                     size_t room, size_t *len, changecap_fault *fault);
 uint32_t changecap_session_restart(changecap_server *server, uint64_t session, uint32_t key_flags, uint8_t *out,
                                    size_t room, size_t *len, changecap_fault *fault);
+
+/* ---- Batches ---- */
+
+/* A server has one batch that is put together: operations that are made together or not at all. Each operation is made of
+ * the values that were bound before it, in the manner of sqlite3_bind_int64 and its like, and nothing is bound after it.
+ *
+ *     uint64_t version;
+ *     changecap_begin(&server);
+ *     changecap_bind_int(&server, 1);
+ *     changecap_bind_text(&server, (const uint8_t *)"x", 1);
+ *     changecap_insert(&server, (const uint8_t *)"t", 1, CHANGECAP_DIRECT, &fault);    // insert t (1,'x')
+ *     changecap_bind_int(&server, 2);
+ *     changecap_bind_null(&server);
+ *     changecap_set(&server, 1);
+ *     changecap_update(&server, (const uint8_t *)"t", 1, 0, CHANGECAP_DIRECT, &fault); // update t key(2) set 1 = null
+ *     if( changecap_commit(&server, &version, &fault) == CHANGECAP_REFUSED )
+ *       fprintf(stderr, "E%u at operation %zu\n", fault.kind, fault.at);
+ */
+
+/* Begins a batch without operations, in place of the one before it, and drops what is bound. A server begins with one. The
+ * second takes the version on which alone the batch may be committed: on any other it is refused with 11. */
+void changecap_begin(changecap_server *server);
+void changecap_begin_at(changecap_server *server, uint64_t version);
+
+/* Bind a value behind those that are bound.
+ *   OK, NOMEM, MISUSE (a text that is not UTF-8, or more than 1,000,000,000 bytes). */
+uint32_t changecap_bind_null(changecap_server *server);
+uint32_t changecap_bind_int(changecap_server *server, int64_t number);
+uint32_t changecap_bind_text(changecap_server *server, const uint8_t *text, size_t n);
+uint32_t changecap_bind_blob(changecap_server *server, const uint8_t *blob, size_t n);
+
+/* Takes the value that was bound last as the new one of a column, from 0 on, for the next update.
+ *   OK, NOMEM, MISUSE (nothing is bound). */
+uint32_t changecap_set(changecap_server *server, size_t column);
+
+/* Drops what is bound, as sqlite3_clear_bindings: after a misuse it is still bound. */
+void changecap_clear_bindings(changecap_server *server);
+
+#define CHANGECAP_DIRECT  0 /* the operation itself: a session marks its touch by the session's flag */
+#define CHANGECAP_CASCADE 1 /* what a trigger or a foreign key action did: its touch is indirect */
+
+/* Put an operation last in the batch, and drop what is bound. An insert takes the row that is bound, a value a column. An
+ * update and a delete take the key that is bound, a value for each column of the primary key; or a row that has no key by
+ * its id, where that is not 0. Whether there is such a table, row or column is looked at when the batch is committed.
+ *   OK, REFUSED (*fault: 10, the batch has 10,000 operations), NOMEM,
+ *   MISUSE (no such name or cause; the id is 0, and nothing or NULL is bound for the key). */
+uint32_t changecap_insert(changecap_server *server, const uint8_t *table, size_t n, uint32_t cause, changecap_fault *fault);
+uint32_t changecap_update(changecap_server *server, const uint8_t *table, size_t n, uint64_t id, uint32_t cause,
+                          changecap_fault *fault);
+uint32_t changecap_delete(changecap_server *server, const uint8_t *table, size_t n, uint64_t id, uint32_t cause,
+                          changecap_fault *fault);
+
+/* Commits the batch: all of its operations, or none. Where it is refused, fault->kind is the number of the refusal, and
+ * fault->at is that of the operation, from 0. Then a batch is begun that may be committed on any version.
+ *   OK (*version is the new version), REFUSED, NOMEM, FULL. With NOMEM and FULL the batch stays. */
+uint32_t changecap_commit(changecap_server *server, uint64_t *version, changecap_fault *fault);
+
+/* ---- Rows ---- */
+
+/* Rows are read in the manner of sqlite3_step and sqlite3_column_int64 and its like. A query keeps what it read until the
+ * next one, whatever is committed meanwhile.
+ *
+ *     changecap_scan(&server, (const uint8_t *)"t", 1, &fault);
+ *     while( changecap_step(&server) == CHANGECAP_ROW ){
+ *       changecap_column(&server, 0, &value);
+ *       if( value.type == CHANGECAP_INTEGER ) printf("%lld\n", (long long)value.number);
+ *     }
+ */
+
+/* Read a row by the key that is bound, or one that has no key by its id, where that is not 0; and all rows, those with a
+ * key in the order of their keys, and then the others by their ids. Nothing is bound after that. Each is a command, as any
+ * other.
+ *   OK, REFUSED (*fault: 8, there is no such table), NOMEM, FULL,
+ *   MISUSE (no such name; the id is 0, and nothing or NULL is bound for the key). */
+uint32_t changecap_get(changecap_server *server, const uint8_t *table, size_t n, uint64_t id, changecap_fault *fault);
+uint32_t changecap_scan(changecap_server *server, const uint8_t *table, size_t n, changecap_fault *fault);
+
+/* Goes to the next of the rows that were read last.
+ *   ROW, or DONE behind the last row, and from then on. */
+uint32_t changecap_step(changecap_server *server);
+
+/* Tell the id of the row, or 0 where it has a key, and how many columns it has.
+ *   OK, MISUSE (there is no row: before the first, behind the last). */
+uint32_t changecap_row_id(changecap_server *server, uint64_t *id);
+uint32_t changecap_columns(changecap_server *server, size_t *columns);
+
+/* Tells the value of a column, from 0 on, and writes the bytes of a TEXT or a BLOB; any other value has none.
+ *   OK (*len), ROOM (*len), MISUSE (there is no row, or no such column). */
+uint32_t changecap_column(changecap_server *server, size_t column, changecap_value *value);
+uint32_t changecap_column_bytes(changecap_server *server, size_t column, uint8_t *out, size_t room, size_t *len);
 
 /* Ends the server and frees what it has. */
 void changecap_server_close(changecap_server *server);

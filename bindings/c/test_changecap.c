@@ -7,18 +7,11 @@
  *
  * It is linked with -Wl,--wrap=malloc,--wrap=realloc, to refuse memory.
  */
-#include "changecap.h"
-
-#include <stdio.h>
-#include <stdlib.h>
-#include <string.h>
+#include "testing.h"
 
 /* ---- Memory that can be refused ---- */
 
-void *__real_malloc(size_t n);
-void *__real_realloc(void *at, size_t n);
-
-static long refused_at = -1; /* how many requests are still granted; none is refused while it is negative */
+long refused_at = -1;
 
 static int is_refused(void){
   return refused_at >= 0 && refused_at-- == 0;
@@ -34,27 +27,20 @@ void *__wrap_realloc(void *at, size_t n){
 
 /* ---- Counting ---- */
 
-static long passed, failed;
+long passed, failed;
 
-static void count(int holds, const char *what, int line){
+void count(int holds, const char *file, int line, const char *what){
   if( holds ){
     passed++;
   }else{
     failed++;
-    printf("line %d: %s\n", line, what);
+    printf("%s:%d: %s\n", file, line, what);
   }
 }
 
-#define CHECK(holds) count((holds) != 0, #holds, __LINE__)
-
 /* ---- Bytes ---- */
 
-typedef struct bytes {
-  uint8_t *at;
-  size_t n;
-} bytes;
-
-static bytes copy_of(const uint8_t *at, size_t n){
+bytes copy_of(const uint8_t *at, size_t n){
   bytes copy = { __real_malloc(n ? n : 1), n };
   if( n ) memcpy(copy.at, at, n);
   return copy;
@@ -64,13 +50,13 @@ static int digit(char c){
   return c <= '9' ? c - '0' : (c | 32) - 'a' + 10;
 }
 
-static bytes of_hex(const char *hex, size_t digits){
+bytes of_hex(const char *hex, size_t digits){
   bytes made = { __real_malloc(digits / 2 + 1), digits / 2 };
   for(size_t i = 0; i < made.n; i++) made.at[i] = (uint8_t)(digit(hex[2 * i]) << 4 | digit(hex[2 * i + 1]));
   return made;
 }
 
-static int is_hex(bytes is, const char *hex){
+int is_hex(bytes is, const char *hex){
   bytes wanted = of_hex(hex, strlen(hex));
   int same = is.n == wanted.n && memcmp(is.at, wanted.at, is.n) == 0;
   free(wanted.at);
@@ -360,7 +346,7 @@ static void read_field(changecap_iter *it, size_t column, changecap_value value,
 }
 
 /* Reads all of a change. Which fields are defined is as the operation has it. */
-static void read_change(changecap_iter *it){
+void read_change(changecap_iter *it){
   changecap_change change;
   CHECK(changecap_iter_op(it, &change) == CHANGECAP_OK);
   uint8_t name[255];
@@ -479,206 +465,82 @@ static void refused_iterator(bytes blob){
   }
 }
 
-/* ---- The calls on a server ---- */
+/* ---- The calls on a decoder ---- */
 
-static uint32_t called(changecap_server *server, const char *text, changecap_fault *fault){
-  bytes exact = copy_of((const uint8_t *)text, strlen(text));
-  uint32_t status = changecap_server_call(server, exact.at, exact.n, fault);
-  free(exact.at);
+/* The status of the pieces of a blob, of these lengths, each in a buffer that is just as long. Their fault is that of the
+ * whole blob, told with a piece or at the end. */
+static uint32_t decoded(bytes blob, size_t len, changecap_fault *fault, size_t *changes){
+  changecap_decoder decoder = CHANGECAP_CLOSED;
+  changecap_iter it = CHANGECAP_CLOSED;
+  uint32_t status = changecap_decoder_open(&decoder);
+  CHECK(status == CHANGECAP_OK && decoder.at != NULL);
+  *changes = 0;
+  for(size_t at = 0; at < blob.n && status == CHANGECAP_OK; at += len){
+    bytes piece = copy_of(blob.at + at, blob.n - at < len ? blob.n - at : len);
+    status = changecap_decoder_feed(&decoder, piece.at, piece.n, fault);
+    free(piece.at);
+  }
+  if( status == CHANGECAP_MALFORMED ){
+    changecap_fault again = { 77, 77 };
+    CHECK(changecap_decoder_feed(&decoder, blob.at, blob.n, &again) == status && again.kind == fault->kind);
+    CHECK(again.at == fault->at && fault->kind != CHANGECAP_TRUNCATED);
+    changecap_decoder_close(&decoder);
+    CHECK(decoder.at == NULL);
+    return status;
+  }
+  status = changecap_decoder_finish(&decoder, &it, fault);
+  CHECK(decoder.at == NULL && (it.at != NULL) == (status == CHANGECAP_OK));
+  if( status != CHANGECAP_OK ) return status;
+  for(; changecap_iter_next(&it) == CHANGECAP_ROW; ++*changes) read_change(&it);
+  changecap_iter_close(&it);
   return status;
 }
 
-static int replies(changecap_server *server, const char *text){
-  size_t n = strlen(text), len = 99;
-  bytes made = { __real_malloc(n + 1), n };
-  int same = changecap_server_reply(server, made.at, n, &len) == CHANGECAP_OK && len == n && !memcmp(made.at, text, n);
-  if( n ) CHECK(changecap_server_reply(server, made.at, n - 1, &len) == CHANGECAP_ROOM && len == n);
-  free(made.at);
-  return same;
-}
-
-static void worked_server(void){
-  changecap_server server = CHANGECAP_CLOSED;
+static void worked_pieces(void){
+  const char *hex = "5402010074001200010000000000000001030178";
+  bytes blob = of_hex(hex, strlen(hex));
   changecap_fault fault = { 77, 77 };
-  CHECK(changecap_server_open(&server) == CHANGECAP_OK && server.at != NULL);
-  CHECK(replies(&server, ""));
-  CHECK(called(&server, "create t kv", &fault) == CHANGECAP_OK && replies(&server, "ok version 1"));
-  CHECK(called(&server, "session", &fault) == CHANGECAP_OK && replies(&server, "session 1"));
-  CHECK(called(&server, "attach 1 t", &fault) == CHANGECAP_OK && replies(&server, "ok"));
-  CHECK(called(&server, "commit insert t (1,'x')\n", &fault) == CHANGECAP_OK && replies(&server, "ok version 2"));
-  CHECK(called(&server, "# a comment\nchangeset 1", &fault) == CHANGECAP_OK);
-  CHECK(replies(&server, "changeset 5402010074001200010000000000000001030178"));
-  CHECK(called(&server, "create t kv", &fault) == CHANGECAP_REFUSED && replies(&server, "refused: E9 TableExists"));
-  CHECK(fault.kind == 77 && fault.at == 77);
-  CHECK(called(&server, "frob", &fault) == CHANGECAP_COMMAND && fault.kind == 1 && fault.at == 0);
-  CHECK(called(&server, "attach 1 ;", &fault) == CHANGECAP_COMMAND && fault.kind == 1 && fault.at == 9);
-  CHECK(called(&server, "apply x'5480' omit omit omit", &fault) == CHANGECAP_COMMAND && fault.kind == 3 && fault.at == 1);
-  CHECK(called(&server, "", &fault) == CHANGECAP_COMMAND && fault.kind == 0);
-  CHECK(called(&server, "session\nsession", &fault) == CHANGECAP_COMMAND && fault.kind == 0);
-  CHECK(called(&server, "create \xff k", &fault) == CHANGECAP_COMMAND && fault.kind == 0);
-  CHECK(called(&server, "isempty 1", &fault) == CHANGECAP_OK && replies(&server, "false"));
-  changecap_server_close(&server);
-  CHECK(server.at == NULL);
+  size_t changes;
+  for(size_t len = 1; len <= blob.n; len++)
+    CHECK(decoded(blob, len, &fault, &changes) == CHANGECAP_OK && changes == 1 && fault.kind == 77);
+  bytes front = { blob.at, blob.n - 1 }, none = { blob.at, 0 };
+  CHECK(decoded(front, 3, &fault, &changes) == CHANGECAP_MALFORMED && fault.kind == 1 && fault.at == front.n);
+  CHECK(decoded(none, 3, &fault, &changes) == CHANGECAP_OK && changes == 0);
+  blob.at[6] = 7;
+  CHECK(decoded(blob, 2, &fault, &changes) == CHANGECAP_MALFORMED && fault.kind == CHANGECAP_BAD_OP && fault.at == 6);
+  free(blob.at);
 }
 
-/* Each request for memory is refused in turn: a command that was not carried out is carried out when it comes again. */
-static void refused_server(void){
-  static const char *const command[] = {
-    "create t kv", "session", "attach 1 t", "commit insert t (1,'x') ; insert t (2,null)",
-    "commit update t key(1) set 1 = 'y'", "changeset 1 places", "restart 1", "scan t",
-  };
-  static const char *const reply[] = {
-    "ok version 1", "session 1", "ok", "ok version 2", "ok version 3",
-    "changeset 54020100740012000100000000000000010301791200010000000000000002" "05",
-    "changeset 54020100740012000100000000000000010301791200010000000000000002" "05",
-    "rows 2\n(1,'y')\n(2,null)",
-  };
+/* Each request for memory is refused in turn. A piece that was not taken is given again. */
+static void refused_pieces(bytes blob){
   for(long at = 0, granted = 0; !granted; at++){
-    changecap_server server = CHANGECAP_CLOSED;
-    changecap_fault fault;
+    changecap_decoder decoder = CHANGECAP_CLOSED;
+    changecap_iter it = CHANGECAP_CLOSED;
+    changecap_fault fault = { 77, 77 };
+    uint32_t status;
     refused_at = at;
     granted = 1;
-    while( changecap_server_open(&server) == CHANGECAP_NOMEM ) granted = 0;
-    for(size_t i = 0; i < sizeof command / sizeof *command; i++){
-      uint32_t status;
-      while( (status = called(&server, command[i], &fault)) == CHANGECAP_NOMEM ) granted = 0;
-      CHECK(status == CHANGECAP_OK && replies(&server, reply[i]));
+    while( changecap_decoder_open(&decoder) == CHANGECAP_NOMEM ) granted = 0;
+    for(size_t from = 0; from < blob.n; from += 9){
+      size_t n = blob.n - from < 9 ? blob.n - from : 9;
+      while( (status = changecap_decoder_feed(&decoder, blob.at + from, n, &fault)) == CHANGECAP_NOMEM ) granted = 0;
+      CHECK(status == CHANGECAP_OK);
     }
+    status = changecap_decoder_finish(&decoder, &it, &fault);
     granted = granted && refused_at >= 0;
     refused_at = -1;
-    changecap_server_close(&server);
+    CHECK(decoder.at == NULL && fault.kind == 77);
+    CHECK(status == CHANGECAP_OK ? it.at != NULL : status == CHANGECAP_NOMEM && it.at == NULL && !granted);
+    if( status == CHANGECAP_OK ) changecap_iter_close(&it);
   }
 }
 
-/* ---- Commands by words and numbers ---- */
-
-typedef uint32_t (*capture)(changecap_server *, uint64_t, uint32_t, uint8_t *, size_t, size_t *, changecap_fault *);
-
-static uint32_t attached(changecap_server *server, uint64_t session, const char *name, changecap_fault *fault){
-  bytes table = copy_of((const uint8_t *)name, strlen(name));
-  uint32_t status = changecap_session_attach(server, session, table.at, table.n, fault);
-  free(table.at);
-  return status;
-}
-
-static uint32_t created(changecap_server *server, const char *name, const char *key, uint64_t *version, changecap_fault *fault){
-  bytes table = copy_of((const uint8_t *)name, strlen(name)), columns = copy_of((const uint8_t *)key, strlen(key));
-  for(size_t i = 0; i < columns.n; i++) columns.at[i] = (uint8_t)(columns.at[i] - '0');
-  uint32_t status = changecap_create(server, table.at, table.n, columns.at, columns.n, version, fault);
-  free(table.at);
-  free(columns.at);
-  return status;
-}
-
-/* What a session has captured: first it is told the length, then it gets a buffer that is just as long. */
-static uint32_t captured_by(capture call, changecap_server *server, uint64_t session, uint32_t key_flags, bytes *made,
-                            changecap_fault *fault){
-  size_t len = 12345;
-  uint8_t none = 0xaa;
-  uint32_t status = call(server, session, key_flags, &none, 0, &len, fault);
-  *made = copy_of(&none, 0);
-  CHECK(none == 0xaa);
-  if( status == CHANGECAP_OK ) CHECK(len == 0);
-  if( status != CHANGECAP_ROOM ) return status;
-  free(made->at);
-  made->n = len;
-  made->at = __real_malloc(len);
-  do{
-    len = 0;
-    status = call(server, session, key_flags, made->at, made->n, &len, fault);
-  }while( status == CHANGECAP_NOMEM );
-  CHECK(status == CHANGECAP_OK && len == made->n);
-  return status;
-}
-
-static int captures(capture call, changecap_server *server, uint32_t key_flags, const char *hex){
-  changecap_fault fault;
-  bytes made;
-  int same = captured_by(call, server, 1, key_flags, &made, &fault) == CHANGECAP_OK && is_hex(made, hex);
-  free(made.at);
-  return same;
-}
-
-static void worked_sessions(void){
-  changecap_server server = CHANGECAP_CLOSED;
-  changecap_fault fault = { 77, 77 };
-  uint64_t version = 77, session = 77;
-  uint32_t flag = 77;
-  bytes made;
-  CHECK(changecap_server_open(&server) == CHANGECAP_OK);
-  CHECK(created(&server, "t", "10", &version, &fault) == CHANGECAP_OK && version == 1 && replies(&server, ""));
-  CHECK(created(&server, "u", "901", &version, &fault) == CHANGECAP_OK && version == 2 && fault.kind == 77);
-  CHECK(created(&server, "", "10", &version, &fault) == CHANGECAP_MISUSE && fault.kind == 77 && version == 2);
-  CHECK(created(&server, "v", "", &version, &fault) == CHANGECAP_MISUSE);
-  CHECK(created(&server, "\xff", "1", &version, &fault) == CHANGECAP_MISUSE);
-  CHECK(created(&server, "t", "1", &version, &fault) == CHANGECAP_REFUSED && fault.kind == 9 && fault.at == 0);
-  CHECK(changecap_session_new(&server, &session, &fault) == CHANGECAP_OK && session == 1 && version == 2);
-  CHECK(attached(&server, 1, "t", &fault) == CHANGECAP_OK);
-  CHECK(attached(&server, 2, "t", &fault) == CHANGECAP_REFUSED && fault.kind == 18 && fault.at == 0);
-  CHECK(attached(&server, 1, "", &fault) == CHANGECAP_MISUSE);
-  CHECK(changecap_session_isempty(&server, 1, &flag, &fault) == CHANGECAP_OK && flag == 1);
-  CHECK(changecap_session_enable(&server, 1, CHANGECAP_ASK, &flag, &fault) == CHANGECAP_OK && flag == 1);
-  CHECK(changecap_session_indirect(&server, 1, CHANGECAP_ASK, &flag, &fault) == CHANGECAP_OK && flag == 0);
-  CHECK(changecap_session_indirect(&server, 1, 3, &flag, &fault) == CHANGECAP_MISUSE && flag == 0);
-  CHECK(called(&server, "commit insert t (1,'x') ; insert u (1,2,3)", &fault) == CHANGECAP_OK);
-  CHECK(changecap_session_isempty(&server, 1, &flag, &fault) == CHANGECAP_OK && flag == 0);
-  CHECK(captures(changecap_session_changeset, &server, CHANGECAP_KEYS_ONES, "5402010074001200010000000000000001030178"));
-  CHECK(captures(changecap_session_patchset, &server, CHANGECAP_KEYS_PLACES, "5002010074001200010000000000000001030178"));
-  CHECK(captured_by(changecap_session_changeset, &server, 1, 2, &made, &fault) == CHANGECAP_MISUSE);
-  free(made.at);
-  CHECK(captured_by(changecap_session_restart, &server, 9, 0, &made, &fault) == CHANGECAP_REFUSED && fault.kind == 18);
-  free(made.at);
-  CHECK(changecap_session_enable(&server, 1, CHANGECAP_OFF, &flag, &fault) == CHANGECAP_OK && flag == 0);
-  CHECK(called(&server, "commit insert t (2,null)", &fault) == CHANGECAP_OK);
-  CHECK(captures(changecap_session_restart, &server, CHANGECAP_KEYS_ONES, "5402010074001200010000000000000001030178"));
-  CHECK(captures(changecap_session_restart, &server, CHANGECAP_KEYS_ONES, ""));
-  CHECK(changecap_session_enable(&server, 1, CHANGECAP_ON, &flag, &fault) == CHANGECAP_OK && flag == 1);
-  CHECK(changecap_session_indirect(&server, 1, CHANGECAP_ON, &flag, &fault) == CHANGECAP_OK && flag == 1);
-  CHECK(changecap_session_attach_all(&server, 1, &fault) == CHANGECAP_OK);
-  CHECK(called(&server, "commit delete u key(1,3)", &fault) == CHANGECAP_OK);
-  CHECK(captures(changecap_session_changeset, &server, CHANGECAP_KEYS_PLACES,
-                 "540301000275000901010000000000000001010000000000000002010000000000000003"));
-  CHECK(changecap_session_drop(&server, 1, &fault) == CHANGECAP_OK);
-  CHECK(changecap_session_isempty(&server, 1, &flag, &fault) == CHANGECAP_REFUSED && fault.kind == 18 && flag == 1);
-  CHECK(changecap_session_drop(&server, 1, &fault) == CHANGECAP_REFUSED);
-  changecap_server_close(&server);
-}
-
-/* Each request for memory is refused in turn: a call that was not carried out is carried out when it comes again. */
-static void refused_sessions(void){
-  for(long at = 0, granted = 0; !granted; at++){
-    changecap_server server = CHANGECAP_CLOSED;
-    changecap_fault fault;
-    uint64_t version = 0, session = 0;
-    uint32_t flag, status;
-    bytes made;
-    CHECK(changecap_server_open(&server) == CHANGECAP_OK);
-    refused_at = at;
-    granted = 1;
-#define AGAIN(call) while( (status = (call)) == CHANGECAP_NOMEM ) granted = 0
-    AGAIN(created(&server, "t", "10", &version, &fault));
-    CHECK(status == CHANGECAP_OK && version == 1);
-    AGAIN(changecap_session_new(&server, &session, &fault));
-    CHECK(status == CHANGECAP_OK && session == 1);
-    AGAIN(attached(&server, 1, "t", &fault));
-    CHECK(status == CHANGECAP_OK);
-    AGAIN(called(&server, "commit insert t (1,'x')", &fault));
-    CHECK(status == CHANGECAP_OK);
-    AGAIN(changecap_session_isempty(&server, 1, &flag, &fault));
-    CHECK(status == CHANGECAP_OK && flag == 0);
-    while( (status = captured_by(changecap_session_restart, &server, 1, 0, &made, &fault)) == CHANGECAP_NOMEM ){
-      granted = 0;
-      free(made.at);
-    }
-    CHECK(status == CHANGECAP_OK && is_hex(made, "5402010074001200010000000000000001030178"));
-    free(made.at);
-    AGAIN(changecap_session_drop(&server, 1, &fault));
-    CHECK(status == CHANGECAP_OK);
-#undef AGAIN
-    granted = granted && refused_at >= 0;
-    refused_at = -1;
-    changecap_server_close(&server);
-  }
+/* Pieces are read as the whole blob. */
+static void pieces_agree(bytes blob, uint32_t wanted, changecap_fault fault, size_t changes){
+  changecap_fault other = { 0, 0 };
+  size_t found;
+  CHECK(decoded(blob, blob.n % 7 + 1, &other, &found) == wanted && found == changes);
+  if( wanted == CHANGECAP_MALFORMED ) CHECK(other.kind == fault.kind && other.at == fault.at);
 }
 
 /* What holds of a blob alone, of this status and fault, and of its text. A concatenation does not change once more. */
@@ -713,7 +575,9 @@ static void calls_agree(bytes blob){
   uint32_t patched = made_by(changecap_patchset, blob, 0, &patchset, &other);
   CHECK(inverted == patched);
   concat_and_json_agree(blob, status, fault);
+  application_agrees(blob, status, fault);
   size_t changes = iterated(blob, status);
+  pieces_agree(blob, status, fault, changes);
   if( status == CHANGECAP_MALFORMED ){
     CHECK(inverted == status && fault.kind == other.kind && fault.at == other.at);
     CHECK(fault.kind >= 1 && fault.kind <= 10 && fault.at <= blob.n);
@@ -819,16 +683,16 @@ int main(int words, char **word){
   worked_concatenations();
   worked_json();
   worked_iterator();
-  worked_server();
-  refused_server();
-  worked_sessions();
-  refused_sessions();
+  worked_pieces();
+  test_server();
+  test_batches();
   read_known(word[1]);
   known_faults();
   for(size_t i = 0; i < number; i++){
     if( all[i].fault.kind ) continue;
     refused_check(all[i].blob);
     refused_iterator(all[i].blob);
+    refused_pieces(all[i].blob);
     refused_json(all[i].blob);
     refused_concat(all[i].blob, all[i].blob);
     if( all[i].blob.n && all[i].blob.at[0] == 0x50 ) continue;

@@ -11,8 +11,9 @@ else libchangecap.so of ../out beside this file, else the system's.
         server.create_table("t", [True, False])
         session = server.session()
         session.attach("t")
-        server.call("commit insert t (1,'x')")
+        server.commit(("insert", "t", (1, "x")))
         changeset = session.changeset()
+        print(server.scan("t"))
 
 A value is None, int, str (TEXT) or bytes (BLOB).
 """
@@ -24,9 +25,11 @@ from ctypes import POINTER, byref, c_int64, c_size_t, c_uint32, c_uint64, c_void
 from dataclasses import dataclass
 
 OK, MALFORMED, ROOM, NOMEM, PATCHSET, MISUSE, REFUSED, COMMAND, FULL, ROW, DONE = 0, 1, 2, 3, 4, 5, 6, 7, 8, 100, 101
-KIND, COLUMNS = 9, 10
+KIND, COLUMNS, FILTER = 9, 10, 11
 KEYS_ONES, KEYS_PLACES = 0, 1
 OFF, ON, ASK = 0, 1, 2
+OMIT, REPLACE, ABORT = 0, 1, 2
+DIRECT, CASCADE = 0, 1
 UNDEFINED, INTEGER, TEXT, BLOB, NULL = 0, 1, 3, 4, 5
 OPERATIONS = {18: "insert", 23: "update", 9: "delete"}
 
@@ -55,6 +58,14 @@ class NotOneCommand(Error):
         self.kind, self.at = fault.kind, fault.at
 
 
+class NoFilter(Error):
+    """A text that is no filter: the number of the refusal, 12 or 13, and where the first token does not fit."""
+
+    def __init__(self, fault):
+        super().__init__(FILTER, f"no filter: E{fault.kind} at {fault.at}")
+        self.kind, self.at = fault.kind, fault.at
+
+
 class Refused(Error):
     """A command that the server refuses. The text is its reply. A call that has no text tells the number, as in E18."""
 
@@ -75,6 +86,18 @@ class Change:
     new: dict
 
 
+@dataclass
+class Report:
+    """What became of an applied blob: the new version, the changes that were applied, those that replaced a row among
+    them, that met a conflict and that were omitted because of one, and the groups that were skipped."""
+
+    version: int
+    applied: int
+    conflicts: int
+    omitted: int
+    skipped: int
+
+
 class _Fault(ctypes.Structure):
     _fields_ = [("kind", c_uint32), ("at", c_size_t)]
 
@@ -85,6 +108,10 @@ class _Change(ctypes.Structure):
 
 class _Field(ctypes.Structure):
     _fields_ = [("kind", c_uint32), ("number", c_int64), ("len", c_size_t)]
+
+
+class _Report(ctypes.Structure):
+    _fields_ = [(it, c_uint64) for it in ("version", "applied", "conflicts", "omitted", "skipped")]
 
 
 class _Handle(ctypes.Structure):
@@ -108,22 +135,51 @@ _CALLS = {
     "iter_old_bytes": [POINTER(_Handle), _LEN, _OUT, _LEN, POINTER(c_size_t)],
     "iter_new_bytes": [POINTER(_Handle), _LEN, _OUT, _LEN, POINTER(c_size_t)],
     "iter_close": [POINTER(_Handle)],
+    "decoder_open": [POINTER(_Handle)],
+    "decoder_feed": [POINTER(_Handle), _BYTES, _LEN, POINTER(_Fault)],
+    "decoder_finish": [POINTER(_Handle), POINTER(_Handle), POINTER(_Fault)],
+    "decoder_close": [POINTER(_Handle)],
     "server_open": [POINTER(_Handle)],
     "server_call": [POINTER(_Handle), _BYTES, _LEN, POINTER(_Fault)],
     "server_reply": [POINTER(_Handle), _OUT, _LEN, POINTER(c_size_t)],
     "server_close": [POINTER(_Handle)],
     "create": [POINTER(_Handle), _BYTES, _LEN, _BYTES, _LEN, POINTER(c_uint64), POINTER(_Fault)],
+    "save": [POINTER(_Handle), _BYTES, _LEN, POINTER(_Fault)],
+    "apply": [POINTER(_Handle), _BYTES, _LEN, c_uint32, c_uint32, c_uint32, POINTER(_Report), POINTER(_Fault)],
     "session_new": [POINTER(_Handle), POINTER(c_uint64), POINTER(_Fault)],
     "session_drop": [POINTER(_Handle), c_uint64, POINTER(_Fault)],
     "session_attach": [POINTER(_Handle), c_uint64, _BYTES, _LEN, POINTER(_Fault)],
     "session_attach_all": [POINTER(_Handle), c_uint64, POINTER(_Fault)],
+    "session_filter": [POINTER(_Handle), c_uint64, _BYTES, _LEN, POINTER(_Fault)],
+    "session_diff": [POINTER(_Handle), c_uint64, _BYTES, _LEN, _BYTES, _LEN, POINTER(_Fault)],
     "session_enable": [POINTER(_Handle), c_uint64, c_uint32, POINTER(c_uint32), POINTER(_Fault)],
     "session_indirect": [POINTER(_Handle), c_uint64, c_uint32, POINTER(c_uint32), POINTER(_Fault)],
     "session_isempty": [POINTER(_Handle), c_uint64, POINTER(c_uint32), POINTER(_Fault)],
     "session_changeset": [POINTER(_Handle), c_uint64, c_uint32, _OUT, _LEN, POINTER(c_size_t), POINTER(_Fault)],
     "session_patchset": [POINTER(_Handle), c_uint64, c_uint32, _OUT, _LEN, POINTER(c_size_t), POINTER(_Fault)],
     "session_restart": [POINTER(_Handle), c_uint64, c_uint32, _OUT, _LEN, POINTER(c_size_t), POINTER(_Fault)],
+    "begin": [POINTER(_Handle)],
+    "begin_at": [POINTER(_Handle), c_uint64],
+    "clear_bindings": [POINTER(_Handle)],
+    "bind_null": [POINTER(_Handle)],
+    "bind_int": [POINTER(_Handle), c_int64],
+    "bind_text": [POINTER(_Handle), _BYTES, _LEN],
+    "bind_blob": [POINTER(_Handle), _BYTES, _LEN],
+    "set": [POINTER(_Handle), _LEN],
+    "insert": [POINTER(_Handle), _BYTES, _LEN, c_uint32, POINTER(_Fault)],
+    "update": [POINTER(_Handle), _BYTES, _LEN, c_uint64, c_uint32, POINTER(_Fault)],
+    "delete": [POINTER(_Handle), _BYTES, _LEN, c_uint64, c_uint32, POINTER(_Fault)],
+    "commit": [POINTER(_Handle), POINTER(c_uint64), POINTER(_Fault)],
+    "get": [POINTER(_Handle), _BYTES, _LEN, c_uint64, POINTER(_Fault)],
+    "scan": [POINTER(_Handle), _BYTES, _LEN, POINTER(_Fault)],
+    "step": [POINTER(_Handle)],
+    "row_id": [POINTER(_Handle), POINTER(c_uint64)],
+    "columns": [POINTER(_Handle), POINTER(c_size_t)],
+    "column": [POINTER(_Handle), _LEN, POINTER(_Field)],
+    "column_bytes": [POINTER(_Handle), _LEN, _OUT, _LEN, POINTER(c_size_t)],
 }
+# calls that answer nothing
+_SILENT = {"begin", "begin_at", "clear_bindings"}
 
 
 class _Library:
@@ -138,7 +194,7 @@ class _Library:
         for call, types in _CALLS.items():
             made = getattr(calls, f"changecap_{call}")
             made.argtypes = types
-            made.restype = None if call.endswith("_close") else c_uint32
+            made.restype = None if call.endswith("_close") or call in _SILENT else c_uint32
             setattr(self, call, made)
 
 
@@ -159,6 +215,8 @@ def _check(status, fault=None):
         raise Malformed(fault)
     if status == COMMAND:
         raise NotOneCommand(fault)
+    if status == FILTER:
+        raise NoFilter(fault)
     if status == REFUSED:
         raise Refused(f"refused: E{fault.kind}")
     if status == NOMEM:
@@ -255,15 +313,97 @@ def _change(handle):
     )
 
 
-def iterate(blob):
-    """Each change of a changeset or a patchset, in order."""
-    handle, fault = _Handle(), _Fault()
-    _check(_library.iter_open(bytes(blob), len(blob), byref(handle), byref(fault)), fault)
+def _changes(handle):
     try:
         while _library.iter_next(byref(handle)) == ROW:
             yield _change(handle)
     finally:
         _library.iter_close(byref(handle))
+
+
+def iterate(blob):
+    """Each change of a changeset or a patchset, in order."""
+    handle, fault = _Handle(), _Fault()
+    _check(_library.iter_open(bytes(blob), len(blob), byref(handle), byref(fault)), fault)
+    yield from _changes(handle)
+
+
+def iterate_pieces(pieces):
+    """The same of a blob in pieces of any lengths. A fault is raised with the piece that shows it."""
+    decoder, handle, fault = _Handle(), _Handle(), _Fault()
+    _check(_library.decoder_open(byref(decoder)))
+    try:
+        for piece in pieces:
+            piece = bytes(piece)
+            _check(_library.decoder_feed(byref(decoder), piece, len(piece), byref(fault)), fault)
+        _check(_library.decoder_finish(byref(decoder), byref(handle), byref(fault)), fault)
+    finally:
+        if decoder.at:
+            _library.decoder_close(byref(decoder))
+    yield from _changes(handle)
+
+
+@dataclass
+class Row:
+    """A row, with its id where it has no key."""
+
+    id: object
+    values: tuple
+
+
+def _bind(handle, value):
+    if value is None:
+        _check(_library.bind_null(handle))
+    elif isinstance(value, int):
+        if not -2**63 <= value < 2**63:
+            raise OverflowError("an integer has 64 bits")
+        _check(_library.bind_int(handle, value))
+    else:
+        text = isinstance(value, str)
+        content = value.encode() if text else bytes(value)
+        _check((_library.bind_text if text else _library.bind_blob)(handle, content, len(content)))
+
+
+def _insert(handle, table, values, cause=DIRECT):
+    for value in values:
+        _bind(handle, value)
+    fault, name = _Fault(), table.encode()
+    _check(_library.insert(handle, name, len(name), cause, byref(fault)), fault)
+
+
+def _named(handle, row):
+    """Binds the key of a row, a tuple, or answers its id."""
+    if isinstance(row, int):
+        return row
+    for value in row:
+        _bind(handle, value)
+    return 0
+
+
+def _update(handle, table, row, fields, cause=DIRECT):
+    number = _named(handle, row)
+    for column, value in fields.items():
+        _bind(handle, value)
+        _check(_library.set(handle, column))
+    fault, name = _Fault(), table.encode()
+    _check(_library.update(handle, name, len(name), number, cause, byref(fault)), fault)
+
+
+def _delete(handle, table, row, cause=DIRECT):
+    fault, name, number = _Fault(), table.encode(), _named(handle, row)
+    _check(_library.delete(handle, name, len(name), number, cause, byref(fault)), fault)
+
+
+_OPERATIONS = {"insert": _insert, "update": _update, "delete": _delete}
+
+
+def _rows(handle):
+    number, columns = c_uint64(), c_size_t()
+    while _library.step(byref(handle)) == ROW:
+        _check(_library.row_id(byref(handle), byref(number)))
+        _check(_library.columns(byref(handle), byref(columns)))
+        values = (_value(handle, it, _library.column, _library.column_bytes)[1] for it in range(columns.value))
+        yield Row(number.value or None, tuple(values))
 
 
 class Server:
@@ -307,6 +447,61 @@ class Server:
         self._done(_library.create, name, len(name), columns, len(columns), byref(version))
         return version.value
 
+    def commit(self, *operations, base=None):
+        """Makes operations together or not at all, on the version `base` alone where it is given, and answers the new
+        version. Each is a tuple: ("insert", table, values), ("update", table, row, {column: value}) or
+        ("delete", table, row), and CASCADE behind it where a trigger or a foreign key action is its cause. A row is a
+        tuple, its key, or an int, its id. Of a `Refused`, `at` is the number of the operation, from 0."""
+
+        def committed(handle, fault):
+            if base is None:
+                _library.begin(handle)
+            else:
+                _library.begin_at(handle, base)
+            for word, *rest in operations:
+                _OPERATIONS[word](handle, *rest)
+            version = c_uint64()
+            try:
+                _check(_library.commit(handle, byref(version), byref(fault)), fault)
+            except Refused as refused:
+                refused.at = fault.at
+                raise
+            return version.value
+
+        return self._made(committed)
+
+    def _read(self, call, table, *words):
+        fault, name = _Fault(), table.encode()
+        _check(call(byref(self._handle), name, len(name), *words, byref(fault)), fault)
+        return list(_rows(self._handle))
+
+    def get(self, table, row):
+        """The row with this key, a tuple, or this id, an int; or None."""
+
+        def found(handle, _):
+            try:
+                return self._read(_library.get, table, _named(handle, row))
+            finally:
+                _library.clear_bindings(handle)
+
+        return next(iter(self._made(found)), None)
+
+    def scan(self, table):
+        """All rows of a table: those with a key in the order of their keys, and then the others by their ids."""
+        return self._made(lambda *_: self._read(_library.scan, table))
+
+    def save(self, database):
+        """Saves the tables under a name, for `Session.diff`."""
+        name = database.encode()
+        self._done(_library.save, name, len(name))
+
+    def apply(self, blob, data=ABORT, notfound=ABORT, conflict=ABORT):
+        """Applies a changeset or a patchset, with an answer where a row differs, where it is missing, and where its key
+        is in use."""
+        blob, report = bytes(blob), _Report()
+        self._done(_library.apply, blob, len(blob), data, notfound, conflict, byref(report))
+        return Report(*(getattr(report, name) for name, _ in _Report._fields_))
+
     def session(self):
         """Makes a session."""
         number = c_uint64()
@@ -343,6 +538,16 @@ class Session:
         else:
             name = table.encode()
             self._server._done(_library.session_attach, self.number, name, len(name))
+
+    def filter(self, text):
+        """Attaches from now on each table of which a row changes and whose name the filter accepts."""
+        text = text.encode()
+        self._server._done(_library.session_filter, self.number, text, len(text))
+
+    def diff(self, database, table):
+        """Records how a table differs from the one of the same name in a saved database."""
+        database, table = database.encode(), table.encode()
+        self._server._done(_library.session_diff, self.number, database, len(database), table, len(table))
 
     def _flag(self, call, *words):
         flag = c_uint32()

@@ -84,6 +84,17 @@ class Blobs(unittest.TestCase):
         with self.assertRaises(changecap.Malformed):
             next(changecap.iterate(b"T"))
 
+    def test_pieces(self):
+        blob = bytes.fromhex("540201007500170101000000000000000703012d0003022b2b540301000062001200040200ff05030161")
+        for length in 1, 3, 100:
+            pieces = [blob[at:at + length] for at in range(0, len(blob), length)]
+            self.assertEqual(list(changecap.iterate_pieces(pieces)), list(changecap.iterate(blob)))
+        self.assertEqual(list(changecap.iterate_pieces([])), [])
+        for pieces, wanted in (([b"T", b"\x80", b"\0"], (3, 1)), ([b"T"], (1, 1))):
+            with self.assertRaises(changecap.Malformed) as raised:
+                list(changecap.iterate_pieces(pieces))
+            self.assertEqual((raised.exception.kind, raised.exception.at), wanted)
+
     def test_known_faults(self):
         path = os.environ.get("CHANGECAP_BLOBS")
         if not path:
@@ -207,10 +218,114 @@ class Servers(unittest.TestCase):
                     call()
                 self.assertEqual(raised.exception.status, status)
 
+    def test_applications(self):
+        with changecap.Server() as server:
+            server.create_table("t", [True, False])
+            server.call("commit insert t (1,'y')")
+            self.assertEqual(server.apply(INSERT, conflict=changecap.OMIT), changecap.Report(3, 0, 1, 1, 0))
+            self.assertEqual(server.apply(INSERT, conflict=changecap.REPLACE), changecap.Report(4, 1, 1, 0, 0))
+            self.assertEqual(server.apply(bytes.fromhex("540201007500120001000000000000000205")),
+                             changecap.Report(5, 0, 0, 0, 1))
+            for blob, words, wanted in ((INSERT, {}, "refused: E15"), (DELETE[:-1] + b"z", {}, "refused: E15"),
+                                        (b"T\x80", {}, "fault D3 at 1"), (INSERT, {"data": 3}, "misuse")):
+                with self.assertRaises(changecap.Error) as raised:
+                    server.apply(blob, **words)
+                self.assertEqual(str(raised.exception), wanted)
+
+    def test_batches_and_rows(self):
+        with changecap.Server() as server:
+            server.create_table("t", [True, False])
+            server.create_table("u", [False, True, True])
+            session = server.session()
+            session.attach()
+            self.assertEqual(server.commit(("insert", "t", (1, "x")), ("insert", "t", (2, b"\0\xff"), changecap.CASCADE),
+                                           ("insert", "u", ("x", 1, 2)), ("insert", "u", ("x", None, 1))), 3)
+            self.assertEqual([(it.table, it.indirect) for it in changecap.iterate(session.changeset())],
+                             [("t", False), ("t", True), ("u", False)])
+            self.assertEqual(server.get("t", (2,)), changecap.Row(None, (2, b"\0\xff")))
+            self.assertEqual(server.get("u", 1), changecap.Row(1, ("x", None, 1)))
+            self.assertIsNone(server.get("t", (3,)))
+            server.commit(("update", "u", (1, 2), {0: None}), ("update", "u", 1, {1: 1, 0: 2}), ("delete", "t", (2,)), base=3)
+            self.assertEqual([it.values for it in server.scan("u")], [(2, 1, 1), (None, 1, 2)])
+            self.assertEqual(server.scan("t"), [changecap.Row(None, (1, "x"))])
+            for call, wanted in ((lambda: server.scan("v"), "refused: E8"), (lambda: server.get("t", ()), "misuse"),
+                                 (lambda: server.get("t", (None,)), "misuse"), (lambda: server.scan(""), "misuse"),
+                                 (lambda: server.commit(("delete", "t", 0)), "misuse"),
+                                 (lambda: server.commit(("insert", "t", (1,), 2)), "misuse"),
+                                 (lambda: server.commit(("delete", "t", (1,)), base=3), "refused: E11")):
+                with self.assertRaises(changecap.Error) as raised:
+                    call()
+                self.assertEqual(str(raised.exception), wanted)
+            with self.assertRaises(changecap.Refused) as raised:
+                server.commit(("delete", "t", (1,)), ("insert", "t", (5,)))
+            self.assertEqual((str(raised.exception), raised.exception.at), ("refused: E3", 1))
+            self.assertEqual(len(server.scan("t")), 1)
+
+    def test_filters_and_differences(self):
+        with changecap.Server() as server:
+            for table in "ab":
+                server.create_table(table, [True, False])
+            session = server.session()
+            session.filter("not is a")
+            server.save("before")
+            server.call("commit insert a (1,'x') ; insert b (2,'y')")
+            self.assertEqual([it.table for it in changecap.iterate(session.restart())], ["b"])
+            session.diff("before", "a")
+            self.assertEqual(session.changeset().hex(), "5402010061001200010000000000000001030178")
+            for call, words, wanted in ((session.filter, ("not is",), "no filter: E12 at 6"),
+                                        (session.diff, ("after", "a"), "refused: E19"),
+                                        (session.diff, ("before", ""), "misuse"), (server.save, ("",), "misuse")):
+                with self.assertRaises(changecap.Error) as raised:
+                    call(*words)
+                self.assertEqual(str(raised.exception), wanted)
+
     @unittest.skipUnless(sqlite, "no SQLite with the session extension")
     def test_sessions_beside_sqlite(self):
         for number in range(40):
             self.beside_sqlite(random.Random(number))
+
+    @unittest.skipUnless(sqlite, "no SQLite with the session extension")
+    def test_applications_beside_sqlite(self):
+        for number in range(60):
+            self.applied_beside_sqlite(random.Random(number))
+
+    def applied_beside_sqlite(self, chance):
+        """A blob of random changes, applied where some rows are others, with each answer to a conflict."""
+        source, target = changecap.Server(), changecap.Server()
+        other = sqlite.Connection()
+        other.execute("CREATE TABLE t(a INTEGER, b INTEGER, c TEXT, PRIMARY KEY(a, b))")
+        for server in source, target:
+            server.create_table("t", [True, True, False])
+        keys = [(a, b) for a in range(4) for b in range(3)]
+        for key in chance.sample(keys, 6):
+            source.commit(("insert", "t", (*key, chance.choice("xyz"))))
+        for key in chance.sample(keys, 6):
+            row = (*key, chance.choice("xyz"))
+            target.commit(("insert", "t", row))
+            other.execute("INSERT INTO t VALUES(?, ?, ?)", row)
+        session = source.session()
+        session.attach("t")
+        for key in chance.sample(keys, 8):
+            if not source.get("t", key):
+                source.commit(("insert", "t", (*key, chance.choice("xyz"))))
+            elif chance.randrange(2):
+                source.commit(("update", "t", key, {2: chance.choice("xyz")}))
+            else:
+                source.commit(("delete", "t", key))
+        blob = chance.choice((session.changeset, session.patchset))()
+        policy = {kind: chance.choice(("omit", "replace", "abort") if kind != "notfound" else ("omit", "abort"))
+                  for kind in ("data", "notfound", "conflict")}
+        told = other.apply(blob, lambda kind: policy[kind])
+        numbers = [("omit", "replace", "abort").index(policy[kind]) for kind in ("data", "notfound", "conflict")]
+        try:
+            report = target.apply(blob, *numbers)
+            self.assertEqual((report.conflicts, report.omitted), (len(told.conflicts), told.omitted))
+            self.assertEqual(told.code, 0)
+        except changecap.Refused as refused:
+            self.assertEqual((str(refused), told.code), ("refused: E15", 4))
+        self.assertEqual([it.values for it in target.scan("t")], other.execute("SELECT * FROM t ORDER BY a, b"))
+        for it in source, target, other:
+            it.close()
 
     def beside_sqlite(self, chance):
         connection = sqlite.Connection()
@@ -231,18 +346,20 @@ class Servers(unittest.TestCase):
                     self.assertEqual(ours.indirect(a > 1), a > 1)
                     theirs.indirect(int(a > 1))
                 if (a, b) not in rows:
-                    server.call(f"commit insert t ({a},{b},'{c}')")
+                    server.commit(("insert", "t", (a, b, c)))
                     connection.execute("INSERT INTO t VALUES(?, ?, ?)", (a, b, c))
                     rows[a, b] = c
                 elif chance.randrange(2):
-                    server.call(f"commit update t key({a},{b}) set 2 = '{c}'")
+                    server.commit(("update", "t", (a, b), {2: c}))
                     connection.execute("UPDATE t SET c = ? WHERE a = ? AND b = ?", (c, a, b))
                 else:
-                    server.call(f"commit delete t key({a},{b})")
+                    server.commit(("delete", "t", (a, b)))
                     connection.execute("DELETE FROM t WHERE a = ? AND b = ?", (a, b))
                     del rows[a, b]
                 self.assertEqual(changes_of(ours.changeset()), changes_of(theirs.changeset()))
                 self.assertEqual(changes_of(ours.patchset()), changes_of(theirs.patchset()))
+            self.assertEqual([it.values for it in server.scan("t")],
+                             connection.execute("SELECT * FROM t ORDER BY a, b"))
             theirs.delete()
         connection.close()
 

@@ -27,6 +27,8 @@ pub enum Error {
     Refused(String),
     /// The text is not one command: the number of the fault, as in `G1`, or 0, and its offset.
     Command(Fault),
+    /// The text is no filter: the number of the refusal, 12 or 13, and where the first token does not fit.
+    Filter(Fault),
     /// The server has answered as many commands as it can.
     HistoryFull,
     Io(io::Error),
@@ -45,6 +47,7 @@ impl Error {
             ffi::COLUMNS => Error::OtherColumns,
             ffi::REFUSED => Error::Refused(format!("refused: E{}", fault.kind)),
             ffi::COMMAND => Error::Command(fault),
+            ffi::FILTER => Error::Filter(fault),
             ffi::FULL => Error::HistoryFull,
             _ => Error::Misuse,
         }
@@ -62,6 +65,7 @@ impl fmt::Display for Error {
             Error::Misuse => f.write_str("no such column, or no change"),
             Error::Refused(reply) => f.write_str(reply),
             Error::Command(fault) => write!(f, "not one command: G{} at {}", fault.kind, fault.at),
+            Error::Filter(fault) => write!(f, "no filter: E{} at {}", fault.kind, fault.at),
             Error::HistoryFull => f.write_str("history full"),
             Error::Io(error) => error.fmt(f),
         }

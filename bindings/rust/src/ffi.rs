@@ -12,6 +12,7 @@ pub const COMMAND: u32 = 7;
 pub const FULL: u32 = 8;
 pub const KIND: u32 = 9;
 pub const COLUMNS: u32 = 10;
+pub const FILTER: u32 = 11;
 pub const ROW: u32 = 100;
 
 #[repr(C)]
@@ -36,6 +37,16 @@ pub struct Field {
     pub kind: u32,
     pub number: i64,
     pub len: usize,
+}
+
+#[repr(C)]
+#[derive(Default, Clone, Copy)]
+pub struct Report {
+    pub version: u64,
+    pub applied: u64,
+    pub conflicts: u64,
+    pub omitted: u64,
+    pub skipped: u64,
 }
 
 /// A handle: null while it is closed.
@@ -70,20 +81,50 @@ unsafe extern "C" {
     pub fn changecap_iter_new_bytes(iter: *mut Handle, column: usize, out: *mut u8, room: usize, len: *mut usize) -> u32;
     pub fn changecap_iter_close(iter: *mut Handle);
 
+    pub fn changecap_decoder_open(decoder: *mut Handle) -> u32;
+    pub fn changecap_decoder_feed(decoder: *mut Handle, piece: *const u8, n: usize, fault: *mut Fault) -> u32;
+    pub fn changecap_decoder_finish(decoder: *mut Handle, iter: *mut Handle, fault: *mut Fault) -> u32;
+    pub fn changecap_decoder_close(decoder: *mut Handle);
+
     pub fn changecap_server_open(server: *mut Handle) -> u32;
     pub fn changecap_server_call(server: *mut Handle, text: *const u8, n: usize, fault: *mut Fault) -> u32;
     pub fn changecap_server_reply(server: *mut Handle, out: *mut u8, room: usize, len: *mut usize) -> u32;
     pub fn changecap_server_close(server: *mut Handle);
 
     pub fn changecap_create(server: *mut Handle, table: *const u8, n: usize, key: *const u8, columns: usize, version: *mut u64, fault: *mut Fault) -> u32;
+    pub fn changecap_save(server: *mut Handle, database: *const u8, n: usize, fault: *mut Fault) -> u32;
+    pub fn changecap_apply(server: *mut Handle, blob: *const u8, n: usize, data: u32, notfound: u32, conflict: u32, report: *mut Report, fault: *mut Fault) -> u32;
     pub fn changecap_session_new(server: *mut Handle, session: *mut u64, fault: *mut Fault) -> u32;
     pub fn changecap_session_drop(server: *mut Handle, session: u64, fault: *mut Fault) -> u32;
     pub fn changecap_session_attach(server: *mut Handle, session: u64, table: *const u8, n: usize, fault: *mut Fault) -> u32;
     pub fn changecap_session_attach_all(server: *mut Handle, session: u64, fault: *mut Fault) -> u32;
+    pub fn changecap_session_filter(server: *mut Handle, session: u64, text: *const u8, n: usize, fault: *mut Fault) -> u32;
+    pub fn changecap_session_diff(server: *mut Handle, session: u64, from: *const u8, n: usize, table: *const u8, m: usize, fault: *mut Fault) -> u32;
     pub fn changecap_session_enable(server: *mut Handle, session: u64, set: u32, flag: *mut u32, fault: *mut Fault) -> u32;
     pub fn changecap_session_indirect(server: *mut Handle, session: u64, set: u32, flag: *mut u32, fault: *mut Fault) -> u32;
     pub fn changecap_session_isempty(server: *mut Handle, session: u64, flag: *mut u32, fault: *mut Fault) -> u32;
     pub fn changecap_session_changeset(server: *mut Handle, session: u64, key_flags: u32, out: *mut u8, room: usize, len: *mut usize, fault: *mut Fault) -> u32;
     pub fn changecap_session_patchset(server: *mut Handle, session: u64, key_flags: u32, out: *mut u8, room: usize, len: *mut usize, fault: *mut Fault) -> u32;
     pub fn changecap_session_restart(server: *mut Handle, session: u64, key_flags: u32, out: *mut u8, room: usize, len: *mut usize, fault: *mut Fault) -> u32;
+
+    pub fn changecap_begin(server: *mut Handle);
+    pub fn changecap_begin_at(server: *mut Handle, version: u64);
+    pub fn changecap_clear_bindings(server: *mut Handle);
+    pub fn changecap_bind_null(server: *mut Handle) -> u32;
+    pub fn changecap_bind_int(server: *mut Handle, number: i64) -> u32;
+    pub fn changecap_bind_text(server: *mut Handle, text: *const u8, n: usize) -> u32;
+    pub fn changecap_bind_blob(server: *mut Handle, blob: *const u8, n: usize) -> u32;
+    pub fn changecap_set(server: *mut Handle, column: usize) -> u32;
+    pub fn changecap_insert(server: *mut Handle, table: *const u8, n: usize, cause: u32, fault: *mut Fault) -> u32;
+    pub fn changecap_update(server: *mut Handle, table: *const u8, n: usize, id: u64, cause: u32, fault: *mut Fault) -> u32;
+    pub fn changecap_delete(server: *mut Handle, table: *const u8, n: usize, id: u64, cause: u32, fault: *mut Fault) -> u32;
+    pub fn changecap_commit(server: *mut Handle, version: *mut u64, fault: *mut Fault) -> u32;
+
+    pub fn changecap_get(server: *mut Handle, table: *const u8, n: usize, id: u64, fault: *mut Fault) -> u32;
+    pub fn changecap_scan(server: *mut Handle, table: *const u8, n: usize, fault: *mut Fault) -> u32;
+    pub fn changecap_step(server: *mut Handle) -> u32;
+    pub fn changecap_row_id(server: *mut Handle, id: *mut u64) -> u32;
+    pub fn changecap_columns(server: *mut Handle, columns: *mut usize) -> u32;
+    pub fn changecap_column(server: *mut Handle, column: usize, field: *mut Field) -> u32;
+    pub fn changecap_column_bytes(server: *mut Handle, column: usize, out: *mut u8, room: usize, len: *mut usize) -> u32;
 }

@@ -2,7 +2,7 @@
 use crate::ffi;
 use crate::{Error, Result};
 use std::cell::UnsafeCell;
-use std::io::Read;
+use std::io::{ErrorKind, Read};
 
 /// What a change does to its row.
 #[derive(Clone, Copy, Debug, PartialEq, Eq)]
@@ -69,11 +69,18 @@ impl ChangesetIter {
         }
     }
 
-    /// The same of all bytes that the reader gives.
+    /// The same of all bytes that the reader gives, which is read to its end or to the piece that shows a fault.
     pub fn start_strm(input: &mut dyn Read) -> Result<ChangesetIter> {
-        let mut bytes = Vec::new();
-        input.read_to_end(&mut bytes)?;
-        ChangesetIter::start(&bytes)
+        let mut decoder = Decoder::new()?;
+        let mut piece = [0; 4096];
+        loop {
+            match input.read(&mut piece) {
+                Ok(0) => return decoder.finish(),
+                Ok(n) => decoder.feed(&piece[..n])?,
+                Err(error) if error.kind() == ErrorKind::Interrupted => {}
+                Err(error) => return Err(error.into()),
+            }
+        }
     }
 
     /// The next change, which is read before it goes on.
@@ -90,6 +97,55 @@ impl ChangesetIter {
 impl Drop for ChangesetIter {
     fn drop(&mut self) {
         unsafe { ffi::changecap_iter_close(self.handle.get()) }
+    }
+}
+
+/// A decoder that gets a blob in pieces of any lengths. It may go to another thread.
+pub struct Decoder {
+    handle: ffi::Handle,
+}
+
+// SAFETY: what the handle owns is proved to be `Send`, and each call on it takes the decoder by `&mut`.
+unsafe impl Send for Decoder {}
+
+impl Decoder {
+    pub fn new() -> Result<Decoder> {
+        let mut decoder = Decoder { handle: ffi::Handle::CLOSED };
+        // SAFETY: the handle is closed.
+        match unsafe { ffi::changecap_decoder_open(&mut decoder.handle) } {
+            ffi::OK => Ok(decoder),
+            status => Err(Error::of(status, ffi::Fault::default())),
+        }
+    }
+
+    /// Takes the next piece. A fault that no further bytes can mend is told with the piece that shows it, and again
+    /// whatever follows.
+    pub fn feed(&mut self, piece: &[u8]) -> Result<()> {
+        let mut fault = ffi::Fault::default();
+        // SAFETY: the handle is open until `finish`, which takes the decoder.
+        match unsafe { ffi::changecap_decoder_feed(&mut self.handle, piece.as_ptr(), piece.len(), &mut fault) } {
+            ffi::OK => Ok(()),
+            status => Err(Error::of(status, fault)),
+        }
+    }
+
+    /// An iterator before the first change of all the pieces.
+    pub fn finish(mut self) -> Result<ChangesetIter> {
+        let (mut handle, mut fault) = (ffi::Handle::CLOSED, ffi::Fault::default());
+        // SAFETY: the decoder is open, and the iterator closed.
+        match unsafe { ffi::changecap_decoder_finish(&mut self.handle, &mut handle, &mut fault) } {
+            ffi::OK => Ok(ChangesetIter { handle: handle.into() }),
+            status => Err(Error::of(status, fault)),
+        }
+    }
+}
+
+impl Drop for Decoder {
+    fn drop(&mut self) {
+        if !self.handle.at.is_null() {
+            // SAFETY: the handle is open.
+            unsafe { ffi::changecap_decoder_close(&mut self.handle) }
+        }
     }
 }
 
@@ -151,15 +207,19 @@ impl ChangesetItem<'_> {
         if status != ffi::OK {
             return Err(Error::of(status, ffi::Fault::default()));
         }
-        let taken = || bytes(|out, room, len| unsafe { bytes_of(self.at(), column, out, room, len) }, field.len);
-        Ok(match field.kind {
-            0 => None,
-            1 => Some(Value::Integer(field.number)),
-            3 => Some(Value::Text(String::from_utf8(taken()?).map_err(|_| Error::Misuse)?)),
-            4 => Some(Value::Blob(taken()?)),
-            _ => Some(Value::Null),
-        })
+        value_of(field, || bytes(|out, room, len| unsafe { bytes_of(self.at(), column, out, room, len) }, field.len))
     }
+}
+
+/// The value that a call tells of, whose bytes are taken where it has any; none where it is undefined.
+pub(crate) fn value_of(field: ffi::Field, taken: impl Fn() -> Result<Vec<u8>>) -> Result<Option<Value>> {
+    Ok(match field.kind {
+        0 => None,
+        1 => Some(Value::Integer(field.number)),
+        3 => Some(Value::Text(String::from_utf8(taken()?).map_err(|_| Error::Misuse)?)),
+        4 => Some(Value::Blob(taken()?)),
+        _ => Some(Value::Null),
+    })
 }
 
 /// The bytes that a call writes, which gets a buffer of this length first.

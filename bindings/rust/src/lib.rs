@@ -15,9 +15,11 @@ mod blob;
 mod error;
 mod ffi;
 mod iter;
+mod rows;
 mod server;
 
 pub use blob::{check, invert_strm, Changeset, KeyFlags, Patchset};
 pub use error::{Error, Fault, Result};
-pub use iter::{Action, ChangesetItem, ChangesetIter, Operation, Value};
-pub use server::{ConflictAction, Connection, Session};
+pub use iter::{Action, ChangesetItem, ChangesetIter, Decoder, Operation, Value};
+pub use rows::{Cause, Row, RowRef};
+pub use server::{ConflictAction, Connection, Report, Session};

@@ -15,13 +15,28 @@ pub enum ConflictAction {
 }
 
 impl ConflictAction {
-    fn word(self) -> &'static str {
+    fn number(self) -> u32 {
         match self {
-            ConflictAction::Omit => "omit",
-            ConflictAction::Replace => "replace",
-            ConflictAction::Abort => "abort",
+            ConflictAction::Omit => 0,
+            ConflictAction::Replace => 1,
+            ConflictAction::Abort => 2,
         }
     }
+}
+
+/// What became of the changes of an applied blob.
+#[derive(Clone, Copy, Debug, PartialEq, Eq)]
+pub struct Report {
+    /// The new version.
+    pub version: u64,
+    /// Changes that were applied, those that replaced a row among them.
+    pub applied: u64,
+    /// Changes that met a conflict.
+    pub conflicts: u64,
+    /// Changes that were omitted because of one.
+    pub omitted: u64,
+    /// Groups that were skipped: there is no such table.
+    pub skipped: u64,
 }
 
 /// A server. It may go to another thread; callers of several threads share it behind a lock.
@@ -33,6 +48,10 @@ pub struct Connection {
 unsafe impl Send for Connection {}
 
 impl Connection {
+    pub(crate) fn at(&self) -> *mut ffi::Handle {
+        self.handle.get()
+    }
+
     pub fn open_in_memory() -> Result<Connection> {
         let mut handle = ffi::Handle::CLOSED;
         // SAFETY: the handle is closed.
@@ -76,9 +95,20 @@ impl Connection {
         data: ConflictAction,
         not_found: ConflictAction,
         conflict: ConflictAction,
-    ) -> Result<String> {
-        let hex: String = blob.iter().map(|byte| format!("{byte:02x}")).collect();
-        self.execute(&format!("apply x'{hex}' {} {} {}", data.word(), not_found.word(), conflict.word()))
+    ) -> Result<Report> {
+        let mut report = ffi::Report::default();
+        done(|fault| unsafe {
+            let (data, not_found, conflict) = (data.number(), not_found.number(), conflict.number());
+            let at = self.handle.get();
+            ffi::changecap_apply(at, blob.as_ptr(), blob.len(), data, not_found, conflict, &mut report, fault)
+        })?;
+        let ffi::Report { version, applied, conflicts, omitted, skipped } = report;
+        Ok(Report { version, applied, conflicts, omitted, skipped })
+    }
+
+    /// Saves the tables under a name, for `Session::diff`.
+    pub fn save(&self, database: &str) -> Result<()> {
+        done(|fault| unsafe { ffi::changecap_save(self.handle.get(), database.as_ptr(), database.len(), fault) })
     }
 }
 
@@ -95,7 +125,7 @@ pub struct Session<'c> {
 }
 
 /// What a call answers by its status and its fault.
-fn done(call: impl FnOnce(&mut ffi::Fault) -> u32) -> Result<()> {
+pub(crate) fn done(call: impl FnOnce(&mut ffi::Fault) -> u32) -> Result<()> {
     let mut fault = ffi::Fault::default();
     match call(&mut fault) {
         ffi::OK => Ok(()),
@@ -121,6 +151,22 @@ impl<'c> Session<'c> {
                 ffi::changecap_session_attach(self.at(), self.number, table.as_ptr(), table.len(), fault)
             },
             None => unsafe { ffi::changecap_session_attach_all(self.at(), self.number, fault) },
+        })
+    }
+
+    /// Attaches from now on each table of which a row changes and whose name the filter accepts, as in
+    /// `and(starts 'a',not is 'ab')`.
+    pub fn table_filter(&mut self, filter: &str) -> Result<()> {
+        done(|fault| unsafe {
+            ffi::changecap_session_filter(self.at(), self.number, filter.as_ptr(), filter.len(), fault)
+        })
+    }
+
+    /// Records how a table differs from the one of the same name in a saved database.
+    pub fn diff(&mut self, from: &str, table: &str) -> Result<()> {
+        done(|fault| unsafe {
+            let (n, m) = (from.len(), table.len());
+            ffi::changecap_session_diff(self.at(), self.number, from.as_ptr(), n, table.as_ptr(), m, fault)
         })
     }
 

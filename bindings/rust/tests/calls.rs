@@ -82,6 +82,32 @@ fn changes_of_a_blob() {
 }
 
 #[test]
+fn pieces_of_a_blob() {
+    let blob = of_hex("540201007500170101000000000000000703012d0003022b2b540301000062001200040200ff05030161");
+    for len in [1, 2, 7, 64] {
+        let mut decoder = Decoder::new().unwrap();
+        for piece in blob.chunks(len) {
+            decoder.feed(piece).unwrap();
+        }
+        let mut changes = decoder.finish().unwrap();
+        assert_eq!(changes.next().unwrap().unwrap().op().unwrap().code(), Action::Update);
+        assert_eq!(changes.next().unwrap().unwrap().new_value(2).unwrap(), Some(Value::Text("a".into())));
+        assert!(changes.next().unwrap().is_none());
+    }
+    let mut decoder = Decoder::new().unwrap();
+    decoder.feed(b"T").unwrap();
+    for _ in 0..2 {
+        assert!(matches!(decoder.feed(b"\x80"), Err(Error::Malformed(Fault { kind: 3, at: 1 }))));
+    }
+    assert!(matches!(decoder.finish(), Err(Error::Malformed(Fault { kind: 3, at: 1 }))));
+    let mut decoder = Decoder::new().unwrap();
+    decoder.feed(b"T").unwrap();
+    assert!(matches!(decoder.finish(), Err(Error::Malformed(Fault { kind: 1, at: 1 }))));
+    let decoder = Decoder::new().unwrap();
+    assert!(std::thread::spawn(move || decoder.finish().unwrap().next().unwrap().is_none()).join().unwrap());
+}
+
+#[test]
 fn an_iterator_goes_to_another_thread() {
     let mut changes = ChangesetIter::start(&of_hex(INSERT)).unwrap();
     let here = std::thread::spawn(move || changes.next().unwrap().is_some()).join().unwrap();
@@ -111,8 +137,8 @@ fn a_server_and_its_sessions() {
     let target = Connection::open_in_memory().unwrap();
     target.execute("create t kv").unwrap();
     let policy = (ConflictAction::Omit, ConflictAction::Abort, ConflictAction::Replace);
-    let reply = target.apply(changeset.as_bytes(), policy.0, policy.1, policy.2).unwrap();
-    assert_eq!(reply, "ok version 2, applied 1, omitted 0, skipped 0");
+    let report = target.apply(changeset.as_bytes(), policy.0, policy.1, policy.2).unwrap();
+    assert_eq!(report, Report { version: 2, applied: 1, conflicts: 0, omitted: 0, skipped: 0 });
     assert_eq!(std::thread::spawn(move || target.execute("scan t").unwrap()).join().unwrap(), "rows 1\n(1,'x')");
 }
 
@@ -143,6 +169,88 @@ fn sessions_by_numbers() {
     let mut bytes = Vec::new();
     session.patchset_strm(&mut bytes).unwrap();
     assert_eq!(bytes, indirect.patchset(KeyFlags::Places).unwrap().as_bytes());
+}
+
+#[test]
+fn batches_and_rows() {
+    let source = Connection::open_in_memory().unwrap();
+    source.create_table("t", &[true, false]).unwrap();
+    source.create_table("u", &[false, true, true]).unwrap();
+    let mut session = Session::new(&source).unwrap();
+    session.attach(None).unwrap();
+    let (one, two, x) = (Value::Integer(1), Value::Integer(2), Value::Text("x".into()));
+    source.begin();
+    source.insert("t", &[one.clone(), x.clone()], Cause::Direct).unwrap();
+    source.insert("t", &[two.clone(), Value::Blob(vec![0, 255])], Cause::Cascade).unwrap();
+    source.insert("u", &[x.clone(), one.clone(), two.clone()], Cause::Direct).unwrap();
+    source.insert("u", &[x.clone(), Value::Null, one.clone()], Cause::Direct).unwrap();
+    assert_eq!(source.commit().unwrap(), 3);
+    let key = [two.clone()];
+    let row = source.get("t", RowRef::Key(&key)).unwrap().unwrap();
+    assert_eq!(row, Row { id: None, values: vec![two.clone(), Value::Blob(vec![0, 255])] });
+    let both = [one.clone(), two.clone()];
+    source.update("u", RowRef::Key(&both), &[(0, Value::Null)], Cause::Direct).unwrap();
+    source.update("u", RowRef::Id(1), &[(1, one.clone()), (0, two.clone())], Cause::Direct).unwrap();
+    source.delete("t", RowRef::Key(&key), Cause::Direct).unwrap();
+    assert_eq!(source.commit().unwrap(), 4);
+    let rows: Vec<_> = source.scan("u").unwrap().into_iter().map(|row| row.values).collect();
+    assert_eq!(rows, [vec![two.clone(), one.clone(), one.clone()], vec![Value::Null, one.clone(), two.clone()]]);
+    assert_eq!(source.get("t", RowRef::Key(&key)).unwrap(), None);
+    assert!(matches!(source.scan("v"), Err(Error::Refused(why)) if why == "refused: E8"));
+    assert!(matches!(source.get("t", RowRef::Key(&[])), Err(Error::Misuse)));
+    assert!(matches!(source.get("t", RowRef::Id(0)), Err(Error::Misuse)));
+    assert!(matches!(source.delete("t", RowRef::Key(&[Value::Null]), Cause::Direct), Err(Error::Misuse)));
+    assert!(matches!(source.insert("", &key, Cause::Direct), Err(Error::Misuse)));
+    source.insert("u", &[x, Value::Null, one.clone()], Cause::Direct).unwrap();
+    source.delete("t", RowRef::Key(&key), Cause::Direct).unwrap();
+    assert!(matches!(source.commit(), Err(Error::Refused(why)) if why == "refused at 1: E6"));
+    source.begin_at(3);
+    source.delete("t", RowRef::Key(&[one]), Cause::Direct).unwrap();
+    assert!(matches!(source.commit(), Err(Error::Refused(why)) if why == "refused: E11"));
+    assert_eq!(source.commit().unwrap(), 5);
+    let changes = source.execute(&format!("changeset {}", 1)).unwrap();
+    assert!(changes.starts_with("changeset 54020100"));
+}
+
+#[test]
+fn applications() {
+    let target = Connection::open_in_memory().unwrap();
+    target.create_table("t", &[true, false]).unwrap();
+    target.execute("commit insert t (1,'y')").unwrap();
+    let insert = of_hex(INSERT);
+    let by = |conflict| target.apply(&insert, ConflictAction::Abort, ConflictAction::Abort, conflict);
+    let omitted = Report { version: 3, applied: 0, conflicts: 1, omitted: 1, skipped: 0 };
+    assert_eq!(by(ConflictAction::Omit).unwrap(), omitted);
+    assert!(matches!(by(ConflictAction::Abort), Err(Error::Refused(why)) if why == "refused: E15"));
+    let replaced = Report { version: 4, applied: 1, conflicts: 1, omitted: 0, skipped: 0 };
+    assert_eq!(by(ConflictAction::Replace).unwrap(), replaced);
+    assert_eq!(target.execute("scan t").unwrap(), "rows 1\n(1,'x')");
+    let other = of_hex("540201007500120001000000000000000205");
+    let skipped = target.apply(&other, ConflictAction::Omit, ConflictAction::Omit, ConflictAction::Omit).unwrap();
+    assert_eq!(skipped, Report { version: 5, applied: 0, conflicts: 0, omitted: 0, skipped: 1 });
+    let omit = ConflictAction::Omit;
+    assert!(matches!(target.apply(b"T\x80", omit, omit, omit), Err(Error::Malformed(Fault { kind: 3, at: 1 }))));
+}
+
+#[test]
+fn filters_and_differences() {
+    let source = Connection::open_in_memory().unwrap();
+    for table in ["a", "b"] {
+        source.create_table(table, &[true, false]).unwrap();
+    }
+    let mut session = Session::new(&source).unwrap();
+    session.table_filter("not is a").unwrap();
+    assert!(matches!(session.table_filter("not is"), Err(Error::Filter(Fault { kind: 12, at: 6 }))));
+    source.save("before").unwrap();
+    source.execute("commit insert a (1,'x') ; insert b (2,'y')").unwrap();
+    let changeset = session.restart(KeyFlags::Places).unwrap();
+    assert_eq!(changeset.as_bytes(), of_hex("5402010062001200010000000000000002030179"));
+    session.diff("before", "a").unwrap();
+    let changeset = session.changeset(KeyFlags::Places).unwrap();
+    assert_eq!(changeset.as_bytes(), of_hex("5402010061001200010000000000000001030178"));
+    assert!(matches!(session.diff("after", "a"), Err(Error::Refused(why)) if why == "refused: E19"));
+    assert!(matches!(session.diff("", "a"), Err(Error::Misuse)));
+    assert!(matches!(source.save("\0"), Err(Error::Misuse)));
 }
 
 /// The blobs of the file that CHANGECAP_BLOBS names: 'HEX KIND AT' a line.

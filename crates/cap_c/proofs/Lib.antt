@@ -1,4 +1,5 @@
 mod BetweenLemmas
+mod DecoderAsBox
 mod IterAsBox
 mod PlaceLemmas
 mod ServerAsBox

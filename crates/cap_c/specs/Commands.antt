@@ -5,7 +5,7 @@ use Rattle.cap_core.specs.Answer.{answer}
 use Rattle.cap_core.specs.Past.{HasRoom}
 use Rattle.cap_core.specs.Transition.{next}
 use Rattle.cap_core.specs.declared.command.Command.{Command}
-use Rattle.cap_c.specs.Server.{IsAnswered, reply_status}
+use Rattle.cap_c.specs.Server.{reply_status}
 use Rattle.cap_c.specs.declared.server.TextServer.{TextServer}
 use Rattle.cap_c.specs.declared.status.TheConstants.{FULL, NO_MEMORY}
 
@@ -18,11 +18,6 @@ pub record Runs (old new : TextServer) (command : Command Global) (status : ℕ)
 pub record NoReply (old : TextServer) (status : ℕ) : Type 0 where
   pub full : status ≡ FULL → ¬ (HasRoom old.core.events)
   pub memory : ¬ (status ≡ FULL) → (status ≡ NO_MEMORY) × HasRoom old.core.events
-
--- The same of a command that may want memory before it is known whether the history is full.
-pub record NoCall (old : TextServer) (status : ℕ) : Type 0 where
-  pub full : status ≡ FULL → ¬ (HasRoom old.core.events)
-  pub memory : ¬ (status ≡ FULL) → status ≡ NO_MEMORY
 
 -- one byte a column, not zero for a column of the key
 abbrev pub key_columns : List ℕ → List Bool

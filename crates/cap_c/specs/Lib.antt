@@ -1,9 +1,14 @@
+pub mod Apply
 pub mod Between
 pub mod Bits
 pub mod Captures
 pub mod Commands
+pub mod DecoderHandle
+pub mod Draft
+pub mod Drafted
 pub mod Fault
 pub mod Fields
+pub mod Filter
 pub mod Iter
 pub mod IterHandle
 pub mod IterTold
@@ -11,6 +16,7 @@ pub mod Json
 pub mod KeyFlags
 pub mod Names
 pub mod Places
+pub mod Reading
 pub mod Refusal
 pub mod Replies
 pub mod Server

@@ -1,5 +1,5 @@
 -- A server that takes commands as text.
-use Rattle.std.specs.Prelude.{◌≡◌, ◌⊎◌, ℕ, List, [], ◌∷◌}
+use Rattle.std.specs.Prelude.{◌≡◌, ◌⊎◌, ℕ, List, [], ◌∷◌, None}
 use Rattle.std.specs.Global.{Global}
 use Rattle.cap_core.specs.Answer.{answer, state}
 use Rattle.cap_core.specs.Transition.{next}
@@ -8,13 +8,17 @@ use Rattle.cap_core.specs.declared.reply.Reply.TheVariants as reply
 use Rattle.cap_script.specs.ReplyText.{reply_text}
 use Rattle.cap_script.specs.Script.{SpellsScript}
 use Rattle.cap_script.specs.declared.line.Line.{Line}
+use Rattle.cap_c.specs.Draft.{draft_on}
+use Rattle.cap_c.specs.Reading.{before}
 use Rattle.cap_c.specs.declared.server.TextServer.{TextServer}
 use Rattle.cap_c.specs.declared.status.TheConstants.{DONE, REFUSED}
 
--- without tables, sessions and events, and before any reply
+-- without tables, sessions and events, before any reply, without an operation, and with no row read
 pub record IsNew (server : TextServer) : Type 0 where
   pub core : server.core ≡ state []
   pub output : server.output.items ≡ []
+  pub draft : server.draft ≡ draft_on None
+  pub reading : server.reading ≡ before []
 
 -- the command has a reply
 abbrev pub IsAnswered : ℕ → Type 0
@@ -24,9 +28,11 @@ abbrev pub reply_status : {A : Type 0} → Reply A → ℕ
 reply_status (reply.Refused at why) = REFUSED
 reply_status said = DONE
 
--- The line's command was carried out, as `next` and `answer` say, and its reply is printed.
+-- The line's command was carried out, as `next` and `answer` say, and its reply is printed. The batch and the
+-- rows are as they were.
 pub record RunsLine (old new : TextServer) (line : Line Global) (status : ℕ) : Type 0 where
   pub core : new.core ≡ next old.core line.command
+  pub others : (new.draft ≡ old.draft) × (new.reading ≡ old.reading)
   pub output : new.output.items ≡ reply_text line (answer old.core line.command)
   pub status_is : status ≡ reply_status (answer old.core line.command)
 

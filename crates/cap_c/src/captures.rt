@@ -4,7 +4,7 @@ ghost use Rattle.cap_codec.specs.declared.key_flags.KeyFlags.{KeyFlags as Flags}
 ghost use Rattle.cap_core.specs.Answer.{answer};
 ghost use Rattle.cap_core.specs.declared.command.Command.TheVariants as command;
 ghost use Rattle.cap_c.specs.Between.{Between, Holds};
-ghost use Rattle.cap_c.specs.Commands.{NoCall, Runs};
+ghost use Rattle.cap_c.specs.Commands.{NoReply, Runs};
 ghost use Rattle.cap_c.specs.KeyFlags.{key_flags_of};
 ghost use Rattle.cap_c.specs.Replies.{bytes_asked, fault_told};
 ghost use Rattle.cap_c.specs.Server.{IsAnswered};
@@ -45,7 +45,7 @@ pub extern "C" fn changecap_session_changeset(
     // Exactly a number that names no key flags is misuse.
     ensures misuse { (result ≡ MISUSE) ↔ (key_flags_of key_flags ≡ None) }
     ensures why { ¬ (IsAnswered result) → ¬ (result ≡ NO_ROOM) → ¬ (result ≡ MISUSE) →
-        Holds handle.old.value (λ old. NoCall old result) }
+        Holds handle.old.value (λ old. NoReply old result) }
     ensures kept { ¬ (IsAnswered result) → (handle.new.value ≡ handle.old.value) × (fault.new ≡ fault.old) }
     ensures untold { ¬ (result ≡ DONE) → out.new ≡ out.old }
     ensures len { ¬ (result ≡ DONE) → ¬ (result ≡ NO_ROOM) → len.new ≡ len.old }
@@ -93,7 +93,7 @@ pub extern "C" fn changecap_session_patchset(
     // Exactly a number that names no key flags is misuse.
     ensures misuse { (result ≡ MISUSE) ↔ (key_flags_of key_flags ≡ None) }
     ensures why { ¬ (IsAnswered result) → ¬ (result ≡ NO_ROOM) → ¬ (result ≡ MISUSE) →
-        Holds handle.old.value (λ old. NoCall old result) }
+        Holds handle.old.value (λ old. NoReply old result) }
     ensures kept { ¬ (IsAnswered result) → (handle.new.value ≡ handle.old.value) × (fault.new ≡ fault.old) }
     ensures untold { ¬ (result ≡ DONE) → out.new ≡ out.old }
     ensures len { ¬ (result ≡ DONE) → ¬ (result ≡ NO_ROOM) → len.new ≡ len.old }
@@ -141,7 +141,7 @@ pub extern "C" fn changecap_session_restart(
     // Exactly a number that names no key flags is misuse.
     ensures misuse { (result ≡ MISUSE) ↔ (key_flags_of key_flags ≡ None) }
     ensures why { ¬ (IsAnswered result) → ¬ (result ≡ NO_ROOM) → ¬ (result ≡ MISUSE) →
-        Holds handle.old.value (λ old. NoCall old result) }
+        Holds handle.old.value (λ old. NoReply old result) }
     ensures kept { ¬ (IsAnswered result) → (handle.new.value ≡ handle.old.value) × (fault.new ≡ fault.old) }
     ensures untold { ¬ (result ≡ DONE) → out.new ≡ out.old }
     ensures len { ¬ (result ≡ DONE) → ¬ (result ≡ NO_ROOM) → len.new ≡ len.old }

@@ -1,8 +1,9 @@
 //! Commands to a server, and what is told of their replies.
-ghost use Rattle.std.specs.Prelude.{◌≡◌, IfErr, IfOk, OnErr, OnOk};
+ghost use Rattle.std.specs.Prelude.{◌≡◌, IfErr, IfOk, OnErr, OnOk, false, true};
 ghost use Rattle.cap_core.specs.Answer.{answer};
+ghost use Rattle.cap_core.specs.Past.{HasRoom};
 ghost use Rattle.cap_core.specs.Transition.{next};
-ghost use Rattle.cap_c.specs.Commands.{NoCall, NoReply, Runs};
+ghost use Rattle.cap_c.specs.Commands.{NoReply, Runs};
 ghost use Rattle.cap_c.specs.Replies.{bytes_asked, fault_told, flag_told, number_told};
 ghost use Rattle.cap_c.specs.Server.{IsAnswered};
 ghost use Rattle.cap_c.specs.Told.{LacksRoom, WritesAll};
@@ -19,6 +20,14 @@ use cap_value::Fault;
 use std::alloc::Global;
 
 impl TextServer {
+    /// Whether the history has no room for another command.
+    pub(crate) fn is_full(&self) -> bool
+        ensures full { result ≡ true → ¬ (HasRoom self.now.core.events) }
+        ensures room { result ≡ false → HasRoom self.now.core.events }
+    {
+        self.core.events() >= EVENTS_MAX
+    }
+
     /// Carries out a command, and answers its reply, or the status where there is none.
     pub(crate) fn reply_to(&mut self, command: &Command<Global>) -> Result<Reply<Global>, u32>
         ensures reply { IfOk result (λ reply. reply ≡ answer self.old.core command.now) }
@@ -26,7 +35,7 @@ impl TextServer {
         ensures kept { OnErr result (self.new ≡ self.old) }
         ensures why { IfErr result (λ status. NoReply self.old status) }
     {
-        if self.core.events() >= EVENTS_MAX {
+        if self.is_full() {
             return Err(FULL);
         }
         match self.core.step(command, &mut NoHook) {
@@ -108,12 +117,12 @@ impl TextServer {
             out.old out.new len.old len.new }
         ensures room { result ≡ NO_ROOM → LacksRoom (bytes_asked form key_flags (answer self.old.core command.now))
             out.old len.new }
-        ensures why { ¬ (IsAnswered result) → ¬ (result ≡ NO_ROOM) → NoCall self.old result }
+        ensures why { ¬ (IsAnswered result) → ¬ (result ≡ NO_ROOM) → NoReply self.old result }
         ensures kept { ¬ (IsAnswered result) → (self.new ≡ self.old) × (fault.new ≡ fault.old) }
         ensures untold { ¬ (result ≡ DONE) → out.new ≡ out.old }
         ensures len { ¬ (result ≡ DONE) → ¬ (result ≡ NO_ROOM) → len.new ≡ len.old }
     {
-        if self.core.events() >= EVENTS_MAX {
+        if self.is_full() {
             return FULL;
         }
         let mut hook = CaptureHook {

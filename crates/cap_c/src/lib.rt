@@ -2,12 +2,19 @@
 //! status and keeps nothing of the caller's. `include/changecap.h` declares each as C sees it.
 #![tactic(auto)]
 
+mod applies;
+mod apply_report;
+mod batches;
 mod blobs;
 mod captured;
 mod captures;
 mod change_info;
 mod commands;
 mod concat;
+mod decoder;
+mod decoder_calls;
+mod decoder_handle;
+mod draft;
 mod fault;
 mod iter;
 mod iter_calls;
@@ -22,9 +29,13 @@ mod one_line;
 mod output;
 mod parts;
 mod printer;
+mod query;
+mod reading;
+mod reads;
 mod server;
 mod server_calls;
 mod server_handle;
+mod session_tables;
 mod sessions;
 mod status;
 mod tables;

@@ -1,32 +1,21 @@
 //! Names, and the columns of tables, as C gives them.
-ghost use Rattle.std.specs.Prelude.{◌≡◌, IfErr, IfOk, OnOk, false, true};
+ghost use Rattle.std.specs.Prelude.{◌≡◌, IfOk, MatchOption, false, true};
 ghost use Rattle.cap_value.specs.Bytes.{is_name};
 ghost use Rattle.cap_c.specs.Commands.{key_columns};
 ghost use Rattle.cap_c.specs.Names.{AreColumns, IsName};
-ghost use Rattle.cap_c.specs.declared.status.TheConstants.{MISUSE, NO_MEMORY};
 
-use crate::status::{MISUSE, NO_MEMORY};
 use cap_row::{COLUMNS_MAX, Schema};
-use cap_value::{NAME_MAX, Name, OutOfMemory};
+use cap_value::{NAME_MAX, OutOfMemory};
 use std::alloc::Global;
 
-/// The name with these bytes, or the status where there is none.
-pub(crate) fn name_of(alloc: Global, bytes: &[u8]) -> Result<Name<Global>, u32>
-    ensures name { IfOk result (λ name. name ≡ bytes.now) }
-    ensures is { OnOk result (IsName bytes.now) }
-    ensures misuse { IfErr result (λ status. status ≡ MISUSE → ¬ (IsName bytes.now)) }
-    ensures memory { IfErr result (λ status. ¬ (status ≡ MISUSE) → (status ≡ NO_MEMORY) × IsName bytes.now) }
+/// The text of a name, where the bytes are one.
+pub(crate) fn name_text(bytes: &[u8]) -> Option<&str>
+    ensures { MatchOption result (¬ (IsName bytes.now)) (λ text. (text.now ≡ bytes.now) × IsName bytes.now) }
 {
     if !is_name(bytes) {
-        return Err(MISUSE);
+        return None;
     }
-    let Ok(text) = str::from_utf8(bytes) else {
-        return Err(MISUSE);
-    };
-    match Name::new(alloc, text) {
-        Ok(name) => Ok(name),
-        Err(_) => Err(NO_MEMORY),
-    }
+    str::from_utf8(bytes).ok()
 }
 
 fn is_name(bytes: &[u8]) -> bool

@@ -3,20 +3,24 @@ ghost use Rattle.std.specs.Prelude.{◌≡◌, ◌+◌, ◌<◌, ◌^◌};
 ghost use Rattle.cap_c.specs.Server.{IsAnswered, IsNew, Ran, RunsLine, reply_status};
 ghost use Rattle.cap_c.specs.declared.status.TheConstants.{FULL};
 
+use crate::draft::Draft;
 use crate::fault::PlacedFault;
 use crate::one_line::one_line;
 use crate::printer::Printer;
+use crate::reading::Reading;
 use crate::status::{DONE, FULL, NO_COMMAND, NO_MEMORY, REFUSED};
 use cap_core::{Core, EVENTS_MAX, Reply};
 use cap_script::Line;
 use cap_value::Fault;
 use std::alloc::Global;
 
-/// A server, and the text of its last reply.
+/// A server, the text of its last reply, the batch that is put together, and the rows that were read last.
 #[derive(Drop)]
 pub struct TextServer {
     pub(crate) core: Core<Global>,
     output: Vec<u8, Global>,
+    pub(crate) draft: Draft,
+    pub(crate) reading: Reading,
 }
 
 impl TextServer {
@@ -27,6 +31,8 @@ impl TextServer {
         TextServer {
             core: Core::new(alloc),
             output: Vec::new(alloc),
+            draft: Draft::new(alloc, None),
+            reading: Reading::before(Vec::new(alloc)),
         }
     }
 

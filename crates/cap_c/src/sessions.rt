@@ -3,18 +3,19 @@ ghost use Rattle.std.specs.Prelude.{◌≡◌, ◌↔◌, Bool, IsSome, None, Op
 ghost use Rattle.cap_core.specs.Answer.{answer};
 ghost use Rattle.cap_core.specs.declared.command.Command.TheVariants as command;
 ghost use Rattle.cap_c.specs.Between.{Between, Holds};
-ghost use Rattle.cap_c.specs.Commands.{NoCall, NoReply, Runs, asked_of};
+ghost use Rattle.cap_c.specs.Commands.{NoReply, Runs, asked_of};
 ghost use Rattle.cap_c.specs.Names.{IsName};
 ghost use Rattle.cap_c.specs.Replies.{fault_told, flag_told, number_told};
 ghost use Rattle.cap_c.specs.Server.{IsAnswered};
 ghost use Rattle.cap_c.specs.declared.status.TheConstants.{MISUSE};
 
 use crate::fault::PlacedFault;
-use crate::names::name_of;
+use crate::names::name_text;
 use crate::server::TextServer;
 use crate::server_handle::{ServerHandle, put, take};
-use crate::status::MISUSE;
+use crate::status::{FULL, MISUSE, NO_MEMORY};
 use cap_core::Command;
+use cap_value::Name;
 use std::alloc::Global;
 
 /// Makes a session, as `sqlite3session_create`.
@@ -106,7 +107,7 @@ pub extern "C" fn changecap_session_attach(
     ensures misuse { result ≡ MISUSE → ¬ (IsName table.now) }
     ensures named { ¬ (result ≡ MISUSE) → IsName table.now }
     ensures why { ¬ (IsAnswered result) → ¬ (result ≡ MISUSE) → Holds handle.old.value
-        (λ old. NoCall old result) }
+        (λ old. NoReply old result) }
     ensures kept { ¬ (IsAnswered result) → handle.new.value ≡ handle.old.value }
     ensures untold { ¬ (IsAnswered result) → fault.new ≡ fault.old }
 {
@@ -128,12 +129,17 @@ fn attach(
         fault.new ≡ fault_told (answer server.old.core (command.Attach session table.now)) fault.old }
     ensures misuse { result ≡ MISUSE → ¬ (IsName table.now) }
     ensures named { ¬ (result ≡ MISUSE) → IsName table.now }
-    ensures why { ¬ (IsAnswered result) → ¬ (result ≡ MISUSE) → NoCall server.old result }
+    ensures why { ¬ (IsAnswered result) → ¬ (result ≡ MISUSE) → NoReply server.old result }
     ensures kept { ¬ (IsAnswered result) → (server.new ≡ server.old) × (fault.new ≡ fault.old) }
 {
-    let table = match name_of(alloc, table) {
-        Ok(table) => table,
-        Err(status) => return status,
+    let Some(name) = name_text(table) else {
+        return MISUSE;
+    };
+    if server.is_full() {
+        return FULL;
+    }
+    let Ok(table) = Name::new(alloc, name) else {
+        return NO_MEMORY;
     };
     server.tell_refusal(&Command::Attach { session, table }, fault)
 }

@@ -22,6 +22,8 @@ pub(crate) const FULL: u32 = 8;
 pub(crate) const OTHER_KIND: u32 = 9;
 /// A table that had other columns, or another key, before.
 pub(crate) const OTHER_COLUMNS: u32 = 10;
+/// The text is no filter. The fault tells why, and where.
+pub(crate) const NO_FILTER: u32 = 11;
 /// The iterator is at a change.
 pub(crate) const ROW: u32 = 100;
 /// The iterator is behind the last change.

@@ -3,18 +3,19 @@ ghost use Rattle.std.specs.Prelude.{◌≡◌, IsSome};
 ghost use Rattle.cap_core.specs.Answer.{answer};
 ghost use Rattle.cap_core.specs.declared.command.Command.TheVariants as command;
 ghost use Rattle.cap_c.specs.Between.{Between, Holds};
-ghost use Rattle.cap_c.specs.Commands.{NoCall, Runs, key_columns};
+ghost use Rattle.cap_c.specs.Commands.{NoReply, Runs, key_columns};
 ghost use Rattle.cap_c.specs.Names.{IsTable};
 ghost use Rattle.cap_c.specs.Replies.{fault_told, number_told};
 ghost use Rattle.cap_c.specs.Server.{IsAnswered};
 ghost use Rattle.cap_c.specs.declared.status.TheConstants.{MISUSE};
 
 use crate::fault::PlacedFault;
-use crate::names::{are_columns, name_of, schema_of};
+use crate::names::{are_columns, name_text, schema_of};
 use crate::server::TextServer;
 use crate::server_handle::{ServerHandle, put, take};
-use crate::status::{MISUSE, NO_MEMORY};
+use crate::status::{FULL, MISUSE, NO_MEMORY};
 use cap_core::Command;
+use cap_value::Name;
 use std::alloc::Global;
 
 /// Creates a table. A byte for each column says whether it is in the primary key.
@@ -38,7 +39,7 @@ pub extern "C" fn changecap_create(
     ensures misuse { result ≡ MISUSE → ¬ (IsTable table.now key.now) }
     ensures table { ¬ (result ≡ MISUSE) → IsTable table.now key.now }
     ensures why { ¬ (IsAnswered result) → ¬ (result ≡ MISUSE) → Holds handle.old.value
-        (λ old. NoCall old result) }
+        (λ old. NoReply old result) }
     ensures kept { ¬ (IsAnswered result) → handle.new.value ≡ handle.old.value }
     ensures untold { ¬ (IsAnswered result) → (version.new ≡ version.old) × (fault.new ≡ fault.old) }
 {
@@ -64,16 +65,21 @@ fn create(
         ≡ fault_told (answer server.old.core (command.CreateTable table.now (key_columns key.now))) fault.old }
     ensures misuse { result ≡ MISUSE → ¬ (IsTable table.now key.now) }
     ensures table { ¬ (result ≡ MISUSE) → IsTable table.now key.now }
-    ensures why { ¬ (IsAnswered result) → ¬ (result ≡ MISUSE) → NoCall server.old result }
+    ensures why { ¬ (IsAnswered result) → ¬ (result ≡ MISUSE) → NoReply server.old result }
     ensures kept { ¬ (IsAnswered result) → server.new ≡ server.old }
     ensures untold { ¬ (IsAnswered result) → (version.new ≡ version.old) × (fault.new ≡ fault.old) }
 {
     if !are_columns(key) {
         return MISUSE;
     }
-    let table = match name_of(alloc, table) {
-        Ok(table) => table,
-        Err(status) => return status,
+    let Some(name) = name_text(table) else {
+        return MISUSE;
+    };
+    if server.is_full() {
+        return FULL;
+    }
+    let Ok(table) = Name::new(alloc, name) else {
+        return NO_MEMORY;
     };
     let Ok(schema) = schema_of(alloc, key) else {
         return NO_MEMORY;

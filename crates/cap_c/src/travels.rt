@@ -1,5 +1,6 @@
 //! What a handle owns may go from one thread to another.
 
+use crate::decoder::PieceDecoder;
 use crate::iter::BlobIter;
 use crate::server::TextServer;
 
@@ -11,4 +12,8 @@ pub(crate) fn iter_travels(it: &BlobIter) {
 
 pub(crate) fn server_travels(server: &TextServer) {
     travels(server);
+}
+
+pub(crate) fn decoder_travels(decoder: &PieceDecoder) {
+    travels(decoder);
 }

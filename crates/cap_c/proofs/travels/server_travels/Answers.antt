@@ -1,7 +1,10 @@
 use denote.Param.Send.{sendable}
 use Rattle.std.proofs.Crossing.{crosses, frees, send, sync}
+use Rattle.cap_value.proofs.value.Value.TheSendSync as value
+use Rattle.cap_row.proofs.row.Row.TheSendSync as row
+use Rattle.cap_txn.proofs.Crossing.{batch_send}
 use Rattle.cap_core.proofs.Crossing.{core_send}
 use Rattle.cap_c.proofs.travels.server_travels.Goals as goal
 
 pub travels-requires-send-T : goal.travels-requires-send-T
-travels-requires-send-T c κs = search (core_send, send, sync, frees, sendable, crosses) depth 40 fits 100000
+travels-requires-send-T c κs = search (core_send, batch_send, value.the_send, value.the_field_send, row.the_send, send, sync, frees, sendable, crosses) depth 40 fits 100000

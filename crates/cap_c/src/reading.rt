@@ -1,0 +1,123 @@
+//! The rows that were read of a server, one after the other.
+ghost use Rattle.std.specs.Prelude.{◌≡◌};
+ghost use Rattle.std.specs.Option.{option_copied};
+ghost use Rattle.cap_c.specs.Reading.{GoesOn, before, column_bytes, column_told, columns_told, id_told};
+ghost use Rattle.cap_c.specs.Reading.{row_at, value_at};
+ghost use Rattle.cap_c.specs.Told.{TellsBytes, TellsFound};
+
+use crate::change_info::{FieldValue, value_bytes, value_told};
+use crate::output::write_bytes;
+use crate::query::IdRows;
+use crate::status::{DONE, MISUSE};
+use cap_row::Row;
+use cap_value::Value;
+use std::alloc::Global;
+use std::marker::Model;
+
+/// Rows, the one at which the reading stands, and the next one.
+#[derive(Drop)]
+pub struct Reading {
+    rows: IdRows,
+    current: Option<usize>,
+    next: usize,
+}
+
+impl Model for Reading {
+    ghost use Rattle.cap_c.specs.Reading.{ReadingState};
+
+    ghost Value = { ReadingState };
+
+    ghost view = { λ r. record { rows = r.rows.items; current = r.current; next = r.next } };
+}
+
+impl Reading {
+    /// The reading before the first of these rows.
+    pub(crate) fn before(rows: IdRows) -> Self
+        ensures { result ≡ before rows.items }
+    {
+        Reading {
+            rows,
+            current: None,
+            next: 0,
+        }
+    }
+
+    /// Goes to the next row, or behind the last.
+    pub(crate) fn step(&mut self) -> bool
+        ensures { GoesOn self.old self.new result }
+    {
+        if self.next < self.rows.len() {
+            self.current = Some(self.next);
+            self.next += 1;
+            true
+        } else {
+            self.current = None;
+            false
+        }
+    }
+
+    // The row at which it stands, with its id.
+    fn row(&self) -> Option<&(u64, Row<Global>)>
+        ensures { option_copied result ≡ row_at self.now }
+    {
+        let at = self.current?;
+        self.rows.as_slice().get(at)
+    }
+
+    // A value of that row.
+    fn value(&self, column: usize) -> Option<&Value<Global>>
+        ensures { option_copied result ≡ value_at self.now column }
+    {
+        let row = self.row()?;
+        row.1.fields().get(column)
+    }
+
+    /// Tells the row's id, or 0 where it has a key.
+    pub(crate) fn tell_id(&self, id: &mut u64) -> u32
+        ensures { TellsFound (id_told self.now) result id.old id.new }
+    {
+        match self.row() {
+            Some(row) => {
+                *id = row.0;
+                DONE
+            }
+            None => MISUSE,
+        }
+    }
+
+    /// Tells how many columns the row has.
+    pub(crate) fn tell_columns(&self, columns: &mut usize) -> u32
+        ensures { TellsFound (columns_told self.now) result columns.old columns.new }
+    {
+        match self.row() {
+            Some(row) => {
+                *columns = row.1.width();
+                DONE
+            }
+            None => MISUSE,
+        }
+    }
+
+    /// Tells the value of a column.
+    pub(crate) fn tell_column(&self, column: usize, value: &mut FieldValue) -> u32
+        ensures { TellsFound (column_told self.now column) result value.old value.new }
+    {
+        match self.value(column) {
+            Some(found) => {
+                *value = value_told(Some(found));
+                DONE
+            }
+            None => MISUSE,
+        }
+    }
+
+    /// Writes the bytes of a column's value.
+    pub(crate) fn tell_bytes(&self, column: usize, out: &mut [u8], len: &mut usize) -> u32
+        ensures { TellsBytes (column_bytes self.now column) result out.old out.new len.new }
+    {
+        match self.value(column) {
+            Some(found) => write_bytes(value_bytes(Some(found)), out, len),
+            None => MISUSE,
+        }
+    }
+}

@@ -1,0 +1,272 @@
+//! The calls that read rows of a server.
+ghost use Rattle.std.specs.Prelude.{◌≡◌, IsSome, Some, true, false};
+ghost use Rattle.cap_table.specs.declared.row_ref.RowRef.{RowRef as Named};
+ghost use Rattle.cap_core.specs.Past.{HasRoom};
+ghost use Rattle.cap_c.specs.Between.{Between, Holds};
+ghost use Rattle.cap_c.specs.Commands.{NoReply};
+ghost use Rattle.cap_c.specs.Draft.{row_named};
+ghost use Rattle.cap_c.specs.Drafted.{Reads};
+ghost use Rattle.cap_c.specs.Names.{IsName};
+ghost use Rattle.cap_c.specs.Reading.{GoesOn, column_bytes, column_told, columns_told, id_told, query_fault};
+ghost use Rattle.cap_c.specs.Reading.{query_status};
+ghost use Rattle.cap_c.specs.Server.{IsAnswered};
+ghost use Rattle.cap_c.specs.Told.{TellsBytes, TellsFound};
+ghost use Rattle.cap_c.specs.declared.query.Query.TheVariants as asked;
+ghost use Rattle.cap_c.specs.declared.server.TextServer.{TextServer as Text};
+ghost use Rattle.cap_c.specs.declared.status.TheConstants.{END, MISUSE, NO_MEMORY, ROW};
+
+use crate::change_info::FieldValue;
+use crate::draft::{names_row, row_named};
+use crate::fault::PlacedFault;
+use crate::names::name_text;
+use crate::query::{Query, QueryHook};
+use crate::server::TextServer;
+use crate::server_handle::{ServerHandle, put, take};
+use crate::status::{DONE, END, FULL, MISUSE, NO_MEMORY, REFUSED, ROW};
+use cap_core::{Command, Reply};
+use cap_database::Database;
+use cap_value::{Name, Refusal};
+use std::alloc::Global;
+
+/// Reads the row with this id, or where it is 0 with the key that is bound.
+#[unsafe(no_mangle)]
+pub extern "C" fn changecap_get(
+    alloc: Global,
+    handle: &mut ServerHandle,
+    table: &[u8],
+    id: u64,
+    fault: &mut PlacedFault,
+) -> u32
+    requires opened { IsSome handle.old.value }
+    ensures read { IsAnswered result → Between handle.old.value handle.new.value
+        (λ old new. (name : Named Global) × (row_named id old.draft.values ≡ Some name)
+        × Reads old new (asked.One name) table.now result) }
+    ensures fault { IsAnswered result → Holds handle.old.value
+        (λ old. fault.new ≡ query_fault table.now old.core.main fault.old) }
+    // Exactly bytes that are no name, or values that are no key, are misuse.
+    ensures misuse { result ≡ MISUSE → Holds handle.old.value
+        (λ old. ¬ (IsName table.now × IsSome (row_named id old.draft.values))) }
+    ensures named { ¬ (result ≡ MISUSE) → Holds handle.old.value
+        (λ old. IsName table.now × IsSome (row_named id old.draft.values)) }
+    ensures why { ¬ (IsAnswered result) → ¬ (result ≡ MISUSE) → Holds handle.old.value
+        (λ old. NoReply old result) }
+    ensures kept { ¬ (IsAnswered result) → handle.new.value ≡ handle.old.value }
+    ensures untold { ¬ (IsAnswered result) → fault.new ≡ fault.old }
+{
+    let mut server = take(alloc, handle);
+    let status = server.get(alloc, table, id, fault);
+    put(handle, server);
+    status
+}
+
+/// Reads all rows of a table.
+#[unsafe(no_mangle)]
+pub extern "C" fn changecap_scan(
+    alloc: Global,
+    handle: &mut ServerHandle,
+    table: &[u8],
+    fault: &mut PlacedFault,
+) -> u32
+    requires opened { IsSome handle.old.value }
+    ensures read { IsAnswered result → Between handle.old.value handle.new.value
+        (λ old new. Reads old new asked.All table.now result) }
+    ensures fault { IsAnswered result → Holds handle.old.value
+        (λ old. fault.new ≡ query_fault table.now old.core.main fault.old) }
+    // Exactly bytes that are no name are misuse.
+    ensures misuse { result ≡ MISUSE → ¬ (IsName table.now) }
+    ensures named { ¬ (result ≡ MISUSE) → IsName table.now }
+    ensures why { ¬ (IsAnswered result) → ¬ (result ≡ MISUSE) → Holds handle.old.value
+        (λ old. NoReply old result) }
+    ensures kept { ¬ (IsAnswered result) → handle.new.value ≡ handle.old.value }
+    ensures untold { ¬ (IsAnswered result) → fault.new ≡ fault.old }
+{
+    let mut server = take(alloc, handle);
+    let status = server.scan(alloc, table, fault);
+    put(handle, server);
+    status
+}
+
+/// Goes to the next of the rows that were read last.
+#[unsafe(no_mangle)]
+pub extern "C" fn changecap_step(alloc: Global, handle: &mut ServerHandle) -> u32
+    requires opened { IsSome handle.old.value }
+    ensures row { result ≡ ROW → Between handle.old.value handle.new.value
+        (λ old new. GoesOn old.reading new.reading true × (new ≡ record old { reading = new.reading })) }
+    ensures end { ¬ (result ≡ ROW) → (result ≡ END) × Between handle.old.value handle.new.value
+        (λ old new. GoesOn old.reading new.reading false × (new ≡ record old { reading = new.reading })) }
+{
+    let mut server = take(alloc, handle);
+    let is_row = server.reading.step();
+    put(handle, server);
+    if is_row { ROW } else { END }
+}
+
+/// Tells the id of the row, or 0 where it has a key.
+#[unsafe(no_mangle)]
+pub extern "C" fn changecap_row_id(alloc: Global, handle: &mut ServerHandle, id: &mut u64) -> u32
+    requires opened { IsSome handle.old.value }
+    ensures same { handle.new.value ≡ handle.old.value }
+    ensures told { (server : Text) → handle.old.value ≡ Some server →
+        TellsFound (id_told server.reading) result id.old id.new }
+{
+    let server = take(alloc, handle);
+    let status = server.reading.tell_id(id);
+    put(handle, server);
+    status
+}
+
+/// Tells how many columns the row has.
+#[unsafe(no_mangle)]
+pub extern "C" fn changecap_columns(
+    alloc: Global,
+    handle: &mut ServerHandle,
+    columns: &mut usize,
+) -> u32
+    requires opened { IsSome handle.old.value }
+    ensures same { handle.new.value ≡ handle.old.value }
+    ensures told { (server : Text) → handle.old.value ≡ Some server →
+        TellsFound (columns_told server.reading) result columns.old columns.new }
+{
+    let server = take(alloc, handle);
+    let status = server.reading.tell_columns(columns);
+    put(handle, server);
+    status
+}
+
+/// Tells the value of a column of the row.
+#[unsafe(no_mangle)]
+pub extern "C" fn changecap_column(
+    alloc: Global,
+    handle: &mut ServerHandle,
+    column: usize,
+    value: &mut FieldValue,
+) -> u32
+    requires opened { IsSome handle.old.value }
+    ensures same { handle.new.value ≡ handle.old.value }
+    ensures told { (server : Text) → handle.old.value ≡ Some server →
+        TellsFound (column_told server.reading column) result value.old value.new }
+{
+    let server = take(alloc, handle);
+    let status = server.reading.tell_column(column, value);
+    put(handle, server);
+    status
+}
+
+/// Writes the bytes of a TEXT or a BLOB of the row.
+#[unsafe(no_mangle)]
+pub extern "C" fn changecap_column_bytes(
+    alloc: Global,
+    handle: &mut ServerHandle,
+    column: usize,
+    out: &mut [u8],
+    len: &mut usize,
+) -> u32
+    requires opened { IsSome handle.old.value }
+    ensures same { handle.new.value ≡ handle.old.value }
+    ensures told { (server : Text) → handle.old.value ≡ Some server →
+        TellsBytes (column_bytes server.reading column) result out.old out.new len.new }
+{
+    let server = take(alloc, handle);
+    let status = server.reading.tell_bytes(column, out, len);
+    put(handle, server);
+    status
+}
+
+impl TextServer {
+    fn get(&mut self, alloc: Global, table: &[u8], id: u64, fault: &mut PlacedFault) -> u32
+        ensures read { IsAnswered result → (name : Named Global)
+            × (row_named id self.old.draft.values ≡ Some name)
+            × Reads self.old self.new (asked.One name) table.now result }
+        ensures fault { IsAnswered result → fault.new ≡ query_fault table.now self.old.core.main fault.old }
+        ensures misuse { result ≡ MISUSE →
+            ¬ (IsName table.now × IsSome (row_named id self.old.draft.values)) }
+        ensures named { ¬ (result ≡ MISUSE) →
+            IsName table.now × IsSome (row_named id self.old.draft.values) }
+        ensures why { ¬ (IsAnswered result) → ¬ (result ≡ MISUSE) → NoReply self.old result }
+        ensures kept { ¬ (IsAnswered result) → self.new ≡ self.old }
+        ensures untold { ¬ (IsAnswered result) → fault.new ≡ fault.old }
+    {
+        let Some(table) = name_text(table) else {
+            return MISUSE;
+        };
+        if !names_row(id, self.draft.values()) {
+            return MISUSE;
+        }
+        if self.is_full() {
+            return FULL;
+        }
+        let Ok(table) = Name::new(alloc, table) else {
+            return NO_MEMORY;
+        };
+        let Ok(name) = row_named(alloc, id, self.draft.values()) else {
+            return NO_MEMORY;
+        };
+        self.read(alloc, &Query::One(name), &table, fault)
+    }
+
+    fn scan(&mut self, alloc: Global, table: &[u8], fault: &mut PlacedFault) -> u32
+        ensures read { IsAnswered result → Reads self.old self.new asked.All table.now result }
+        ensures fault { IsAnswered result → fault.new ≡ query_fault table.now self.old.core.main fault.old }
+        ensures misuse { result ≡ MISUSE → ¬ (IsName table.now) }
+        ensures named { ¬ (result ≡ MISUSE) → IsName table.now }
+        ensures why { ¬ (IsAnswered result) → ¬ (result ≡ MISUSE) → NoReply self.old result }
+        ensures kept { ¬ (IsAnswered result) → self.new ≡ self.old }
+        ensures untold { ¬ (IsAnswered result) → fault.new ≡ fault.old }
+    {
+        let Some(table) = name_text(table) else {
+            return MISUSE;
+        };
+        if self.is_full() {
+            return FULL;
+        }
+        let Ok(table) = Name::new(alloc, table) else {
+            return NO_MEMORY;
+        };
+        self.read(alloc, &Query::All, &table, fault)
+    }
+
+    fn read(
+        &mut self,
+        alloc: Global,
+        query: &Query,
+        table: &Name<Global>,
+        fault: &mut PlacedFault,
+    ) -> u32
+        requires room { HasRoom self.old.core.events }
+        ensures read { IsAnswered result → Reads self.old self.new query.now table.now result }
+        ensures fault { IsAnswered result → fault.new ≡ query_fault table.now self.old.core.main fault.old }
+        ensures memory { ¬ (IsAnswered result) → result ≡ NO_MEMORY }
+        ensures kept { ¬ (IsAnswered result) → self.new ≡ self.old }
+        ensures untold { ¬ (IsAnswered result) → fault.new ≡ fault.old }
+    {
+        let mut hook = QueryHook {
+            alloc,
+            query,
+            table,
+            reading: &mut self.reading,
+        };
+        match self.core.step(&Command::Read, &mut hook) {
+            Ok(Reply::Snapshot(snapshot)) => {
+                self.draft.unbind();
+                tell_table(snapshot.database(), table, fault)
+            }
+            Ok(_) => unreachable!(),
+            Err(_) => NO_MEMORY,
+        }
+    }
+}
+
+// Tells whether there is the table that was asked for.
+fn tell_table(tables: &Database<Global>, table: &Name<Global>, fault: &mut PlacedFault) -> u32
+    ensures status { result ≡ query_status table.now tables.now }
+    ensures fault { fault.new ≡ query_fault table.now tables.now fault.old }
+    ensures answered { IsAnswered result }
+{
+    match tables.table(table) {
+        Some(_) => DONE,
+        None => {
+            *fault = PlacedFault::refused(None, Refusal::NoTable);
+            REFUSED
+        }
+    }
+}
