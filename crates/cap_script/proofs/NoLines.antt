@@ -23,7 +23,7 @@ use Rattle.cap_script.proofs.NoneLemmas.{leaves_map}
 use Rattle.cap_script.proofs.OneCommands.{OneBlob, OneFilter, same_command, same_worker}
 use Rattle.cap_script.proofs.OneForms.{moved}
 
-in_line_leaves : (fault : LineFault) (n : ℕ) (line : List ℕ) (P : Type 0) → Leaves fault P → LeavesLines (in_line n line fault) P
+pub in_line_leaves : (fault : LineFault) (n : ℕ) (line : List ℕ) (P : Type 0) → Leaves fault P → LeavesLines (in_line n line fault) P
 in_line_leaves OutOfMemory n line P left = tt
 in_line_leaves (Limit why) n line P left = left
 in_line_leaves (Syntax behind) n line P left = left

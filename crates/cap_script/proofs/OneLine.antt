@@ -1,21 +1,26 @@
 -- The fault of one line.
-use Rattle.std.proofs.Common.{◌≡◌, ℕ, refl}
+use Rattle.std.proofs.Common.{◌≡◌, ℕ, List, Some, Err, ap, refl}
 use Rattle.std.specs.Prelude.{⊤}
+use Rattle.std.specs.Option.{option_map}
 use Rattle.cap_value.specs.Memory.{MatchFault}
+use Rattle.cap_value.specs.declared.memory.Fault.TheVariants.{Refused}
 use Rattle.cap_script.specs.FirstRefused.{line_of}
-use Rattle.cap_script.specs.Refused.{Leaves}
-use Rattle.cap_script.specs.RefusedLines.{LeavesLines, in_line}
+use Rattle.cap_script.specs.LineFaults.{Tells, line_fault}
+use Rattle.cap_script.specs.RefusedLines.{in_line}
 use Rattle.cap_script.specs.declared.fault.LineFault.{LineFault}
 use Rattle.cap_script.specs.declared.fault.LineFault.TheVariants.{BadBlob, Limit, OutOfMemory, Syntax}
+use Rattle.cap_script.specs.declared.line.Line.{Line}
 
-pub numbered : (fault : LineFault) (number : ℕ) → MatchFault (in_line number fault) ⊤ (λ why. line_of why ≡ number)
-numbered (Syntax at) number = refl
-numbered (Limit why) number = refl
-numbered (BadBlob why) number = refl
-numbered OutOfMemory number = tt
+pub numbered : (fault : LineFault) (number : ℕ) (text : List ℕ) → MatchFault (in_line number text fault) ⊤ (λ why. line_of why ≡ number)
+numbered (Syntax left) number text = refl
+numbered (Limit why) number text = refl
+numbered (BadBlob why) number text = refl
+numbered OutOfMemory number text = tt
 
-pub leaves_lines : (fault : LineFault) (number : ℕ) (P : Type 0) → Leaves fault P → LeavesLines (in_line number fault) P
-leaves_lines (Syntax at) number P left = left
-leaves_lines (Limit why) number P left = left
-leaves_lines (BadBlob why) number P left = left
-leaves_lines OutOfMemory number P left = tt
+module _ (A : Type 0) where
+  pub told_in_line : (fault : LineFault) (number : ℕ) (text : List ℕ) → Tells {X = Line A} (Err fault) (line_fault A text)
+      → MatchFault (in_line number text fault) ⊤ (λ why. option_map (in_line number text) (line_fault A text) ≡ Some (Refused why))
+  told_in_line (Syntax left) number text told = ap (option_map (in_line number text)) told
+  told_in_line (Limit why) number text told = ap (option_map (in_line number text)) told
+  told_in_line (BadBlob why) number text told = ap (option_map (in_line number text)) told
+  told_in_line OutOfMemory number text told = tt
