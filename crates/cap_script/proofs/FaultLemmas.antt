@@ -1,5 +1,5 @@
 -- What is read of a line, form by form.
-use Rattle.std.proofs.Common.{◌≡◌, ◌≢◌, ◌≤◌, ◌<◌, ℕ, zero, suc, ◌+◌, Bool, true, false, cond, eqb, leb, List, [], ◌∷◌, ◌++◌, length, map, Some, None, MatchOption, IsErrAnd, Option, Result, Ok, Err, codes, ◌⊎◌, inl, inr, ◌||◌, refl, sym, ap, ap₂, ◌∙◌, subst, arith}
+use Rattle.std.proofs.Common.{◌≡◌, ◌≢◌, ◌≤◌, ◌<◌, ℕ, zero, suc, ◌+◌, Bool, true, false, cond, eqb, leb, List, [], ◌∷◌, ◌++◌, length, map, Some, None, MatchOption, IsErrAnd, Option, Result, Ok, Err, codes, ◌⊎◌, inl, inr, refl, sym, ap, ap₂, ◌∙◌, subst, arith}
 use Rattle.std.specs.Char.{is_ascii_digit}
 use Rattle.std.specs.List.{AllByRecursion, list_all}
 use Rattle.std.specs.Option.{ok_or}
@@ -12,20 +12,19 @@ use Rattle.cap_value.specs.declared.memory.Fault.{Fault}
 use Rattle.cap_value.specs.declared.memory.Fault.TheVariants as fault
 use Rattle.cap_value.specs.declared.memory.Fault.TheVariants.{Refused}
 use Rattle.cap_value.specs.declared.refusal.Refusal.{Refusal}
-use Rattle.cap_value.specs.declared.refusal.Refusal.TheVariants.{BadFilter, BadSchema, TooLong, TooMany}
+use Rattle.cap_value.specs.declared.refusal.Refusal.TheVariants.{BadSchema, TooLong, TooMany}
 use Rattle.cap_apply.specs.declared.policy.Answer.{Answer}
 use Rattle.cap_apply.specs.declared.policy.Answer.TheVariants as answers
 use Rattle.cap_codec.specs.declared.fault.BlobFault.{BlobFault}
 use Rattle.cap_codec.specs.BlobReading.{blob_at}
-use Rattle.cap_filter.specs.Rule.{Rule}
 use Rattle.cap_row.specs.Schema.{is_schema}
-use Rattle.cap_script.specs.Forms.{NotSpelled, Sign, Without, Word}
-use Rattle.cap_script.specs.LineFaults.{Tells, line, line_fault, beyond_if, commands, contents_read, fields, filter_read, is_key_letter, on_contents, contents, on_schema, more_operations, name, on_operation, on_value, operation, row, row_words, value, values, verbs}
-use Rattle.cap_script.specs.Reading.{Fails, Outcome, Reading, Reads, Verdict, goes_on, unfit, exceeds, no_blob, fits, fits_if, within_if, judged, misfit, on_word, right_here, scanned, a_word, any_of, behind, keyword, natural, one_of, at_most, where_sign, ◌>>=◌, ◌⋙◌}
+use Rattle.cap_script.specs.Forms.{NotSpelled, Sign, Without}
+use Rattle.cap_script.specs.LineFaults.{Tells, line, line_fault, beyond_if, commands, contents_read, is_key_letter, on_contents, contents, on_schema, more_operations, on_operation, on_value, operation, row, row_words, value, values, verbs}
+use Rattle.cap_script.specs.Reading.{Fails, Outcome, Reading, Reads, Verdict, goes_on, unfit, exceeds, no_blob, fits_if, within_if, judged, misfit, on_word, scanned, any_of, behind, keyword, natural, one_of, at_most, ◌>>=◌, ◌⋙◌}
 use Rattle.cap_script.specs.Refused.{blob_fault, limit_fault}
 use Rattle.cap_script.specs.Scanning.{Scanned, token_at}
 use Rattle.cap_script.specs.Starts.{start_at, start_of}
-use Rattle.cap_script.specs.Tokens.{Begins, Next, NextInteger, Token, behind_blanks, blob, integer, is_letter, is_quote, sign, signed, text, word}
+use Rattle.cap_script.specs.Tokens.{Begins, Next, NextInteger, Token, behind_blanks, blob, integer, is_letter, sign, signed, text, word}
 use Rattle.cap_script.specs.Words.{answer_word, flag_word, head_word, key_letter, letters, session_word, verb_word}
 use Rattle.cap_script.specs.declared.fault.LineFault.{LineFault}
 use Rattle.cap_script.specs.declared.fault.LineFault.TheVariants.{BadBlob, Limit, OutOfMemory, Syntax}

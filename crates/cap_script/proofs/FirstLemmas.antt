@@ -9,7 +9,7 @@ use Rattle.cap_script.specs.FirstRefused.{IsFirstRefused, TellsFirstRefused, Spe
 use Rattle.cap_script.specs.LineFaults.{Tells, line_fault}
 use Rattle.cap_script.specs.LineLimits.{AreWithinLimits, LineWithin}
 use Rattle.cap_script.specs.RefusedLines.{LeavesLines, NoLine, in_line}
-use Rattle.cap_script.specs.Script.{AreLines, IsCut, IsRead, SpellsLine, SpellsLines, SpellsScript, TakesFirst, has_line_feed, is_ignored}
+use Rattle.cap_script.specs.Script.{AreLines, IsCut, IsRead, SpellsLine, SpellsScript, TakesFirst, has_line_feed, is_ignored}
 use Rattle.cap_script.specs.declared.fault.LineFault.{LineFault}
 use Rattle.cap_script.specs.declared.fault.LineFault.TheVariants.{BadBlob, Limit, OutOfMemory, Syntax}
 use Rattle.cap_script.specs.declared.fault.ScriptFault.{ScriptFault}

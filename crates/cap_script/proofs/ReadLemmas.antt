@@ -1,11 +1,11 @@
 -- What is read where a token is next, and where another is.
-use Rattle.std.proofs.Common.{◌≡◌, ℕ, Bool, true, false, eqb, List, [], ◌∷◌, Some, None, Result, Ok, Err, IsErrAnd, MatchResult, ◌⊎◌, inl, inr, refl, sym, ap, ◌∙◌, subst}
-use Rattle.cap_script.specs.Forms.{NotSpelled, Sign, Without, Word, Natural}
+use Rattle.std.proofs.Common.{◌≡◌, ℕ, true, false, eqb, List, [], ◌∷◌, Some, None, Result, Ok, Err, IsErrAnd, MatchResult, ◌⊎◌, inl, inr, refl, sym, ap, ◌∙◌, subst}
+use Rattle.cap_script.specs.Forms.{NotSpelled, Sign, Without, Word}
 use Rattle.cap_script.specs.declared.fault.LineFault.{LineFault}
 use Rattle.cap_script.specs.declared.fault.LineFault.TheVariants.{BadBlob, Limit, OutOfMemory, Syntax}
-use Rattle.cap_script.specs.Reading.{Fails, Outcome, Reading, Reads, ◌>>=◌, Verdict, unfit, judged, misfit, scanned, right_here, on_word, a_word, on_natural, by_sign, where_sign, a_sign}
+use Rattle.cap_script.specs.Reading.{Fails, Outcome, Reading, Reads, ◌>>=◌, Verdict, unfit, judged, misfit, scanned, right_here, on_word, a_word, on_natural, by_sign}
 use Rattle.cap_script.specs.Scanning.{Scanned, token_at}
-use Rattle.cap_script.specs.Tokens.{Begins, Next, Token, begins, behind_blanks, blob, integer, sign, text, word}
+use Rattle.cap_script.specs.Tokens.{Begins, Token, begins, behind_blanks, blob, integer, sign, text, word}
 use Rattle.cap_script.proofs.OneTokens.{eqb_itself}
 use Rattle.cap_script.proofs.ScanLemmas.{Found, integer_is, token_found, word_is}
 

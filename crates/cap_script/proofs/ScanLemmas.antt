@@ -10,7 +10,7 @@ use Rattle.hex.specs.Hex.{decode_of, is_hex_digit}
 use Rattle.cap_filter.specs.Printed.{quote, double_quotes}
 use Rattle.cap_filter.specs.Tokens.{is_word_byte}
 use Rattle.cap_script.specs.Scanning.{Scanned, blob_in, blob_of, bytes_in, fits, integer_in, quoted_of, run_of, text_in, token_at, with_byte, word_in}
-use Rattle.cap_script.specs.Tokens.{Begins, Token, begins, begins_blob, blob, integer, is_letter, is_quote, minus, signed, text, word}
+use Rattle.cap_script.specs.Tokens.{Begins, begins, begins_blob, blob, integer, is_letter, is_quote, minus, signed, text, word}
 use Rattle.cap_script.proofs.OneTokens.{hex_run, hex_unlike}
 
 -- ---- runs

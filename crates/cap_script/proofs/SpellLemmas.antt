@@ -1,11 +1,9 @@
 -- How forms are put together.
-use Rattle.std.proofs.Common.{◌≡◌, ◌≤◌, ◌-◌, ℕ, List, [], ◌∷◌, ◌++◌, length, Option, None, Some, Result, Ok, Err, IfErr, IfOk, sym, ap, subst, ◌∙◌, arith, append_assoc, append-nil}
+use Rattle.std.proofs.Common.{◌≡◌, ℕ, List, [], ◌∷◌, ◌++◌, Option, None, Some, Result, Ok, Err, IfErr, IfOk, sym, ap, subst, ◌∙◌, append_assoc, append-nil}
 use Rattle.cap_value.specs.declared.memory.Fault.{Fault}
 use Rattle.cap_value.specs.declared.memory.Fault.TheVariants.{Refused, OutOfMemory}
 use Rattle.cap_value.specs.declared.refusal.Refusal.{Refusal}
-use Rattle.cap_value.specs.declared.refusal.Refusal.TheVariants.{BadFilter}
 use Rattle.cap_value.specs.Memory.{AnswersUnlessMemory}
-use Rattle.cap_filter.specs.Faults.{IsUnfitAt}
 use Rattle.cap_filter.specs.Rule.{Rule}
 use Rattle.cap_txn.specs.Batch.{BatchState, push, pushed, refused_push}
 use Rattle.cap_database.specs.declared.cause.Cause.{Cause}

@@ -2,7 +2,7 @@ use Rattle.cap_script.specs.Tokens.{behind_blanks}
 use Rattle.cap_script.specs.Words.{answer_word}
 use Rattle.cap_script.proofs.NoCommands.{or_err}
 use Rattle.cap_script.proofs.NoneLemmas.{other_word}
-use Rattle.std.proofs.Common.{◌≡◌, List, ℕ, [], ◌∷◌, codes, Err, ap, sym, ◌∙◌}
+use Rattle.std.proofs.Common.{List, ℕ, [], ◌∷◌, codes, ap, sym, ◌∙◌}
 use Rattle.cap_script.specs.LineFaults.{answer}
 use Rattle.cap_script.specs.Reading.{Verdict, any_of, judged}
 use Rattle.cap_script.proofs.FaultLemmas.{answer_fits, looked_up, not_any_of}

@@ -5,8 +5,8 @@ use Rattle.cap_script.specs.Tokens.{behind_blanks}
 use Rattle.cap_script.specs.Words.{verb_word}
 use Rattle.cap_script.proofs.NoOperations.{every_fault, no_direct, no_next, no_operation}
 use Rattle.cap_script.proofs.NoneLemmas.{alike, err_map, other_word, unlike}
-use Rattle.cap_script.specs.LineFaults.{beyond_if, on_operation, operation, verbs}
-use Rattle.cap_script.specs.Reading.{Fails, Outcome, Reads, Verdict, a_word, behind, one_of}
+use Rattle.cap_script.specs.LineFaults.{beyond_if, on_operation, operation}
+use Rattle.cap_script.specs.Reading.{Outcome, Reads, Verdict}
 use Rattle.cap_script.proofs.FaultLemmas.{cascade, direct, direct_beyond, direct_fits, no_operation_here}
 use Rattle.cap_script.proofs.ReadLemmas.{failed, fails, reads_err}
 use Rattle.cap_script.proofs.operation.operation.Goals as goal

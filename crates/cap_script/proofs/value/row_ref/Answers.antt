@@ -6,7 +6,7 @@ use Rattle.cap_script.specs.Operations.{SpelledRow}
 use Rattle.cap_script.specs.Tokens.{behind_blanks}
 use Rattle.cap_script.proofs.NoForms.{no_loose, no_row}
 use Rattle.cap_script.proofs.NoneLemmas.{alike, none_err, other_word, unlike}
-use Rattle.cap_script.specs.LineFaults.{row_words, row, values}
+use Rattle.cap_script.specs.LineFaults.{row_words, row}
 use Rattle.cap_script.specs.Reading.{Outcome, Reads, natural, one_of}
 use Rattle.cap_script.proofs.FaultLemmas.{row_word}
 use Rattle.cap_script.proofs.ReadLemmas.{fails, fails_at, reads_err}

@@ -1,10 +1,9 @@
-use Rattle.std.proofs.Common.{Bool, List, ℕ, cond, leb, length, Result, Ok, Err, refl, ap, ◌∙◌, rules, sym, subst}
+use Rattle.std.proofs.Common.{Bool, List, ℕ, cond, leb, length, Result, Ok, Err, refl, ◌∙◌, sym, subst}
 use Rattle.std.specs.Result.{result_map_both}
 use Rattle.cap_value.specs.declared.refusal.Refusal.{Refusal}
 use Rattle.cap_value.specs.declared.refusal.Refusal.TheVariants.{TooLong}
 use Rattle.cap_value.specs.declared.value.Value.{Value}
 use Rattle.cap_value.specs.declared.value.Value.TheVariants.{Text}
-use Rattle.cap_script.specs.Forms.{NotSpelled}
 use Rattle.cap_script.specs.LineFaults.{on_value, value}
 use Rattle.cap_script.specs.Limits.{IsShort}
 use Rattle.cap_script.specs.Reading.{Fails, Outcome, misfit}

@@ -1,4 +1,4 @@
-use Rattle.std.proofs.Common.{[], ◌∷◌, ◌++◌, length, ℕ, ap, arith, le_refl, ◌∙◌, rules, ◌<◌}
+use Rattle.std.proofs.Common.{[], ◌∷◌, ◌++◌, length, ap, arith, le_refl, ◌∙◌, rules, ◌<◌}
 use Rattle.std.specs.List.{AllByRecursion}
 use Rattle.cap_row.specs.Fields.{Fields}
 use Rattle.cap_script.specs.Forms.{Sign}
@@ -13,7 +13,7 @@ use Rattle.cap_script.proofs.MoreLemmas.{not_ended, one_on, stuck}
 use Rattle.cap_script.proofs.NoForms.{all_at, all_more, all_one, comma_no_end, first_value}
 use Rattle.cap_script.proofs.NoneLemmas.{none_behind, none_err, passed}
 use Rattle.cap_script.proofs.OneForms.{same_value, with_or_without}
-use Rattle.cap_script.proofs.ReadLemmas.{ends, fails_at, stops, stops_at, then}
+use Rattle.cap_script.proofs.ReadLemmas.{fails_at, stops, stops_at, then}
 use Rattle.cap_script.proofs.SpellLemmas.{next_behind, no_more, one_more}
 use Rattle.cap_script.proofs.value.values.Goals as goal
 

@@ -1,5 +1,4 @@
-use Rattle.std.proofs.Common.{arith, rules, false, ◌≡◌, ℕ, ap, sym, ◌∙◌}
-use Rattle.cap_script.specs.Forms.{NotSpelled}
+use Rattle.std.proofs.Common.{arith, rules, false, ◌≡◌, ap, sym, ◌∙◌}
 use Rattle.cap_script.specs.Reading.{misfit, on_natural, right_here}
 use Rattle.cap_script.specs.Tokens.{Begins, integer}
 use Rattle.cap_script.proofs.NoneLemmas.{no_natural, on_err}

@@ -2,7 +2,7 @@ use Rattle.std.proofs.Common.{◌≡◌, ◌≤◌, ℕ, true, List, Option, Non
 use Rattle.std.proofs.lemmas.Bool.{le-leb, lt-leb}
 use Rattle.cap_script.specs.Forms.{NotSpelled, Sign}
 use Rattle.cap_script.specs.LineFaults.{on_worker, worker}
-use Rattle.cap_script.specs.Reading.{Outcome, fits_if, judged, misfit, on_natural, right_here, space_here, ◌>>=◌, ◌⋙◌}
+use Rattle.cap_script.specs.Reading.{Outcome, fits_if, judged, on_natural, right_here, space_here, ◌>>=◌, ◌⋙◌}
 use Rattle.cap_script.specs.Script.{SpelledWorker}
 use Rattle.cap_script.specs.Tokens.{Begins, begins, integer, is_blank}
 use Rattle.cap_script.proofs.NoneLemmas.{on_err}
