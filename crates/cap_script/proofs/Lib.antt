@@ -3,6 +3,7 @@ mod FaultLemmas
 mod FirstLemmas
 mod FitLemmas
 mod LineLemmas
+mod LocalLemmas
 mod MoreLemmas
 mod NoCommands
 mod NoForms
@@ -12,6 +13,8 @@ mod NoneLemmas
 mod OneCommands
 mod OneForms
 mod OneTokens
+mod PlaceLaw
+mod PlaceLemmas
 mod ReadLemmas
 mod RowLemmas
 mod ScanLemmas

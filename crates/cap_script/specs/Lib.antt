@@ -1,4 +1,5 @@
 pub mod Commands
+pub mod FaultPlace
 pub mod FaultText
 pub mod FirstRefused
 pub mod Forms

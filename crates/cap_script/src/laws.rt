@@ -1,6 +1,7 @@
 //! Laws of the texts of workloads.
 ghost use Rattle.std.specs.Prelude.{◌≡◌, ℕ, List, All};
 ghost use Rattle.cap_core.specs.Table.{BlobFits};
+ghost use Rattle.cap_script.specs.FaultPlace.{HasMisfit, InFilter, KeepsMisfit};
 ghost use Rattle.cap_script.specs.Script.{SpellsScript};
 ghost use Rattle.cap_script.specs.declared.line.Line.{Line};
 
@@ -24,3 +25,10 @@ pub fn spelled_commands_fit<A: AllocHandle>()
 {
     spelled_blobs_fit_their_tables::<A>();
 }
+
+/// A fault of syntax depends on nothing behind its token: each line that has the same bytes before, and the same
+/// token there, has the fault there. In a filter's text `cap_filter::unfit_place` says which token does not fit.
+pub fn misfit_lasts<A: AllocHandle>()
+    ensures { (line : List ℕ) (left : ℕ) → HasMisfit A line left → (InFilter line left → ⊥)
+        → KeepsMisfit A line left }
+{}

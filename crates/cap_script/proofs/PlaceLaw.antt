@@ -1,0 +1,236 @@
+-- A line with a fault of syntax has it at that place whatever stands behind the token.
+use Rattle.std.proofs.Common.{◌≡◌, ℕ, zero, suc, ◌-◌, ◌≤◌, Bool, true, false, eqb, leb, map, drop, take, take-append-drop, length-drop, List, [], ◌∷◌, ◌++◌, length, Option, Some, Result, Ok, Err, codes, refl, sym, ap, ◌∙◌, subst, arith, append-nil}
+use Rattle.std.specs.List.{list_all}
+use Rattle.std.specs.Result.{result_err}
+use Rattle.std.proofs.lemmas.Bool.{cond_both}
+use Rattle.cap_value.specs.Bytes.{bytes_eq, is_name}
+use Rattle.cap_value.specs.declared.refusal.Refusal.{Refusal}
+use Rattle.cap_value.specs.declared.refusal.Refusal.TheVariants.{BadFilter, BadName, BadSchema, TooLong}
+use Rattle.cap_codec.specs.BlobReading.{blob_at}
+use Rattle.cap_codec.specs.declared.fault.BlobFault.{BlobFault}
+use Rattle.cap_row.specs.Schema.{is_schema}
+use Rattle.cap_filter.specs.Reading.{filter_of}
+use Rattle.cap_filter.specs.Rule.{Rule}
+use Rattle.cap_script.specs.FaultPlace.{BeginAlike, HasMisfit, KeepsMisfit}
+use Rattle.cap_script.specs.LineFaults.{answer, beyond_if, command, commands, contents, contents_read, field, fields, filter, filter_read, flag, is_key_letter, line, line_fault, more_operations, name, on_contents, on_operation, on_schema, on_value, on_worker, operation, operations, policy, row, row_words, schema, value, values, verbs, worker}
+use Rattle.cap_script.specs.Reading.{Outcome, Reading, Verdict, within_if, goes_on, unfit, exceeds, no_blob, a_sign, a_word, at_end, each, keyword, keyword_or_end, misfit, natural, on_natural, on_word, one_of, right_here, space_here, ◌⋙◌}
+use Rattle.cap_script.specs.Tokens.{Token, blob, integer, is_blank, sign, text, word}
+use Rattle.cap_script.specs.declared.fault.LineFault.{LineFault}
+use Rattle.cap_script.specs.declared.fault.LineFault.TheVariants.{Syntax}
+use Rattle.cap_script.proofs.PlaceLemmas.{Local, LocalVerdict, NoFilter, local_a_sign, local_any_of, local_both, local_each, local_fits_if, local_here, local_misfit, local_next, local_ok, local_one_of, local_test, local_unless_end, local_where, local_within_if}
+
+-- ---- tokens
+
+local_on_word : (judge : List ℕ → Verdict) → ((w : List ℕ) → LocalVerdict (judge w)) → (t : Token) → LocalVerdict (on_word judge t)
+local_on_word judge local (word w) = local w
+local_on_word judge local (integer negative n) = tt
+local_on_word judge local (text t) = tt
+local_on_word judge local (blob bytes) = tt
+local_on_word judge local (sign s) = tt
+
+local_word : (judge : List ℕ → Verdict) → ((w : List ℕ) → LocalVerdict (judge w)) → Local (a_word judge)
+local_word judge local = local_next (on_word judge) (local_on_word judge local)
+
+local_on_natural : (judge : ℕ → Verdict) → ((n : ℕ) → LocalVerdict (judge n)) → (t : Token) → LocalVerdict (on_natural judge t)
+local_on_natural judge local (word w) = tt
+local_on_natural judge local (integer true n) = tt
+local_on_natural judge local (integer false n) = local n
+local_on_natural judge local (text t) = tt
+local_on_natural judge local (blob bytes) = tt
+local_on_natural judge local (sign s) = tt
+
+local_natural : Local natural
+local_natural = local_next (on_natural (λ n. goes_on (λ rest. Ok rest))) (local_on_natural (λ n. goes_on (λ rest. Ok rest)) (λ n. local_ok))
+
+local_keyword : (w : List ℕ) → Local (keyword w)
+local_keyword w = local_word _ (λ found. local_fits_if (bytes_eq found w))
+
+local_keyword_or_end : (w : List ℕ) → Local (keyword_or_end w)
+local_keyword_or_end w = local_unless_end (keyword w) (local_keyword w)
+
+local_at_end : Local at_end
+local_at_end = local_unless_end (λ here. Err (misfit here)) local_misfit
+
+local_name : Local name
+local_name = local_word _ (λ w. local_within_if (is_name w) BadName)
+
+local_on_schema : (w : List ℕ) → LocalVerdict (on_schema w)
+local_on_schema w =
+    cond_both (list_all is_key_letter w) (within_if (is_schema (map (λ letter. eqb letter 107) w)) BadSchema) unfit LocalVerdict (λ e. local_within_if (is_schema (map (λ letter. eqb letter 107) w)) BadSchema) (λ e. tt)
+
+local_schema : Local schema
+local_schema = local_word on_schema local_on_schema
+
+local_on_value : (t : Token) → LocalVerdict (on_value t)
+local_on_value (word w) = local_fits_if (bytes_eq w (codes "null"))
+local_on_value (integer negative n) = local_ok
+local_on_value (text t) = local_within_if (leb (length t) 1000000000) TooLong
+local_on_value (blob bytes) = local_within_if (leb (length bytes) 1000000000) TooLong
+local_on_value (sign s) = tt
+
+local_value : Local value
+local_value = local_next on_value local_on_value
+
+-- ---- rows and operations
+
+local_values : Local values
+local_values = local_both (a_sign 40) (value ⋙ each 44 value ⋙ a_sign 41) (local_a_sign 40) (local_both value (each 44 value ⋙ a_sign 41) local_value (local_both (each 44 value) (a_sign 41) (local_each 44 value local_value) (local_a_sign 41)))
+
+local_row : Local row
+local_row = local_word _ (local_one_of row_words (local_values, (local_natural, tt)))
+
+local_field : Local field
+local_field = local_both natural (a_sign 61 ⋙ value) local_natural (local_both (a_sign 61) value (local_a_sign 61) local_value)
+
+local_fields : Local fields
+local_fields = local_both field (each 44 field) local_field (local_each 44 field local_field)
+
+local_insert : Local (name ⋙ values)
+local_insert = local_both name values local_name local_values
+
+local_update : Local (name ⋙ row ⋙ keyword (codes "set") ⋙ fields)
+local_update = local_both name (row ⋙ keyword (codes "set") ⋙ fields) local_name (local_both row (keyword (codes "set") ⋙ fields) local_row (local_both (keyword (codes "set")) fields (local_keyword (codes "set")) local_fields))
+
+local_delete : Local (name ⋙ row)
+local_delete = local_both name row local_name local_row
+
+local_verbs : (w : List ℕ) → LocalVerdict (one_of verbs w)
+local_verbs = local_one_of verbs (local_insert, (local_update, (local_delete, tt)))
+
+local_on_operation : (w : List ℕ) → LocalVerdict (on_operation w)
+local_on_operation = local_one_of ((codes "cascade", a_word (one_of verbs)) ∷ verbs) (local_word _ local_verbs, (local_insert, (local_update, (local_delete, tt))))
+
+local_beyond : (is_full : Bool) (v : Verdict) → LocalVerdict v → LocalVerdict (beyond_if is_full v)
+local_beyond false v local = local
+local_beyond true (goes_on read) local = tt
+local_beyond true unfit local = tt
+local_beyond true (exceeds why) local = tt
+local_beyond true (no_blob why) local = tt
+
+local_operation : (is_full : Bool) → Local (operation is_full)
+local_operation is_full = local_word _ (λ w. local_beyond is_full (on_operation w) (local_on_operation w))
+
+local_more_operations : (room : ℕ) → Local (more_operations room)
+unfolding more_operations
+local_more_operations zero = local_where 59 (operation true) (local_operation true)
+local_more_operations (suc room) = local_where 59 (operation false ⋙ more_operations room) (local_both (operation false) (more_operations room) (local_operation false) (local_more_operations room))
+
+local_operations : Local operations
+local_operations = local_both (operation false) (more_operations 9999) (local_operation false) (local_more_operations 9999)
+
+-- ---- answers, flags and workers
+
+local_answer : Local answer
+local_answer = local_word _ (local_any_of (codes "omit" ∷ codes "replace" ∷ codes "abort" ∷ []))
+
+local_policy : Local policy
+local_policy = local_both answer (answer ⋙ answer) local_answer (local_both answer answer local_answer local_answer)
+
+local_flag : Local flag
+local_flag = local_word _ (local_any_of (codes "on" ∷ codes "off" ∷ codes "ask" ∷ []))
+
+local_worker : Local worker
+local_worker =
+    local_where 64 (right_here (on_natural on_worker) ⋙ space_here)
+    (local_both (right_here (on_natural on_worker)) space_here (local_here (on_natural on_worker) (local_on_natural on_worker (λ n. local_fits_if (leb n 63)))) (local_test is_blank (λ here. Ok here) (λ here. Err (misfit here)) local_ok local_misfit))
+
+-- ---- filters
+
+abbrev taken : Outcome → List ℕ
+taken (Ok rest) = rest
+taken (Err fault) = []
+
+abbrev left_of : Outcome → ℕ
+left_of (Err (Syntax left)) = left
+left_of _ = 0
+
+filter_ends : (bytes rest : List ℕ) (r : Result Rule Refusal) → filter_read bytes r ≡ Ok rest → (front : List ℕ) × (bytes ≡ front ++ rest)
+filter_ends bytes rest (Ok rule) e = (bytes, sym (append-nil bytes) ∙ ap (λ (l : List ℕ). bytes ++ l) (ap taken e))
+filter_ends bytes rest (Err (BadFilter at)) e = absurd cc
+filter_ends bytes rest (Err why) e = absurd cc
+
+filter_stops : (bytes : List ℕ) (left : ℕ) (r : Result Rule Refusal) → filter_read bytes r ≡ Err (Syntax left) → left ≤ length bytes
+filter_stops bytes left (Ok rule) e = absurd cc
+filter_stops bytes left (Err (BadFilter at)) e = let same = ap left_of e in omega (arith, same)
+filter_stops bytes left (Err why) e = absurd cc
+
+no_list : (a b : List ℕ) → a ++ b ≡ [] → b ≡ []
+no_list [] b e = e
+no_list (c ∷ a) b e = absurd cc
+
+alike_none : (behind more : List ℕ) → BeginAlike behind more → behind ≡ [] → more ≡ []
+alike_none [] more alike e = alike
+alike_none (byte ∷ behind) more alike e = absurd cc
+
+filter_goes : (front rest behind more : List ℕ) (r : Result Rule Refusal) → BeginAlike behind more → filter_of (front ++ behind) ≡ r → filter_read (front ++ behind) r ≡ Ok (rest ++ behind) → filter (front ++ more) ≡ Ok (rest ++ more)
+filter_goes front rest behind more (Ok rule) alike is e =
+    let none : behind ≡ [] = no_list rest behind (sym (ap taken e)) in
+    let same : more ≡ behind = alike_none behind more alike none ∙ sym none in
+    subst (λ (m : List ℕ). filter (front ++ m) ≡ Ok (rest ++ m)) (sym same) (ap (filter_read (front ++ behind)) is ∙ e)
+filter_goes front rest behind more (Err (BadFilter at)) alike is e = absurd cc
+filter_goes front rest behind more (Err why) alike is e = absurd cc
+
+filter_misfits : (front behind more : List ℕ) (r : Result Rule Refusal) → NoFilter (front ++ behind) (length behind) → filter_of (front ++ behind) ≡ r → filter_read (front ++ behind) r ≡ Err (Syntax (length behind)) → filter (front ++ more) ≡ Err (Syntax (length more))
+filter_misfits front behind more (Ok rule) none is e = absurd cc
+filter_misfits front behind more (Err (BadFilter at)) none is e = absurd (none ([], front ++ behind, at, refl, is, sym (ap left_of e)))
+filter_misfits front behind more (Err why) none is e = absurd cc
+
+local_filter : Local filter
+local_filter = record {
+  ends = λ bytes rest e. filter_ends bytes rest (filter_of bytes) e;
+  stops = λ bytes left e. filter_stops bytes left (filter_of bytes) e;
+  goes = λ front rest behind more alike e. filter_goes front rest behind more (filter_of (front ++ behind)) alike refl e;
+  misfits = λ front behind more alike none e. filter_misfits front behind more (filter_of (front ++ behind)) none refl e;
+}
+
+-- ---- commands and lines
+
+judged_contents : {Y : Type 0} (read : Result Y BlobFault) → LocalVerdict (contents_read read)
+judged_contents (Ok made) = local_ok
+judged_contents (Err why) = tt
+
+some_same : (f g : LineFault) → ◌≡◌ {A = Option LineFault} (Some f) (Some g) → f ≡ g
+some_same f g e = cc
+
+module _ (A : Type 0) where
+  local_on_contents : (t : Token) → LocalVerdict (on_contents A t)
+  local_on_contents (word w) = tt
+  local_on_contents (integer negative n) = tt
+  local_on_contents (text t) = tt
+  local_on_contents (blob bytes) = cond_both (leb (length bytes) 1000000000) (contents_read (blob_at {A = A} bytes)) (exceeds TooLong) LocalVerdict (λ e. judged_contents (blob_at {A = A} bytes)) (λ e. tt)
+  local_on_contents (sign s) = tt
+
+  local_contents : Local (contents A)
+  local_contents = local_next (on_contents A) local_on_contents
+
+  local_apply : Local (contents A ⋙ policy ⋙ keyword_or_end (codes "report"))
+  local_apply = local_both (contents A) (policy ⋙ keyword_or_end (codes "report")) local_contents (local_both policy (keyword_or_end (codes "report")) local_policy (local_keyword_or_end (codes "report")))
+
+  with_session : (read : Reading) → Local read → Local (natural ⋙ read)
+  with_session read local = local_both natural read local_natural local
+
+  local_command : Local (command A)
+  local_command = local_word _ (local_one_of (commands A) (local_both name schema local_name local_schema, (local_operations, (with_session operations local_operations, (local_apply, (local_both name row local_name local_row, (local_name, (local_name, (local_ok, (local_natural, (with_session name local_name, (local_natural, (with_session filter local_filter, (with_session flag local_flag, (with_session flag local_flag, (local_natural, (with_session (name ⋙ name) (local_both name name local_name local_name), (with_session (keyword_or_end (codes "places")) (local_keyword_or_end (codes "places")), (with_session (keyword_or_end (codes "places")) (local_keyword_or_end (codes "places")), (with_session (keyword_or_end (codes "places")) (local_keyword_or_end (codes "places")), tt))))))))))))))))))))
+
+  local_line : Local (line A)
+  local_line = local_both worker (command A ⋙ at_end) local_worker (local_both (command A) at_end local_command local_at_end)
+
+  of_err : (left : ℕ) (o : Outcome) → result_err o ≡ Some (Syntax left) → o ≡ Err (Syntax left)
+  of_err left (Ok rest) e = absurd cc
+  of_err left (Err fault) e = ap (λ (f : LineFault). Err f) (some_same fault (Syntax left) e)
+
+  -- where no filter is at fault
+  pub misfit_kept : (bytes : List ℕ) (left : ℕ) → HasMisfit A bytes left → NoFilter bytes left → KeepsMisfit A bytes left
+  unfolding line_fault KeepsMisfit
+  misfit_kept bytes left e none =
+      let read = of_err left (line A bytes) e in
+      let few = local_line.stops bytes left read in
+      let n = length bytes - left in
+      let whole : bytes ≡ take n bytes ++ drop n bytes = sym (take-append-drop n bytes) in
+      let long : length (drop n bytes) ≡ left = omega (arith, few, length-drop n bytes) in (
+        take n bytes,
+        drop n bytes,
+        whole,
+        sym long,
+        λ more alike. ap result_err (local_line.misfits (take n bytes) (drop n bytes) more alike (subst (λ (l : List ℕ). NoFilter l (length (drop n bytes))) whole (subst (λ (m : ℕ). NoFilter bytes m) (sym long) none)) (ap (line A) (sym whole) ∙ read ∙ ap (λ (m : ℕ). Err (Syntax m)) (sym long))),
+      )

@@ -1,0 +1,35 @@
+-- At which token a line stops being that of a command.
+use Rattle.std.specs.Prelude.{◌≡◌, ℕ, ◌-◌, List, [], ◌∷◌, ◌++◌, length, Option, Some, Err}
+use Rattle.std.specs.Option.{option_map}
+use Rattle.cap_value.specs.declared.refusal.Refusal.TheVariants.{BadFilter}
+use Rattle.cap_filter.specs.Reading.{filter_of}
+use Rattle.cap_script.specs.LineFaults.{line_fault}
+use Rattle.cap_script.specs.Scanning.{token_at}
+use Rattle.cap_script.specs.Tokens.{Token}
+use Rattle.cap_script.specs.declared.fault.LineFault.TheVariants.{Syntax}
+
+-- the word, integer, text or blob that the text begins with
+abbrev pub first_token : List ℕ → Option Token
+first_token text = option_map (λ found. found.0) (token_at text)
+
+-- both are empty, or they begin with the same byte and with the same token, or none
+abbrev pub BeginAlike : List ℕ → List ℕ → Type 0
+BeginAlike [] other = other ≡ []
+BeginAlike (byte ∷ rest) [] = ⊥
+BeginAlike (byte ∷ rest) (first ∷ more) = (byte ≡ first) × (first_token (byte ∷ rest) ≡ first_token (first ∷ more))
+
+-- the line ends with a filter's text, in which a token does not fit that many bytes before the end
+abbrev pub InFilter : List ℕ → ℕ → Type 0
+InFilter line left =
+    (front : List ℕ) × (filter : List ℕ) × (at : ℕ) × (line ≡ front ++ filter)
+    × (filter_of filter ≡ Err (BadFilter at)) × (left ≡ length filter - at)
+
+-- the line has a fault of syntax, from whose token on it has this many bytes
+abbrev pub HasMisfit : Type 0 → List ℕ → ℕ → Type 0
+HasMisfit A line left = line_fault A line ≡ Some (Syntax left)
+
+-- Each line that has the bytes before that token, and goes on with the same token, has the fault there.
+unfoldable pub KeepsMisfit : Type 0 → List ℕ → ℕ → Type 0
+KeepsMisfit A line left =
+    (front : List ℕ) × (behind : List ℕ) × (line ≡ front ++ behind) × (left ≡ length behind)
+    × ((more : List ℕ) → BeginAlike behind more → HasMisfit A (front ++ more) (length more))
