@@ -31,6 +31,15 @@ def scrambled(number):
     return mixed - 2**64 if mixed >> 63 else mixed
 
 
+def blobs_of(load):
+    """The bytes that a command on blobs reads."""
+    if load == "inserts":
+        return inserted()
+    if load == "inserts and updates":
+        return b"".join(len(blob).to_bytes(8, "big") + blob for blob in (inserted(), updated()))
+    raise ValueError(f"no load {load}")
+
+
 def apply_line(content):
     return f"apply x'{content.hex()}' abort abort abort"
 

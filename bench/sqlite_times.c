@@ -206,7 +206,18 @@ static void invert(int length, void *content) {
     sqlite3_free(inverse);
 }
 
-/* A changeset of inserts is read, inverted and applied to an empty table, and one of updates to the rows. */
+static void concat(int length, void *content, int later_length, void *later) {
+    int joined_length;
+    void *joined;
+    double start = now();
+    int code = sqlite3changeset_concat(length, content, later_length, later, &joined_length, &joined);
+    check(code == SQLITE_OK, "concat");
+    report("concat", start, 2 * COMMITS);
+    sqlite3_free(joined);
+}
+
+/* A changeset of inserts is read, inverted and applied to an empty table, and one of updates to the rows. The two are
+** concatenated. */
 static void blobs(void) {
     sqlite3 *db = table();
     sqlite3_session *first = session(db);
@@ -219,6 +230,7 @@ static void blobs(void) {
     close_all(db, (sqlite3_session *[]){first, second}, 2);
     read_blob(length, inserted);
     invert(length, inserted);
+    concat(length, inserted, update_length, updated);
     db = table();
     apply("apply_inserts", db, length, inserted);
     apply("apply_updates", db, update_length, updated);
