@@ -1,4 +1,4 @@
--- A blob that is applied: the policy by its numbers, and what is told of what became of its changes.
+-- A blob that is applied: the policy by its numbers, and the report of what became of its changes.
 use Rattle.std.specs.Prelude.{ℕ, ◌==◌, length, Option, Some, None, option_and_then, if◌then◌else◌}
 use Rattle.cap_apply.specs.declared.policy.Answer.{Answer}
 use Rattle.cap_apply.specs.declared.policy.Answer.TheVariants.{Omit, Replace, Abort}
@@ -23,12 +23,12 @@ policy_of differs notfound conflict = option_and_then (λ on_data. option_and_th
     })) (answer_of conflict)) (answer_of notfound)) (answer_of differs)
 
 -- the new version, and how many changes there are of each kind, or what was there before
-abbrev pub report_told : {A : Type 0} → Reply A → ApplyReport → ApplyReport
-report_told (Applied version report) old = record {
+abbrev pub report_output : {A : Type 0} → Reply A → ApplyReport → ApplyReport
+report_output (Applied version report) old = record {
   version = version;
   applied = report.applied;
   conflicts = length report.conflicts;
   omitted = length report.omitted;
   skipped = length report.skipped;
 }
-report_told _ old = old
+report_output _ old = old

@@ -5,7 +5,7 @@ use Rattle.cap_codec.specs.declared.key_flags.KeyFlags.{KeyFlags}
 use Rattle.cap_core.specs.declared.reply.Reply.{Reply}
 use Rattle.cap_c.specs.Replies.{bytes_asked}
 use Rattle.cap_c.specs.Server.{reply_status}
-use Rattle.cap_c.specs.Told.{LacksRoom, WritesAll}
+use Rattle.cap_c.specs.Outputs.{LacksRoom, WritesAll}
 use Rattle.cap_c.specs.declared.captured.CapturedForm.{CapturedForm}
 use Rattle.cap_c.specs.declared.status.TheConstants.{DONE, NO_MEMORY, NO_ROOM, REFUSED}
 
@@ -16,7 +16,8 @@ pub record Written (form : CapturedForm) (flags : KeyFlags) (reply : Reply Globa
   pub none : reply_status reply ≡ REFUSED → (new ≡ old) × (len ≡ old_len)
 
 -- The command does not take effect: there is no room for the bytes, or no memory.
-pub record NotWritten (asked : Option (List ℕ)) (status : ℕ) (old new : List ℕ) (old_len len : ℕ) : Type 0 where
+pub record NotWritten (asked : Option (List ℕ)) (status : ℕ) (old new : List ℕ) (old_len len : ℕ)
+    : Type 0 where
   pub not_done : ¬ (status ≡ DONE)
   pub not_refused : ¬ (status ≡ REFUSED)
   pub kept : new ≡ old

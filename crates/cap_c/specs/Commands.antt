@@ -1,5 +1,6 @@
 -- A command that C gives by its words and numbers.
-use Rattle.std.specs.Prelude.{◌≡◌, ℕ, ◌==◌, Bool, true, false, List, map, not, Option, Some, None, if◌then◌else◌}
+use Rattle.std.specs.Prelude.{◌≡◌, ℕ, ◌==◌, Bool, true, false, not, if◌then◌else◌}
+use Rattle.std.specs.Prelude.{List, map, Option, Some, None}
 use Rattle.std.specs.Global.{Global}
 use Rattle.cap_core.specs.Answer.{answer}
 use Rattle.cap_core.specs.Past.{HasRoom}

@@ -1,4 +1,4 @@
--- An iterator over the changes of a blob, and what is told of the change at which it stands.
+-- An iterator over the changes of a blob, and the change at which it stands.
 use Rattle.std.specs.Prelude.{◌≡◌, ℕ, ◌+◌, Bool, true, false, List, length, Option, Some, None}
 use Rattle.std.specs.Prelude.{slice_index_or}
 use Rattle.std.specs.Option.{option_and_then, option_map_or}

@@ -11,10 +11,11 @@ pub mod Fields
 pub mod Filter
 pub mod Iter
 pub mod IterHandle
-pub mod IterTold
+pub mod IterOutputs
 pub mod Json
 pub mod KeyFlags
 pub mod Names
+pub mod Outputs
 pub mod Places
 pub mod Reading
 pub mod Refusal
@@ -22,4 +23,3 @@ pub mod Replies
 pub mod Server
 pub mod ServerHandle
 pub mod Status
-pub mod Told

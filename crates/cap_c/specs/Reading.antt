@@ -14,7 +14,7 @@ use Rattle.cap_database.specs.Tables.{Tables, table_of}
 use Rattle.cap_core.specs.declared.reply.Reply.{Reply}
 use Rattle.cap_core.specs.declared.reply.Reply.TheVariants.{Snapshot}
 use Rattle.cap_c.specs.Refusal.{refused}
-use Rattle.cap_c.specs.Told.{value_bytes, value_told}
+use Rattle.cap_c.specs.Outputs.{value_bytes, value_output}
 use Rattle.cap_c.specs.declared.change_info.FieldValue.{FieldValue}
 use Rattle.cap_c.specs.declared.fault.PlacedFault.{PlacedFault}
 use Rattle.cap_c.specs.declared.query.Query.{Query}
@@ -65,9 +65,9 @@ rows_asked (One name) table tables = one_row name (read tables table name)
 rows_asked All table tables = all_rows (rows_of tables table)
 
 -- the same of the reply with the tables
-abbrev pub rows_told : Query → List ℕ → Reply Global → List (ℕ × Fields Global)
-rows_told query table (Snapshot snapshot) = rows_asked query table snapshot.database
-rows_told query table _ = []
+abbrev pub rows_output : Query → List ℕ → Reply Global → List (ℕ × Fields Global)
+rows_output query table (Snapshot snapshot) = rows_asked query table snapshot.database
+rows_output query table _ = []
 
 -- a query is refused where there is no table
 abbrev pub query_status : List ℕ → Tables Global → ℕ
@@ -76,20 +76,20 @@ query_status table tables = if is_some (table_of tables table) then DONE else RE
 abbrev pub query_fault : List ℕ → Tables Global → PlacedFault → PlacedFault
 query_fault table tables old = if is_some (table_of tables table) then old else refused None NoTable
 
--- ---- what is told of the row at which the reading stands
+-- ---- the outputs for the row at which the reading stands
 
-abbrev pub id_told : ReadingState → Option ℕ
-id_told reading = option_map (λ row. row.0) (row_at reading)
+abbrev pub id_output : ReadingState → Option ℕ
+id_output reading = option_map (λ row. row.0) (row_at reading)
 
-abbrev pub columns_told : ReadingState → Option ℕ
-columns_told reading = option_map (λ row. length row.1) (row_at reading)
+abbrev pub columns_output : ReadingState → Option ℕ
+columns_output reading = option_map (λ row. length row.1) (row_at reading)
 
 -- the value of a column
 abbrev pub value_at : ReadingState → ℕ → Option (Value Global)
 value_at reading column = option_and_then (λ row. slice_get row.1 column) (row_at reading)
 
-abbrev pub column_told : ReadingState → ℕ → Option FieldValue
-column_told reading column = option_map (λ value. value_told (Some value)) (value_at reading column)
+abbrev pub column_output : ReadingState → ℕ → Option FieldValue
+column_output reading column = option_map (λ value. value_output (Some value)) (value_at reading column)
 
 abbrev pub column_bytes : ReadingState → ℕ → Option (List ℕ)
 column_bytes reading column = option_map (λ value. value_bytes (Some value)) (value_at reading column)

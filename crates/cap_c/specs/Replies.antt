@@ -1,4 +1,4 @@
--- What is told of a reply to a command.
+-- The outputs of a reply to a command.
 use Rattle.std.specs.Prelude.{ℕ, List, Option, Some, None}
 use Rattle.cap_changes.specs.Group.{TableChanges}
 use Rattle.cap_changes.specs.Patch.{patch_list_of}
@@ -20,20 +20,20 @@ captured_bytes Patchset flags changes = patch_list_bytes_with flags (patch_list_
 
 module _ {A : Type 0} where
   -- the number of the version or the session that was made, or what was there before
-  abbrev pub number_told : Reply A → ℕ → ℕ
-  number_told (Written version) old = version
-  number_told (Session number) old = number
-  number_told _ old = old
+  abbrev pub number_output : Reply A → ℕ → ℕ
+  number_output (Written version) old = version
+  number_output (Session number) old = number
+  number_output _ old = old
 
   -- the value of the flag that was asked for
-  abbrev pub flag_told : Reply A → ℕ → ℕ
-  flag_told (Flag flag) old = bit flag
-  flag_told _ old = old
+  abbrev pub flag_output : Reply A → ℕ → ℕ
+  flag_output (Flag flag) old = bit flag
+  flag_output _ old = old
 
   -- why the command is refused
-  abbrev pub fault_told : Reply A → PlacedFault → PlacedFault
-  fault_told (Refused at why) old = refused at why
-  fault_told _ old = old
+  abbrev pub fault_output : Reply A → PlacedFault → PlacedFault
+  fault_output (Refused at why) old = refused at why
+  fault_output _ old = old
 
   -- what a capture has to be written
   abbrev pub bytes_asked : CapturedForm → KeyFlags → Reply A → Option (List ℕ)

@@ -7,15 +7,15 @@ ghost use Rattle.cap_codec.specs.declared.fault.BlobFault.{BlobFault as Wrong};
 ghost use Rattle.cap_codec.specs.declared.read.Contents.{Contents as Spelled};
 ghost use Rattle.cap_core.specs.Answer.{answer};
 ghost use Rattle.cap_core.specs.declared.command.Command.TheVariants as command;
-ghost use Rattle.cap_c.specs.Apply.{policy_of, report_told};
+ghost use Rattle.cap_c.specs.Apply.{policy_of, report_output};
 ghost use Rattle.cap_c.specs.Between.{Between, Holds};
 ghost use Rattle.cap_c.specs.Commands.{NoReply, Runs};
 ghost use Rattle.cap_c.specs.Fault.{placed};
-ghost use Rattle.cap_c.specs.Replies.{fault_told};
+ghost use Rattle.cap_c.specs.Replies.{fault_output};
 ghost use Rattle.cap_c.specs.Server.{IsAnswered};
 ghost use Rattle.cap_c.specs.declared.status.TheConstants.{MALFORMED, MISUSE, NO_MEMORY};
 
-use crate::apply_report::{ApplyReport, policy_of, tell_report};
+use crate::apply_report::{ApplyReport, policy_of, set_report};
 use crate::fault::PlacedFault;
 use crate::server::TextServer;
 use crate::server_handle::{ServerHandle, put, take};
@@ -48,11 +48,11 @@ pub extern "C" fn changecap_apply(
     ensures report { (policy : Answers) → policy_of on_data on_notfound on_conflict ≡ Some policy →
         (contents : Spelled Global) → blob_at blob.now ≡ Ok contents → IsAnswered result →
         Holds handle.old.value
-        (λ old. report.new ≡ report_told (answer old.core (command.Apply contents policy)) report.old) }
+        (λ old. report.new ≡ report_output (answer old.core (command.Apply contents policy)) report.old) }
     ensures fault { (policy : Answers) → policy_of on_data on_notfound on_conflict ≡ Some policy →
         (contents : Spelled Global) → blob_at blob.now ≡ Ok contents → IsAnswered result →
         Holds handle.old.value
-        (λ old. fault.new ≡ fault_told (answer old.core (command.Apply contents policy)) fault.old) }
+        (λ old. fault.new ≡ fault_output (answer old.core (command.Apply contents policy)) fault.old) }
     ensures malformed { result ≡ MALFORMED →
         (wrong : Wrong) × (blob_at {A = Global} blob.now ≡ Err wrong) × (fault.new ≡ placed wrong) }
     // A first byte that begins no group is refused without memory.
@@ -63,7 +63,7 @@ pub extern "C" fn changecap_apply(
         Holds handle.old.value (λ old. NoReply old result) }
     ensures kept { ¬ (IsAnswered result) →
         (handle.new.value ≡ handle.old.value) × (report.new ≡ report.old) }
-    ensures untold { ¬ (IsAnswered result) → ¬ (result ≡ MALFORMED) → fault.new ≡ fault.old }
+    ensures unset { ¬ (IsAnswered result) → ¬ (result ≡ MALFORMED) → fault.new ≡ fault.old }
 {
     let Some(policy) = policy_of(on_data, on_notfound, on_conflict) else {
         return MISUSE;
@@ -86,16 +86,16 @@ fn apply(
         Runs server.old server.new (command.Apply contents policy) result }
     ensures spelled { IsAnswered result → (contents : Spelled Global) × (blob_at blob.now ≡ Ok contents) }
     ensures report { (contents : Spelled Global) → blob_at blob.now ≡ Ok contents → IsAnswered result →
-        report.new ≡ report_told (answer server.old.core (command.Apply contents policy)) report.old }
+        report.new ≡ report_output (answer server.old.core (command.Apply contents policy)) report.old }
     ensures fault { (contents : Spelled Global) → blob_at blob.now ≡ Ok contents → IsAnswered result →
-        fault.new ≡ fault_told (answer server.old.core (command.Apply contents policy)) fault.old }
+        fault.new ≡ fault_output (answer server.old.core (command.Apply contents policy)) fault.old }
     ensures malformed { result ≡ MALFORMED →
         (wrong : Wrong) × (blob_at {A = Global} blob.now ≡ Err wrong) × (fault.new ≡ placed wrong) }
     ensures first { (wrong : Wrong) → first_fault blob.now ≡ Some wrong → ¬ (result ≡ NO_MEMORY) }
     ensures misuse { ¬ (result ≡ MISUSE) }
     ensures why { ¬ (IsAnswered result) → ¬ (result ≡ MALFORMED) → NoReply server.old result }
     ensures kept { ¬ (IsAnswered result) → (server.new ≡ server.old) × (report.new ≡ report.old) }
-    ensures untold { ¬ (IsAnswered result) → ¬ (result ≡ MALFORMED) → fault.new ≡ fault.old }
+    ensures unset { ¬ (IsAnswered result) → ¬ (result ≡ MALFORMED) → fault.new ≡ fault.old }
 {
     if server.is_full() {
         return FULL;
@@ -106,7 +106,7 @@ fn apply(
                 blob: contents,
                 policy,
             };
-            server.tell_report(&command, report, fault)
+            server.set_report(&command, report, fault)
         }
         Err(Fault::Refused(wrong)) => {
             *fault = PlacedFault::of(wrong);
@@ -117,8 +117,8 @@ fn apply(
 }
 
 impl TextServer {
-    /// Carries out a command that applies a blob, and tells what became of its changes.
-    fn tell_report(
+    /// Carries out a command that applies a blob, and sets the report of what became of its changes.
+    fn set_report(
         &mut self,
         command: &Command<Global>,
         report: &mut ApplyReport,
@@ -126,16 +126,16 @@ impl TextServer {
     ) -> u32
         ensures ran { IsAnswered result → Runs self.old self.new command.now result }
         ensures report { IsAnswered result →
-            report.new ≡ report_told (answer self.old.core command.now) report.old }
+            report.new ≡ report_output (answer self.old.core command.now) report.old }
         ensures fault { IsAnswered result →
-            fault.new ≡ fault_told (answer self.old.core command.now) fault.old }
+            fault.new ≡ fault_output (answer self.old.core command.now) fault.old }
         ensures why { ¬ (IsAnswered result) → NoReply self.old result }
         ensures other { ¬ (result ≡ MALFORMED) × ¬ (result ≡ MISUSE) }
         ensures kept { ¬ (IsAnswered result) → self.new ≡ self.old }
-        ensures untold { ¬ (IsAnswered result) → (report.new ≡ report.old) × (fault.new ≡ fault.old) }
+        ensures unset { ¬ (IsAnswered result) → (report.new ≡ report.old) × (fault.new ≡ fault.old) }
     {
         match self.reply_to(command) {
-            Ok(reply) => tell_report(&reply, report, fault),
+            Ok(reply) => set_report(&reply, report, fault),
             Err(status) => status,
         }
     }

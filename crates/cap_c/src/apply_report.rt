@@ -1,12 +1,12 @@
 //! What C sees of an applied blob.
 ghost use Rattle.std.specs.Prelude.{◌≡◌};
-ghost use Rattle.cap_c.specs.Apply.{answer_of, policy_of, report_told};
-ghost use Rattle.cap_c.specs.Replies.{fault_told};
+ghost use Rattle.cap_c.specs.Apply.{answer_of, policy_of, report_output};
+ghost use Rattle.cap_c.specs.Replies.{fault_output};
 ghost use Rattle.cap_c.specs.Server.{IsAnswered, reply_status};
 
 use crate::fault::PlacedFault;
+use crate::reply_outputs::set_refusal;
 use crate::status::DONE;
-use crate::told::tell_refusal;
 use cap_apply::{Answer, Policy};
 use cap_core::Reply;
 use std::alloc::Global;
@@ -48,16 +48,16 @@ fn answer_of(number: u32) -> Option<Answer>
     }
 }
 
-/// Tells what became of the changes of a blob, or why it is refused.
-pub(crate) fn tell_report(
+/// Outputs what became of the changes of a blob, or why it is refused.
+pub(crate) fn set_report(
     reply: &Reply<Global>,
     report: &mut ApplyReport,
     fault: &mut PlacedFault,
 ) -> u32
     ensures status { result ≡ reply_status reply.now }
     ensures answered { IsAnswered result }
-    ensures report { report.new ≡ report_told reply.now report.old }
-    ensures fault { fault.new ≡ fault_told reply.now fault.old }
+    ensures report { report.new ≡ report_output reply.now report.old }
+    ensures fault { fault.new ≡ fault_output reply.now fault.old }
 {
     match reply {
         Reply::Applied {
@@ -73,6 +73,6 @@ pub(crate) fn tell_report(
             };
             DONE
         }
-        _ => tell_refusal(reply, fault),
+        _ => set_refusal(reply, fault),
     }
 }

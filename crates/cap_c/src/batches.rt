@@ -12,7 +12,7 @@ ghost use Rattle.cap_c.specs.Commands.{NoReply};
 ghost use Rattle.cap_c.specs.Draft.{HasAllOps, Sets, bound, cause_of, draft_on};
 ghost use Rattle.cap_c.specs.Drafted.{CanPut, Commits, Drafts, IsText, Puts};
 ghost use Rattle.cap_c.specs.Refusal.{refused};
-ghost use Rattle.cap_c.specs.Replies.{fault_told, number_told};
+ghost use Rattle.cap_c.specs.Replies.{fault_output, number_output};
 ghost use Rattle.cap_c.specs.Server.{IsAnswered};
 ghost use Rattle.cap_c.specs.declared.draft.ActionKind.TheVariants.{Insert, Update, Delete};
 ghost use Rattle.cap_c.specs.declared.status.TheConstants.{DONE, MISUSE, NO_MEMORY, REFUSED};
@@ -20,10 +20,10 @@ ghost use Rattle.cap_c.specs.declared.status.TheConstants.{DONE, MISUSE, NO_MEMO
 use crate::draft::{ActionKind, Draft, cause_of};
 use crate::fault::PlacedFault;
 use crate::names::name_text;
+use crate::reply_outputs::set_number;
 use crate::server::TextServer;
 use crate::server_handle::{ServerHandle, put, take};
 use crate::status::{DONE, FULL, MISUSE, NO_MEMORY, REFUSED};
-use crate::told::tell_number;
 use cap_core::Command;
 use cap_txn::Batch;
 use cap_value::{BYTES_MAX, Refusal, Value};
@@ -171,7 +171,7 @@ pub extern "C" fn changecap_insert(
     ensures room { ¬ (result ≡ MISUSE) → ¬ (result ≡ REFUSED) →
         ((result ≡ DONE) ⊎ (result ≡ NO_MEMORY)) × Holds handle.old.value (λ old. ¬ (HasAllOps old.draft)) }
     ensures kept { ¬ (result ≡ DONE) → handle.new.value ≡ handle.old.value }
-    ensures untold { ¬ (result ≡ REFUSED) → fault.new ≡ fault.old }
+    ensures unset { ¬ (result ≡ REFUSED) → fault.new ≡ fault.old }
 {
     let mut server = take(alloc, handle);
     let status = server.put(alloc, ActionKind::Insert, table, 0, cause, fault);
@@ -205,7 +205,7 @@ pub extern "C" fn changecap_update(
     ensures room { ¬ (result ≡ MISUSE) → ¬ (result ≡ REFUSED) →
         ((result ≡ DONE) ⊎ (result ≡ NO_MEMORY)) × Holds handle.old.value (λ old. ¬ (HasAllOps old.draft)) }
     ensures kept { ¬ (result ≡ DONE) → handle.new.value ≡ handle.old.value }
-    ensures untold { ¬ (result ≡ REFUSED) → fault.new ≡ fault.old }
+    ensures unset { ¬ (result ≡ REFUSED) → fault.new ≡ fault.old }
 {
     let mut server = take(alloc, handle);
     let status = server.put(alloc, ActionKind::Update, table, id, cause, fault);
@@ -238,7 +238,7 @@ pub extern "C" fn changecap_delete(
     ensures room { ¬ (result ≡ MISUSE) → ¬ (result ≡ REFUSED) →
         ((result ≡ DONE) ⊎ (result ≡ NO_MEMORY)) × Holds handle.old.value (λ old. ¬ (HasAllOps old.draft)) }
     ensures kept { ¬ (result ≡ DONE) → handle.new.value ≡ handle.old.value }
-    ensures untold { ¬ (result ≡ REFUSED) → fault.new ≡ fault.old }
+    ensures unset { ¬ (result ≡ REFUSED) → fault.new ≡ fault.old }
 {
     let mut server = take(alloc, handle);
     let status = server.put(alloc, ActionKind::Delete, table, id, cause, fault);
@@ -258,12 +258,12 @@ pub extern "C" fn changecap_commit(
     ensures ran { IsAnswered result →
         Between handle.old.value handle.new.value (λ old new. Commits old new result) }
     ensures version { IsAnswered result → Holds handle.old.value
-        (λ old. version.new ≡ number_told (answer old.core (command.Commit old.draft.batch)) version.old) }
+        (λ old. version.new ≡ number_output (answer old.core (command.Commit old.draft.batch)) version.old) }
     ensures fault { IsAnswered result → Holds handle.old.value
-        (λ old. fault.new ≡ fault_told (answer old.core (command.Commit old.draft.batch)) fault.old) }
+        (λ old. fault.new ≡ fault_output (answer old.core (command.Commit old.draft.batch)) fault.old) }
     ensures why { ¬ (IsAnswered result) → Holds handle.old.value (λ old. NoReply old result) }
     ensures kept { ¬ (IsAnswered result) → handle.new.value ≡ handle.old.value }
-    ensures untold { ¬ (IsAnswered result) → (version.new ≡ version.old) × (fault.new ≡ fault.old) }
+    ensures unset { ¬ (IsAnswered result) → (version.new ≡ version.old) × (fault.new ≡ fault.old) }
 {
     let mut server = take(alloc, handle);
     let status = server.commit(alloc, version, fault);
@@ -351,7 +351,7 @@ impl TextServer {
         ensures room { ¬ (result ≡ MISUSE) → ¬ (result ≡ REFUSED) →
             ((result ≡ DONE) ⊎ (result ≡ NO_MEMORY)) × ¬ (HasAllOps self.old.draft) }
         ensures kept { ¬ (result ≡ DONE) → self.new ≡ self.old }
-        ensures untold { ¬ (result ≡ REFUSED) → fault.new ≡ fault.old }
+        ensures unset { ¬ (result ≡ REFUSED) → fault.new ≡ fault.old }
     {
         let Some(table) = name_text(table) else {
             return MISUSE;
@@ -375,19 +375,19 @@ impl TextServer {
     fn commit(&mut self, alloc: Global, version: &mut u64, fault: &mut PlacedFault) -> u32
         ensures ran { IsAnswered result → Commits self.old self.new result }
         ensures version { IsAnswered result → version.new
-            ≡ number_told (answer self.old.core (command.Commit self.old.draft.batch)) version.old }
+            ≡ number_output (answer self.old.core (command.Commit self.old.draft.batch)) version.old }
         ensures fault { IsAnswered result → fault.new
-            ≡ fault_told (answer self.old.core (command.Commit self.old.draft.batch)) fault.old }
+            ≡ fault_output (answer self.old.core (command.Commit self.old.draft.batch)) fault.old }
         ensures why { ¬ (IsAnswered result) → NoReply self.old result }
         ensures kept { ¬ (IsAnswered result) → self.new ≡ self.old }
-        ensures untold { ¬ (IsAnswered result) → (version.new ≡ version.old) × (fault.new ≡ fault.old) }
+        ensures unset { ¬ (IsAnswered result) → (version.new ≡ version.old) × (fault.new ≡ fault.old) }
     {
         if self.is_full() {
             return FULL;
         }
         let command = Command::Commit(self.draft.take_batch(alloc));
         match self.reply_to(&command) {
-            Ok(reply) => tell_number(&reply, version, fault),
+            Ok(reply) => set_number(&reply, version, fault),
             Err(status) => {
                 self.draft.put_batch(batch_of(command));
                 status

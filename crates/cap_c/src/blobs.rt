@@ -9,12 +9,12 @@ ghost use Rattle.cap_codec.specs.declared.read.Contents.{Contents as Spelled};
 ghost use Rattle.cap_c.specs.Fault.{placed};
 ghost use Rattle.cap_c.specs.KeyFlags.{key_flags_of};
 ghost use Rattle.cap_c.specs.Status.{IsUnlessMemory, bytes_status, read_status};
-ghost use Rattle.cap_c.specs.Told.{Tells};
+ghost use Rattle.cap_c.specs.Outputs.{Outputs};
 ghost use Rattle.cap_c.specs.declared.status.TheConstants.{DONE, MALFORMED, NO_MEMORY, MISUSE};
 
 use crate::fault::PlacedFault;
 use crate::key_flags::key_flags_of;
-use crate::output::tell_bytes;
+use crate::output::set_bytes;
 use crate::status::{DONE, MALFORMED, MISUSE, NO_MEMORY};
 use cap_blob::{invert_bytes, patchset_bytes};
 use cap_codec::read_blob;
@@ -55,8 +55,8 @@ pub extern "C" fn changecap_invert(
     ensures status { (flags : Flags) → key_flags_of key_flags ≡ Some flags →
         IsUnlessMemory result (bytes_status (inverse_at Global flags blob.now) (length out.old)) }
     // The bytes of the inverse, their number, or the fault.
-    ensures told { (flags : Flags) → key_flags_of key_flags ≡ Some flags → ¬ (result ≡ NO_MEMORY) →
-        Tells (inverse_at Global flags blob.now) result out.old out.new len.new fault.new }
+    ensures outputs { (flags : Flags) → key_flags_of key_flags ≡ Some flags → ¬ (result ≡ NO_MEMORY) →
+        Outputs (inverse_at Global flags blob.now) result out.old out.new len.new fault.new }
     // Exactly a number that names no key flags is misuse.
     ensures misuse { (result ≡ MISUSE) ↔ (key_flags_of key_flags ≡ None) }
     ensures kept { ¬ (result ≡ DONE) → out.new ≡ out.old }
@@ -65,7 +65,7 @@ pub extern "C" fn changecap_invert(
     let Some(flags) = key_flags_of(key_flags) else {
         return MISUSE;
     };
-    tell_bytes(invert_bytes(alloc, flags, blob), out, len, fault)
+    set_bytes(invert_bytes(alloc, flags, blob), out, len, fault)
 }
 
 /// The patchset of a changeset, with the key flags of this number.
@@ -82,8 +82,8 @@ pub extern "C" fn changecap_patchset(
     ensures status { (flags : Flags) → key_flags_of key_flags ≡ Some flags →
         IsUnlessMemory result (bytes_status (patchset_at Global flags blob.now) (length out.old)) }
     // The bytes of the patchset, their number, or the fault.
-    ensures told { (flags : Flags) → key_flags_of key_flags ≡ Some flags → ¬ (result ≡ NO_MEMORY) →
-        Tells (patchset_at Global flags blob.now) result out.old out.new len.new fault.new }
+    ensures outputs { (flags : Flags) → key_flags_of key_flags ≡ Some flags → ¬ (result ≡ NO_MEMORY) →
+        Outputs (patchset_at Global flags blob.now) result out.old out.new len.new fault.new }
     // Exactly a number that names no key flags is misuse.
     ensures misuse { (result ≡ MISUSE) ↔ (key_flags_of key_flags ≡ None) }
     ensures kept { ¬ (result ≡ DONE) → out.new ≡ out.old }
@@ -92,5 +92,5 @@ pub extern "C" fn changecap_patchset(
     let Some(flags) = key_flags_of(key_flags) else {
         return MISUSE;
     };
-    tell_bytes(patchset_bytes(alloc, flags, blob), out, len, fault)
+    set_bytes(patchset_bytes(alloc, flags, blob), out, len, fault)
 }

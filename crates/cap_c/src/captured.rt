@@ -2,7 +2,7 @@
 ghost use Rattle.std.specs.Prelude.{◌≡◌, IfErr, IfOk, OnOk, Some};
 ghost use Rattle.cap_c.specs.Captures.{NotWritten};
 ghost use Rattle.cap_c.specs.Replies.{captured_bytes};
-ghost use Rattle.cap_c.specs.Told.{WritesAll};
+ghost use Rattle.cap_c.specs.Outputs.{WritesAll};
 
 use crate::output::write_bytes;
 use crate::status::{DONE, NO_MEMORY};
@@ -71,7 +71,7 @@ impl<'o, 'l> CaptureHook<'o, 'l> {
     }
 }
 
-// Writes the bytes, or tells how many there are where there is no room.
+// Writes the bytes, or sets how many there are where there is no room.
 fn write_all(bytes: &[u8], out: &mut [u8], len: &mut usize) -> Result<(), u32>
     ensures written { OnOk result (WritesAll (Some bytes.now) out.old out.new len.old len.new) }
     ensures not_written { IfErr result (λ status.

@@ -6,9 +6,9 @@ ghost use Rattle.cap_core.specs.declared.command.Command.TheVariants as command;
 ghost use Rattle.cap_c.specs.Between.{Between, Holds};
 ghost use Rattle.cap_c.specs.Commands.{NoReply, Runs};
 ghost use Rattle.cap_c.specs.KeyFlags.{key_flags_of};
-ghost use Rattle.cap_c.specs.Replies.{bytes_asked, fault_told};
+ghost use Rattle.cap_c.specs.Replies.{bytes_asked, fault_output};
 ghost use Rattle.cap_c.specs.Server.{IsAnswered};
-ghost use Rattle.cap_c.specs.Told.{LacksRoom, WritesAll};
+ghost use Rattle.cap_c.specs.Outputs.{LacksRoom, WritesAll};
 ghost use Rattle.cap_c.specs.declared.captured.CapturedForm.TheVariants.{Changeset, Patchset};
 ghost use Rattle.cap_c.specs.declared.status.TheConstants.{DONE, MISUSE, NO_ROOM};
 
@@ -35,7 +35,7 @@ pub extern "C" fn changecap_session_changeset(
     ensures ran { IsAnswered result →
         Between handle.old.value handle.new.value (λ old new. Runs old new (command.Capture session) result) }
     ensures fault { IsAnswered result →
-        Holds handle.old.value (λ old. fault.new ≡ fault_told (answer old.core (command.Capture session)) fault.old) }
+        Holds handle.old.value (λ old. fault.new ≡ fault_output (answer old.core (command.Capture session)) fault.old) }
     // The bytes of the changeset, or how many there are.
     ensures written { (flags : Flags) → key_flags_of key_flags ≡ Some flags → result ≡ DONE →
         Holds handle.old.value (λ old. WritesAll (bytes_asked Changeset flags (answer old.core (command.Capture session)))
@@ -47,7 +47,7 @@ pub extern "C" fn changecap_session_changeset(
     ensures why { ¬ (IsAnswered result) → ¬ (result ≡ NO_ROOM) → ¬ (result ≡ MISUSE) →
         Holds handle.old.value (λ old. NoReply old result) }
     ensures kept { ¬ (IsAnswered result) → (handle.new.value ≡ handle.old.value) × (fault.new ≡ fault.old) }
-    ensures untold { ¬ (result ≡ DONE) → out.new ≡ out.old }
+    ensures unset { ¬ (result ≡ DONE) → out.new ≡ out.old }
     ensures len { ¬ (result ≡ DONE) → ¬ (result ≡ NO_ROOM) → len.new ≡ len.old }
 {
     let Some(flags) = key_flags_of(key_flags) else {
@@ -83,7 +83,7 @@ pub extern "C" fn changecap_session_patchset(
     ensures ran { IsAnswered result →
         Between handle.old.value handle.new.value (λ old new. Runs old new (command.Capture session) result) }
     ensures fault { IsAnswered result →
-        Holds handle.old.value (λ old. fault.new ≡ fault_told (answer old.core (command.Capture session)) fault.old) }
+        Holds handle.old.value (λ old. fault.new ≡ fault_output (answer old.core (command.Capture session)) fault.old) }
     // The bytes of the patchset, or how many there are.
     ensures written { (flags : Flags) → key_flags_of key_flags ≡ Some flags → result ≡ DONE →
         Holds handle.old.value (λ old. WritesAll (bytes_asked Patchset flags (answer old.core (command.Capture session)))
@@ -95,7 +95,7 @@ pub extern "C" fn changecap_session_patchset(
     ensures why { ¬ (IsAnswered result) → ¬ (result ≡ NO_ROOM) → ¬ (result ≡ MISUSE) →
         Holds handle.old.value (λ old. NoReply old result) }
     ensures kept { ¬ (IsAnswered result) → (handle.new.value ≡ handle.old.value) × (fault.new ≡ fault.old) }
-    ensures untold { ¬ (result ≡ DONE) → out.new ≡ out.old }
+    ensures unset { ¬ (result ≡ DONE) → out.new ≡ out.old }
     ensures len { ¬ (result ≡ DONE) → ¬ (result ≡ NO_ROOM) → len.new ≡ len.old }
 {
     let Some(flags) = key_flags_of(key_flags) else {
@@ -131,7 +131,7 @@ pub extern "C" fn changecap_session_restart(
     ensures ran { IsAnswered result →
         Between handle.old.value handle.new.value (λ old new. Runs old new (command.Restart session) result) }
     ensures fault { IsAnswered result →
-        Holds handle.old.value (λ old. fault.new ≡ fault_told (answer old.core (command.Restart session)) fault.old) }
+        Holds handle.old.value (λ old. fault.new ≡ fault_output (answer old.core (command.Restart session)) fault.old) }
     // The bytes of the changeset, or how many there are.
     ensures written { (flags : Flags) → key_flags_of key_flags ≡ Some flags → result ≡ DONE →
         Holds handle.old.value (λ old. WritesAll (bytes_asked Changeset flags (answer old.core (command.Restart session)))
@@ -143,7 +143,7 @@ pub extern "C" fn changecap_session_restart(
     ensures why { ¬ (IsAnswered result) → ¬ (result ≡ NO_ROOM) → ¬ (result ≡ MISUSE) →
         Holds handle.old.value (λ old. NoReply old result) }
     ensures kept { ¬ (IsAnswered result) → (handle.new.value ≡ handle.old.value) × (fault.new ≡ fault.old) }
-    ensures untold { ¬ (result ≡ DONE) → out.new ≡ out.old }
+    ensures unset { ¬ (result ≡ DONE) → out.new ≡ out.old }
     ensures len { ¬ (result ≡ DONE) → ¬ (result ≡ NO_ROOM) → len.new ≡ len.old }
 {
     let Some(flags) = key_flags_of(key_flags) else {

@@ -1,7 +1,7 @@
 //! A change and a field of it, as C sees them.
 ghost use Rattle.std.specs.Prelude.{◌≡◌};
 ghost use Rattle.std.specs.Option.{option_copied};
-ghost use Rattle.cap_c.specs.Told.{value_bytes, value_told};
+ghost use Rattle.cap_c.specs.Outputs.{value_bytes, value_output};
 
 use cap_value::Value;
 use std::alloc::Global;
@@ -26,8 +26,8 @@ pub struct FieldValue {
     pub len: usize,
 }
 
-pub(crate) fn value_told(value: Option<&Value<Global>>) -> FieldValue
-    ensures { result ≡ value_told (option_copied value.entry) }
+pub(crate) fn value_output(value: Option<&Value<Global>>) -> FieldValue
+    ensures { result ≡ value_output (option_copied value.entry) }
 {
     match value {
         None => FieldValue {

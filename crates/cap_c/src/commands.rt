@@ -1,19 +1,19 @@
-//! Commands to a server, and what is told of their replies.
+//! Commands to a server, and the outputs of their replies.
 ghost use Rattle.std.specs.Prelude.{◌≡◌, IfErr, IfOk, OnErr, OnOk, false, true};
 ghost use Rattle.cap_core.specs.Answer.{answer};
 ghost use Rattle.cap_core.specs.Past.{HasRoom};
 ghost use Rattle.cap_core.specs.Transition.{next};
 ghost use Rattle.cap_c.specs.Commands.{NoReply, Runs};
-ghost use Rattle.cap_c.specs.Replies.{bytes_asked, fault_told, flag_told, number_told};
+ghost use Rattle.cap_c.specs.Replies.{bytes_asked, fault_output, flag_output, number_output};
 ghost use Rattle.cap_c.specs.Server.{IsAnswered};
-ghost use Rattle.cap_c.specs.Told.{LacksRoom, WritesAll};
+ghost use Rattle.cap_c.specs.Outputs.{LacksRoom, WritesAll};
 ghost use Rattle.cap_c.specs.declared.status.TheConstants.{DONE, NO_ROOM};
 
 use crate::captured::{CaptureHook, CapturedForm};
 use crate::fault::PlacedFault;
+use crate::reply_outputs::{set_flag, set_number, set_refusal};
 use crate::server::TextServer;
 use crate::status::{FULL, NO_MEMORY};
-use crate::told::{tell_flag, tell_number, tell_refusal};
 use cap_codec::KeyFlags;
 use cap_core::{Command, EVENTS_MAX, NoHook, Reply};
 use cap_value::Fault;
@@ -44,8 +44,8 @@ impl TextServer {
         }
     }
 
-    /// Carries out a command, and tells the version or the session that it made.
-    pub(crate) fn tell_number(
+    /// Carries out a command, and sets the version or the session that it made.
+    pub(crate) fn set_number(
         &mut self,
         command: &Command<Global>,
         number: &mut u64,
@@ -53,48 +53,48 @@ impl TextServer {
     ) -> u32
         ensures ran { IsAnswered result → Runs self.old self.new command.now result }
         ensures number { IsAnswered result →
-            number.new ≡ number_told (answer self.old.core command.now) number.old }
-        ensures fault { IsAnswered result → fault.new ≡ fault_told (answer self.old.core command.now) fault.old }
+            number.new ≡ number_output (answer self.old.core command.now) number.old }
+        ensures fault { IsAnswered result → fault.new ≡ fault_output (answer self.old.core command.now) fault.old }
         ensures why { ¬ (IsAnswered result) → NoReply self.old result }
         ensures kept { ¬ (IsAnswered result) → self.new ≡ self.old }
-        ensures untold { ¬ (IsAnswered result) → (number.new ≡ number.old) × (fault.new ≡ fault.old) }
+        ensures unset { ¬ (IsAnswered result) → (number.new ≡ number.old) × (fault.new ≡ fault.old) }
     {
         match self.reply_to(command) {
-            Ok(reply) => tell_number(&reply, number, fault),
+            Ok(reply) => set_number(&reply, number, fault),
             Err(status) => status,
         }
     }
 
-    /// Carries out a command, and tells the flag that it asks for.
-    pub(crate) fn tell_flag(
+    /// Carries out a command, and sets the flag that it asks for.
+    pub(crate) fn set_flag(
         &mut self,
         command: &Command<Global>,
         flag: &mut u32,
         fault: &mut PlacedFault,
     ) -> u32
         ensures ran { IsAnswered result → Runs self.old self.new command.now result }
-        ensures flag { IsAnswered result → flag.new ≡ flag_told (answer self.old.core command.now) flag.old }
-        ensures fault { IsAnswered result → fault.new ≡ fault_told (answer self.old.core command.now) fault.old }
+        ensures flag { IsAnswered result → flag.new ≡ flag_output (answer self.old.core command.now) flag.old }
+        ensures fault { IsAnswered result → fault.new ≡ fault_output (answer self.old.core command.now) fault.old }
         ensures why { ¬ (IsAnswered result) → NoReply self.old result }
         ensures kept { ¬ (IsAnswered result) → self.new ≡ self.old }
-        ensures untold { ¬ (IsAnswered result) → (flag.new ≡ flag.old) × (fault.new ≡ fault.old) }
+        ensures unset { ¬ (IsAnswered result) → (flag.new ≡ flag.old) × (fault.new ≡ fault.old) }
     {
         match self.reply_to(command) {
-            Ok(reply) => tell_flag(&reply, flag, fault),
+            Ok(reply) => set_flag(&reply, flag, fault),
             Err(status) => status,
         }
     }
 
-    /// Carries out a command, and tells nothing but why it is refused.
-    pub(crate) fn tell_refusal(&mut self, command: &Command<Global>, fault: &mut PlacedFault) -> u32
+    /// Carries out a command, and sets nothing but the fault where it is refused.
+    pub(crate) fn set_refusal(&mut self, command: &Command<Global>, fault: &mut PlacedFault) -> u32
         ensures ran { IsAnswered result → Runs self.old self.new command.now result }
-        ensures fault { IsAnswered result → fault.new ≡ fault_told (answer self.old.core command.now) fault.old }
+        ensures fault { IsAnswered result → fault.new ≡ fault_output (answer self.old.core command.now) fault.old }
         ensures why { ¬ (IsAnswered result) → NoReply self.old result }
         ensures kept { ¬ (IsAnswered result) → self.new ≡ self.old }
-        ensures untold { ¬ (IsAnswered result) → fault.new ≡ fault.old }
+        ensures unset { ¬ (IsAnswered result) → fault.new ≡ fault.old }
     {
         match self.reply_to(command) {
-            Ok(reply) => tell_refusal(&reply, fault),
+            Ok(reply) => set_refusal(&reply, fault),
             Err(status) => status,
         }
     }
@@ -112,14 +112,14 @@ impl TextServer {
         fault: &mut PlacedFault,
     ) -> u32
         ensures ran { IsAnswered result → Runs self.old self.new command.now result }
-        ensures fault { IsAnswered result → fault.new ≡ fault_told (answer self.old.core command.now) fault.old }
+        ensures fault { IsAnswered result → fault.new ≡ fault_output (answer self.old.core command.now) fault.old }
         ensures done { result ≡ DONE → WritesAll (bytes_asked form key_flags (answer self.old.core command.now))
             out.old out.new len.old len.new }
         ensures room { result ≡ NO_ROOM → LacksRoom (bytes_asked form key_flags (answer self.old.core command.now))
             out.old len.new }
         ensures why { ¬ (IsAnswered result) → ¬ (result ≡ NO_ROOM) → NoReply self.old result }
         ensures kept { ¬ (IsAnswered result) → (self.new ≡ self.old) × (fault.new ≡ fault.old) }
-        ensures untold { ¬ (result ≡ DONE) → out.new ≡ out.old }
+        ensures unset { ¬ (result ≡ DONE) → out.new ≡ out.old }
         ensures len { ¬ (result ≡ DONE) → ¬ (result ≡ NO_ROOM) → len.new ≡ len.old }
     {
         if self.is_full() {
@@ -133,7 +133,7 @@ impl TextServer {
             len,
         };
         match self.core.step(command, &mut hook) {
-            Ok(reply) => tell_refusal(&reply, fault),
+            Ok(reply) => set_refusal(&reply, fault),
             Err(Fault::Refused(status)) => status,
             Err(Fault::OutOfMemory) => NO_MEMORY,
         }

@@ -6,7 +6,7 @@ ghost use Rattle.cap_group.specs.Bytes.{concat_at};
 ghost use Rattle.cap_group.specs.declared.refusal.ConcatRefusal.{ConcatRefusal as Refused};
 ghost use Rattle.cap_c.specs.KeyFlags.{key_flags_of};
 ghost use Rattle.cap_c.specs.Status.{IsUnlessMemory, concat_status, refused_status};
-ghost use Rattle.cap_c.specs.Told.{TellsConcat, TellsFault};
+ghost use Rattle.cap_c.specs.Outputs.{OutputsConcat, OutputsFault};
 ghost use Rattle.cap_c.specs.declared.status.TheConstants.{DONE, MALFORMED, MISUSE, NO_MEMORY};
 
 use crate::fault::PlacedFault;
@@ -33,8 +33,8 @@ pub extern "C" fn changecap_concat(
     ensures status { (flags : Flags) → key_flags_of key_flags ≡ Some flags → IsUnlessMemory result
         (concat_status (concat_at Global flags (first.now ∷ second.now ∷ [])) (length out.old)) }
     // The bytes of the concatenation, their number, or which blob is refused and its fault.
-    ensures told { (flags : Flags) → key_flags_of key_flags ≡ Some flags → ¬ (result ≡ NO_MEMORY) →
-        TellsConcat (concat_at Global flags (first.now ∷ second.now ∷ [])) result out.old out.new len.new
+    ensures outputs { (flags : Flags) → key_flags_of key_flags ≡ Some flags → ¬ (result ≡ NO_MEMORY) →
+        OutputsConcat (concat_at Global flags (first.now ∷ second.now ∷ [])) result out.old out.new len.new
         fault.new blob.new }
     // Exactly a number that names no key flags is misuse.
     ensures misuse { (result ≡ MISUSE) ↔ (key_flags_of key_flags ≡ None) }
@@ -45,7 +45,7 @@ pub extern "C" fn changecap_concat(
     let Some(flags) = key_flags_of(key_flags) else {
         return MISUSE;
     };
-    tell_concat(
+    set_concat(
         concat_bytes(alloc, flags, &[first, second]),
         out,
         len,
@@ -54,8 +54,8 @@ pub extern "C" fn changecap_concat(
     )
 }
 
-// Writes the bytes that were asked for, or tells which blob is refused, and its fault.
-fn tell_concat(
+// Writes the bytes that were asked for, or sets which blob is refused, and its fault.
+fn set_concat(
     answer: Result<Vec<u8, Global>, Fault<ConcatRefusal>>,
     out: &mut [u8],
     len: &mut usize,
@@ -64,8 +64,8 @@ fn tell_concat(
 ) -> u32
     ensures status { (said : Result (List ℕ) Refused) → ShowsUnlessMemory (λ bytes. bytes.items) answer said →
         IsUnlessMemory result (concat_status said (length out.old)) }
-    ensures told { (said : Result (List ℕ) Refused) → ShowsUnlessMemory (λ bytes. bytes.items) answer said →
-        ¬ (result ≡ NO_MEMORY) → TellsConcat said result out.old out.new len.new fault.new blob.new }
+    ensures outputs { (said : Result (List ℕ) Refused) → ShowsUnlessMemory (λ bytes. bytes.items) answer said →
+        ¬ (result ≡ NO_MEMORY) → OutputsConcat said result out.old out.new len.new fault.new blob.new }
     ensures misuse { ¬ (result ≡ MISUSE) }
     ensures kept { ¬ (result ≡ DONE) → out.new ≡ out.old }
     ensures fault_kept { ¬ (result ≡ MALFORMED) → fault.new ≡ fault.old }
@@ -75,16 +75,16 @@ fn tell_concat(
         Ok(bytes) => write_bytes(bytes.as_slice(), out, len),
         Err(Fault::Refused(refusal)) => {
             *blob = refusal.blob;
-            tell_refused(refusal.why, fault)
+            set_refused(refusal.why, fault)
         }
         Err(Fault::OutOfMemory) => NO_MEMORY,
     }
 }
 
-// Tells the fault of a blob that is refused, where it has one.
-fn tell_refused(why: BlobRefusal, fault: &mut PlacedFault) -> u32
+// Outputs the fault of a blob that is refused, where it has one.
+fn set_refused(why: BlobRefusal, fault: &mut PlacedFault) -> u32
     ensures status { result ≡ refused_status why }
-    ensures told { TellsFault why fault.new }
+    ensures outputs { OutputsFault why fault.new }
     ensures fault_kept { ¬ (result ≡ MALFORMED) → fault.new ≡ fault.old }
 {
     match why {

@@ -30,7 +30,7 @@ impl PieceDecoder {
         }
     }
 
-    /// Takes the next piece, or tells the fault that no further bytes can mend.
+    /// Takes the next piece, or sets the fault that no further bytes can mend.
     pub(crate) fn feed(&mut self, piece: &[u8], fault: &mut PlacedFault) -> u32
         ensures status { IsUnlessMemory result
             (read_status (lasting (blob_at {A = Global} (self.old.pieces ++ piece.now)))) }
@@ -43,7 +43,7 @@ impl PieceDecoder {
             × (lasting (blob_at {A = Global} (self.old.pieces ++ piece.now)) ≡ Err wrong)
             × (fault.new ≡ placed wrong) × (lasting (blob_at {A = Global} self.new.pieces) ≡ Err wrong) }
         ensures kept { result ≡ NO_MEMORY → self.new ≡ self.old }
-        ensures untold { ¬ (result ≡ MALFORMED) → fault.new ≡ fault.old }
+        ensures unset { ¬ (result ≡ MALFORMED) → fault.new ≡ fault.old }
     {
         match self.pieces.feed(piece) {
             Ok(()) => DONE,

@@ -45,12 +45,12 @@ pub extern "C" fn changecap_decoder_feed(
     fault: &mut PlacedFault,
 ) -> u32
     requires opened { IsSome handle.old.value }
-    // A fault of the bytes so far is told where no further bytes can mend it.
+    // A fault of the bytes so far is set where no further bytes can mend it.
     ensures status { (old : Fed) → handle.old.value ≡ Some old →
         IsUnlessMemory result (read_status (lasting (blob_at {A = Global} (old.pieces ++ piece.now)))) }
     ensures fed { (old : Fed) → handle.old.value ≡ Some old → result ≡ DONE →
         handle.new.value ≡ Some (record { pieces = old.pieces ++ piece.now }) }
-    // It is told again whatever follows, which takes no memory.
+    // It is set again whatever follows, which takes no memory.
     ensures again { (old : Fed) → (wrong : Wrong) → handle.old.value ≡ Some old →
         lasting (blob_at {A = Global} old.pieces) ≡ Err wrong → result ≡ MALFORMED }
     ensures same { (old : Fed) → (wrong : Wrong) → handle.old.value ≡ Some old →
@@ -61,7 +61,7 @@ pub extern "C" fn changecap_decoder_feed(
     ensures lasts { result ≡ MALFORMED → (new : Fed) × (wrong : Wrong) × (handle.new.value ≡ Some new)
         × (fault.new ≡ placed wrong) × (lasting (blob_at {A = Global} new.pieces) ≡ Err wrong) }
     ensures kept { result ≡ NO_MEMORY → handle.new.value ≡ handle.old.value }
-    ensures untold { ¬ (result ≡ MALFORMED) → fault.new ≡ fault.old }
+    ensures unset { ¬ (result ≡ MALFORMED) → fault.new ≡ fault.old }
 {
     let mut decoder = take(alloc, handle);
     let status = decoder.feed(piece, fault);
@@ -88,7 +88,7 @@ pub extern "C" fn changecap_decoder_finish(
     ensures fault { (old : Fed) → handle.old.value ≡ Some old → result ≡ MALFORMED →
         (wrong : Wrong) × (blob_at {A = Global} old.pieces ≡ Err wrong) × (fault.new ≡ placed wrong) }
     ensures kept { ¬ (result ≡ DONE) → iter.new.value ≡ None }
-    ensures untold { ¬ (result ≡ MALFORMED) → fault.new ≡ fault.old }
+    ensures unset { ¬ (result ≡ MALFORMED) → fault.new ≡ fault.old }
 {
     let decoder = take(alloc, handle);
     match Box::into_inner(decoder).finish() {

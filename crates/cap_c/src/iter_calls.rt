@@ -6,9 +6,9 @@ ghost use Rattle.cap_codec.specs.declared.fault.BlobFault.{BlobFault as Wrong};
 ghost use Rattle.cap_codec.specs.declared.read.Contents.{Contents as Spelled};
 ghost use Rattle.cap_c.specs.Fault.{placed};
 ghost use Rattle.cap_c.specs.Iter.{Steps, begin, info_of, table_of};
-ghost use Rattle.cap_c.specs.IterTold.{key_told, new_bytes, new_told, old_bytes, old_told};
+ghost use Rattle.cap_c.specs.IterOutputs.{key_output, new_bytes, new_output, old_bytes, old_output};
 ghost use Rattle.cap_c.specs.Status.{IsUnlessMemory, read_status};
-ghost use Rattle.cap_c.specs.Told.{TellsBytes, TellsFound};
+ghost use Rattle.cap_c.specs.Outputs.{OutputsBytes, OutputsFound};
 ghost use Rattle.cap_c.specs.declared.iter.BlobIter.{BlobIter as Iter};
 ghost use Rattle.cap_c.specs.declared.status.TheConstants.{DONE, MALFORMED, ROW, END};
 
@@ -16,8 +16,8 @@ use crate::change_info::{ChangeInfo, FieldValue};
 use crate::fault::PlacedFault;
 use crate::iter::BlobIter;
 use crate::iter_handle::{IterHandle, put, take};
-use crate::iter_told::{
-    tell_info, tell_key, tell_new, tell_new_bytes, tell_old, tell_old_bytes, tell_table,
+use crate::iter_outputs::{
+    set_info, set_key, set_new, set_new_bytes, set_old, set_old_bytes, set_table,
 };
 use crate::status::{DONE, END, MALFORMED, NO_MEMORY, ROW};
 use cap_codec::read_blob;
@@ -73,7 +73,7 @@ pub extern "C" fn changecap_iter_next(alloc: Global, handle: &mut IterHandle) ->
     if is_row { ROW } else { END }
 }
 
-/// Tells what the change is.
+/// Outputs what the change is.
 #[unsafe(no_mangle)]
 pub extern "C" fn changecap_iter_op(
     alloc: Global,
@@ -82,11 +82,11 @@ pub extern "C" fn changecap_iter_op(
 ) -> u32
     requires opened { IsSome handle.old.value }
     ensures same { handle.new.value ≡ handle.old.value }
-    ensures told { (it : Iter) → handle.old.value ≡ Some it →
-        TellsFound (info_of it) result info.old info.new }
+    ensures outputs { (it : Iter) → handle.old.value ≡ Some it →
+        OutputsFound (info_of it) result info.old info.new }
 {
     let it = take(alloc, handle);
-    let status = tell_info(&it, info);
+    let status = set_info(&it, info);
     put(handle, it);
     status
 }
@@ -101,16 +101,16 @@ pub extern "C" fn changecap_iter_table(
 ) -> u32
     requires opened { IsSome handle.old.value }
     ensures same { handle.new.value ≡ handle.old.value }
-    ensures told { (it : Iter) → handle.old.value ≡ Some it →
-        TellsBytes (table_of it) result out.old out.new len.new }
+    ensures outputs { (it : Iter) → handle.old.value ≡ Some it →
+        OutputsBytes (table_of it) result out.old out.new len.new }
 {
     let it = take(alloc, handle);
-    let status = tell_table(&it, out, len);
+    let status = set_table(&it, out, len);
     put(handle, it);
     status
 }
 
-/// Tells whether a column of the change's table is in its key.
+/// Outputs whether a column of the change's table is in its key.
 #[unsafe(no_mangle)]
 pub extern "C" fn changecap_iter_key(
     alloc: Global,
@@ -120,16 +120,16 @@ pub extern "C" fn changecap_iter_key(
 ) -> u32
     requires opened { IsSome handle.old.value }
     ensures same { handle.new.value ≡ handle.old.value }
-    ensures told { (it : Iter) → handle.old.value ≡ Some it →
-        TellsFound (key_told it column) result is_key.old is_key.new }
+    ensures outputs { (it : Iter) → handle.old.value ≡ Some it →
+        OutputsFound (key_output it column) result is_key.old is_key.new }
 {
     let it = take(alloc, handle);
-    let status = tell_key(&it, column, is_key);
+    let status = set_key(&it, column, is_key);
     put(handle, it);
     status
 }
 
-/// Tells the value of a column before the change.
+/// Outputs the value of a column before the change.
 #[unsafe(no_mangle)]
 pub extern "C" fn changecap_iter_old(
     alloc: Global,
@@ -139,16 +139,16 @@ pub extern "C" fn changecap_iter_old(
 ) -> u32
     requires opened { IsSome handle.old.value }
     ensures same { handle.new.value ≡ handle.old.value }
-    ensures told { (it : Iter) → handle.old.value ≡ Some it →
-        TellsFound (old_told it column) result value.old value.new }
+    ensures outputs { (it : Iter) → handle.old.value ≡ Some it →
+        OutputsFound (old_output it column) result value.old value.new }
 {
     let it = take(alloc, handle);
-    let status = tell_old(&it, column, value);
+    let status = set_old(&it, column, value);
     put(handle, it);
     status
 }
 
-/// Tells the value of a column after the change.
+/// Outputs the value of a column after the change.
 #[unsafe(no_mangle)]
 pub extern "C" fn changecap_iter_new(
     alloc: Global,
@@ -158,11 +158,11 @@ pub extern "C" fn changecap_iter_new(
 ) -> u32
     requires opened { IsSome handle.old.value }
     ensures same { handle.new.value ≡ handle.old.value }
-    ensures told { (it : Iter) → handle.old.value ≡ Some it →
-        TellsFound (new_told it column) result value.old value.new }
+    ensures outputs { (it : Iter) → handle.old.value ≡ Some it →
+        OutputsFound (new_output it column) result value.old value.new }
 {
     let it = take(alloc, handle);
-    let status = tell_new(&it, column, value);
+    let status = set_new(&it, column, value);
     put(handle, it);
     status
 }
@@ -178,11 +178,11 @@ pub extern "C" fn changecap_iter_old_bytes(
 ) -> u32
     requires opened { IsSome handle.old.value }
     ensures same { handle.new.value ≡ handle.old.value }
-    ensures told { (it : Iter) → handle.old.value ≡ Some it →
-        TellsBytes (old_bytes it column) result out.old out.new len.new }
+    ensures outputs { (it : Iter) → handle.old.value ≡ Some it →
+        OutputsBytes (old_bytes it column) result out.old out.new len.new }
 {
     let it = take(alloc, handle);
-    let status = tell_old_bytes(&it, column, out, len);
+    let status = set_old_bytes(&it, column, out, len);
     put(handle, it);
     status
 }
@@ -198,11 +198,11 @@ pub extern "C" fn changecap_iter_new_bytes(
 ) -> u32
     requires opened { IsSome handle.old.value }
     ensures same { handle.new.value ≡ handle.old.value }
-    ensures told { (it : Iter) → handle.old.value ≡ Some it →
-        TellsBytes (new_bytes it column) result out.old out.new len.new }
+    ensures outputs { (it : Iter) → handle.old.value ≡ Some it →
+        OutputsBytes (new_bytes it column) result out.old out.new len.new }
 {
     let it = take(alloc, handle);
-    let status = tell_new_bytes(&it, column, out, len);
+    let status = set_new_bytes(&it, column, out, len);
     put(handle, it);
     status
 }

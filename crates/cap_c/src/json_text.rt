@@ -3,11 +3,11 @@ ghost use Rattle.std.specs.Prelude.{◌≡◌, IfOk, length};
 ghost use Rattle.cap_value.specs.Memory.{ShowsUnlessMemory};
 ghost use Rattle.cap_c.specs.Json.{json_at, json_of};
 ghost use Rattle.cap_c.specs.Status.{IsUnlessMemory, bytes_status};
-ghost use Rattle.cap_c.specs.Told.{Tells};
+ghost use Rattle.cap_c.specs.Outputs.{Outputs};
 ghost use Rattle.cap_c.specs.declared.status.TheConstants.{DONE, NO_MEMORY};
 
 use crate::fault::PlacedFault;
-use crate::output::tell_bytes;
+use crate::output::set_bytes;
 use cap_blob::BytesRefusal;
 use cap_codec::{Contents, read_blob};
 use cap_show::{changeset_json, patchset_json};
@@ -26,12 +26,12 @@ pub extern "C" fn changecap_json(
     // Which status.
     ensures status { IsUnlessMemory result (bytes_status (json_at Global blob.now) (length out.old)) }
     // The text, its length, or the fault.
-    ensures told { ¬ (result ≡ NO_MEMORY) →
-        Tells (json_at Global blob.now) result out.old out.new len.new fault.new }
+    ensures outputs { ¬ (result ≡ NO_MEMORY) →
+        Outputs (json_at Global blob.now) result out.old out.new len.new fault.new }
     ensures kept { ¬ (result ≡ DONE) → out.new ≡ out.old }
     ensures unchanged { result ≡ NO_MEMORY → (len.new ≡ len.old) × (fault.new ≡ fault.old) }
 {
-    tell_bytes(json_bytes(alloc, blob), out, len, fault)
+    set_bytes(json_bytes(alloc, blob), out, len, fault)
 }
 
 fn json_bytes(alloc: Global, blob: &[u8]) -> Result<Vec<u8, Global>, Fault<BytesRefusal>>

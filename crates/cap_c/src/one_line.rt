@@ -40,7 +40,7 @@ pub(crate) fn one_line(alloc: Global, text: &[u8]) -> Result<Line<Global>, Fault
     }
 }
 
-// The number of a fault's kind, as its text has it, and the offset that it tells.
+// The number of a fault's kind, as its text has it, and its offset.
 fn placed_in_line(fault: ScriptFault) -> PlacedFault {
     match fault {
         ScriptFault::Syntax { at, .. } => PlacedFault {

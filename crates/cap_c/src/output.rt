@@ -3,7 +3,7 @@ ghost use Rattle.std.specs.Prelude.{◌≡◌, ℕ, List, Result, length};
 ghost use Rattle.cap_value.specs.Memory.{ShowsUnlessMemory};
 ghost use Rattle.cap_blob.specs.declared.refusal.BytesRefusal.{BytesRefusal as Refused};
 ghost use Rattle.cap_c.specs.Status.{IsUnlessMemory, bytes_status, room_status};
-ghost use Rattle.cap_c.specs.Told.{Tells, Writes, begins_with};
+ghost use Rattle.cap_c.specs.Outputs.{Outputs, Writes, begins_with};
 ghost use Rattle.cap_c.specs.declared.status.TheConstants.{DONE, NO_MEMORY};
 
 use crate::fault::PlacedFault;
@@ -12,7 +12,7 @@ use cap_blob::BytesRefusal;
 use cap_value::Fault;
 use std::alloc::Global;
 
-/// Writes the bytes to the beginning of the buffer, or tells how long they are where it has no room.
+/// Writes the bytes to the beginning of the buffer, or sets how long they are where it has no room.
 pub(crate) fn write_bytes(bytes: &[u8], out: &mut [u8], len: &mut usize) -> u32
     ensures status { result ≡ room_status (length bytes.now) (length out.old) }
     ensures len { len.new ≡ length bytes.now }
@@ -27,8 +27,8 @@ pub(crate) fn write_bytes(bytes: &[u8], out: &mut [u8], len: &mut usize) -> u32
     DONE
 }
 
-/// Writes the bytes that were asked for, or tells why there are none.
-pub(crate) fn tell_bytes(
+/// Writes the bytes that were asked for, or sets the fault where there are none.
+pub(crate) fn set_bytes(
     answer: Result<Vec<u8, Global>, Fault<BytesRefusal>>,
     out: &mut [u8],
     len: &mut usize,
@@ -36,8 +36,8 @@ pub(crate) fn tell_bytes(
 ) -> u32
     ensures status { (said : Result (List ℕ) Refused) → ShowsUnlessMemory (λ bytes. bytes.items) answer said →
         IsUnlessMemory result (bytes_status said (length out.old)) }
-    ensures told { (said : Result (List ℕ) Refused) → ShowsUnlessMemory (λ bytes. bytes.items) answer said →
-        ¬ (result ≡ NO_MEMORY) → Tells said result out.old out.new len.new fault.new }
+    ensures outputs { (said : Result (List ℕ) Refused) → ShowsUnlessMemory (λ bytes. bytes.items) answer said →
+        ¬ (result ≡ NO_MEMORY) → Outputs said result out.old out.new len.new fault.new }
     ensures kept { ¬ (result ≡ DONE) → out.new ≡ out.old }
     ensures unchanged { result ≡ NO_MEMORY → (len.new ≡ len.old) × (fault.new ≡ fault.old) }
 {

@@ -1,6 +1,6 @@
 //! What a query reads of the tables, and the commit hook that reads it before the command takes effect.
 ghost use Rattle.std.specs.Prelude.{◌≡◌, IfOk};
-ghost use Rattle.cap_c.specs.Reading.{all_rows, id_of, id_rows, one_row, rows_told};
+ghost use Rattle.cap_c.specs.Reading.{all_rows, id_of, id_rows, one_row, rows_output};
 ghost use Rattle.cap_table.specs.Scan.{name_shown};
 ghost use Rattle.cap_database.specs.Read.{read, rows_of};
 
@@ -37,17 +37,17 @@ impl<'q, 't, 'r> CommitHook<Global> for QueryHook<'q, 't, 'r> {
     type Refusal = OutOfMemory;
 
     ghost use Rattle.std.specs.Prelude.{◌≡◌, MatchResult};
-    ghost use Rattle.cap_c.specs.Reading.{before, rows_told};
+    ghost use Rattle.cap_c.specs.Reading.{before, rows_output};
 
     ghost can_ask = { λ hook reply. Unit {0} };
 
     ghost gives = { λ old reply answer new. (new.reading.ghost_name ≡ old.reading.ghost_name)
         × MatchResult answer
-        (λ _. new.reading.now ≡ before (rows_told old.query.now old.table.now reply))
+        (λ _. new.reading.now ≡ before (rows_output old.query.now old.table.now reply))
         (λ _. new.reading.now ≡ old.reading.now) };
 
     fn before_commit(&mut self, reply: &Reply<Global>) -> Result<(), OutOfMemory> {
-        match rows_told(self.alloc, self.query, self.table, reply) {
+        match rows_output(self.alloc, self.query, self.table, reply) {
             Ok(rows) => {
                 *self.reading = Reading::before(rows);
                 Ok(())
@@ -57,13 +57,13 @@ impl<'q, 't, 'r> CommitHook<Global> for QueryHook<'q, 't, 'r> {
     }
 }
 
-fn rows_told(
+fn rows_output(
     alloc: Global,
     query: &Query,
     table: &Name<Global>,
     reply: &Reply<Global>,
 ) -> Result<IdRows, OutOfMemory>
-    ensures { IfOk result (λ rows. rows.items ≡ rows_told query.now table.now reply.now) }
+    ensures { IfOk result (λ rows. rows.items ≡ rows_output query.now table.now reply.now) }
 {
     match reply {
         Reply::Snapshot(snapshot) => match query {

@@ -1,11 +1,11 @@
 //! The rows that were read of a server, one after the other.
 ghost use Rattle.std.specs.Prelude.{◌≡◌};
 ghost use Rattle.std.specs.Option.{option_copied};
-ghost use Rattle.cap_c.specs.Reading.{GoesOn, before, column_bytes, column_told, columns_told, id_told};
+ghost use Rattle.cap_c.specs.Reading.{GoesOn, before, column_bytes, column_output, columns_output, id_output};
 ghost use Rattle.cap_c.specs.Reading.{row_at, value_at};
-ghost use Rattle.cap_c.specs.Told.{TellsBytes, TellsFound};
+ghost use Rattle.cap_c.specs.Outputs.{OutputsBytes, OutputsFound};
 
-use crate::change_info::{FieldValue, value_bytes, value_told};
+use crate::change_info::{FieldValue, value_bytes, value_output};
 use crate::output::write_bytes;
 use crate::query::IdRows;
 use crate::status::{DONE, MISUSE};
@@ -72,9 +72,9 @@ impl Reading {
         row.1.fields().get(column)
     }
 
-    /// Tells the row's id, or 0 where it has a key.
-    pub(crate) fn tell_id(&self, id: &mut u64) -> u32
-        ensures { TellsFound (id_told self.now) result id.old id.new }
+    /// Outputs the row's id, or 0 where it has a key.
+    pub(crate) fn set_id(&self, id: &mut u64) -> u32
+        ensures { OutputsFound (id_output self.now) result id.old id.new }
     {
         match self.row() {
             Some(row) => {
@@ -85,9 +85,9 @@ impl Reading {
         }
     }
 
-    /// Tells how many columns the row has.
-    pub(crate) fn tell_columns(&self, columns: &mut usize) -> u32
-        ensures { TellsFound (columns_told self.now) result columns.old columns.new }
+    /// Outputs how many columns the row has.
+    pub(crate) fn set_columns(&self, columns: &mut usize) -> u32
+        ensures { OutputsFound (columns_output self.now) result columns.old columns.new }
     {
         match self.row() {
             Some(row) => {
@@ -98,13 +98,13 @@ impl Reading {
         }
     }
 
-    /// Tells the value of a column.
-    pub(crate) fn tell_column(&self, column: usize, value: &mut FieldValue) -> u32
-        ensures { TellsFound (column_told self.now column) result value.old value.new }
+    /// Outputs the value of a column.
+    pub(crate) fn set_column(&self, column: usize, value: &mut FieldValue) -> u32
+        ensures { OutputsFound (column_output self.now column) result value.old value.new }
     {
         match self.value(column) {
             Some(found) => {
-                *value = value_told(Some(found));
+                *value = value_output(Some(found));
                 DONE
             }
             None => MISUSE,
@@ -112,8 +112,8 @@ impl Reading {
     }
 
     /// Writes the bytes of a column's value.
-    pub(crate) fn tell_bytes(&self, column: usize, out: &mut [u8], len: &mut usize) -> u32
-        ensures { TellsBytes (column_bytes self.now column) result out.old out.new len.new }
+    pub(crate) fn set_bytes(&self, column: usize, out: &mut [u8], len: &mut usize) -> u32
+        ensures { OutputsBytes (column_bytes self.now column) result out.old out.new len.new }
     {
         match self.value(column) {
             Some(found) => write_bytes(value_bytes(Some(found)), out, len),

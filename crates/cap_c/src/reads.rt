@@ -7,10 +7,10 @@ ghost use Rattle.cap_c.specs.Commands.{NoReply};
 ghost use Rattle.cap_c.specs.Draft.{row_named};
 ghost use Rattle.cap_c.specs.Drafted.{Reads};
 ghost use Rattle.cap_c.specs.Names.{IsName};
-ghost use Rattle.cap_c.specs.Reading.{GoesOn, column_bytes, column_told, columns_told, id_told, query_fault};
+ghost use Rattle.cap_c.specs.Reading.{GoesOn, column_bytes, column_output, columns_output, id_output, query_fault};
 ghost use Rattle.cap_c.specs.Reading.{query_status};
 ghost use Rattle.cap_c.specs.Server.{IsAnswered};
-ghost use Rattle.cap_c.specs.Told.{TellsBytes, TellsFound};
+ghost use Rattle.cap_c.specs.Outputs.{OutputsBytes, OutputsFound};
 ghost use Rattle.cap_c.specs.declared.query.Query.TheVariants as asked;
 ghost use Rattle.cap_c.specs.declared.server.TextServer.{TextServer as Text};
 ghost use Rattle.cap_c.specs.declared.status.TheConstants.{END, MISUSE, NO_MEMORY, ROW};
@@ -51,7 +51,7 @@ pub extern "C" fn changecap_get(
     ensures why { ¬ (IsAnswered result) → ¬ (result ≡ MISUSE) → Holds handle.old.value
         (λ old. NoReply old result) }
     ensures kept { ¬ (IsAnswered result) → handle.new.value ≡ handle.old.value }
-    ensures untold { ¬ (IsAnswered result) → fault.new ≡ fault.old }
+    ensures unset { ¬ (IsAnswered result) → fault.new ≡ fault.old }
 {
     let mut server = take(alloc, handle);
     let status = server.get(alloc, table, id, fault);
@@ -78,7 +78,7 @@ pub extern "C" fn changecap_scan(
     ensures why { ¬ (IsAnswered result) → ¬ (result ≡ MISUSE) → Holds handle.old.value
         (λ old. NoReply old result) }
     ensures kept { ¬ (IsAnswered result) → handle.new.value ≡ handle.old.value }
-    ensures untold { ¬ (IsAnswered result) → fault.new ≡ fault.old }
+    ensures unset { ¬ (IsAnswered result) → fault.new ≡ fault.old }
 {
     let mut server = take(alloc, handle);
     let status = server.scan(alloc, table, fault);
@@ -101,21 +101,21 @@ pub extern "C" fn changecap_step(alloc: Global, handle: &mut ServerHandle) -> u3
     if is_row { ROW } else { END }
 }
 
-/// Tells the id of the row, or 0 where it has a key.
+/// Outputs the id of the row, or 0 where it has a key.
 #[unsafe(no_mangle)]
 pub extern "C" fn changecap_row_id(alloc: Global, handle: &mut ServerHandle, id: &mut u64) -> u32
     requires opened { IsSome handle.old.value }
     ensures same { handle.new.value ≡ handle.old.value }
-    ensures told { (server : Text) → handle.old.value ≡ Some server →
-        TellsFound (id_told server.reading) result id.old id.new }
+    ensures outputs { (server : Text) → handle.old.value ≡ Some server →
+        OutputsFound (id_output server.reading) result id.old id.new }
 {
     let server = take(alloc, handle);
-    let status = server.reading.tell_id(id);
+    let status = server.reading.set_id(id);
     put(handle, server);
     status
 }
 
-/// Tells how many columns the row has.
+/// Outputs how many columns the row has.
 #[unsafe(no_mangle)]
 pub extern "C" fn changecap_columns(
     alloc: Global,
@@ -124,16 +124,16 @@ pub extern "C" fn changecap_columns(
 ) -> u32
     requires opened { IsSome handle.old.value }
     ensures same { handle.new.value ≡ handle.old.value }
-    ensures told { (server : Text) → handle.old.value ≡ Some server →
-        TellsFound (columns_told server.reading) result columns.old columns.new }
+    ensures outputs { (server : Text) → handle.old.value ≡ Some server →
+        OutputsFound (columns_output server.reading) result columns.old columns.new }
 {
     let server = take(alloc, handle);
-    let status = server.reading.tell_columns(columns);
+    let status = server.reading.set_columns(columns);
     put(handle, server);
     status
 }
 
-/// Tells the value of a column of the row.
+/// Outputs the value of a column of the row.
 #[unsafe(no_mangle)]
 pub extern "C" fn changecap_column(
     alloc: Global,
@@ -143,11 +143,11 @@ pub extern "C" fn changecap_column(
 ) -> u32
     requires opened { IsSome handle.old.value }
     ensures same { handle.new.value ≡ handle.old.value }
-    ensures told { (server : Text) → handle.old.value ≡ Some server →
-        TellsFound (column_told server.reading column) result value.old value.new }
+    ensures outputs { (server : Text) → handle.old.value ≡ Some server →
+        OutputsFound (column_output server.reading column) result value.old value.new }
 {
     let server = take(alloc, handle);
-    let status = server.reading.tell_column(column, value);
+    let status = server.reading.set_column(column, value);
     put(handle, server);
     status
 }
@@ -163,11 +163,11 @@ pub extern "C" fn changecap_column_bytes(
 ) -> u32
     requires opened { IsSome handle.old.value }
     ensures same { handle.new.value ≡ handle.old.value }
-    ensures told { (server : Text) → handle.old.value ≡ Some server →
-        TellsBytes (column_bytes server.reading column) result out.old out.new len.new }
+    ensures outputs { (server : Text) → handle.old.value ≡ Some server →
+        OutputsBytes (column_bytes server.reading column) result out.old out.new len.new }
 {
     let server = take(alloc, handle);
-    let status = server.reading.tell_bytes(column, out, len);
+    let status = server.reading.set_bytes(column, out, len);
     put(handle, server);
     status
 }
@@ -184,7 +184,7 @@ impl TextServer {
             IsName table.now × IsSome (row_named id self.old.draft.values) }
         ensures why { ¬ (IsAnswered result) → ¬ (result ≡ MISUSE) → NoReply self.old result }
         ensures kept { ¬ (IsAnswered result) → self.new ≡ self.old }
-        ensures untold { ¬ (IsAnswered result) → fault.new ≡ fault.old }
+        ensures unset { ¬ (IsAnswered result) → fault.new ≡ fault.old }
     {
         let Some(table) = name_text(table) else {
             return MISUSE;
@@ -211,7 +211,7 @@ impl TextServer {
         ensures named { ¬ (result ≡ MISUSE) → IsName table.now }
         ensures why { ¬ (IsAnswered result) → ¬ (result ≡ MISUSE) → NoReply self.old result }
         ensures kept { ¬ (IsAnswered result) → self.new ≡ self.old }
-        ensures untold { ¬ (IsAnswered result) → fault.new ≡ fault.old }
+        ensures unset { ¬ (IsAnswered result) → fault.new ≡ fault.old }
     {
         let Some(table) = name_text(table) else {
             return MISUSE;
@@ -237,7 +237,7 @@ impl TextServer {
         ensures fault { IsAnswered result → fault.new ≡ query_fault table.now self.old.core.main fault.old }
         ensures memory { ¬ (IsAnswered result) → result ≡ NO_MEMORY }
         ensures kept { ¬ (IsAnswered result) → self.new ≡ self.old }
-        ensures untold { ¬ (IsAnswered result) → fault.new ≡ fault.old }
+        ensures unset { ¬ (IsAnswered result) → fault.new ≡ fault.old }
     {
         let mut hook = QueryHook {
             alloc,
@@ -248,7 +248,7 @@ impl TextServer {
         match self.core.step(&Command::Read, &mut hook) {
             Ok(Reply::Snapshot(snapshot)) => {
                 self.draft.unbind();
-                tell_table(snapshot.database(), table, fault)
+                set_table(snapshot.database(), table, fault)
             }
             Ok(_) => unreachable!(),
             Err(_) => NO_MEMORY,
@@ -256,8 +256,8 @@ impl TextServer {
     }
 }
 
-// Tells whether there is the table that was asked for.
-fn tell_table(tables: &Database<Global>, table: &Name<Global>, fault: &mut PlacedFault) -> u32
+// Outputs whether there is the table that was asked for.
+fn set_table(tables: &Database<Global>, table: &Name<Global>, fault: &mut PlacedFault) -> u32
     ensures status { result ≡ query_status table.now tables.now }
     ensures fault { fault.new ≡ query_fault table.now tables.now fault.old }
     ensures answered { IsAnswered result }

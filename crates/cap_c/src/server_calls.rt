@@ -2,7 +2,7 @@
 ghost use Rattle.std.specs.Prelude.{◌≡◌, ◌+◌, ◌<◌, ◌^◌, None, Some, IsSome, length};
 ghost use Rattle.cap_c.specs.Server.{IsAnswered, IsNew, Ran};
 ghost use Rattle.cap_c.specs.Status.{room_status};
-ghost use Rattle.cap_c.specs.Told.{Writes};
+ghost use Rattle.cap_c.specs.Outputs.{Writes};
 ghost use Rattle.cap_c.specs.declared.server.TextServer.{TextServer as Text};
 ghost use Rattle.cap_c.specs.declared.status.TheConstants.{DONE, FULL, NO_MEMORY};
 

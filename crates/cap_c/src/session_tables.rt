@@ -9,7 +9,7 @@ ghost use Rattle.cap_c.specs.Between.{Between, Holds};
 ghost use Rattle.cap_c.specs.Commands.{NoReply, Runs};
 ghost use Rattle.cap_c.specs.Filter.{filter_fault};
 ghost use Rattle.cap_c.specs.Names.{IsName};
-ghost use Rattle.cap_c.specs.Replies.{fault_told};
+ghost use Rattle.cap_c.specs.Replies.{fault_output};
 ghost use Rattle.cap_c.specs.Server.{IsAnswered};
 ghost use Rattle.cap_c.specs.declared.status.TheConstants.{MISUSE, NO_FILTER};
 
@@ -41,7 +41,7 @@ pub extern "C" fn changecap_session_filter(
     ensures spelled { IsAnswered result → (filter : Rule) × (filter_of text.now ≡ Ok filter) }
     ensures fault { (filter : Rule) → filter_of text.now ≡ Ok filter → IsAnswered result →
         Holds handle.old.value
-        (λ old. fault.new ≡ fault_told (answer old.core (command.SetFilter session filter)) fault.old) }
+        (λ old. fault.new ≡ fault_output (answer old.core (command.SetFilter session filter)) fault.old) }
     ensures no_filter { result ≡ NO_FILTER →
         (why : Why) × (filter_of text.now ≡ Err why) × (fault.new ≡ filter_fault why) }
     // Exactly bytes that are not UTF-8 are misuse.
@@ -50,7 +50,7 @@ pub extern "C" fn changecap_session_filter(
     ensures why { ¬ (IsAnswered result) → ¬ (result ≡ NO_FILTER) → ¬ (result ≡ MISUSE) →
         Holds handle.old.value (λ old. NoReply old result) }
     ensures kept { ¬ (IsAnswered result) → handle.new.value ≡ handle.old.value }
-    ensures untold { ¬ (IsAnswered result) → ¬ (result ≡ NO_FILTER) → fault.new ≡ fault.old }
+    ensures unset { ¬ (IsAnswered result) → ¬ (result ≡ NO_FILTER) → fault.new ≡ fault.old }
 {
     let mut server = take(alloc, handle);
     let status = filter(alloc, &mut server, session, text, fault);
@@ -69,7 +69,7 @@ fn filter(
         Runs server.old server.new (command.SetFilter session filter) result }
     ensures spelled { IsAnswered result → (filter : Rule) × (filter_of text.now ≡ Ok filter) }
     ensures fault { (filter : Rule) → filter_of text.now ≡ Ok filter → IsAnswered result →
-        fault.new ≡ fault_told (answer server.old.core (command.SetFilter session filter)) fault.old }
+        fault.new ≡ fault_output (answer server.old.core (command.SetFilter session filter)) fault.old }
     ensures no_filter { result ≡ NO_FILTER →
         (why : Why) × (filter_of text.now ≡ Err why) × (fault.new ≡ filter_fault why) }
     ensures misuse { result ≡ MISUSE → ¬ (IsUtf8 text.now) }
@@ -77,7 +77,7 @@ fn filter(
     ensures why { ¬ (IsAnswered result) → ¬ (result ≡ NO_FILTER) → ¬ (result ≡ MISUSE) →
         NoReply server.old result }
     ensures kept { ¬ (IsAnswered result) → server.new ≡ server.old }
-    ensures untold { ¬ (IsAnswered result) → ¬ (result ≡ NO_FILTER) → fault.new ≡ fault.old }
+    ensures unset { ¬ (IsAnswered result) → ¬ (result ≡ NO_FILTER) → fault.new ≡ fault.old }
 {
     let Ok(text) = str::from_utf8(text) else {
         return MISUSE;
@@ -86,7 +86,7 @@ fn filter(
         return FULL;
     }
     match TableFilter::parse(alloc, text) {
-        Ok(filter) => server.tell_refusal(&Command::SetFilter { session, filter }, fault),
+        Ok(filter) => server.set_refusal(&Command::SetFilter { session, filter }, fault),
         Err(Fault::Refused(why)) => {
             *fault = filter_fault(why);
             NO_FILTER
@@ -116,14 +116,14 @@ pub extern "C" fn changecap_save(
     ensures ran { IsAnswered result → Between handle.old.value handle.new.value
         (λ old new. Runs old new (command.SaveAs database.now) result) }
     ensures fault { IsAnswered result → Holds handle.old.value
-        (λ old. fault.new ≡ fault_told (answer old.core (command.SaveAs database.now)) fault.old) }
+        (λ old. fault.new ≡ fault_output (answer old.core (command.SaveAs database.now)) fault.old) }
     // Exactly bytes that are no name are misuse.
     ensures misuse { result ≡ MISUSE → ¬ (IsName database.now) }
     ensures named { ¬ (result ≡ MISUSE) → IsName database.now }
     ensures why { ¬ (IsAnswered result) → ¬ (result ≡ MISUSE) → Holds handle.old.value
         (λ old. NoReply old result) }
     ensures kept { ¬ (IsAnswered result) → handle.new.value ≡ handle.old.value }
-    ensures untold { ¬ (IsAnswered result) → fault.new ≡ fault.old }
+    ensures unset { ¬ (IsAnswered result) → fault.new ≡ fault.old }
 {
     let mut server = take(alloc, handle);
     let status = save(alloc, &mut server, database, fault);
@@ -134,7 +134,7 @@ pub extern "C" fn changecap_save(
 fn save(alloc: Global, server: &mut TextServer, database: &[u8], fault: &mut PlacedFault) -> u32
     ensures ran { IsAnswered result → Runs server.old server.new (command.SaveAs database.now) result }
     ensures fault { IsAnswered result →
-        fault.new ≡ fault_told (answer server.old.core (command.SaveAs database.now)) fault.old }
+        fault.new ≡ fault_output (answer server.old.core (command.SaveAs database.now)) fault.old }
     ensures misuse { result ≡ MISUSE → ¬ (IsName database.now) }
     ensures named { ¬ (result ≡ MISUSE) → IsName database.now }
     ensures why { ¬ (IsAnswered result) → ¬ (result ≡ MISUSE) → NoReply server.old result }
@@ -149,7 +149,7 @@ fn save(alloc: Global, server: &mut TextServer, database: &[u8], fault: &mut Pla
     let Ok(database) = Name::new(alloc, name) else {
         return NO_MEMORY;
     };
-    server.tell_refusal(&Command::SaveAs { database }, fault)
+    server.set_refusal(&Command::SaveAs { database }, fault)
 }
 
 /// Records how a table differs from the one of the same name in a saved database, as `sqlite3session_diff`.
@@ -167,14 +167,14 @@ pub extern "C" fn changecap_session_diff(
         (λ old new. Runs old new (command.Diff session from.now table.now) result) }
     ensures fault { IsAnswered result → Holds handle.old.value
         (λ old. fault.new
-        ≡ fault_told (answer old.core (command.Diff session from.now table.now)) fault.old) }
+        ≡ fault_output (answer old.core (command.Diff session from.now table.now)) fault.old) }
     // Exactly bytes that are no names are misuse.
     ensures misuse { result ≡ MISUSE → ¬ (IsName from.now × IsName table.now) }
     ensures named { ¬ (result ≡ MISUSE) → IsName from.now × IsName table.now }
     ensures why { ¬ (IsAnswered result) → ¬ (result ≡ MISUSE) → Holds handle.old.value
         (λ old. NoReply old result) }
     ensures kept { ¬ (IsAnswered result) → handle.new.value ≡ handle.old.value }
-    ensures untold { ¬ (IsAnswered result) → fault.new ≡ fault.old }
+    ensures unset { ¬ (IsAnswered result) → fault.new ≡ fault.old }
 {
     let mut server = take(alloc, handle);
     let status = diff(alloc, &mut server, session, from, table, fault);
@@ -193,7 +193,7 @@ fn diff(
     ensures ran { IsAnswered result →
         Runs server.old server.new (command.Diff session from.now table.now) result }
     ensures fault { IsAnswered result →
-        fault.new ≡ fault_told (answer server.old.core (command.Diff session from.now table.now)) fault.old }
+        fault.new ≡ fault_output (answer server.old.core (command.Diff session from.now table.now)) fault.old }
     ensures misuse { result ≡ MISUSE → ¬ (IsName from.now × IsName table.now) }
     ensures named { ¬ (result ≡ MISUSE) → IsName from.now × IsName table.now }
     ensures why { ¬ (IsAnswered result) → ¬ (result ≡ MISUSE) → NoReply server.old result }
@@ -219,5 +219,5 @@ fn diff(
         from,
         table,
     };
-    server.tell_refusal(&command, fault)
+    server.set_refusal(&command, fault)
 }

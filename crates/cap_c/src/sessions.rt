@@ -5,7 +5,7 @@ ghost use Rattle.cap_core.specs.declared.command.Command.TheVariants as command;
 ghost use Rattle.cap_c.specs.Between.{Between, Holds};
 ghost use Rattle.cap_c.specs.Commands.{NoReply, Runs, asked_of};
 ghost use Rattle.cap_c.specs.Names.{IsName};
-ghost use Rattle.cap_c.specs.Replies.{fault_told, flag_told, number_told};
+ghost use Rattle.cap_c.specs.Replies.{fault_output, flag_output, number_output};
 ghost use Rattle.cap_c.specs.Server.{IsAnswered};
 ghost use Rattle.cap_c.specs.declared.status.TheConstants.{MISUSE};
 
@@ -30,15 +30,15 @@ pub extern "C" fn changecap_session_new(
     ensures ran { IsAnswered result → Between handle.old.value handle.new.value
         (λ old new. Runs old new command.NewSession result) }
     ensures session { IsAnswered result → Holds handle.old.value
-        (λ old. session.new ≡ number_told (answer old.core command.NewSession) session.old) }
+        (λ old. session.new ≡ number_output (answer old.core command.NewSession) session.old) }
     ensures fault { IsAnswered result → Holds handle.old.value
-        (λ old. fault.new ≡ fault_told (answer old.core command.NewSession) fault.old) }
+        (λ old. fault.new ≡ fault_output (answer old.core command.NewSession) fault.old) }
     ensures why { ¬ (IsAnswered result) → Holds handle.old.value (λ old. NoReply old result) }
     ensures kept { ¬ (IsAnswered result) → handle.new.value ≡ handle.old.value }
-    ensures untold { ¬ (IsAnswered result) → (session.new ≡ session.old) × (fault.new ≡ fault.old) }
+    ensures unset { ¬ (IsAnswered result) → (session.new ≡ session.old) × (fault.new ≡ fault.old) }
 {
     let mut server = take(alloc, handle);
-    let status = server.tell_number(&Command::NewSession, session, fault);
+    let status = server.set_number(&Command::NewSession, session, fault);
     put(handle, server);
     status
 }
@@ -55,13 +55,13 @@ pub extern "C" fn changecap_session_drop(
     ensures ran { IsAnswered result → Between handle.old.value handle.new.value
         (λ old new. Runs old new (command.DropSession session) result) }
     ensures fault { IsAnswered result → Holds handle.old.value
-        (λ old. fault.new ≡ fault_told (answer old.core (command.DropSession session)) fault.old) }
+        (λ old. fault.new ≡ fault_output (answer old.core (command.DropSession session)) fault.old) }
     ensures why { ¬ (IsAnswered result) → Holds handle.old.value (λ old. NoReply old result) }
     ensures kept { ¬ (IsAnswered result) → handle.new.value ≡ handle.old.value }
-    ensures untold { ¬ (IsAnswered result) → fault.new ≡ fault.old }
+    ensures unset { ¬ (IsAnswered result) → fault.new ≡ fault.old }
 {
     let mut server = take(alloc, handle);
-    let status = server.tell_refusal(&Command::DropSession { session }, fault);
+    let status = server.set_refusal(&Command::DropSession { session }, fault);
     put(handle, server);
     status
 }
@@ -78,13 +78,13 @@ pub extern "C" fn changecap_session_attach_all(
     ensures ran { IsAnswered result → Between handle.old.value handle.new.value
         (λ old new. Runs old new (command.AttachAll session) result) }
     ensures fault { IsAnswered result → Holds handle.old.value
-        (λ old. fault.new ≡ fault_told (answer old.core (command.AttachAll session)) fault.old) }
+        (λ old. fault.new ≡ fault_output (answer old.core (command.AttachAll session)) fault.old) }
     ensures why { ¬ (IsAnswered result) → Holds handle.old.value (λ old. NoReply old result) }
     ensures kept { ¬ (IsAnswered result) → handle.new.value ≡ handle.old.value }
-    ensures untold { ¬ (IsAnswered result) → fault.new ≡ fault.old }
+    ensures unset { ¬ (IsAnswered result) → fault.new ≡ fault.old }
 {
     let mut server = take(alloc, handle);
-    let status = server.tell_refusal(&Command::AttachAll { session }, fault);
+    let status = server.set_refusal(&Command::AttachAll { session }, fault);
     put(handle, server);
     status
 }
@@ -102,14 +102,14 @@ pub extern "C" fn changecap_session_attach(
     ensures ran { IsAnswered result → Between handle.old.value handle.new.value
         (λ old new. Runs old new (command.Attach session table.now) result) }
     ensures fault { IsAnswered result → Holds handle.old.value
-        (λ old. fault.new ≡ fault_told (answer old.core (command.Attach session table.now)) fault.old) }
+        (λ old. fault.new ≡ fault_output (answer old.core (command.Attach session table.now)) fault.old) }
     // Exactly bytes that are no name are misuse.
     ensures misuse { result ≡ MISUSE → ¬ (IsName table.now) }
     ensures named { ¬ (result ≡ MISUSE) → IsName table.now }
     ensures why { ¬ (IsAnswered result) → ¬ (result ≡ MISUSE) → Holds handle.old.value
         (λ old. NoReply old result) }
     ensures kept { ¬ (IsAnswered result) → handle.new.value ≡ handle.old.value }
-    ensures untold { ¬ (IsAnswered result) → fault.new ≡ fault.old }
+    ensures unset { ¬ (IsAnswered result) → fault.new ≡ fault.old }
 {
     let mut server = take(alloc, handle);
     let status = attach(alloc, &mut server, session, table, fault);
@@ -126,7 +126,7 @@ fn attach(
 ) -> u32
     ensures ran { IsAnswered result → Runs server.old server.new (command.Attach session table.now) result }
     ensures fault { IsAnswered result →
-        fault.new ≡ fault_told (answer server.old.core (command.Attach session table.now)) fault.old }
+        fault.new ≡ fault_output (answer server.old.core (command.Attach session table.now)) fault.old }
     ensures misuse { result ≡ MISUSE → ¬ (IsName table.now) }
     ensures named { ¬ (result ≡ MISUSE) → IsName table.now }
     ensures why { ¬ (IsAnswered result) → ¬ (result ≡ MISUSE) → NoReply server.old result }
@@ -141,7 +141,7 @@ fn attach(
     let Ok(table) = Name::new(alloc, name) else {
         return NO_MEMORY;
     };
-    server.tell_refusal(&Command::Attach { session, table }, fault)
+    server.set_refusal(&Command::Attach { session, table }, fault)
 }
 
 /// Enables or disables a session, or asks whether it is enabled, as `sqlite3session_enable`.
@@ -158,22 +158,22 @@ pub extern "C" fn changecap_session_enable(
     ensures ran { (value : Option Bool) → asked_of asked ≡ Some value → IsAnswered result →
         Between handle.old.value handle.new.value (λ old new. Runs old new (command.Enable session value) result) }
     ensures flag { (value : Option Bool) → asked_of asked ≡ Some value → IsAnswered result →
-        Holds handle.old.value (λ old. flag.new ≡ flag_told (answer old.core (command.Enable session value)) flag.old) }
+        Holds handle.old.value (λ old. flag.new ≡ flag_output (answer old.core (command.Enable session value)) flag.old) }
     ensures fault { (value : Option Bool) → asked_of asked ≡ Some value → IsAnswered result →
         Holds handle.old.value
-        (λ old. fault.new ≡ fault_told (answer old.core (command.Enable session value)) fault.old) }
+        (λ old. fault.new ≡ fault_output (answer old.core (command.Enable session value)) fault.old) }
     // Exactly a number that asks for nothing is misuse.
     ensures misuse { (result ≡ MISUSE) ↔ (asked_of asked ≡ None) }
     ensures why { ¬ (IsAnswered result) → ¬ (result ≡ MISUSE) → Holds handle.old.value
         (λ old. NoReply old result) }
     ensures kept { ¬ (IsAnswered result) → handle.new.value ≡ handle.old.value }
-    ensures untold { ¬ (IsAnswered result) → (flag.new ≡ flag.old) × (fault.new ≡ fault.old) }
+    ensures unset { ¬ (IsAnswered result) → (flag.new ≡ flag.old) × (fault.new ≡ fault.old) }
 {
     let Some(enabled) = asked_of(asked) else {
         return MISUSE;
     };
     let mut server = take(alloc, handle);
-    let status = server.tell_flag(&Command::Enable { session, enabled }, flag, fault);
+    let status = server.set_flag(&Command::Enable { session, enabled }, flag, fault);
     put(handle, server);
     status
 }
@@ -192,22 +192,22 @@ pub extern "C" fn changecap_session_indirect(
     ensures ran { (value : Option Bool) → asked_of asked ≡ Some value → IsAnswered result →
         Between handle.old.value handle.new.value (λ old new. Runs old new (command.Indirect session value) result) }
     ensures flag { (value : Option Bool) → asked_of asked ≡ Some value → IsAnswered result →
-        Holds handle.old.value (λ old. flag.new ≡ flag_told (answer old.core (command.Indirect session value)) flag.old) }
+        Holds handle.old.value (λ old. flag.new ≡ flag_output (answer old.core (command.Indirect session value)) flag.old) }
     ensures fault { (value : Option Bool) → asked_of asked ≡ Some value → IsAnswered result →
         Holds handle.old.value
-        (λ old. fault.new ≡ fault_told (answer old.core (command.Indirect session value)) fault.old) }
+        (λ old. fault.new ≡ fault_output (answer old.core (command.Indirect session value)) fault.old) }
     // Exactly a number that asks for nothing is misuse.
     ensures misuse { (result ≡ MISUSE) ↔ (asked_of asked ≡ None) }
     ensures why { ¬ (IsAnswered result) → ¬ (result ≡ MISUSE) → Holds handle.old.value
         (λ old. NoReply old result) }
     ensures kept { ¬ (IsAnswered result) → handle.new.value ≡ handle.old.value }
-    ensures untold { ¬ (IsAnswered result) → (flag.new ≡ flag.old) × (fault.new ≡ fault.old) }
+    ensures unset { ¬ (IsAnswered result) → (flag.new ≡ flag.old) × (fault.new ≡ fault.old) }
 {
     let Some(indirect) = asked_of(asked) else {
         return MISUSE;
     };
     let mut server = take(alloc, handle);
-    let status = server.tell_flag(&Command::Indirect { session, indirect }, flag, fault);
+    let status = server.set_flag(&Command::Indirect { session, indirect }, flag, fault);
     put(handle, server);
     status
 }
@@ -225,15 +225,15 @@ pub extern "C" fn changecap_session_isempty(
     ensures ran { IsAnswered result → Between handle.old.value handle.new.value
         (λ old new. Runs old new (command.IsEmpty session) result) }
     ensures flag { IsAnswered result → Holds handle.old.value
-        (λ old. flag.new ≡ flag_told (answer old.core (command.IsEmpty session)) flag.old) }
+        (λ old. flag.new ≡ flag_output (answer old.core (command.IsEmpty session)) flag.old) }
     ensures fault { IsAnswered result → Holds handle.old.value
-        (λ old. fault.new ≡ fault_told (answer old.core (command.IsEmpty session)) fault.old) }
+        (λ old. fault.new ≡ fault_output (answer old.core (command.IsEmpty session)) fault.old) }
     ensures why { ¬ (IsAnswered result) → Holds handle.old.value (λ old. NoReply old result) }
     ensures kept { ¬ (IsAnswered result) → handle.new.value ≡ handle.old.value }
-    ensures untold { ¬ (IsAnswered result) → (flag.new ≡ flag.old) × (fault.new ≡ fault.old) }
+    ensures unset { ¬ (IsAnswered result) → (flag.new ≡ flag.old) × (fault.new ≡ fault.old) }
 {
     let mut server = take(alloc, handle);
-    let status = server.tell_flag(&Command::IsEmpty { session }, flag, fault);
+    let status = server.set_flag(&Command::IsEmpty { session }, flag, fault);
     put(handle, server);
     status
 }

@@ -2,9 +2,9 @@
 
 /// The call did what it says.
 pub(crate) const DONE: u32 = 0;
-/// The bytes are no blob. The fault tells why, and where.
+/// The bytes are no blob. The fault has why, and where.
 pub(crate) const MALFORMED: u32 = 1;
-/// The buffer is too short, and is as it was. The length tells how many bytes it takes.
+/// The buffer is too short, and is as it was. The length is how many bytes it takes.
 pub(crate) const NO_ROOM: u32 = 2;
 /// There was no memory. The call may be made again.
 pub(crate) const NO_MEMORY: u32 = 3;
@@ -14,7 +14,7 @@ pub(crate) const PATCHSET: u32 = 4;
 pub(crate) const MISUSE: u32 = 5;
 /// The server refuses the command. The reply says why.
 pub(crate) const REFUSED: u32 = 6;
-/// The text is not one command. The fault tells why, and where.
+/// The text is not one command. The fault has why, and where.
 pub(crate) const NO_COMMAND: u32 = 7;
 /// The server has answered as many commands as it can.
 pub(crate) const FULL: u32 = 8;
@@ -22,7 +22,7 @@ pub(crate) const FULL: u32 = 8;
 pub(crate) const OTHER_KIND: u32 = 9;
 /// A table that had other columns, or another key, before.
 pub(crate) const OTHER_COLUMNS: u32 = 10;
-/// The text is no filter. The fault tells why, and where.
+/// The text is no filter. The fault has why, and where.
 pub(crate) const NO_FILTER: u32 = 11;
 /// The iterator is at a change.
 pub(crate) const ROW: u32 = 100;

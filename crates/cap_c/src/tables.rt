@@ -5,7 +5,7 @@ ghost use Rattle.cap_core.specs.declared.command.Command.TheVariants as command;
 ghost use Rattle.cap_c.specs.Between.{Between, Holds};
 ghost use Rattle.cap_c.specs.Commands.{NoReply, Runs, key_columns};
 ghost use Rattle.cap_c.specs.Names.{IsTable};
-ghost use Rattle.cap_c.specs.Replies.{fault_told, number_told};
+ghost use Rattle.cap_c.specs.Replies.{fault_output, number_output};
 ghost use Rattle.cap_c.specs.Server.{IsAnswered};
 ghost use Rattle.cap_c.specs.declared.status.TheConstants.{MISUSE};
 
@@ -32,16 +32,16 @@ pub extern "C" fn changecap_create(
     ensures ran { IsAnswered result → Between handle.old.value handle.new.value
         (λ old new. Runs old new (command.CreateTable table.now (key_columns key.now)) result) }
     ensures version { IsAnswered result → Holds handle.old.value (λ old. version.new
-        ≡ number_told (answer old.core (command.CreateTable table.now (key_columns key.now))) version.old) }
+        ≡ number_output (answer old.core (command.CreateTable table.now (key_columns key.now))) version.old) }
     ensures fault { IsAnswered result → Holds handle.old.value (λ old. fault.new
-        ≡ fault_told (answer old.core (command.CreateTable table.now (key_columns key.now))) fault.old) }
+        ≡ fault_output (answer old.core (command.CreateTable table.now (key_columns key.now))) fault.old) }
     // Exactly a name that is none, or a number of columns that no table may have, is misuse.
     ensures misuse { result ≡ MISUSE → ¬ (IsTable table.now key.now) }
     ensures table { ¬ (result ≡ MISUSE) → IsTable table.now key.now }
     ensures why { ¬ (IsAnswered result) → ¬ (result ≡ MISUSE) → Holds handle.old.value
         (λ old. NoReply old result) }
     ensures kept { ¬ (IsAnswered result) → handle.new.value ≡ handle.old.value }
-    ensures untold { ¬ (IsAnswered result) → (version.new ≡ version.old) × (fault.new ≡ fault.old) }
+    ensures unset { ¬ (IsAnswered result) → (version.new ≡ version.old) × (fault.new ≡ fault.old) }
 {
     let mut server = take(alloc, handle);
     let status = create(alloc, &mut server, table, key, version, fault);
@@ -60,14 +60,14 @@ fn create(
     ensures ran { IsAnswered result →
         Runs server.old server.new (command.CreateTable table.now (key_columns key.now)) result }
     ensures version { IsAnswered result → version.new
-        ≡ number_told (answer server.old.core (command.CreateTable table.now (key_columns key.now))) version.old }
+        ≡ number_output (answer server.old.core (command.CreateTable table.now (key_columns key.now))) version.old }
     ensures fault { IsAnswered result → fault.new
-        ≡ fault_told (answer server.old.core (command.CreateTable table.now (key_columns key.now))) fault.old }
+        ≡ fault_output (answer server.old.core (command.CreateTable table.now (key_columns key.now))) fault.old }
     ensures misuse { result ≡ MISUSE → ¬ (IsTable table.now key.now) }
     ensures table { ¬ (result ≡ MISUSE) → IsTable table.now key.now }
     ensures why { ¬ (IsAnswered result) → ¬ (result ≡ MISUSE) → NoReply server.old result }
     ensures kept { ¬ (IsAnswered result) → server.new ≡ server.old }
-    ensures untold { ¬ (IsAnswered result) → (version.new ≡ version.old) × (fault.new ≡ fault.old) }
+    ensures unset { ¬ (IsAnswered result) → (version.new ≡ version.old) × (fault.new ≡ fault.old) }
 {
     if !are_columns(key) {
         return MISUSE;
@@ -84,5 +84,5 @@ fn create(
     let Ok(schema) = schema_of(alloc, key) else {
         return NO_MEMORY;
     };
-    server.tell_number(&Command::CreateTable { table, schema }, version, fault)
+    server.set_number(&Command::CreateTable { table, schema }, version, fault)
 }

@@ -16,7 +16,8 @@ first_token text = option_map (λ found. found.0) (token_at text)
 abbrev pub BeginAlike : List ℕ → List ℕ → Type 0
 BeginAlike [] other = other ≡ []
 BeginAlike (byte ∷ rest) [] = ⊥
-BeginAlike (byte ∷ rest) (first ∷ more) = (byte ≡ first) × (first_token (byte ∷ rest) ≡ first_token (first ∷ more))
+BeginAlike (byte ∷ rest) (first ∷ more) =
+    (byte ≡ first) × (first_token (byte ∷ rest) ≡ first_token (first ∷ more))
 
 -- the line ends with a filter's text, in which a token does not fit that many bytes before the end
 abbrev pub InFilter : List ℕ → ℕ → Type 0

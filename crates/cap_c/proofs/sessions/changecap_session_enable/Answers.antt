@@ -5,5 +5,5 @@ use Rattle.cap_c.proofs.sessions.changecap_session_enable.Goals as goal
 
 pub returns-clause-why : goal.returns-clause-why
 returns-clause-why c = λ unanswered used.
-    holds_of (λ (old : Text). NoReply old c.tell_flag-status.result)
-    c.take-server.ensures.value c.deref_mut.ensures.value (c.tell_flag-status.ensures.why unanswered)
+    holds_of (λ (old : Text). NoReply old c.set_flag-status.result)
+    c.take-server.ensures.value c.deref_mut.ensures.value (c.set_flag-status.ensures.why unanswered)

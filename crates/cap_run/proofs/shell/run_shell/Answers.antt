@@ -12,7 +12,6 @@ use Rattle.cap_run.proofs.ShellLemmas.{at_end, at_fault, at_first, at_line, at_n
 use Rattle.cap_run.proofs.UnreadLemmas.{all_went, counted_none, counted_on, failed_on, lines_nil, lines_one}
 use Rattle.cap_run.proofs.shell.run_shell.Goals as goal
 
-
 pub loop-found-init : goal.loop-found-init
 loop-found-init g c =
     let input = g.R.Source.remaining c.args.reader.now in record {

@@ -1,5 +1,6 @@
 -- What a call leaves with its caller, by its status.
-use Rattle.std.specs.Prelude.{◌≡◌, ◌≤◌, ◌<◌, ℕ, pos, List, [], ◌++◌, drop, length, Option, Some, None, Result, Ok, Err}
+use Rattle.std.specs.Prelude.{◌≡◌, ◌≤◌, ◌<◌, ℕ, pos, List, [], ◌++◌, drop, length}
+use Rattle.std.specs.Prelude.{Option, Some, None, Result, Ok, Err}
 use Rattle.cap_value.specs.declared.value.Value.{Value}
 use Rattle.cap_value.specs.declared.value.Value.TheVariants.{Null, Int, Text, Blob}
 use Rattle.cap_blob.specs.declared.refusal.BytesRefusal.{BytesRefusal}
@@ -23,33 +24,33 @@ pub record Writes (bytes : List ℕ) (status : ℕ) (old new : List ℕ) (len : 
   pub written : status ≡ DONE → new ≡ begins_with bytes old
   pub kept : ¬ (status ≡ DONE) → new ≡ old
 
--- The same of an answer that may be a refusal: nothing is written for it, and a fault is told.
-abbrev pub Tells : Result (List ℕ) BytesRefusal → ℕ → List ℕ → List ℕ → ℕ → PlacedFault → Type 0
-Tells (Ok bytes) status old new len fault = Writes bytes status old new len
-Tells (Err (Malformed wrong)) status old new len fault = (new ≡ old) × (fault ≡ placed wrong)
-Tells (Err Patchset) status old new len fault = new ≡ old
+-- The same of an answer that may be a refusal: nothing is written for it, and the fault is set.
+abbrev pub Outputs : Result (List ℕ) BytesRefusal → ℕ → List ℕ → List ℕ → ℕ → PlacedFault → Type 0
+Outputs (Ok bytes) status old new len fault = Writes bytes status old new len
+Outputs (Err (Malformed wrong)) status old new len fault = (new ≡ old) × (fault ≡ placed wrong)
+Outputs (Err Patchset) status old new len fault = new ≡ old
 
 -- the fault of a blob that is not added to those before it, where it has one
-abbrev pub TellsFault : BlobRefusal → PlacedFault → Type 0
-TellsFault (not_added.Malformed wrong) fault = fault ≡ placed wrong
-TellsFault (not_added.Group why) fault = Unit {0}
+abbrev pub OutputsFault : BlobRefusal → PlacedFault → Type 0
+OutputsFault (not_added.Malformed wrong) fault = fault ≡ placed wrong
+OutputsFault (not_added.Group why) fault = Unit {0}
 
--- The same of a concatenation: the number of the blob that is refused is told too.
-abbrev pub TellsConcat : Result (List ℕ) ConcatRefusal → ℕ → List ℕ → List ℕ → ℕ → PlacedFault → ℕ → Type 0
-TellsConcat (Ok bytes) status old new len fault blob = Writes bytes status old new len
-TellsConcat (Err refusal) status old new len fault blob =
-    (new ≡ old) × (blob ≡ refusal.blob) × TellsFault refusal.why fault
+-- The same of a concatenation: the number of the refused blob is set too.
+abbrev pub OutputsConcat : Result (List ℕ) ConcatRefusal → ℕ → List ℕ → List ℕ → ℕ → PlacedFault → ℕ → Type 0
+OutputsConcat (Ok bytes) status old new len fault blob = Writes bytes status old new len
+OutputsConcat (Err refusal) status old new len fault blob =
+    (new ≡ old) × (blob ≡ refusal.blob) × OutputsFault refusal.why fault
 
--- what was asked for is told, or there is none and that is misuse
-abbrev pub TellsFound : {X : Type 0} → Option X → ℕ → X → X → Type 0
-TellsFound (Some found) status old new = (status ≡ DONE) × (new ≡ found)
-TellsFound None status old new = (status ≡ MISUSE) × (new ≡ old)
+-- what was asked for is set, or there is none and that is misuse
+abbrev pub OutputsFound : {X : Type 0} → Option X → ℕ → X → X → Type 0
+OutputsFound (Some found) status old new = (status ≡ DONE) × (new ≡ found)
+OutputsFound None status old new = (status ≡ MISUSE) × (new ≡ old)
 
 -- the same of bytes
-abbrev pub TellsBytes : Option (List ℕ) → ℕ → List ℕ → List ℕ → ℕ → Type 0
-TellsBytes (Some bytes) status old new len =
+abbrev pub OutputsBytes : Option (List ℕ) → ℕ → List ℕ → List ℕ → ℕ → Type 0
+OutputsBytes (Some bytes) status old new len =
     (status ≡ room_status (length bytes) (length old)) × Writes bytes status old new len
-TellsBytes None status old new len = (status ≡ MISUSE) × (new ≡ old)
+OutputsBytes None status old new len = (status ≡ MISUSE) × (new ≡ old)
 
 -- The bytes of a capture, where there are any: a command that is refused has none. All of them are written.
 abbrev pub WritesAll : Option (List ℕ) → List ℕ → List ℕ → ℕ → ℕ → Type 0
@@ -57,19 +58,19 @@ WritesAll None old new old_len len = (new ≡ old) × (len ≡ old_len)
 WritesAll (Some bytes) old new old_len len =
     (length bytes ≤ length old) × (new ≡ begins_with bytes old) × (len ≡ length bytes)
 
--- There are more bytes than there is room, and their number is told.
+-- There are more bytes than there is room, and their number is set.
 abbrev pub LacksRoom : Option (List ℕ) → List ℕ → ℕ → Type 0
 LacksRoom None old len = ⊥
 LacksRoom (Some bytes) old len = (length old < length bytes) × (len ≡ length bytes)
 
 module _ {A : Type 0} where
   -- a field, by SQLite's numbers of storage classes
-  abbrev pub value_told : Option (Value A) → FieldValue
-  value_told None = record { kind = 0; number = pos 0; len = 0 }
-  value_told (Some (Int number)) = record { kind = 1; number = number; len = 0 }
-  value_told (Some (Text text)) = record { kind = 3; number = pos 0; len = length text }
-  value_told (Some (Blob blob)) = record { kind = 4; number = pos 0; len = length blob }
-  value_told (Some Null) = record { kind = 5; number = pos 0; len = 0 }
+  abbrev pub value_output : Option (Value A) → FieldValue
+  value_output None = record { kind = 0; number = pos 0; len = 0 }
+  value_output (Some (Int number)) = record { kind = 1; number = number; len = 0 }
+  value_output (Some (Text text)) = record { kind = 3; number = pos 0; len = length text }
+  value_output (Some (Blob blob)) = record { kind = 4; number = pos 0; len = length blob }
+  value_output (Some Null) = record { kind = 5; number = pos 0; len = 0 }
 
   -- the bytes of a text or a blob
   abbrev pub value_bytes : Option (Value A) → List ℕ

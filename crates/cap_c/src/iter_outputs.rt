@@ -1,0 +1,84 @@
+//! The outputs of the calls on an iterator, by the change at which it stands.
+ghost use Rattle.std.specs.Prelude.{◌≡◌};
+ghost use Rattle.cap_c.specs.Iter.{info_of, table_of};
+ghost use Rattle.cap_c.specs.IterOutputs.{key_output, new_bytes, new_output, old_bytes, old_output};
+ghost use Rattle.cap_c.specs.Outputs.{OutputsBytes, OutputsFound};
+
+use crate::change_info::{ChangeInfo, FieldValue, value_bytes, value_output};
+use crate::iter::BlobIter;
+use crate::output::write_bytes;
+use crate::status::{DONE, MISUSE};
+
+pub(crate) fn set_info(it: &BlobIter, info: &mut ChangeInfo) -> u32
+    ensures { OutputsFound (info_of it.now) result info.old info.new }
+{
+    match it.info() {
+        Some(found) => {
+            *info = found;
+            DONE
+        }
+        None => MISUSE,
+    }
+}
+
+pub(crate) fn set_table(it: &BlobIter, out: &mut [u8], len: &mut usize) -> u32
+    ensures { OutputsBytes (table_of it.now) result out.old out.new len.new }
+{
+    match it.table() {
+        Some(name) => write_bytes(name.as_str().as_bytes(), out, len),
+        None => MISUSE,
+    }
+}
+
+pub(crate) fn set_key(it: &BlobIter, column: usize, is_key: &mut u32) -> u32
+    ensures { OutputsFound (key_output it.now column) result is_key.old is_key.new }
+{
+    if column < it.columns() {
+        *is_key = u32::from(it.is_key(column));
+        DONE
+    } else {
+        MISUSE
+    }
+}
+
+pub(crate) fn set_old(it: &BlobIter, column: usize, value: &mut FieldValue) -> u32
+    ensures { OutputsFound (old_output it.now column) result value.old value.new }
+{
+    if column < it.columns() {
+        *value = value_output(it.old(column));
+        DONE
+    } else {
+        MISUSE
+    }
+}
+
+pub(crate) fn set_new(it: &BlobIter, column: usize, value: &mut FieldValue) -> u32
+    ensures { OutputsFound (new_output it.now column) result value.old value.new }
+{
+    if column < it.columns() {
+        *value = value_output(it.new_value(column));
+        DONE
+    } else {
+        MISUSE
+    }
+}
+
+pub(crate) fn set_old_bytes(it: &BlobIter, column: usize, out: &mut [u8], len: &mut usize) -> u32
+    ensures { OutputsBytes (old_bytes it.now column) result out.old out.new len.new }
+{
+    if column < it.columns() {
+        write_bytes(value_bytes(it.old(column)), out, len)
+    } else {
+        MISUSE
+    }
+}
+
+pub(crate) fn set_new_bytes(it: &BlobIter, column: usize, out: &mut [u8], len: &mut usize) -> u32
+    ensures { OutputsBytes (new_bytes it.now column) result out.old out.new len.new }
+{
+    if column < it.columns() {
+        write_bytes(value_bytes(it.new_value(column)), out, len)
+    } else {
+        MISUSE
+    }
+}
