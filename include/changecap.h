@@ -298,7 +298,7 @@ uint32_t changecap_save(changecap_server *server, const uint8_t *database, size_
 typedef struct changecap_report {
   uint64_t version;   /* the new version */
   uint64_t applied;   /* changes that were applied, those that replaced a row among them */
-  uint64_t conflicts; /* changes that met a conflict */
+  uint64_t conflicts; /* changes that met a conflict: each that was not omitted replaced a row */
   uint64_t omitted;   /* changes that were omitted because of one */
   uint64_t skipped;   /* groups that were skipped: there is no such table */
 } changecap_report;

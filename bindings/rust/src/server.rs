@@ -31,7 +31,7 @@ pub struct Report {
     pub version: u64,
     /// Changes that were applied, those that replaced a row among them.
     pub applied: u64,
-    /// Changes that met a conflict.
+    /// Changes that met a conflict: each that was not omitted replaced a row.
     pub conflicts: u64,
     /// Changes that were omitted because of one.
     pub omitted: u64,

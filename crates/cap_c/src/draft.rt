@@ -139,6 +139,67 @@ impl Draft {
         self.unbind();
         Ok(())
     }
+
+    /// Whether what is bound makes an operation of this kind: where it names a row, the name is there.
+    pub(crate) fn can_make(&self, kind: ActionKind, id: u64) -> bool
+        ensures can { result ≡ true → ¬ (action_of kind id self.now ≡ None) }
+        ensures none { result ≡ false → action_of kind id self.now ≡ None }
+    {
+        match kind {
+            ActionKind::Insert => true,
+            ActionKind::Update | ActionKind::Delete => names_row(id, self.values()),
+        }
+    }
+
+    // What an operation of this kind does.
+    fn action(
+        &self,
+        alloc: Global,
+        kind: ActionKind,
+        id: u64,
+    ) -> Result<Action<Global>, OutOfMemory>
+        requires can { ¬ (action_of kind id self.now ≡ None) }
+        ensures { IfOk result (λ action. action_of kind id self.now ≡ Some action) }
+    {
+        match kind {
+            ActionKind::Insert => {
+                let row = Row::new(copies(alloc, self.values())?)?;
+                Ok(Action::Insert(row))
+            }
+            ActionKind::Update => {
+                let row = row_named(alloc, id, self.values())?;
+                let fields = copies_of_fields(alloc, self.fields.as_slice())?;
+                Ok(Action::Update(row, fields))
+            }
+            ActionKind::Delete => Ok(Action::Delete(row_named(alloc, id, self.values())?)),
+        }
+    }
+
+    /// Makes an operation of what is bound, and puts it last.
+    pub(crate) fn put(
+        &mut self,
+        alloc: Global,
+        table: &str,
+        cause: Cause,
+        kind: ActionKind,
+        id: u64,
+    ) -> Result<(), OutOfMemory>
+        requires room { ¬ (HasAllOps self.old) }
+        requires can { ¬ (action_of kind id self.old ≡ None) }
+        ensures put { OnOk result ((action : Made Global) × (action_of kind id self.old ≡ Some action)
+            × (self.new ≡ with_op (op_on table.now cause action) self.old)) }
+        ensures kept { OnErr result (self.new ≡ self.old) }
+    {
+        let Ok(table) = Name::new(alloc, table) else {
+            return Err(OutOfMemory);
+        };
+        let action = self.action(alloc, kind, id)?;
+        self.push(Op {
+            table,
+            cause,
+            action,
+        })
+    }
 }
 
 fn batch_on(alloc: Global, base: Option<u64>) -> Batch<Global>
@@ -217,67 +278,4 @@ fn copies_of_fields(
         copies.push((*column, value.copy()?))?;
     }
     Ok(Assignments::new(copies))
-}
-
-impl Draft {
-    /// Whether what is bound makes an operation of this kind: where it names a row, the name is there.
-    pub(crate) fn can_make(&self, kind: ActionKind, id: u64) -> bool
-        ensures can { result ≡ true → ¬ (action_of kind id self.now ≡ None) }
-        ensures none { result ≡ false → action_of kind id self.now ≡ None }
-    {
-        match kind {
-            ActionKind::Insert => true,
-            ActionKind::Update | ActionKind::Delete => names_row(id, self.values()),
-        }
-    }
-
-    // What an operation of this kind does.
-    fn action(
-        &self,
-        alloc: Global,
-        kind: ActionKind,
-        id: u64,
-    ) -> Result<Action<Global>, OutOfMemory>
-        requires can { ¬ (action_of kind id self.now ≡ None) }
-        ensures { IfOk result (λ action. action_of kind id self.now ≡ Some action) }
-    {
-        match kind {
-            ActionKind::Insert => {
-                let row = Row::new(copies(alloc, self.values())?)?;
-                Ok(Action::Insert(row))
-            }
-            ActionKind::Update => {
-                let row = row_named(alloc, id, self.values())?;
-                let fields = copies_of_fields(alloc, self.fields.as_slice())?;
-                Ok(Action::Update(row, fields))
-            }
-            ActionKind::Delete => Ok(Action::Delete(row_named(alloc, id, self.values())?)),
-        }
-    }
-
-    /// Makes an operation of what is bound, and puts it last.
-    pub(crate) fn put(
-        &mut self,
-        alloc: Global,
-        table: &str,
-        cause: Cause,
-        kind: ActionKind,
-        id: u64,
-    ) -> Result<(), OutOfMemory>
-        requires room { ¬ (HasAllOps self.old) }
-        requires can { ¬ (action_of kind id self.old ≡ None) }
-        ensures put { OnOk result ((action : Made Global) × (action_of kind id self.old ≡ Some action)
-            × (self.new ≡ with_op (op_on table.now cause action) self.old)) }
-        ensures kept { OnErr result (self.new ≡ self.old) }
-    {
-        let Ok(table) = Name::new(alloc, table) else {
-            return Err(OutOfMemory);
-        };
-        let action = self.action(alloc, kind, id)?;
-        self.push(Op {
-            table,
-            cause,
-            action,
-        })
-    }
 }
