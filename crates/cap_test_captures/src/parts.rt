@@ -7,8 +7,7 @@ use cap_script::parse;
 use std::alloc::Global;
 use std::test::*;
 
-const START: &str =
-    "create t kv\nsession\nattach 1 t\ncommit insert t (1,'x') ; insert t (2,'y')";
+const START: &str = "create t kv\nsession\nattach 1 t\ncommit insert t (1,'x') ; insert t (2,'y')";
 
 // The server after the commands of a workload.
 fn server(alloc: Global, workload: &str) -> Option<Core<Global>> {
@@ -29,8 +28,7 @@ fn are_same(alloc: Global, commits: &str) -> Option<bool> {
     let lines = parse(alloc, commits).ok()?.lines;
     let first = lines.first()?;
     let second = lines.get(1)?;
-    let made =
-        captured_in_two_parts(alloc, &core, 1, &first.command, &second.command).ok()??;
+    let made = captured_in_two_parts(alloc, &core, 1, &first.command, &second.command).ok()??;
     let Contents::Changes(list) = &made.together else {
         return None;
     };
