@@ -1,7 +1,8 @@
 //! Laws of captures in a row. The functions do nothing when they run.
 ghost use Rattle.std.specs.Prelude.{◌≡◌, ℕ, ◌&&◌, Bool, true, List, Ok, Option, [], ◌∷◌, ◌++◌, map};
 ghost use Rattle.cap_row.specs.Fields.{Fields};
-ghost use Rattle.cap_database.specs.Tables.{AreRising, Tables};
+ghost use Rattle.cap_database.specs.Read.{row_at};
+ghost use Rattle.cap_database.specs.Tables.{AreRising, Tables, schema_of};
 ghost use Rattle.cap_changes.specs.Group.{TableChanges};
 ghost use Rattle.cap_codec.specs.declared.read.Contents.{Contents};
 ghost use Rattle.cap_codec.specs.declared.read.Contents.TheVariants.{Changes};
@@ -18,7 +19,8 @@ ghost use Rattle.cap_core.specs.Restarts.{AppliesAll, HoldsFirst, IsSteady, capt
 ghost use Rattle.cap_core.specs.Session.{session_of};
 ghost use Rattle.cap_core.specs.Table.{BlobsFitPast};
 ghost use Rattle.cap_core.specs.Touch.{restarts, touches};
-ghost use Rattle.cap_captures.specs.Captures.{AreUnrestarted, HasCaptureOver, capture_over, session_over};
+ghost use Rattle.cap_captures.specs.Captures.{AreUnrestarted, HasCaptureOver, capture_over, first_row};
+ghost use Rattle.cap_captures.specs.Captures.{session_over};
 ghost use Rattle.cap_captures.specs.Rows.{AreInARow, HasTogether};
 
 use cap_apply::{
@@ -45,12 +47,18 @@ pub fn the_one_capture_is_without_restarts<A: AllocHandle>()
         ≡ capture_over session later start }
 {}
 
-/// Captures in a row, each by a restart of the session, have a concatenation. It has of each row the change
-/// that the one capture over all of them has: the same operation with the same records. It has the same
-/// indirect flag too, where all touches of the row have one, or where the row has changed at each restart. At
-/// the start the session has no touches; from then on it is enabled and not diffed.
+/// Of captures in a row, each by a restart of the session, each begins from the rows that the one before it
+/// leaves. They have a concatenation. It has of each row the change that the one capture over all of them has:
+/// the same operation with the same records. It has the same indirect flag too, where all touches of the row
+/// have one, or where the row has changed at each restart. At the start the session has no touches; from then
+/// on it is enabled and not diffed.
 pub fn captures_in_a_row_are_the_one_capture<A: AllocHandle>()
-    ensures { (session : ℕ) (start : Past A) (later : List (Event A)) (event : Event A)
+    ensures follow { (session : ℕ) (start : Past A) (later : List (Event A)) (event : Event A)
+        → touches session start ≡ [] → (is_accepted event.reply && restarts session event.command) ≡ true
+        → IsSteady session (event ∷ later) start → BlobsFitPast (event ∷ later ++ start)
+        → AreInARow (schema_of (main (event ∷ later ++ start))) (first_row session (event ∷ later) start)
+        (row_at (main (event ∷ later ++ start))) (captures session (event ∷ later) start) }
+    ensures concatenation { (session : ℕ) (start : Past A) (later : List (Event A)) (event : Event A)
         → touches session start ≡ [] → (is_accepted event.reply && restarts session event.command) ≡ true
         → IsSteady session (event ∷ later) start → BlobsFitPast (event ∷ later ++ start)
         → (groups : List (TableChanges A))
