@@ -15,7 +15,7 @@ ghost use Rattle.cap_core.specs.AppliedCapture.{GivesRows};
 ghost use Rattle.cap_core.specs.Capture.{session_changes};
 ghost use Rattle.cap_core.specs.History.{main};
 ghost use Rattle.cap_core.specs.Past.{Past, is_accepted};
-ghost use Rattle.cap_core.specs.Restarts.{AppliesAll, HoldsFirst, IsSteady, captures};
+ghost use Rattle.cap_core.specs.Restarts.{AppliesAll, AppliesAllPatches, HoldsFirst, IsSteady, captures};
 ghost use Rattle.cap_core.specs.Session.{session_of};
 ghost use Rattle.cap_core.specs.Table.{BlobsFitPast};
 ghost use Rattle.cap_core.specs.Touch.{restarts, touches};
@@ -24,7 +24,8 @@ ghost use Rattle.cap_captures.specs.Captures.{session_over};
 ghost use Rattle.cap_captures.specs.Rows.{AreInARow, HasTogether};
 
 use cap_apply::{
-    a_changeset_gives_the_rows_now, applied_blobs_keep_order, captures_fit_their_tables,
+    a_changeset_gives_the_rows_now, a_patchset_gives_the_rows_now, applied_blobs_keep_order,
+    captures_fit_their_tables,
 };
 use cap_database::{tables_keep_columns, tables_keep_order};
 use cap_value::AllocHandle;
@@ -73,10 +74,10 @@ pub fn captures_in_a_row_are_the_one_capture<A: AllocHandle>()
 /// Captures in a row, applied one after the other to a database that has, for each key touched over all of
 /// them, its table with the present columns and the first image, leave the database that their concatenation
 /// leaves. It has at each of these keys the row at the last restart, and all else as before. So it is under
-/// any policy.
+/// any policy. The patchsets of the captures, one after the other, leave the same.
 pub fn the_concatenation_applies_as_its_captures<A: AllocHandle>()
-    ensures { (policy : Policy) (session : ℕ) (start : Past A) (later : List (Event A)) (event : Event A)
-        (database : Tables A) (blob : Contents A)
+    ensures changesets { (policy : Policy) (session : ℕ) (start : Past A) (later : List (Event A))
+        (event : Event A) (database : Tables A) (blob : Contents A)
         → touches session start ≡ [] → (is_accepted event.reply && restarts session event.command) ≡ true
         → IsSteady session (event ∷ later) start → BlobsFitPast (event ∷ later ++ start)
         → AreRising database → HoldsFirst database session (event ∷ later) start
@@ -85,8 +86,19 @@ pub fn the_concatenation_applies_as_its_captures<A: AllocHandle>()
         × AppliesAll policy (captures session (event ∷ later) start) database left.database
         × GivesRows database (main (event ∷ later ++ start)) left.database
         (session_over session (event ∷ later) start).tables }
+    ensures patchsets { (policy : Policy) (session : ℕ) (start : Past A) (later : List (Event A))
+        (event : Event A) (database : Tables A) (blob : Contents A)
+        → touches session start ≡ [] → (is_accepted event.reply && restarts session event.command) ≡ true
+        → IsSteady session (event ∷ later) start → BlobsFitPast (event ∷ later ++ start)
+        → AreRising database → HoldsFirst database session (event ∷ later) start
+        → concat_of (map Changes (captures session (event ∷ later) start)) ≡ Ok blob
+        → (left : AppliedState A) × (apply database blob policy ≡ Ok left)
+        × AppliesAllPatches policy (captures session (event ∷ later) start) database left.database
+        × GivesRows database (main (event ∷ later ++ start)) left.database
+        (session_over session (event ∷ later) start).tables }
 {
     a_changeset_gives_the_rows_now::<A>();
+    a_patchset_gives_the_rows_now::<A>();
     applied_blobs_keep_order::<A>();
     captures_fit_their_tables::<A>();
     tables_keep_columns::<A>();
