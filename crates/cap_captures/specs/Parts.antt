@@ -32,8 +32,8 @@ module _ {A : Type 0} where
 
   -- After the history the session is enabled and restarted. Then each commit is carried out, and the session
   -- restarted after it. What is made has the concatenation of the two captures and the one capture over both.
-  -- The concatenation has of each row what the one capture has, and leaves of a database with the first images
-  -- what the two captures leave of it.
+  -- The concatenation has of each row what the one capture has, and leaves of a database with the first
+  -- images what the two captures leave of it.
   pub record IsInParts (h : List (Event A)) (session : ℕ) (first second : Command A) (made : InParts A)
       : Type 0 where
     pub start : Past A

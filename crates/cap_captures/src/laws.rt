@@ -49,10 +49,10 @@ pub fn the_one_capture_is_without_restarts<A: AllocHandle>()
 {}
 
 /// Of captures in a row, each by a restart of the session, each begins from the rows that the one before it
-/// leaves. They have a concatenation. It has of each row the change that the one capture over all of them has:
-/// the same operation with the same records. It has the same indirect flag too, where all touches of the row
-/// have one, or where the row has changed at each restart. At the start the session has no touches; from then
-/// on it is enabled and not diffed.
+/// leaves. They have a concatenation. It has of each row the change that the one capture over all of them
+/// has: the same operation with the same records. It has the same indirect flag too, where all touches of the
+/// row have one, or where the row has changed at each restart. At the start the session has no touches; from
+/// then on it is enabled and not diffed.
 pub fn captures_in_a_row_are_the_one_capture<A: AllocHandle>()
     ensures follow { (session : ℕ) (start : Past A) (later : List (Event A)) (event : Event A)
         → touches session start ≡ [] → (is_accepted event.reply && restarts session event.command) ≡ true
