@@ -25,7 +25,7 @@ use Rattle.cap_core.specs.AppliedCapture.{AppliesWhole, GivesRows, HoldsImages, 
 use Rattle.cap_core.specs.Capture.{session_changes}
 use Rattle.cap_core.specs.History.{main}
 use Rattle.cap_core.specs.Past.{Past, is_accepted}
-use Rattle.cap_core.specs.Restarts.{AppliesAll, HoldsFirst, IsSteady, captures, first_touched, touches_over}
+use Rattle.cap_core.specs.Restarts.{AppliesEach, HoldsFirst, IsSteady, captures, first_touched, touches_over}
 use Rattle.cap_core.specs.Session.{session_of}
 use Rattle.cap_core.specs.Table.{BlobsFitPast}
 use Rattle.cap_core.specs.Touch.{event_touches, restarts, touches}
@@ -38,10 +38,10 @@ use Rattle.cap_captures.proofs.PeriodLemmas as period
 use Rattle.cap_captures.proofs.RecordLemmas.{image-touched, session-record, sooner-none}
 
 module _ {A : Type 0} where
-  applies-append : (policy : Policy) (lists : List (List (TableChanges A))) (list : List (TableChanges A)) (start mid : Tables A) (next : AppliedState A) → AppliesAll policy lists start mid
-      → apply mid (Changes list) policy ≡ Ok next → AppliesAll policy (lists ++ list ∷ []) start next.database
-  applies-append policy [] list start mid next all is = (next, ap (λ tables. apply tables (Changes list) policy) (sym all) ∙ is, refl)
-  applies-append policy (first ∷ lists) list start mid next all is = (all.0, all.1, applies-append policy lists list all.0.database mid next all.2 is)
+  applies-append : (blob_of : List (TableChanges A) → Contents A) (policy : Policy) (lists : List (List (TableChanges A))) (list : List (TableChanges A)) (start mid : Tables A) (next : AppliedState A) → AppliesEach blob_of policy lists start mid
+      → apply mid (blob_of list) policy ≡ Ok next → AppliesEach blob_of policy (lists ++ list ∷ []) start next.database
+  applies-append blob_of policy [] list start mid next all is = (next, ap (λ tables. apply tables (blob_of list) policy) (sym all) ∙ is, refl)
+  applies-append blob_of policy (first ∷ lists) list start mid next all is = (all.0, all.1, applies-append blob_of policy lists list all.0.database mid next all.2 is)
 
   same_schema : (found : Option (TableState A)) → option_map (λ t. t.schema) (option_map but_keyed found) ≡ option_map (λ t. t.schema) found
   same_schema None = refl
@@ -57,6 +57,9 @@ module _ {A : Type 0} where
       (applies : (tables : Tables A) (blob : Contents A) (policy : Policy) → AreRising tables → FitsItsTables blob → IfOk (apply tables blob policy) (λ left. AreRising left.database))
       (gives : (policy : Policy) (ts : List (TableRows A)) (tables : Tables A) → AllBefore ts tables → GivesAllRowsNow policy ts (Changes (map group_of_rows ts)) tables)
       (fit : (ts : List (TableRows A)) (tables : Tables A) → AllBefore ts tables → AllDiffer ts → FitsItsTables (Changes (map group_of_rows ts)))
+      (blob_of : List (TableChanges A) → Contents A)
+      (gives_each : (policy : Policy) (ts : List (TableRows A)) (tables : Tables A) → AllBefore ts tables → GivesAllRowsNow policy ts (blob_of (map group_of_rows ts)) tables)
+      (fit_each : (ts : List (TableRows A)) (tables : Tables A) → AllBefore ts tables → AllDiffer ts → FitsItsTables (blob_of (map group_of_rows ts)))
       (policy : Policy) (database : Tables A) (rise : AreRising database) where
     abbrev Over : List (Event A) → List ℕ → Fields A → Option (Option (Fields A))
     Over later name key = first_touched (touches_over session later start) name key
@@ -100,7 +103,7 @@ module _ {A : Type 0} where
     -- what is left after the captures so far
     record Left (later : List (Event A)) : Type 0 where
       left : Tables A
-      applied : AppliesAll policy (captures session later start) database left
+      applied : AppliesEach blob_of policy (captures session later start) database left
       rising : AreRising left
       others : (name : List ℕ) → option_map but_keyed (table_of left name) ≡ option_map but_keyed (table_of database name)
       current : (name : List ℕ) (key : Fields A) (image : Option (Fields A)) → Since later name key ≡ Some image → row_at left name key ≡ image
@@ -126,7 +129,7 @@ module _ {A : Type 0} where
       other-left : (is_accepted event.reply && restarts session event.command) ≡ false → Left (event ∷ later)
       other-left kept_on = record {
         left = before.left;
-        applied = subst (λ lists. AppliesAll policy lists database before.left) (sym (ap (λ b. captures session later start ++ cond b (told ∷ []) []) kept_on ∙ append-nil (captures session later start))) before.applied;
+        applied = subst (λ lists. AppliesEach blob_of policy lists database before.left) (sym (ap (λ b. captures session later start ++ cond b (told ∷ []) []) kept_on ∙ append-nil (captures session later start))) before.applied;
         rising = before.rising;
         others = before.others;
         current = λ name key image is.
@@ -194,18 +197,18 @@ module _ {A : Type 0} where
           images = λ name key kept at. before.current name key kept.image (sym (record-touched name key) ∙ ap image_in at);
         }
 
-        whole : AppliesWhole policy (Changes list) (changes_in list) before.left (main (later ++ start)) tables_now
-        whole = changes_apply (later ++ start) session before.left before.rising main_now images-now Changes gives policy list refl
+        whole : AppliesWhole policy (blob_of list) (changes_in list) before.left (main (later ++ start)) tables_now
+        whole = changes_apply (later ++ start) session before.left before.rising main_now images-now blob_of gives_each policy list refl
 
-        list-fits : FitsItsTables (Changes list)
-        list-fits = capture_fits (later ++ start) session before.left before.rising main_now images-now Changes fit
+        list-fits : FitsItsTables (blob_of list)
+        list-fits = capture_fits (later ++ start) session before.left before.rising main_now images-now blob_of fit_each
 
         restart-left : Left (event ∷ later)
         restart-left = record {
           left = whole.0.database;
-          applied = subst (λ lists. AppliesAll policy lists database whole.0.database) (sym (ap (λ b. captures session later start ++ cond b (list ∷ []) []) restarted))
-              (applies-append policy (captures session later start) list database before.left whole.0 before.applied whole.1);
-          rising = subst (λ r. IfOk r (λ next. AreRising next.database)) whole.1 (applies before.left (Changes list) policy before.rising list-fits);
+          applied = subst (λ lists. AppliesEach blob_of policy lists database whole.0.database) (sym (ap (λ b. captures session later start ++ cond b (list ∷ []) []) restarted))
+              (applies-append blob_of policy (captures session later start) list database before.left whole.0 before.applied whole.1);
+          rising = subst (λ r. IfOk r (λ next. AreRising next.database)) whole.1 (applies before.left (blob_of list) policy before.rising list-fits);
           others = λ name. whole.2.others name ∙ before.others name;
           current = λ name key image is. let clash : None ≡ Some image = sym (since-restart event later name key restarted) ∙ is in cc;
           earlier = λ name key image is none.
@@ -262,13 +265,13 @@ module _ {A : Type 0} where
 
       -- the concatenation, whatever it is called
       pub as-one : (blob : Contents A) → concat_of (map Changes (captures session (event ∷ later) start)) ≡ Ok blob
-          → (left : AppliedState A) × (apply database blob policy ≡ Ok left) × AppliesAll policy (captures session (event ∷ later) start) database left.database
+          → (left : AppliedState A) × (apply database blob policy ≡ Ok left) × AppliesEach blob_of policy (captures session (event ∷ later) start) database left.database
           × GivesRows database (main (event ∷ later ++ start)) left.database (session_over session (event ∷ later) start).tables
       as-one blob is =
           let blob_is : Changes once.groups ≡ blob = ok_same (sym once.is ∙ is) in (
             once.left,
             ap (λ b. apply database b policy) (sym blob_is) ∙ once.applied,
-            subst (λ tables. AppliesAll policy (captures session (event ∷ later) start) database tables) (sym same-left) each.applied,
+            subst (λ tables. AppliesEach blob_of policy (captures session (event ∷ later) start) database tables) (sym same-left) each.applied,
             once.over-rows,
           )
         where

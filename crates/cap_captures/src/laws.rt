@@ -1,7 +1,8 @@
 //! Laws of captures in a row. The functions do nothing when they run.
 ghost use Rattle.std.specs.Prelude.{◌≡◌, ℕ, ◌&&◌, Bool, true, List, Ok, Option, [], ◌∷◌, ◌++◌, map};
 ghost use Rattle.cap_row.specs.Fields.{Fields};
-ghost use Rattle.cap_database.specs.Tables.{AreRising, Tables};
+ghost use Rattle.cap_database.specs.Read.{row_at};
+ghost use Rattle.cap_database.specs.Tables.{AreRising, Tables, schema_of};
 ghost use Rattle.cap_changes.specs.Group.{TableChanges};
 ghost use Rattle.cap_codec.specs.declared.read.Contents.{Contents};
 ghost use Rattle.cap_codec.specs.declared.read.Contents.TheVariants.{Changes};
@@ -14,15 +15,17 @@ ghost use Rattle.cap_core.specs.AppliedCapture.{GivesRows};
 ghost use Rattle.cap_core.specs.Capture.{session_changes};
 ghost use Rattle.cap_core.specs.History.{main};
 ghost use Rattle.cap_core.specs.Past.{Past, is_accepted};
-ghost use Rattle.cap_core.specs.Restarts.{AppliesAll, HoldsFirst, IsSteady, captures};
+ghost use Rattle.cap_core.specs.Restarts.{AppliesAll, AppliesAllPatches, HoldsFirst, IsSteady, captures};
 ghost use Rattle.cap_core.specs.Session.{session_of};
 ghost use Rattle.cap_core.specs.Table.{BlobsFitPast};
 ghost use Rattle.cap_core.specs.Touch.{restarts, touches};
-ghost use Rattle.cap_captures.specs.Captures.{AreUnrestarted, HasCaptureOver, capture_over, session_over};
+ghost use Rattle.cap_captures.specs.Captures.{AreUnrestarted, HasCaptureOver, capture_over, first_row};
+ghost use Rattle.cap_captures.specs.Captures.{session_over};
 ghost use Rattle.cap_captures.specs.Rows.{AreInARow, HasTogether};
 
 use cap_apply::{
-    a_changeset_gives_the_rows_now, applied_blobs_keep_order, captures_fit_their_tables,
+    a_changeset_gives_the_rows_now, a_patchset_gives_the_rows_now, applied_blobs_keep_order,
+    captures_fit_their_tables,
 };
 use cap_database::{tables_keep_columns, tables_keep_order};
 use cap_value::AllocHandle;
@@ -45,12 +48,18 @@ pub fn the_one_capture_is_without_restarts<A: AllocHandle>()
         ≡ capture_over session later start }
 {}
 
-/// Captures in a row, each by a restart of the session, have a concatenation. It has of each row the change
-/// that the one capture over all of them has: the same operation with the same records. It has the same
-/// indirect flag too, where all touches of the row have one, or where the row has changed at each restart. At
-/// the start the session has no touches; from then on it is enabled and not diffed.
+/// Of captures in a row, each by a restart of the session, each begins from the rows that the one before it
+/// leaves. They have a concatenation. It has of each row the change that the one capture over all of them
+/// has: the same operation with the same records. It has the same indirect flag too, where all touches of the
+/// row have one, or where the row has changed at each restart. At the start the session has no touches; from
+/// then on it is enabled and not diffed.
 pub fn captures_in_a_row_are_the_one_capture<A: AllocHandle>()
-    ensures { (session : ℕ) (start : Past A) (later : List (Event A)) (event : Event A)
+    ensures follow { (session : ℕ) (start : Past A) (later : List (Event A)) (event : Event A)
+        → touches session start ≡ [] → (is_accepted event.reply && restarts session event.command) ≡ true
+        → IsSteady session (event ∷ later) start → BlobsFitPast (event ∷ later ++ start)
+        → AreInARow (schema_of (main (event ∷ later ++ start))) (first_row session (event ∷ later) start)
+        (row_at (main (event ∷ later ++ start))) (captures session (event ∷ later) start) }
+    ensures concatenation { (session : ℕ) (start : Past A) (later : List (Event A)) (event : Event A)
         → touches session start ≡ [] → (is_accepted event.reply && restarts session event.command) ≡ true
         → IsSteady session (event ∷ later) start → BlobsFitPast (event ∷ later ++ start)
         → (groups : List (TableChanges A))
@@ -65,10 +74,10 @@ pub fn captures_in_a_row_are_the_one_capture<A: AllocHandle>()
 /// Captures in a row, applied one after the other to a database that has, for each key touched over all of
 /// them, its table with the present columns and the first image, leave the database that their concatenation
 /// leaves. It has at each of these keys the row at the last restart, and all else as before. So it is under
-/// any policy.
+/// any policy. The patchsets of the captures, one after the other, leave the same.
 pub fn the_concatenation_applies_as_its_captures<A: AllocHandle>()
-    ensures { (policy : Policy) (session : ℕ) (start : Past A) (later : List (Event A)) (event : Event A)
-        (database : Tables A) (blob : Contents A)
+    ensures changesets { (policy : Policy) (session : ℕ) (start : Past A) (later : List (Event A))
+        (event : Event A) (database : Tables A) (blob : Contents A)
         → touches session start ≡ [] → (is_accepted event.reply && restarts session event.command) ≡ true
         → IsSteady session (event ∷ later) start → BlobsFitPast (event ∷ later ++ start)
         → AreRising database → HoldsFirst database session (event ∷ later) start
@@ -77,8 +86,19 @@ pub fn the_concatenation_applies_as_its_captures<A: AllocHandle>()
         × AppliesAll policy (captures session (event ∷ later) start) database left.database
         × GivesRows database (main (event ∷ later ++ start)) left.database
         (session_over session (event ∷ later) start).tables }
+    ensures patchsets { (policy : Policy) (session : ℕ) (start : Past A) (later : List (Event A))
+        (event : Event A) (database : Tables A) (blob : Contents A)
+        → touches session start ≡ [] → (is_accepted event.reply && restarts session event.command) ≡ true
+        → IsSteady session (event ∷ later) start → BlobsFitPast (event ∷ later ++ start)
+        → AreRising database → HoldsFirst database session (event ∷ later) start
+        → concat_of (map Changes (captures session (event ∷ later) start)) ≡ Ok blob
+        → (left : AppliedState A) × (apply database blob policy ≡ Ok left)
+        × AppliesAllPatches policy (captures session (event ∷ later) start) database left.database
+        × GivesRows database (main (event ∷ later ++ start)) left.database
+        (session_over session (event ∷ later) start).tables }
 {
     a_changeset_gives_the_rows_now::<A>();
+    a_patchset_gives_the_rows_now::<A>();
     applied_blobs_keep_order::<A>();
     captures_fit_their_tables::<A>();
     tables_keep_columns::<A>();

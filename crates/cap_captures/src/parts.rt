@@ -43,9 +43,9 @@ pub struct InParts<A: AllocHandle> {
 }
 
 /// Enables a session of a server and restarts it. From there each of two commits is carried out, and the
-/// session restarted after it, which gives two captures. In place of that each is carried out, and the session
-/// captured after it, and then once more, which gives the whole. `None` where a command is refused or is no
-/// commit, or where the history is full. The server does not change.
+/// session restarted after it, which gives two captures. In place of that each is carried out, and the
+/// session captured after it, and then once more, which gives the whole. `None` where a command is refused or
+/// is no commit, or where the history is full. The server does not change.
 pub fn captured_in_two_parts<A: AllocHandle>(
     alloc: A,
     core: &Core<A>,

@@ -14,6 +14,6 @@ returns-in-Some-5 g c =
     comes-out c.args.first.now c.args.second.now one.0 two.0 h c.args.session on.0 on.1 c.in-Some-2.one.capture c.in-Some-3.two.capture one.1.0 two.1.0 c.in-Some-3.two.core
     (two.1.1 _ (one.1.1 _ begun)) all.0 all.1 c.in-Some-4.whole all.2.0 all.2.1 others.0 others.1
     (λ past session list is writable. c.bytes_of_a_capture_give_the_rows_now.ensures.changeset_read past session list Ones is writable)
-    c.captures_in_a_row_are_the_one_capture.ensures c.the_concatenation_applies_as_its_captures.ensures c.the_one_capture_is_without_restarts.ensures
+    c.captures_in_a_row_are_the_one_capture.ensures.concatenation c.the_concatenation_applies_as_its_captures.ensures.changesets c.the_one_capture_is_without_restarts.ensures
     c.is_writable.ensures.changeset c.is_writable-2.ensures.changeset c.in-Some-5.together
     (λ p q is is'. of_some _ c.in_ok-together.field-0 c.in-Some-5.together c.in-Some-5.is (of_ok _ c.concatenated.result c.in_ok-together.field-0 c.in_ok-together.was (c.concatenated.ensures p q is is')))
