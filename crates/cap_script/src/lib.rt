@@ -20,7 +20,7 @@ mod words;
 mod workload;
 
 pub use fault::ScriptFault;
-pub use laws::{misfit_lasts, one_workload, spelled_commands_fit};
+pub use laws::{one_workload, spelled_commands_fit, syntax_fault_lasts, syntax_fault_place};
 pub use line::{Line, Show};
 pub use lines::Lines;
 pub use reply::print_reply;
