@@ -13,6 +13,9 @@ mod NoneLemmas
 mod OneCommands
 mod OneForms
 mod OneTokens
+mod OpenForms
+mod OpenLaw
+mod OpenLemmas
 mod PlaceLaw
 mod PlaceLemmas
 mod ReadLemmas

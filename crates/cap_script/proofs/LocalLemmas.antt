@@ -82,7 +82,7 @@ token_some (blob bytes) here rest (digits, same, decoded) =
 token_some (sign s) here rest same = (s ∷ [], same, omega arith)
 
 -- a sign is no token of the scanner
-abbrev NoSign : Scanned → Type 0
+abbrev pub NoSign : Scanned → Type 0
 NoSign None = ⊤
 NoSign (Some (sign s, rest)) = ⊥
 NoSign (Some (word w, rest)) = ⊤
@@ -110,7 +110,7 @@ no_sign_blob_of (x ∷ y ∷ line) = no_sign_blob (run_of (λ byte. not (is_quot
 no_sign_integer : (negative : Bool) (parts : List ℕ × List ℕ) → NoSign (integer_in negative parts)
 no_sign_integer negative (digits, rest) = cond_both _ (Some (integer negative _, rest)) None NoSign (λ e. tt) (λ e. tt)
 
-no_sign_at : (here : List ℕ) → NoSign (token_at here)
+pub no_sign_at : (here : List ℕ) → NoSign (token_at here)
 unfolding token_at
 no_sign_at [] = tt
 no_sign_at (byte ∷ line) =
@@ -152,7 +152,7 @@ pub no_more_blanks : (line : List ℕ) → length (behind_blanks line) ≤ lengt
 no_more_blanks line = let (front, same, skips) = blanks_of line in let long = ap length same in omega (arith, long, length-append front (behind_blanks line))
 
 -- a byte behind spaces is no space
-first_no_blank : (byte : ℕ) (line : List ℕ) → behind_blanks (byte ∷ line) ≡ byte ∷ line → is_blank byte ≡ false
+pub first_no_blank : (byte : ℕ) (line : List ℕ) → behind_blanks (byte ∷ line) ≡ byte ∷ line → is_blank byte ≡ false
 first_no_blank byte line = by (is_blank byte)
   where
     by : (b : Bool) → cond b (behind_blanks line) (byte ∷ line) ≡ byte ∷ line → b ≡ false

@@ -11,7 +11,7 @@ use Rattle.cap_codec.specs.declared.fault.BlobFault.{BlobFault}
 use Rattle.cap_row.specs.Schema.{is_schema}
 use Rattle.cap_filter.specs.Reading.{filter_of}
 use Rattle.cap_filter.specs.Rule.{Rule}
-use Rattle.cap_script.specs.FaultPlace.{BeginAlike, HasMisfit, KeepsMisfit}
+use Rattle.cap_script.specs.FaultPlace.{BeginAlike, HasSyntaxFault, KeepsSyntaxFault}
 use Rattle.cap_script.specs.LineFaults.{answer, beyond_if, command, commands, contents, contents_read, field, fields, filter, filter_read, flag, is_key_letter, line, line_fault, more_operations, name, on_contents, on_operation, on_schema, on_value, on_worker, operation, operations, policy, row, row_words, schema, value, values, verbs, worker}
 use Rattle.cap_script.specs.Reading.{Outcome, Reading, Verdict, within_if, goes_on, unfit, exceeds, no_blob, a_sign, a_word, at_end, each, keyword, keyword_or_end, misfit, natural, on_natural, on_word, one_of, right_here, space_here, ◌⋙◌}
 use Rattle.cap_script.specs.Tokens.{Token, blob, integer, is_blank, sign, text, word}
@@ -21,17 +21,17 @@ use Rattle.cap_script.proofs.PlaceLemmas.{Local, LocalVerdict, NoFilter, local_a
 
 -- ---- tokens
 
-local_on_word : (judge : List ℕ → Verdict) → ((w : List ℕ) → LocalVerdict (judge w)) → (t : Token) → LocalVerdict (on_word judge t)
+pub local_on_word : (judge : List ℕ → Verdict) → ((w : List ℕ) → LocalVerdict (judge w)) → (t : Token) → LocalVerdict (on_word judge t)
 local_on_word judge local (word w) = local w
 local_on_word judge local (integer negative n) = tt
 local_on_word judge local (text t) = tt
 local_on_word judge local (blob bytes) = tt
 local_on_word judge local (sign s) = tt
 
-local_word : (judge : List ℕ → Verdict) → ((w : List ℕ) → LocalVerdict (judge w)) → Local (a_word judge)
+pub local_word : (judge : List ℕ → Verdict) → ((w : List ℕ) → LocalVerdict (judge w)) → Local (a_word judge)
 local_word judge local = local_next (on_word judge) (local_on_word judge local)
 
-local_on_natural : (judge : ℕ → Verdict) → ((n : ℕ) → LocalVerdict (judge n)) → (t : Token) → LocalVerdict (on_natural judge t)
+pub local_on_natural : (judge : ℕ → Verdict) → ((n : ℕ) → LocalVerdict (judge n)) → (t : Token) → LocalVerdict (on_natural judge t)
 local_on_natural judge local (word w) = tt
 local_on_natural judge local (integer true n) = tt
 local_on_natural judge local (integer false n) = local n
@@ -39,50 +39,50 @@ local_on_natural judge local (text t) = tt
 local_on_natural judge local (blob bytes) = tt
 local_on_natural judge local (sign s) = tt
 
-local_natural : Local natural
+pub local_natural : Local natural
 local_natural = local_next (on_natural (λ n. goes_on (λ rest. Ok rest))) (local_on_natural (λ n. goes_on (λ rest. Ok rest)) (λ n. local_ok))
 
-local_keyword : (w : List ℕ) → Local (keyword w)
+pub local_keyword : (w : List ℕ) → Local (keyword w)
 local_keyword w = local_word _ (λ found. local_fits_if (bytes_eq found w))
 
-local_keyword_or_end : (w : List ℕ) → Local (keyword_or_end w)
+pub local_keyword_or_end : (w : List ℕ) → Local (keyword_or_end w)
 local_keyword_or_end w = local_unless_end (keyword w) (local_keyword w)
 
-local_at_end : Local at_end
+pub local_at_end : Local at_end
 local_at_end = local_unless_end (λ here. Err (misfit here)) local_misfit
 
-local_name : Local name
+pub local_name : Local name
 local_name = local_word _ (λ w. local_within_if (is_name w) BadName)
 
-local_on_schema : (w : List ℕ) → LocalVerdict (on_schema w)
+pub local_on_schema : (w : List ℕ) → LocalVerdict (on_schema w)
 local_on_schema w =
     cond_both (list_all is_key_letter w) (within_if (is_schema (map (λ letter. eqb letter 107) w)) BadSchema) unfit LocalVerdict (λ e. local_within_if (is_schema (map (λ letter. eqb letter 107) w)) BadSchema) (λ e. tt)
 
-local_schema : Local schema
+pub local_schema : Local schema
 local_schema = local_word on_schema local_on_schema
 
-local_on_value : (t : Token) → LocalVerdict (on_value t)
+pub local_on_value : (t : Token) → LocalVerdict (on_value t)
 local_on_value (word w) = local_fits_if (bytes_eq w (codes "null"))
 local_on_value (integer negative n) = local_ok
 local_on_value (text t) = local_within_if (leb (length t) 1000000000) TooLong
 local_on_value (blob bytes) = local_within_if (leb (length bytes) 1000000000) TooLong
 local_on_value (sign s) = tt
 
-local_value : Local value
+pub local_value : Local value
 local_value = local_next on_value local_on_value
 
 -- ---- rows and operations
 
-local_values : Local values
+pub local_values : Local values
 local_values = local_both (a_sign 40) (value ⋙ each 44 value ⋙ a_sign 41) (local_a_sign 40) (local_both value (each 44 value ⋙ a_sign 41) local_value (local_both (each 44 value) (a_sign 41) (local_each 44 value local_value) (local_a_sign 41)))
 
-local_row : Local row
+pub local_row : Local row
 local_row = local_word _ (local_one_of row_words (local_values, (local_natural, tt)))
 
-local_field : Local field
+pub local_field : Local field
 local_field = local_both natural (a_sign 61 ⋙ value) local_natural (local_both (a_sign 61) value (local_a_sign 61) local_value)
 
-local_fields : Local fields
+pub local_fields : Local fields
 local_fields = local_both field (each 44 field) local_field (local_each 44 field local_field)
 
 local_insert : Local (name ⋙ values)
@@ -94,53 +94,53 @@ local_update = local_both name (row ⋙ keyword (codes "set") ⋙ fields) local_
 local_delete : Local (name ⋙ row)
 local_delete = local_both name row local_name local_row
 
-local_verbs : (w : List ℕ) → LocalVerdict (one_of verbs w)
+pub local_verbs : (w : List ℕ) → LocalVerdict (one_of verbs w)
 local_verbs = local_one_of verbs (local_insert, (local_update, (local_delete, tt)))
 
-local_on_operation : (w : List ℕ) → LocalVerdict (on_operation w)
+pub local_on_operation : (w : List ℕ) → LocalVerdict (on_operation w)
 local_on_operation = local_one_of ((codes "cascade", a_word (one_of verbs)) ∷ verbs) (local_word _ local_verbs, (local_insert, (local_update, (local_delete, tt))))
 
-local_beyond : (is_full : Bool) (v : Verdict) → LocalVerdict v → LocalVerdict (beyond_if is_full v)
+pub local_beyond : (is_full : Bool) (v : Verdict) → LocalVerdict v → LocalVerdict (beyond_if is_full v)
 local_beyond false v local = local
 local_beyond true (goes_on read) local = tt
 local_beyond true unfit local = tt
 local_beyond true (exceeds why) local = tt
 local_beyond true (no_blob why) local = tt
 
-local_operation : (is_full : Bool) → Local (operation is_full)
+pub local_operation : (is_full : Bool) → Local (operation is_full)
 local_operation is_full = local_word _ (λ w. local_beyond is_full (on_operation w) (local_on_operation w))
 
-local_more_operations : (room : ℕ) → Local (more_operations room)
+pub local_more_operations : (room : ℕ) → Local (more_operations room)
 unfolding more_operations
 local_more_operations zero = local_where 59 (operation true) (local_operation true)
 local_more_operations (suc room) = local_where 59 (operation false ⋙ more_operations room) (local_both (operation false) (more_operations room) (local_operation false) (local_more_operations room))
 
-local_operations : Local operations
+pub local_operations : Local operations
 local_operations = local_both (operation false) (more_operations 9999) (local_operation false) (local_more_operations 9999)
 
 -- ---- answers, flags and workers
 
-local_answer : Local answer
+pub local_answer : Local answer
 local_answer = local_word _ (local_any_of (codes "omit" ∷ codes "replace" ∷ codes "abort" ∷ []))
 
-local_policy : Local policy
+pub local_policy : Local policy
 local_policy = local_both answer (answer ⋙ answer) local_answer (local_both answer answer local_answer local_answer)
 
-local_flag : Local flag
+pub local_flag : Local flag
 local_flag = local_word _ (local_any_of (codes "on" ∷ codes "off" ∷ codes "ask" ∷ []))
 
-local_worker : Local worker
+pub local_worker : Local worker
 local_worker =
     local_where 64 (right_here (on_natural on_worker) ⋙ space_here)
     (local_both (right_here (on_natural on_worker)) space_here (local_here (on_natural on_worker) (local_on_natural on_worker (λ n. local_fits_if (leb n 63)))) (local_test is_blank (λ here. Ok here) (λ here. Err (misfit here)) local_ok local_misfit))
 
 -- ---- filters
 
-abbrev taken : Outcome → List ℕ
+abbrev pub taken : Outcome → List ℕ
 taken (Ok rest) = rest
 taken (Err fault) = []
 
-abbrev left_of : Outcome → ℕ
+abbrev pub left_of : Outcome → ℕ
 left_of (Err (Syntax left)) = left
 left_of _ = 0
 
@@ -154,11 +154,11 @@ filter_stops bytes left (Ok rule) e = absurd cc
 filter_stops bytes left (Err (BadFilter at)) e = let same = ap left_of e in omega (arith, same)
 filter_stops bytes left (Err why) e = absurd cc
 
-no_list : (a b : List ℕ) → a ++ b ≡ [] → b ≡ []
+pub no_list : (a b : List ℕ) → a ++ b ≡ [] → b ≡ []
 no_list [] b e = e
 no_list (c ∷ a) b e = absurd cc
 
-alike_none : (behind more : List ℕ) → BeginAlike behind more → behind ≡ [] → more ≡ []
+pub alike_none : (behind more : List ℕ) → BeginAlike behind more → behind ≡ [] → more ≡ []
 alike_none [] more alike e = alike
 alike_none (byte ∷ behind) more alike e = absurd cc
 
@@ -175,7 +175,7 @@ filter_misfits front behind more (Ok rule) none is e = absurd cc
 filter_misfits front behind more (Err (BadFilter at)) none is e = absurd (none ([], front ++ behind, at, refl, is, sym (ap left_of e)))
 filter_misfits front behind more (Err why) none is e = absurd cc
 
-local_filter : Local filter
+pub local_filter : Local filter
 local_filter = record {
   ends = λ bytes rest e. filter_ends bytes rest (filter_of bytes) e;
   stops = λ bytes left e. filter_stops bytes left (filter_of bytes) e;
@@ -193,35 +193,38 @@ some_same : (f g : LineFault) → ◌≡◌ {A = Option LineFault} (Some f) (Som
 some_same f g e = cc
 
 module _ (A : Type 0) where
-  local_on_contents : (t : Token) → LocalVerdict (on_contents A t)
+  pub local_on_contents : (t : Token) → LocalVerdict (on_contents A t)
   local_on_contents (word w) = tt
   local_on_contents (integer negative n) = tt
   local_on_contents (text t) = tt
   local_on_contents (blob bytes) = cond_both (leb (length bytes) 1000000000) (contents_read (blob_at {A = A} bytes)) (exceeds TooLong) LocalVerdict (λ e. judged_contents (blob_at {A = A} bytes)) (λ e. tt)
   local_on_contents (sign s) = tt
 
-  local_contents : Local (contents A)
+  pub local_contents : Local (contents A)
   local_contents = local_next (on_contents A) local_on_contents
 
   local_apply : Local (contents A ⋙ policy ⋙ keyword_or_end (codes "report"))
   local_apply = local_both (contents A) (policy ⋙ keyword_or_end (codes "report")) local_contents (local_both policy (keyword_or_end (codes "report")) local_policy (local_keyword_or_end (codes "report")))
 
-  with_session : (read : Reading) → Local read → Local (natural ⋙ read)
+  pub with_session : (read : Reading) → Local read → Local (natural ⋙ read)
   with_session read local = local_both natural read local_natural local
 
-  local_command : Local (command A)
-  local_command = local_word _ (local_one_of (commands A) (local_both name schema local_name local_schema, (local_operations, (with_session operations local_operations, (local_apply, (local_both name row local_name local_row, (local_name, (local_name, (local_ok, (local_natural, (with_session name local_name, (local_natural, (with_session filter local_filter, (with_session flag local_flag, (with_session flag local_flag, (local_natural, (with_session (name ⋙ name) (local_both name name local_name local_name), (with_session (keyword_or_end (codes "places")) (local_keyword_or_end (codes "places")), (with_session (keyword_or_end (codes "places")) (local_keyword_or_end (codes "places")), (with_session (keyword_or_end (codes "places")) (local_keyword_or_end (codes "places")), tt))))))))))))))))))))
+  pub local_on_commands : (w : List ℕ) → LocalVerdict (one_of (commands A) w)
+  local_on_commands = local_one_of (commands A) (local_both name schema local_name local_schema, (local_operations, (with_session operations local_operations, (local_apply, (local_both name row local_name local_row, (local_name, (local_name, (local_ok, (local_natural, (with_session name local_name, (local_natural, (with_session filter local_filter, (with_session flag local_flag, (with_session flag local_flag, (local_natural, (with_session (name ⋙ name) (local_both name name local_name local_name), (with_session (keyword_or_end (codes "places")) (local_keyword_or_end (codes "places")), (with_session (keyword_or_end (codes "places")) (local_keyword_or_end (codes "places")), (with_session (keyword_or_end (codes "places")) (local_keyword_or_end (codes "places")), tt)))))))))))))))))))
 
-  local_line : Local (line A)
+  pub local_command : Local (command A)
+  local_command = local_word (one_of (commands A)) local_on_commands
+
+  pub local_line : Local (line A)
   local_line = local_both worker (command A ⋙ at_end) local_worker (local_both (command A) at_end local_command local_at_end)
 
-  of_err : (left : ℕ) (o : Outcome) → result_err o ≡ Some (Syntax left) → o ≡ Err (Syntax left)
+  pub of_err : (left : ℕ) (o : Outcome) → result_err o ≡ Some (Syntax left) → o ≡ Err (Syntax left)
   of_err left (Ok rest) e = absurd cc
   of_err left (Err fault) e = ap (λ (f : LineFault). Err f) (some_same fault (Syntax left) e)
 
   -- where no filter is at fault
-  pub misfit_kept : (bytes : List ℕ) (left : ℕ) → HasMisfit A bytes left → NoFilter bytes left → KeepsMisfit A bytes left
-  unfolding line_fault KeepsMisfit
+  pub misfit_kept : (bytes : List ℕ) (left : ℕ) → HasSyntaxFault A bytes left → NoFilter bytes left → KeepsSyntaxFault A bytes left
+  unfolding line_fault KeepsSyntaxFault
   misfit_kept bytes left e none =
       let read = of_err left (line A bytes) e in
       let few = local_line.stops bytes left read in

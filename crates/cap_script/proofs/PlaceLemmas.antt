@@ -36,20 +36,20 @@ abbrev left_of : Outcome → ℕ
 left_of (Err (Syntax left)) = left
 left_of _ = 0
 
-same_rest : (a b : List ℕ) → ◌≡◌ {A = Outcome} (Ok a) (Ok b) → a ≡ b
+pub same_rest : (a b : List ℕ) → ◌≡◌ {A = Outcome} (Ok a) (Ok b) → a ≡ b
 same_rest a b e = ap rest_of e
 
-same_left : (m n : ℕ) → ◌≡◌ {A = Outcome} (Err (Syntax m)) (Err (Syntax n)) → m ≡ n
+pub same_left : (m n : ℕ) → ◌≡◌ {A = Outcome} (Err (Syntax m)) (Err (Syntax n)) → m ≡ n
 same_left m n e = ap left_of e
 
-abbrev read_to : List ℕ → Outcome
+abbrev pub read_to : List ℕ → Outcome
 read_to rest = Ok rest
 
-filter_behind : (front line whole : List ℕ) (left : ℕ) → whole ≡ front ++ line → NoFilter whole left → NoFilter line left
+pub filter_behind : (front line whole : List ℕ) (left : ℕ) → whole ≡ front ++ line → NoFilter whole left → NoFilter line left
 filter_behind front line whole left same none (before, filter, at, is, refused, place) =
     none (front ++ before, filter, at, same ∙ ap (λ (l : List ℕ). front ++ l) is ∙ sym (append_assoc front before filter), refused, place)
 
-none_before : (front behind : List ℕ) → length (front ++ behind) ≡ length behind → front ≡ []
+pub none_before : (front behind : List ℕ) → length (front ++ behind) ≡ length behind → front ≡ []
 none_before [] behind e = refl
 none_before (c ∷ front) behind e = absurd (omega (arith, e, length-append front behind))
 
@@ -220,8 +220,11 @@ module _ (next : Reading) (local : Local next) where
   end_misfits [] (byte ∷ behind) (c ∷ more) alike none e = local.misfits [] (byte ∷ behind) (c ∷ more) alike none e
   end_misfits (c ∷ front) behind more alike none e = local.misfits (c ∷ front) behind more alike none e
 
+  pub local_end_here : Local (unless_end next)
+  local_end_here = record { ends = end_ends; stops = end_stops; goes = end_goes; misfits = end_misfits }
+
   pub local_unless_end : Local (λ line. unless_end next (behind_blanks line))
-  local_unless_end = local_skip (unless_end next) (record { ends = end_ends; stops = end_stops; goes = end_goes; misfits = end_misfits })
+  local_unless_end = local_skip (unless_end next) local_end_here
 
 -- ---- a test of the next byte
 
@@ -268,7 +271,7 @@ some_alike t r [] more alike is = (r, subst (λ (m : List ℕ). token_at m ≡ S
 some_alike t r (byte ∷ behind) [] alike is = absurd alike
 some_alike t r (byte ∷ behind) (c ∷ more) alike is = some_alike_by t r (token_at (byte ∷ behind)) (token_at (c ∷ more)) alike.1 is
 
-some_front : (front behind p r q : List ℕ) → front ++ behind ≡ p ++ r → r ≡ q ++ behind → 0 < length p → 0 < length front
+pub some_front : (front behind p r q : List ℕ) → front ++ behind ≡ p ++ r → r ≡ q ++ behind → 0 < length p → 0 < length front
 some_front front behind p r q same is some =
     let whole = ap length same in
     let tail = ap length is in
@@ -403,7 +406,7 @@ module _ (s : ℕ) (item : Reading) (local : Local item) where
       (λ here shorter. items_by m n here [] (item here) refl
       (λ mid shorter_too. enough m n mid (omega (arith, few, shorter, shorter_too, no_more_blanks line)) (omega (arith, less, shorter, shorter_too, no_more_blanks line))))
 
-  enough_at : (n : ℕ) (line : List ℕ) → length line ≤ n → each s item line ≡ at_most n s item line
+  pub enough_at : (n : ℕ) (line : List ℕ) → length line ≤ n → each s item line ≡ at_most n s item line
   enough_at n line few = enough (length line) n line (le_refl (length line)) few
 
   pub local_each : Local (each s item)

@@ -161,7 +161,7 @@ digit_no_minus byte e = grind (arith, nat_tests)
 digit_no_x : (byte : ℕ) → is_ascii_digit byte ≡ true → eqb byte 120 ≡ false
 digit_no_x byte e = grind (arith, nat_tests)
 
-no_blob_by : (byte : ℕ) (line : List ℕ) → eqb byte 120 ≡ false → begins_blob (byte ∷ line) ≡ false
+pub no_blob_by : (byte : ℕ) (line : List ℕ) → eqb byte 120 ≡ false → begins_blob (byte ∷ line) ≡ false
 no_blob_by byte [] e = refl
 no_blob_by byte (next ∷ line) e = rw e refl
 

@@ -1,12 +1,12 @@
 -- At which token a line stops being that of a command.
-use Rattle.std.specs.Prelude.{◌≡◌, ℕ, ◌-◌, List, [], ◌∷◌, ◌++◌, length, Option, Some, Err}
+use Rattle.std.specs.Prelude.{◌≡◌, ◌⊎◌, ℕ, ◌-◌, List, [], ◌∷◌, ◌++◌, length, Option, Some, None, Err}
 use Rattle.std.specs.Option.{option_map}
-use Rattle.cap_value.specs.declared.refusal.Refusal.TheVariants.{BadFilter}
+use Rattle.cap_value.specs.declared.refusal.Refusal.TheVariants.{BadFilter, TooMany}
 use Rattle.cap_filter.specs.Reading.{filter_of}
 use Rattle.cap_script.specs.LineFaults.{line_fault}
 use Rattle.cap_script.specs.Scanning.{token_at}
 use Rattle.cap_script.specs.Tokens.{Token}
-use Rattle.cap_script.specs.declared.fault.LineFault.TheVariants.{Syntax}
+use Rattle.cap_script.specs.declared.fault.LineFault.TheVariants.{Limit, Syntax}
 
 -- the word, integer, text or blob that the text begins with
 abbrev pub first_token : List ℕ → Option Token
@@ -26,11 +26,18 @@ InFilter line left =
     × (filter_of filter ≡ Err (BadFilter at)) × (left ≡ length filter - at)
 
 -- the line has a fault of syntax, from whose token on it has this many bytes
-abbrev pub HasMisfit : Type 0 → List ℕ → ℕ → Type 0
-HasMisfit A line left = line_fault A line ≡ Some (Syntax left)
+abbrev pub HasSyntaxFault : Type 0 → List ℕ → ℕ → Type 0
+HasSyntaxFault A line left = line_fault A line ≡ Some (Syntax left)
 
 -- Each line that has the bytes before that token, and goes on with the same token, has the fault there.
-unfoldable pub KeepsMisfit : Type 0 → List ℕ → ℕ → Type 0
-KeepsMisfit A line left =
+unfoldable pub KeepsSyntaxFault : Type 0 → List ℕ → ℕ → Type 0
+KeepsSyntaxFault A line left =
     (front : List ℕ) × (behind : List ℕ) × (line ≡ front ++ behind) × (left ≡ length behind)
-    × ((more : List ℕ) → BeginAlike behind more → HasMisfit A (front ++ more) (length more))
+    × ((more : List ℕ) → BeginAlike behind more → HasSyntaxFault A (front ++ more) (length more))
+
+-- What stands before that token begins a line that is read, or one with a 10,001st operation.
+unfoldable pub BeginsLine : Type 0 → List ℕ → ℕ → Type 0
+BeginsLine A line left =
+    (front : List ℕ) × (behind : List ℕ) × (line ≡ front ++ behind) × (left ≡ length behind)
+    × (more : List ℕ)
+    × ((line_fault A (front ++ more) ≡ None) ⊎ (line_fault A (front ++ more) ≡ Some (Limit TooMany)))
