@@ -9,11 +9,8 @@ use Rattle.cap_codec.specs.BlobReading.{blob_at}
 use Rattle.cap_codec.specs.declared.fault.BlobFault.{BlobFault}
 use Rattle.hex.specs.Hex.{decode_of, decode_pairs}
 use Rattle.cap_filter.specs.Printed.{quote}
-use Rattle.cap_filter.specs.Reading.{filter_of, keyword_of, run}
-use Rattle.cap_filter.specs.Rule.{Rule}
-use Rattle.cap_filter.specs.Tokens.{tokens_from}
-use Rattle.cap_script.specs.FaultPlace.{BeginsLine, HasSyntaxFault}
-use Rattle.cap_script.specs.LineFaults.{command, commands, contents, contents_read, filter, filter_read, flag, line, line_fault, name, on_contents, on_worker, operations, policy, row, schema, worker}
+use Rattle.cap_script.specs.FaultPlace.{BeginsLine, HasSyntaxFault, SetsFilter}
+use Rattle.cap_script.specs.LineFaults.{contents, contents_read, flag, line, line_fault, name, on_contents, on_worker, operations, policy, row, schema, worker}
 use Rattle.cap_script.specs.Reading.{Outcome, Reading, Verdict, exceeds, fits, fits_if, judged, scanned, misfit, at_end, by_sign, keyword, keyword_or_end, natural, next, on_natural, on_word, one_of, right_here, space_here, unless_end, ◌>>=◌, ◌⋙◌}
 use Rattle.cap_script.specs.Scanning.{Scanned, token_at}
 use Rattle.cap_script.specs.Tokens.{Token, begins, behind_blanks, blob, integer, is_blank, sign, text, word}
@@ -21,7 +18,7 @@ use Rattle.cap_script.specs.declared.fault.LineFault.TheVariants.{Limit, Syntax}
 use Rattle.cap_script.proofs.LocalLemmas.{blanks_of, found_some, longer_end, same_end}
 use Rattle.cap_script.proofs.OpenForms.{goes_64, form_flag, form_name, form_natural, form_operations, form_places, form_policy, form_report, form_row, form_schema, open_on_word, open_one_of, session_sample}
 use Rattle.cap_script.proofs.OpenLemmas.{Ends, Finish, Form, Here, Nothing, Open, OpenVerdict, Reached, Sample, Skips, Tail, blanks_at, ends_at, form_both, form_next, found_tail, goes_with, never_idle, nothing_tail, only_blanks, open_both, open_next, open_ok, open_skip, reached, reached_at, sample_both, tail_sign, weaker}
-use Rattle.cap_script.proofs.PlaceLaw.{local_at_end, local_command, local_keyword_or_end, local_line, local_natural, local_on_contents, local_on_natural, local_on_word, local_worker, no_list, of_err, taken, local_on_commands}
+use Rattle.cap_script.proofs.PlaceLaw.{line_agrees, local_at_end, local_contents, local_keyword_or_end, local_natural, local_on_contents, local_on_natural, local_on_others, local_on_word, local_other_command, local_other_line, local_worker, never, no_filter_in, of_err, other_command, other_line, others}
 use Rattle.cap_script.proofs.PlaceLemmas.{Local, LocalVerdict, NoFilter, filter_behind, local_end_here, local_here, local_misfit, local_ok, local_sign, local_test, local_both, none_before, read_to, same_left, same_rest, some_front}
 use Rattle.cap_script.proofs.ScanLemmas.{blob_is}
 use Rattle.cap_script.proofs.TokenLemmas.{blanks_twice}
@@ -221,68 +218,10 @@ worker_done front behind e =
     let (p, at) = longer_end front blanks behind (behind_blanks (front ++ behind)) same (local_at_sign.stops (behind_blanks (front ++ behind)) (length behind) e) in
     worker_done_by front behind p at e
 
--- ---- filters
+-- ---- lines that set no filter
 
-abbrev on_any : Token → Verdict
-on_any = on_natural (λ n. fits)
-
-any_refused : (here left : List ℕ) (found : Scanned) → scanned on_any here found ≡ Err (Syntax (length left)) → length here ≡ length left
-any_refused here left None e = same_left (length here) (length left) e
-any_refused here left (Some (word w, r)) e = same_left (length here) (length left) e
-any_refused here left (Some (integer true n, r)) e = same_left (length here) (length left) e
-any_refused here left (Some (integer false n, r)) e = absurd cc
-any_refused here left (Some (text t, r)) e = same_left (length here) (length left) e
-any_refused here left (Some (blob bytes, r)) e = same_left (length here) (length left) e
-any_refused here left (Some (sign s, r)) e = same_left (length here) (length left) e
-
-one_first : natural (32 ∷ codes "1 all") ≡ Ok (codes " all")
-unfolding token_at
-one_first = refl
-
-all_read : filter (codes " all") ≡ Ok []
-unfolding filter_of run tokens_from keyword_of
-all_read = refl
-
-filter_nothing : (bytes rest behind : List ℕ) (r : Result Rule Refusal) → filter_read bytes r ≡ Ok (rest ++ behind) → behind ≡ []
-filter_nothing bytes rest behind (Ok rule) e = no_list rest behind (sym (ap taken e))
-filter_nothing bytes rest behind (Err (BadFilter at)) e = absurd cc
-filter_nothing bytes rest behind (Err why) e = absurd cc
-
-filter_fault : (a mid whole behind : List ℕ) (r : Result Rule Refusal) → whole ≡ a ++ mid → NoFilter whole (length behind) → filter_of mid ≡ r → filter_read mid r ≡ Err (Syntax (length behind)) → ⊥
-filter_fault a mid whole behind (Ok rule) same none is e = absurd cc
-filter_fault a mid whole behind (Err (BadFilter at)) same none is e = none (a, mid, at, same, is, sym (same_left (length mid - at) (length behind) e))
-filter_fault a mid whole behind (Err why) same none is e = absurd cc
-
-filter_finish : (front behind : List ℕ) (o : Outcome) → NoFilter (front ++ behind) (length behind) → natural (front ++ behind) ≡ o → (o >>= filter) ≡ Err (Syntax (length behind)) → Finish Nothing (natural ⋙ filter) front
-filter_finish front behind (Err fault) none is e =
-    let long = any_refused (behind_blanks (front ++ behind)) behind (token_at (behind_blanks (front ++ behind))) (is ∙ e) in
-    let (blanks, same, skips) = blanks_of (front ++ behind) in
-    let (p, at) = longer_end front blanks behind (behind_blanks (front ++ behind)) same (omega (arith, long)) in
-    let empty : p ≡ [] = same_end p behind (behind_blanks (front ++ behind)) at long in
-    let here : behind_blanks (front ++ behind) ≡ behind = at ∙ ap (λ (l : List ℕ). l ++ behind) empty in
-    let done : (natural ⋙ filter) (front ++ (32 ∷ (codes "1 all"))) ≡ Ok [] =
-    ap (λ (l : List ℕ). right_here on_any l >>= filter) (only_blanks front behind (32 ∷ codes "1 all") here) ∙ ap (λ (o : Outcome). o >>= filter) one_first ∙ all_read in
-    record {
-      text = codes "1 all";
-      tail = λ line nil. subst (λ (l : List ℕ). Tail (32 ∷ (codes "1 all" ++ l))) (sym nil) (refl, refl);
-      ends = λ line nil. inl (subst (λ (l : List ℕ). Reached ((natural ⋙ filter) (front ++ (32 ∷ (codes "1 all" ++ l)))) l) (sym nil) ([], done, refl));
-    }
-filter_finish front behind (Ok mid) none is e =
-    let (a, same) = local_natural.ends (front ++ behind) mid is in
-    absurd (filter_fault a mid (front ++ behind) behind (filter_of mid) same none refl e)
-
-filter_pass : (front rest behind line : List ℕ) (o : Outcome) → Nothing line → natural (front ++ behind) ≡ o → (o >>= filter) ≡ Ok (rest ++ behind) → Reached ((natural ⋙ filter) (front ++ line)) (rest ++ line)
-filter_pass front rest behind line (Err fault) nil is e = absurd cc
-filter_pass front rest behind line (Ok mid) nil is e =
-    let none : behind ≡ [] = filter_nothing mid rest behind (filter_of mid) e in
-    let same : line ≡ behind = nil ∙ sym none in
-    subst (λ (l : List ℕ). Reached ((natural ⋙ filter) (front ++ l)) (rest ++ l)) (sym same) (reached_at ((natural ⋙ filter) (front ++ behind)) (Ok (rest ++ behind)) (rest ++ behind) (ap (λ (o : Outcome). o >>= filter) is ∙ e) (reached (rest ++ behind)))
-
-open_filter : Open Nothing (natural ⋙ filter)
-open_filter = record {
-  passes = λ front rest behind line nil e. filter_pass front rest behind line (natural (front ++ behind)) nil refl e;
-  finishes = λ front behind none e. filter_finish front behind (natural (front ++ behind)) none refl e;
-}
+open_never : Open Nothing never
+open_never = record { passes = λ front rest behind line nil e. absurd cc; finishes = λ front behind none e. absurd cc }
 
 -- ---- commands
 
@@ -342,29 +281,29 @@ module _ (A : Type 0) where
       (sample_both Nothing policy (keyword_or_end (codes "report")) second.local local_end second.inner end skips sample second.sample) nothing_tail
 
   abbrev on_command : Token → Verdict
-  on_command = on_word (one_of (commands A))
+  on_command = on_word (one_of (others A))
 
-  all_local : (w : List ℕ) → LocalVerdict (one_of (commands A) w)
-  all_local w = local_on_commands A w
+  all_local : (w : List ℕ) → LocalVerdict (one_of (others A) w)
+  all_local w = local_on_others A w
 
-  open_commands : (w : List ℕ) → OpenVerdict Nothing (one_of (commands A) w)
-  open_commands = open_one_of Nothing (commands A) (open_inner (name ⋙ schema) (form_both name schema form_name form_schema), (open_inner operations form_operations, (open_session operations form_operations, (open_apply, (open_inner (name ⋙ row) (form_both name row form_name form_row), (open_inner name form_name, (open_inner name form_name, (open_ok Nothing, (open_inner natural form_natural, (open_session name form_name, (open_inner natural form_natural, (open_filter, (open_session flag form_flag, (open_session flag form_flag, (open_inner natural form_natural, (open_session (name ⋙ name) (form_both name name form_name form_name), (open_places, (open_places, (open_places, tt)))))))))))))))))))
+  open_commands : (w : List ℕ) → OpenVerdict Nothing (one_of (others A) w)
+  open_commands = open_one_of Nothing (others A) (open_inner (name ⋙ schema) (form_both name schema form_name form_schema), (open_inner operations form_operations, (open_session operations form_operations, (open_apply, (open_inner (name ⋙ row) (form_both name row form_name form_row), (open_inner name form_name, (open_inner name form_name, (open_ok Nothing, (open_inner natural form_natural, (open_session name form_name, (open_inner natural form_natural, (open_never, (open_session flag form_flag, (open_session flag form_flag, (open_inner natural form_natural, (open_session (name ⋙ name) (form_both name name form_name form_name), (open_places, (open_places, (open_places, tt)))))))))))))))))))
 
   command_verdict : (t : Token) → LocalVerdict (on_command t)
-  command_verdict = local_on_word (one_of (commands A)) all_local
+  command_verdict = local_on_word (one_of (others A)) all_local
 
   open_verdict : (t : Token) → OpenVerdict Nothing (on_command t)
-  open_verdict = open_on_word Nothing (one_of (commands A)) open_commands
+  open_verdict = open_on_word Nothing (one_of (others A)) open_commands
 
-  session_first : Sample Tail (command A)
+  session_first : Sample Tail (other_command A)
   session_first = session_sample on_command refl
 
-  session_finish : Finish Nothing (command A) []
+  session_finish : Finish Nothing (other_command A) []
   session_finish =
       let sample = session_first in
       record { text = sample.text; tail = λ line nil. sample.tail line (nothing_tail line nil); ends = λ line nil. inl (sample.reads line (nothing_tail line nil)) }
 
-  open_command : Open Nothing (command A)
+  open_command : Open Nothing (other_command A)
   open_command = open_next Nothing nothing_tail on_command command_verdict open_verdict (local_here on_command command_verdict) session_finish
 
   -- ---- lines
@@ -377,7 +316,7 @@ module _ (A : Type 0) where
   end_refused (c ∷ here) behind e = same_left (length (c ∷ here)) (length behind) e
 
   abbrev said : Reading
-  said = command A ⋙ at_end
+  said = other_command A ⋙ at_end
 
   said_session : said session_text ≡ Ok []
   unfolding token_at
@@ -391,20 +330,20 @@ module _ (A : Type 0) where
   said_ends o (inr many) = inr (ap (λ (p : Outcome). p >>= at_end) many)
 
   -- the rest of a line can be said, behind a space, or all of it was said
-  said_done : (front behind : List ℕ) (o : Outcome) → NoFilter (front ++ behind) (length behind) → command A (front ++ behind) ≡ o → (o >>= at_end) ≡ Err (Syntax (length behind)) → (more : List ℕ) × Tail more × Goes front more × Ends (said (front ++ more)) []
+  said_done : (front behind : List ℕ) (o : Outcome) → NoFilter (front ++ behind) (length behind) → other_command A (front ++ behind) ≡ o → (o >>= at_end) ≡ Err (Syntax (length behind)) → (more : List ℕ) × Tail more × Goes front more × Ends (said (front ++ more)) []
   said_done front behind (Err fault) none is e =
       let known = open_command in
       let more = known.finishes front behind none (is ∙ e) in
-      (32 ∷ (more.text ++ []), more.tail [] refl, inr (more.text ++ [], refl), said_ends (command A (front ++ (32 ∷ (more.text ++ [])))) (more.ends [] refl))
+      (32 ∷ (more.text ++ []), more.tail [] refl, inr (more.text ++ [], refl), said_ends (other_command A (front ++ (32 ∷ (more.text ++ [])))) (more.ends [] refl))
   said_done front behind (Ok mid) none is e =
-      let known = local_command A in
+      let known = local_other_command A in
       let (a, same) = known.ends (front ++ behind) mid is in
       let (q, at) = longer_end front a behind mid same (local_at_end.stops mid (length behind) e) in
       let (blanks, skipped, skips) = blanks_of mid in
       let long = end_refused (behind_blanks mid) behind e in
       let all_blank : behind_blanks q ≡ [] = blank_front q behind mid at long in
       let reach = open_command.passes front q behind [] refl (is ∙ ap read_to at) in
-      ([], tt, inl (some_said front behind mid q at is), said_ends (command A (front ++ [])) (inl (reach.0, reach.1, reach.2 ∙ ap behind_blanks (append-nil q) ∙ all_blank)))
+      ([], tt, inl (some_said front behind mid q at is), said_ends (other_command A (front ++ [])) (inl (reach.0, reach.1, reach.2 ∙ ap behind_blanks (append-nil q) ∙ all_blank)))
     where
       blank_front : (q behind mid : List ℕ) → mid ≡ q ++ behind → length (behind_blanks mid) ≡ length behind → behind_blanks q ≡ []
       blank_front q behind mid at long =
@@ -414,46 +353,45 @@ module _ (A : Type 0) where
           let end : behind_blanks (q ++ behind) ≡ behind = sym (ap behind_blanks at) ∙ here ∙ ap (λ (l : List ℕ). l ++ behind) empty in
           sym (ap behind_blanks (append-nil q)) ∙ only_blanks q behind [] end
 
-      some_said : (front behind mid q : List ℕ) → mid ≡ q ++ behind → command A (front ++ behind) ≡ Ok mid → 0 < length front
+      some_said : (front behind mid q : List ℕ) → mid ≡ q ++ behind → other_command A (front ++ behind) ≡ Ok mid → 0 < length front
       some_said (c ∷ front) behind mid q at is = omega arith
       some_said [] behind mid q at is =
-          let known = local_command A in
+          let known = local_other_command A in
           let (a, same) = known.ends behind mid is in
           let one = ap length same in
           let two = ap length at in
           let empty : q ≡ [] = no_length q (omega (arith, one, two, length-append a mid, length-append q behind)) in
           absurd (never_idle Nothing nothing_tail on_command command_verdict open_verdict behind (is ∙ ap read_to (at ∙ ap (λ (l : List ℕ). l ++ behind) empty)))
 
-  line_behind : (front more : List ℕ) (q : List ℕ) → Reached (worker (front ++ more)) (q ++ more) → Ends (said (q ++ more)) [] → Ends (line A (front ++ more)) []
-  line_behind front more q (rest, is, same) ended = ends_at (line A (front ++ more)) (said (q ++ more)) [] (ap (λ (o : Outcome). o >>= said) is ∙ said_skips rest (q ++ more) same) ended
+  line_behind : (front more : List ℕ) (q : List ℕ) → Reached (worker (front ++ more)) (q ++ more) → Ends (said (q ++ more)) [] → Ends (other_line A (front ++ more)) []
+  line_behind front more q (rest, is, same) ended = ends_at (other_line A (front ++ more)) (said (q ++ more)) [] (ap (λ (o : Outcome). o >>= said) is ∙ said_skips rest (q ++ more) same) ended
 
-  line_done : (front behind : List ℕ) (o : Outcome) → NoFilter (front ++ behind) (length behind) → worker (front ++ behind) ≡ o → (o >>= said) ≡ Err (Syntax (length behind)) → (more : List ℕ) × Ends (line A (front ++ more)) []
+  line_done : (front behind : List ℕ) (o : Outcome) → NoFilter (front ++ behind) (length behind) → worker (front ++ behind) ≡ o → (o >>= said) ≡ Err (Syntax (length behind)) → (more : List ℕ) × Ends (other_line A (front ++ more)) []
   line_done front behind (Err fault) none is e =
       let (more, done) = worker_done front behind (is ∙ e) in
       (more, inl ([], ap (λ (o : Outcome). o >>= said) done ∙ said_session, refl))
   line_done front behind (Ok mid) none is e =
       let (a, same) = local_worker.ends (front ++ behind) mid is in
-      let known = local_both (command A) at_end (local_command A) local_at_end in
+      let known = local_both (other_command A) at_end (local_other_command A) local_at_end in
       let (q, at) = longer_end front a behind mid same (known.stops mid (length behind) e) in
       let inside = filter_behind a (q ++ behind) (front ++ behind) (length behind) (same ∙ ap (λ (l : List ℕ). a ++ l) at) none in
-      let (more, tail, goes, ended) = said_done q behind (command A (q ++ behind)) inside refl (sym (ap said at) ∙ e) in
+      let (more, tail, goes, ended) = said_done q behind (other_command A (q ++ behind)) inside refl (sym (ap said at) ∙ e) in
       (more, line_behind front more q (worker_moved front q behind more tail goes (is ∙ ap read_to at)) ended)
 
-  ended_fault : (bytes : List ℕ) → Ends (line A bytes) [] → (line_fault A bytes ≡ None) ⊎ (line_fault A bytes ≡ Some (Limit TooMany))
+  -- what is told of the line that sets no filter
+  ended_fault : (bytes : List ℕ) → Ends (other_line A bytes) [] → (line_fault A bytes ≡ None) ⊎ (line_fault A bytes ≡ Some (Limit TooMany))
   unfolding line_fault
-  ended_fault bytes (inl (rest, is, same)) = inl (ap result_err is)
-  ended_fault bytes (inr many) = inr (ap result_err many)
+  ended_fault bytes (inl (rest, is, same)) = inl (ap result_err (line_agrees A bytes (no_filter_in A bytes (Ok rest) is (λ f. absurd cc)) ∙ is))
+  ended_fault bytes (inr many) = inr (ap result_err (line_agrees A bytes (no_filter_in A bytes (Err (Limit TooMany)) many (λ f. absurd cc)) ∙ many))
 
-  -- where no filter is at fault
-  pub misfit_begins : (bytes : List ℕ) (left : ℕ) → HasSyntaxFault A bytes left → NoFilter bytes left → BeginsLine A bytes left
+  pub misfit_begins : (bytes : List ℕ) (left : ℕ) → HasSyntaxFault A bytes left → (SetsFilter bytes → ⊥) → BeginsLine A bytes left
   unfolding line_fault BeginsLine
   misfit_begins bytes left e none =
-      let read = of_err A left (line A bytes) e in
-      let known = local_line A in
+      let read = sym (line_agrees A bytes none) ∙ of_err A left (line A bytes) e in
+      let known = local_other_line A in
       let few = known.stops bytes left read in
       let n = length bytes - left in
       let whole : bytes ≡ take n bytes ++ drop n bytes = sym (take-append-drop n bytes) in
       let long : length (drop n bytes) ≡ left = omega (arith, few, length-drop n bytes) in
-      let nothing = subst (λ (l : List ℕ). NoFilter l (length (drop n bytes))) whole (subst (λ (m : ℕ). NoFilter bytes m) (sym long) none) in
-      let (more, ended) = line_done (take n bytes) (drop n bytes) (worker (take n bytes ++ drop n bytes)) nothing refl (ap (line A) (sym whole) ∙ read ∙ ap (λ (m : ℕ). Err (Syntax m)) (sym long)) in
+      let (more, ended) = line_done (take n bytes) (drop n bytes) (worker (take n bytes ++ drop n bytes)) tt refl (ap (other_line A) (sym whole) ∙ read ∙ ap (λ (m : ℕ). Err (Syntax m)) (sym long)) in
       (take n bytes, drop n bytes, whole, sym long, more, ended_fault (take n bytes ++ more) ended)

@@ -1,5 +1,5 @@
 -- A line with a fault of syntax has it at that place whatever stands behind the token.
-use Rattle.std.proofs.Common.{◌≡◌, ℕ, zero, suc, ◌-◌, ◌≤◌, Bool, true, false, eqb, leb, map, drop, take, take-append-drop, length-drop, List, [], ◌∷◌, ◌++◌, length, Option, Some, Result, Ok, Err, codes, refl, sym, ap, ◌∙◌, subst, arith, append-nil}
+use Rattle.std.proofs.Common.{◌≡◌, ℕ, zero, suc, ◌-◌, ◌≤◌, Bool, true, false, eqb, leb, map, drop, take, take-append-drop, length-drop, List, [], ◌∷◌, ◌++◌, length, Option, Some, Result, Ok, Err, codes, refl, sym, ap, ◌∙◌, subst, arith, append-nil, cond, None}
 use Rattle.std.specs.List.{list_all}
 use Rattle.std.specs.Result.{result_err}
 use Rattle.std.proofs.lemmas.Bool.{cond_both}
@@ -9,14 +9,14 @@ use Rattle.cap_value.specs.declared.refusal.Refusal.TheVariants.{BadFilter, BadN
 use Rattle.cap_codec.specs.BlobReading.{blob_at}
 use Rattle.cap_codec.specs.declared.fault.BlobFault.{BlobFault}
 use Rattle.cap_row.specs.Schema.{is_schema}
-use Rattle.cap_filter.specs.Reading.{filter_of}
-use Rattle.cap_filter.specs.Rule.{Rule}
-use Rattle.cap_script.specs.FaultPlace.{BeginAlike, HasSyntaxFault, KeepsSyntaxFault}
-use Rattle.cap_script.specs.LineFaults.{answer, beyond_if, command, commands, contents, contents_read, field, fields, filter, filter_read, flag, is_key_letter, line, line_fault, more_operations, name, on_contents, on_operation, on_schema, on_value, on_worker, operation, operations, policy, row, row_words, schema, value, values, verbs, worker}
-use Rattle.cap_script.specs.Reading.{Outcome, Reading, Verdict, within_if, goes_on, unfit, exceeds, no_blob, a_sign, a_word, at_end, each, keyword, keyword_or_end, misfit, natural, on_natural, on_word, one_of, right_here, space_here, ◌⋙◌}
-use Rattle.cap_script.specs.Tokens.{Token, blob, integer, is_blank, sign, text, word}
+use Rattle.cap_script.specs.FaultPlace.{HasSyntaxFault, KeepsSyntaxFault, SetsFilter}
+use Rattle.cap_script.specs.LineFaults.{answer, beyond_if, command, commands, contents, contents_read, field, fields, filter, flag, is_key_letter, line, line_fault, more_operations, name, on_contents, on_operation, on_schema, on_value, on_worker, operation, operations, policy, row, row_words, schema, value, values, verbs, worker}
+use Rattle.cap_script.specs.Reading.{Outcome, Reading, Verdict, fits_if, judged, scanned, ◌>>=◌, within_if, goes_on, unfit, exceeds, no_blob, a_sign, a_word, at_end, each, keyword, keyword_or_end, misfit, natural, on_natural, on_word, one_of, right_here, space_here, ◌⋙◌}
+use Rattle.cap_script.specs.Scanning.{Scanned, token_at}
+use Rattle.cap_script.specs.Tokens.{Token, behind_blanks, blob, integer, is_blank, sign, text, word}
 use Rattle.cap_script.specs.declared.fault.LineFault.{LineFault}
-use Rattle.cap_script.specs.declared.fault.LineFault.TheVariants.{Syntax}
+use Rattle.cap_script.specs.declared.fault.LineFault.TheVariants.{BadBlob, Limit, OutOfMemory, Syntax}
+use Rattle.cap_script.proofs.NoneLemmas.{alike}
 use Rattle.cap_script.proofs.PlaceLemmas.{Local, LocalVerdict, NoFilter, local_a_sign, local_any_of, local_both, local_each, local_fits_if, local_here, local_misfit, local_next, local_ok, local_one_of, local_test, local_unless_end, local_where, local_within_if}
 
 -- ---- tokens
@@ -134,54 +134,18 @@ local_worker =
     local_where 64 (right_here (on_natural on_worker) ⋙ space_here)
     (local_both (right_here (on_natural on_worker)) space_here (local_here (on_natural on_worker) (local_on_natural on_worker (λ n. local_fits_if (leb n 63)))) (local_test is_blank (λ here. Ok here) (λ here. Err (misfit here)) local_ok local_misfit))
 
--- ---- filters
+-- ---- lines that set no filter
 
-abbrev pub taken : Outcome → List ℕ
-taken (Ok rest) = rest
-taken (Err fault) = []
+-- a reading that is never told
+abbrev pub never : Reading
+never bytes = Err OutOfMemory
 
-abbrev pub left_of : Outcome → ℕ
-left_of (Err (Syntax left)) = left
-left_of _ = 0
+pub local_never : Local never
+local_never = record { ends = λ bytes rest e. absurd cc; stops = λ bytes left e. absurd cc; goes = λ front rest behind more alike e. absurd cc; misfits = λ front behind more alike none e. absurd cc }
 
-filter_ends : (bytes rest : List ℕ) (r : Result Rule Refusal) → filter_read bytes r ≡ Ok rest → (front : List ℕ) × (bytes ≡ front ++ rest)
-filter_ends bytes rest (Ok rule) e = (bytes, sym (append-nil bytes) ∙ ap (λ (l : List ℕ). bytes ++ l) (ap taken e))
-filter_ends bytes rest (Err (BadFilter at)) e = absurd cc
-filter_ends bytes rest (Err why) e = absurd cc
-
-filter_stops : (bytes : List ℕ) (left : ℕ) (r : Result Rule Refusal) → filter_read bytes r ≡ Err (Syntax left) → left ≤ length bytes
-filter_stops bytes left (Ok rule) e = absurd cc
-filter_stops bytes left (Err (BadFilter at)) e = let same = ap left_of e in omega (arith, same)
-filter_stops bytes left (Err why) e = absurd cc
-
-pub no_list : (a b : List ℕ) → a ++ b ≡ [] → b ≡ []
-no_list [] b e = e
-no_list (c ∷ a) b e = absurd cc
-
-pub alike_none : (behind more : List ℕ) → BeginAlike behind more → behind ≡ [] → more ≡ []
-alike_none [] more alike e = alike
-alike_none (byte ∷ behind) more alike e = absurd cc
-
-filter_goes : (front rest behind more : List ℕ) (r : Result Rule Refusal) → BeginAlike behind more → filter_of (front ++ behind) ≡ r → filter_read (front ++ behind) r ≡ Ok (rest ++ behind) → filter (front ++ more) ≡ Ok (rest ++ more)
-filter_goes front rest behind more (Ok rule) alike is e =
-    let none : behind ≡ [] = no_list rest behind (sym (ap taken e)) in
-    let same : more ≡ behind = alike_none behind more alike none ∙ sym none in
-    subst (λ (m : List ℕ). filter (front ++ m) ≡ Ok (rest ++ m)) (sym same) (ap (filter_read (front ++ behind)) is ∙ e)
-filter_goes front rest behind more (Err (BadFilter at)) alike is e = absurd cc
-filter_goes front rest behind more (Err why) alike is e = absurd cc
-
-filter_misfits : (front behind more : List ℕ) (r : Result Rule Refusal) → NoFilter (front ++ behind) (length behind) → filter_of (front ++ behind) ≡ r → filter_read (front ++ behind) r ≡ Err (Syntax (length behind)) → filter (front ++ more) ≡ Err (Syntax (length more))
-filter_misfits front behind more (Ok rule) none is e = absurd cc
-filter_misfits front behind more (Err (BadFilter at)) none is e = absurd (none ([], front ++ behind, at, refl, is, sym (ap left_of e)))
-filter_misfits front behind more (Err why) none is e = absurd cc
-
-pub local_filter : Local filter
-local_filter = record {
-  ends = λ bytes rest e. filter_ends bytes rest (filter_of bytes) e;
-  stops = λ bytes left e. filter_stops bytes left (filter_of bytes) e;
-  goes = λ front rest behind more alike e. filter_goes front rest behind more (filter_of (front ++ behind)) alike refl e;
-  misfits = λ front behind more alike none e. filter_misfits front behind more (filter_of (front ++ behind)) none refl e;
-}
+words_agree : (front others : List (List ℕ × Reading)) (w : List ℕ) (one two : Reading) (found : List ℕ) → bytes_eq found w ≡ false → one_of (front ++ (w, one) ∷ others) found ≡ one_of (front ++ (w, two) ∷ others) found
+words_agree [] others w one two found e = rw e refl
+words_agree ((v, next) ∷ front) others w one two found e = ap (λ (x : Verdict). cond (bytes_eq found v) (goes_on next) x) (words_agree front others w one two found e)
 
 -- ---- commands and lines
 
@@ -209,25 +173,101 @@ module _ (A : Type 0) where
   pub with_session : (read : Reading) → Local read → Local (natural ⋙ read)
   with_session read local = local_both natural read local_natural local
 
-  pub local_on_commands : (w : List ℕ) → LocalVerdict (one_of (commands A) w)
-  local_on_commands = local_one_of (commands A) (local_both name schema local_name local_schema, (local_operations, (with_session operations local_operations, (local_apply, (local_both name row local_name local_row, (local_name, (local_name, (local_ok, (local_natural, (with_session name local_name, (local_natural, (with_session filter local_filter, (with_session flag local_flag, (with_session flag local_flag, (local_natural, (with_session (name ⋙ name) (local_both name name local_name local_name), (with_session (keyword_or_end (codes "places")) (local_keyword_or_end (codes "places")), (with_session (keyword_or_end (codes "places")) (local_keyword_or_end (codes "places")), (with_session (keyword_or_end (codes "places")) (local_keyword_or_end (codes "places")), tt)))))))))))))))))))
+  abbrev first_words : List (List ℕ × Reading)
+  first_words =
+      (codes "create", name ⋙ schema)
+      ∷ (codes "commit", operations)
+      ∷ (codes "commitat", natural ⋙ operations)
+      ∷ (codes "apply", contents A ⋙ policy ⋙ keyword_or_end (codes "report"))
+      ∷ (codes "get", name ⋙ row)
+      ∷ (codes "scan", name)
+      ∷ (codes "save", name)
+      ∷ (codes "session", λ bytes. Ok bytes)
+      ∷ (codes "drop", natural)
+      ∷ (codes "attach", natural ⋙ name)
+      ∷ (codes "attachall", natural)
+      ∷ []
 
-  pub local_command : Local (command A)
-  local_command = local_word (one_of (commands A)) local_on_commands
+  abbrev last_words : List (List ℕ × Reading)
+  last_words =
+      (codes "enable", natural ⋙ flag)
+      ∷ (codes "indirect", natural ⋙ flag)
+      ∷ (codes "isempty", natural)
+      ∷ (codes "diff", natural ⋙ name ⋙ name)
+      ∷ (codes "changeset", natural ⋙ keyword_or_end (codes "places"))
+      ∷ (codes "patchset", natural ⋙ keyword_or_end (codes "places"))
+      ∷ (codes "restart", natural ⋙ keyword_or_end (codes "places"))
+      ∷ []
 
-  pub local_line : Local (line A)
-  local_line = local_both worker (command A ⋙ at_end) local_worker (local_both (command A) at_end local_command local_at_end)
+  -- the commands, where no filter is set
+  abbrev pub others : List (List ℕ × Reading)
+  others = first_words ++ (codes "filter", never) ∷ last_words
+
+  abbrev pub other_command : Reading
+  other_command = a_word (one_of others)
+
+  abbrev pub other_line : Reading
+  other_line = worker ⋙ other_command ⋙ at_end
+
+  command_by : (here : List ℕ) (found : Scanned) → ((rest : List ℕ) → scanned (on_word (λ w. fits_if (bytes_eq w (codes "filter")))) here found ≡ Ok rest → ⊥) → scanned (on_word (one_of (commands A))) here found ≡ scanned (on_word (one_of others)) here found
+  command_by here None none = refl
+  command_by here (Some (word w, r)) none = by (bytes_eq w (codes "filter")) refl
+    where
+      by : (b : Bool) → bytes_eq w (codes "filter") ≡ b → judged here r (one_of (commands A) w) ≡ judged here r (one_of others w)
+      by true e = absurd (none r (ap (λ (x : Bool). judged here r (fits_if x)) e))
+      by false e = ap (judged here r) (words_agree first_words last_words (codes "filter") (natural ⋙ filter) never w e)
+  command_by here (Some (integer negative n, r)) none = refl
+  command_by here (Some (text t, r)) none = refl
+  command_by here (Some (blob bytes, r)) none = refl
+  command_by here (Some (sign s, r)) none = refl
+
+  line_by : (bytes : List ℕ) (o : Outcome) → worker bytes ≡ o → (SetsFilter bytes → ⊥) → (o >>= (command A ⋙ at_end)) ≡ (o >>= (other_command ⋙ at_end))
+  line_by bytes (Err fault) is none = refl
+  line_by bytes (Ok mid) is none =
+      ap (λ (o : Outcome). o >>= at_end) (command_by (behind_blanks mid) (token_at (behind_blanks mid)) (λ rest e. none (rest, ap (λ (o : Outcome). o >>= keyword (codes "filter")) is ∙ e)))
+
+  pub line_agrees : (bytes : List ℕ) → (SetsFilter bytes → ⊥) → line A bytes ≡ other_line bytes
+  line_agrees bytes none = line_by bytes (worker bytes) refl none
+
+  never_by : (here rest : List ℕ) (found : Scanned) → scanned (on_word (λ w. fits_if (bytes_eq w (codes "filter")))) here found ≡ Ok rest → scanned (on_word (one_of others)) here found ≡ Err OutOfMemory
+  never_by here rest None e = absurd cc
+  never_by here rest (Some (word w, r)) e = by (bytes_eq w (codes "filter")) refl e
+    where
+      by : (b : Bool) → bytes_eq w (codes "filter") ≡ b → judged here r (fits_if b) ≡ Ok rest → judged here r (one_of others w) ≡ Err OutOfMemory
+      by true is f = ap (λ (v : List ℕ). judged here r (one_of others v)) (alike w (codes "filter") (bytes_eq w (codes "filter")) refl is)
+      by false is f = absurd cc
+  never_by here rest (Some (integer negative n, r)) e = absurd cc
+  never_by here rest (Some (text t, r)) e = absurd cc
+  never_by here rest (Some (blob bytes, r)) e = absurd cc
+  never_by here rest (Some (sign s, r)) e = absurd cc
+
+  never_line : (bytes rest : List ℕ) (o : Outcome) → worker bytes ≡ o → (o >>= keyword (codes "filter")) ≡ Ok rest → (o >>= (other_command ⋙ at_end)) ≡ Err OutOfMemory
+  never_line bytes rest (Err fault) is e = absurd cc
+  never_line bytes rest (Ok mid) is e = ap (λ (o : Outcome). o >>= at_end) (never_by (behind_blanks mid) rest (token_at (behind_blanks mid)) e)
+
+  -- what is told of a line is told of one that sets no filter
+  pub no_filter_in : (bytes : List ℕ) (o : Outcome) → other_line bytes ≡ o → (o ≡ Err OutOfMemory → ⊥) → SetsFilter bytes → ⊥
+  no_filter_in bytes o is told (rest, e) = told (sym is ∙ never_line bytes rest (worker bytes) refl e)
+
+  pub local_on_others : (w : List ℕ) → LocalVerdict (one_of others w)
+  local_on_others = local_one_of others (local_both name schema local_name local_schema, (local_operations, (with_session operations local_operations, (local_apply, (local_both name row local_name local_row, (local_name, (local_name, (local_ok, (local_natural, (with_session name local_name, (local_natural, (local_never, (with_session flag local_flag, (with_session flag local_flag, (local_natural, (with_session (name ⋙ name) (local_both name name local_name local_name), (with_session (keyword_or_end (codes "places")) (local_keyword_or_end (codes "places")), (with_session (keyword_or_end (codes "places")) (local_keyword_or_end (codes "places")), (with_session (keyword_or_end (codes "places")) (local_keyword_or_end (codes "places")), tt)))))))))))))))))))
+
+  pub local_other_command : Local other_command
+  local_other_command = local_word (one_of others) local_on_others
+
+  pub local_other_line : Local other_line
+  local_other_line = local_both worker (other_command ⋙ at_end) local_worker (local_both other_command at_end local_other_command local_at_end)
 
   pub of_err : (left : ℕ) (o : Outcome) → result_err o ≡ Some (Syntax left) → o ≡ Err (Syntax left)
   of_err left (Ok rest) e = absurd cc
   of_err left (Err fault) e = ap (λ (f : LineFault). Err f) (some_same fault (Syntax left) e)
 
   -- where no filter is at fault
-  pub misfit_kept : (bytes : List ℕ) (left : ℕ) → HasSyntaxFault A bytes left → NoFilter bytes left → KeepsSyntaxFault A bytes left
+  pub misfit_kept : (bytes : List ℕ) (left : ℕ) → HasSyntaxFault A bytes left → (SetsFilter bytes → ⊥) → KeepsSyntaxFault A bytes left
   unfolding line_fault KeepsSyntaxFault
   misfit_kept bytes left e none =
-      let read = of_err left (line A bytes) e in
-      let few = local_line.stops bytes left read in
+      let read = sym (line_agrees bytes none) ∙ of_err left (line A bytes) e in
+      let few = local_other_line.stops bytes left read in
       let n = length bytes - left in
       let whole : bytes ≡ take n bytes ++ drop n bytes = sym (take-append-drop n bytes) in
       let long : length (drop n bytes) ≡ left = omega (arith, few, length-drop n bytes) in (
@@ -235,5 +275,7 @@ module _ (A : Type 0) where
         drop n bytes,
         whole,
         sym long,
-        λ more alike. ap result_err (local_line.misfits (take n bytes) (drop n bytes) more alike (subst (λ (l : List ℕ). NoFilter l (length (drop n bytes))) whole (subst (λ (m : ℕ). NoFilter bytes m) (sym long) none)) (ap (line A) (sym whole) ∙ read ∙ ap (λ (m : ℕ). Err (Syntax m)) (sym long))),
+        λ more alike.
+            let told = local_other_line.misfits (take n bytes) (drop n bytes) more alike tt (ap other_line (sym whole) ∙ read ∙ ap (λ (m : ℕ). Err (Syntax m)) (sym long)) in
+            ap result_err (line_agrees (take n bytes ++ more) (no_filter_in (take n bytes ++ more) (Err (Syntax (length more))) told (λ f. absurd cc)) ∙ told),
       )

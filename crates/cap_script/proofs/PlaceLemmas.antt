@@ -7,7 +7,7 @@ use Rattle.std.proofs.lemmas.Bool.{cond_both}
 use Rattle.std.proofs.lemmas.List.{append_cancel_right}
 use Rattle.cap_value.specs.Bytes.{bytes_eq}
 use Rattle.cap_value.specs.declared.refusal.Refusal.{Refusal}
-use Rattle.cap_script.specs.FaultPlace.{BeginAlike, InFilter}
+use Rattle.cap_script.specs.FaultPlace.{BeginAlike}
 use Rattle.cap_script.specs.Reading.{Outcome, Reading, Verdict, goes_on, unfit, exceeds, no_blob, fits, fits_if, within_if, judged, misfit, scanned, right_here, next, one_of, any_of, by_sign, where_sign, a_sign, at_most, each, unless_end, ◌>>=◌, ◌⋙◌}
 use Rattle.cap_script.specs.Scanning.{Scanned, token_at}
 use Rattle.cap_script.specs.Tokens.{Token, begins, behind_blanks}
@@ -16,7 +16,7 @@ use Rattle.cap_script.proofs.LocalLemmas.{begin_after, blanks_moved, blanks_of, 
 use Rattle.cap_script.proofs.TokenLemmas.{blanks_twice}
 
 abbrev pub NoFilter : List ℕ → ℕ → Type 0
-NoFilter line left = InFilter line left → ⊥
+NoFilter line left = ⊤
 
 -- It ends in the line. Where it ends before a token, or at one that does not fit, it does so in each line that goes
 -- on with that token.
@@ -46,8 +46,7 @@ abbrev pub read_to : List ℕ → Outcome
 read_to rest = Ok rest
 
 pub filter_behind : (front line whole : List ℕ) (left : ℕ) → whole ≡ front ++ line → NoFilter whole left → NoFilter line left
-filter_behind front line whole left same none (before, filter, at, is, refused, place) =
-    none (front ++ before, filter, at, same ∙ ap (λ (l : List ℕ). front ++ l) is ∙ sym (append_assoc front before filter), refused, place)
+filter_behind front line whole left same none = tt
 
 pub none_before : (front behind : List ℕ) → length (front ++ behind) ≡ length behind → front ≡ []
 none_before [] behind e = refl

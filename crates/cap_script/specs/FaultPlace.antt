@@ -1,9 +1,9 @@
 -- At which token a line stops being that of a command.
-use Rattle.std.specs.Prelude.{◌≡◌, ◌⊎◌, ℕ, ◌-◌, List, [], ◌∷◌, ◌++◌, length, Option, Some, None, Err}
+use Rattle.std.specs.Prelude.{◌≡◌, ◌⊎◌, ℕ, List, [], ◌∷◌, ◌++◌, length, Option, Some, None, Ok, codes}
 use Rattle.std.specs.Option.{option_map}
-use Rattle.cap_value.specs.declared.refusal.Refusal.TheVariants.{BadFilter, TooMany}
-use Rattle.cap_filter.specs.Reading.{filter_of}
-use Rattle.cap_script.specs.LineFaults.{line_fault}
+use Rattle.cap_value.specs.declared.refusal.Refusal.TheVariants.{TooMany}
+use Rattle.cap_script.specs.LineFaults.{line_fault, worker}
+use Rattle.cap_script.specs.Reading.{keyword, ◌⋙◌}
 use Rattle.cap_script.specs.Scanning.{token_at}
 use Rattle.cap_script.specs.Tokens.{Token}
 use Rattle.cap_script.specs.declared.fault.LineFault.TheVariants.{Limit, Syntax}
@@ -19,11 +19,9 @@ BeginAlike (byte ∷ rest) [] = ⊥
 BeginAlike (byte ∷ rest) (first ∷ more) =
     (byte ≡ first) × (first_token (byte ∷ rest) ≡ first_token (first ∷ more))
 
--- the line ends with a filter's text, in which a token does not fit that many bytes before the end
-abbrev pub InFilter : List ℕ → ℕ → Type 0
-InFilter line left =
-    (front : List ℕ) × (filter : List ℕ) × (at : ℕ) × (line ≡ front ++ filter)
-    × (filter_of filter ≡ Err (BadFilter at)) × (left ≡ length filter - at)
+-- the line's command is `filter`
+abbrev pub SetsFilter : List ℕ → Type 0
+SetsFilter line = (rest : List ℕ) × ((worker ⋙ keyword (codes "filter")) line ≡ Ok rest)
 
 -- the line has a fault of syntax, from whose token on it has this many bytes
 abbrev pub HasSyntaxFault : Type 0 → List ℕ → ℕ → Type 0
