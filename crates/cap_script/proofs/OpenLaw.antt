@@ -3,8 +3,7 @@ use Rattle.std.proofs.Common.{◌≡◌, ◌⊎◌, inl, inr, ℕ, ◌-◌, ◌<
 use Rattle.std.specs.Result.{result_err}
 use Rattle.std.proofs.lemmas.Bool.{cond_both}
 use Rattle.std.proofs.lemmas.List.{append_cancel_right}
-use Rattle.cap_value.specs.declared.refusal.Refusal.{Refusal}
-use Rattle.cap_value.specs.declared.refusal.Refusal.TheVariants.{BadFilter, TooLong, TooMany}
+use Rattle.cap_value.specs.declared.refusal.Refusal.TheVariants.{TooLong, TooMany}
 use Rattle.cap_codec.specs.BlobReading.{blob_at}
 use Rattle.cap_codec.specs.declared.fault.BlobFault.{BlobFault}
 use Rattle.hex.specs.Hex.{decode_of, decode_pairs}
@@ -18,8 +17,8 @@ use Rattle.cap_script.specs.declared.fault.LineFault.TheVariants.{Limit, Syntax}
 use Rattle.cap_script.proofs.LocalLemmas.{blanks_of, found_some, longer_end, same_end}
 use Rattle.cap_script.proofs.OpenForms.{goes_64, form_flag, form_name, form_natural, form_operations, form_places, form_policy, form_report, form_row, form_schema, open_on_word, open_one_of, session_sample}
 use Rattle.cap_script.proofs.OpenLemmas.{Ends, Finish, Form, Here, Nothing, Open, OpenVerdict, Reached, Sample, Skips, Tail, blanks_at, ends_at, form_both, form_next, found_tail, goes_with, never_idle, nothing_tail, only_blanks, open_both, open_next, open_ok, open_skip, reached, reached_at, sample_both, tail_sign, weaker}
-use Rattle.cap_script.proofs.PlaceLaw.{line_agrees, local_at_end, local_contents, local_keyword_or_end, local_natural, local_on_contents, local_on_natural, local_on_others, local_on_word, local_other_command, local_other_line, local_worker, never, no_filter_in, of_err, other_command, other_line, others}
-use Rattle.cap_script.proofs.PlaceLemmas.{Local, LocalVerdict, NoFilter, filter_behind, local_end_here, local_here, local_misfit, local_ok, local_sign, local_test, local_both, none_before, read_to, same_left, same_rest, some_front}
+use Rattle.cap_script.proofs.PlaceLaw.{line_agrees, local_at_end, local_keyword_or_end, local_on_contents, local_on_natural, local_on_others, local_on_word, local_other_command, local_other_line, local_worker, never, no_filter_in, of_err, other_command, other_line, others}
+use Rattle.cap_script.proofs.PlaceLemmas.{Local, LocalVerdict, local_end_here, local_here, local_misfit, local_ok, local_sign, local_test, local_both, none_before, read_to, same_left, same_rest, some_front}
 use Rattle.cap_script.proofs.ScanLemmas.{blob_is}
 use Rattle.cap_script.proofs.TokenLemmas.{blanks_twice}
 
@@ -46,8 +45,8 @@ module _ (next : Reading) (form : Form next) where
   word_here = record {
     passes = λ c front rest behind line none e. form.inner.passes (c ∷ front) rest behind line (nothing_tail line none) e;
     idles = λ behind line none e. end_read next line none;
-    finishes = λ c front behind none e.
-        let more = form.inner.finishes (c ∷ front) behind none e in
+    finishes = λ c front behind e.
+        let more = form.inner.finishes (c ∷ front) behind e in
         record { text = more.text; tail = λ line nil. more.tail line (nothing_tail line nil); ends = λ line nil. more.ends line (nothing_tail line nil) };
     begins_at = λ behind e. end_finish next;
   }
@@ -221,7 +220,7 @@ worker_done front behind e =
 -- ---- lines that set no filter
 
 open_never : Open Nothing never
-open_never = record { passes = λ front rest behind line nil e. absurd cc; finishes = λ front behind none e. absurd cc }
+open_never = record { passes = λ front rest behind line nil e. absurd cc; finishes = λ front behind e. absurd cc }
 
 -- ---- commands
 
@@ -330,12 +329,12 @@ module _ (A : Type 0) where
   said_ends o (inr many) = inr (ap (λ (p : Outcome). p >>= at_end) many)
 
   -- the rest of a line can be said, behind a space, or all of it was said
-  said_done : (front behind : List ℕ) (o : Outcome) → NoFilter (front ++ behind) (length behind) → other_command A (front ++ behind) ≡ o → (o >>= at_end) ≡ Err (Syntax (length behind)) → (more : List ℕ) × Tail more × Goes front more × Ends (said (front ++ more)) []
-  said_done front behind (Err fault) none is e =
+  said_done : (front behind : List ℕ) (o : Outcome) → other_command A (front ++ behind) ≡ o → (o >>= at_end) ≡ Err (Syntax (length behind)) → (more : List ℕ) × Tail more × Goes front more × Ends (said (front ++ more)) []
+  said_done front behind (Err fault) is e =
       let known = open_command in
-      let more = known.finishes front behind none (is ∙ e) in
+      let more = known.finishes front behind (is ∙ e) in
       (32 ∷ (more.text ++ []), more.tail [] refl, inr (more.text ++ [], refl), said_ends (other_command A (front ++ (32 ∷ (more.text ++ [])))) (more.ends [] refl))
-  said_done front behind (Ok mid) none is e =
+  said_done front behind (Ok mid) is e =
       let known = local_other_command A in
       let (a, same) = known.ends (front ++ behind) mid is in
       let (q, at) = longer_end front a behind mid same (local_at_end.stops mid (length behind) e) in
@@ -366,16 +365,15 @@ module _ (A : Type 0) where
   line_behind : (front more : List ℕ) (q : List ℕ) → Reached (worker (front ++ more)) (q ++ more) → Ends (said (q ++ more)) [] → Ends (other_line A (front ++ more)) []
   line_behind front more q (rest, is, same) ended = ends_at (other_line A (front ++ more)) (said (q ++ more)) [] (ap (λ (o : Outcome). o >>= said) is ∙ said_skips rest (q ++ more) same) ended
 
-  line_done : (front behind : List ℕ) (o : Outcome) → NoFilter (front ++ behind) (length behind) → worker (front ++ behind) ≡ o → (o >>= said) ≡ Err (Syntax (length behind)) → (more : List ℕ) × Ends (other_line A (front ++ more)) []
-  line_done front behind (Err fault) none is e =
+  line_done : (front behind : List ℕ) (o : Outcome) → worker (front ++ behind) ≡ o → (o >>= said) ≡ Err (Syntax (length behind)) → (more : List ℕ) × Ends (other_line A (front ++ more)) []
+  line_done front behind (Err fault) is e =
       let (more, done) = worker_done front behind (is ∙ e) in
       (more, inl ([], ap (λ (o : Outcome). o >>= said) done ∙ said_session, refl))
-  line_done front behind (Ok mid) none is e =
+  line_done front behind (Ok mid) is e =
       let (a, same) = local_worker.ends (front ++ behind) mid is in
       let known = local_both (other_command A) at_end (local_other_command A) local_at_end in
       let (q, at) = longer_end front a behind mid same (known.stops mid (length behind) e) in
-      let inside = filter_behind a (q ++ behind) (front ++ behind) (length behind) (same ∙ ap (λ (l : List ℕ). a ++ l) at) none in
-      let (more, tail, goes, ended) = said_done q behind (other_command A (q ++ behind)) inside refl (sym (ap said at) ∙ e) in
+      let (more, tail, goes, ended) = said_done q behind (other_command A (q ++ behind)) refl (sym (ap said at) ∙ e) in
       (more, line_behind front more q (worker_moved front q behind more tail goes (is ∙ ap read_to at)) ended)
 
   -- what is told of the line that sets no filter
@@ -393,5 +391,5 @@ module _ (A : Type 0) where
       let n = length bytes - left in
       let whole : bytes ≡ take n bytes ++ drop n bytes = sym (take-append-drop n bytes) in
       let long : length (drop n bytes) ≡ left = omega (arith, few, length-drop n bytes) in
-      let (more, ended) = line_done (take n bytes) (drop n bytes) (worker (take n bytes ++ drop n bytes)) tt refl (ap (other_line A) (sym whole) ∙ read ∙ ap (λ (m : ℕ). Err (Syntax m)) (sym long)) in
+      let (more, ended) = line_done (take n bytes) (drop n bytes) (worker (take n bytes ++ drop n bytes)) refl (ap (other_line A) (sym whole) ∙ read ∙ ap (λ (m : ℕ). Err (Syntax m)) (sym long)) in
       (take n bytes, drop n bytes, whole, sym long, more, ended_fault (take n bytes ++ more) ended)

@@ -14,7 +14,7 @@ use Rattle.cap_script.specs.declared.fault.LineFault.{LineFault}
 use Rattle.cap_script.specs.declared.fault.LineFault.TheVariants.{Limit, Syntax}
 use Rattle.cap_script.proofs.LocalLemmas.{NoSign, blanks_of, first_no_blank, found_some, is_found, longer_end, moved_end, no_more_blanks, no_sign_at}
 use Rattle.cap_script.proofs.OneTokens.{eqb_itself}
-use Rattle.cap_script.proofs.PlaceLemmas.{Local, LocalVerdict, NoFilter, filter_behind, enough_at, local_a_sign, local_both, local_each, local_here, local_misfit, local_next, local_ok, local_sign, local_skip, local_where, read_to, same_left, same_rest}
+use Rattle.cap_script.proofs.PlaceLemmas.{Local, LocalVerdict, enough_at, local_a_sign, local_both, local_each, local_here, local_misfit, local_next, local_ok, local_sign, local_skip, local_where, read_to, same_left, same_rest}
 use Rattle.cap_script.proofs.ScanLemmas.{Found, token_found}
 use Rattle.cap_script.proofs.TokenLemmas.{blanks_twice}
 
@@ -109,13 +109,13 @@ pub record Finish (T : List ℕ → Type 0) (read : Reading) (front : List ℕ) 
 
 pub record Open (T : List ℕ → Type 0) (read : Reading) : Type 0 where
   pub passes : (front rest behind line : List ℕ) → T line → read (front ++ behind) ≡ Ok (rest ++ behind) → Reached (read (front ++ line)) (rest ++ line)
-  pub finishes : (front behind : List ℕ) → NoFilter (front ++ behind) (length behind) → read (front ++ behind) ≡ Err (Syntax (length behind)) → Finish T read front
+  pub finishes : (front behind : List ℕ) → read (front ++ behind) ≡ Err (Syntax (length behind)) → Finish T read front
 
 -- the same before the spaces are left out
 pub record Here (T : List ℕ → Type 0) (read : Reading) : Type 0 where
   pub passes : (c : ℕ) (front rest behind line : List ℕ) → T line → read (c ∷ front ++ behind) ≡ Ok (rest ++ behind) → Reached (read (c ∷ front ++ line)) (rest ++ line)
   pub idles : (behind line : List ℕ) → T line → read behind ≡ Ok behind → Reached (read (behind_blanks line)) line
-  pub finishes : (c : ℕ) (front behind : List ℕ) → NoFilter (c ∷ front ++ behind) (length behind) → read (c ∷ front ++ behind) ≡ Err (Syntax (length behind)) → Finish T read (c ∷ front)
+  pub finishes : (c : ℕ) (front behind : List ℕ) → read (c ∷ front ++ behind) ≡ Err (Syntax (length behind)) → Finish T read (c ∷ front)
   pub begins_at : (behind : List ℕ) → read behind ≡ Err (Syntax (length behind)) → Finish T (λ line. read (behind_blanks line)) []
 
 abbrev pub Skips : Reading → Type 0
@@ -128,7 +128,7 @@ pub open_ok : (T : List ℕ → Type 0) → Open T (λ line. Ok line)
 open_ok T = record {
   passes = λ front rest behind line tail e.
       (front ++ line, refl, ap (λ (l : List ℕ). behind_blanks (l ++ line)) (append_cancel_right front rest behind (same_rest (front ++ behind) (rest ++ behind) e)));
-  finishes = λ front behind none e. absurd cc;
+  finishes = λ front behind e. absurd cc;
 }
 
 -- ---- behind spaces
@@ -165,17 +165,17 @@ module _ (T : List ℕ → Type 0) (read : Reading) (local : Local read) (here :
   skip_passes front rest behind line (c ∷ before) tail at e =
       reached_at (skipping (front ++ line)) (read (c ∷ (before ++ rest) ++ line)) (rest ++ line) (ap read (blanks_at front behind line c (before ++ rest) at)) (here.passes c (before ++ rest) rest behind line tail (sym (ap read at) ∙ e))
 
-  skip_finishes : (front behind p : List ℕ) → NoFilter (front ++ behind) (length behind) → behind_blanks (front ++ behind) ≡ p ++ behind → read (behind_blanks (front ++ behind)) ≡ Err (Syntax (length behind)) → Finish T skipping front
-  skip_finishes front behind [] none at e =
+  skip_finishes : (front behind p : List ℕ) → behind_blanks (front ++ behind) ≡ p ++ behind → read (behind_blanks (front ++ behind)) ≡ Err (Syntax (length behind)) → Finish T skipping front
+  skip_finishes front behind [] at e =
       let more = here.begins_at behind (sym (ap read at) ∙ e) in
       record {
         text = more.text;
         tail = more.tail;
         ends = λ line tail. ends_at (skipping (front ++ (32 ∷ (more.text ++ line)))) (skipping (32 ∷ (more.text ++ line))) line (ap read (only_blanks front behind (32 ∷ (more.text ++ line)) at)) (more.ends line tail);
       }
-  skip_finishes front behind (c ∷ p) none at e =
+  skip_finishes front behind (c ∷ p) at e =
       let (blanks, same, skips) = blanks_of (front ++ behind) in
-      let more = here.finishes c p behind (filter_behind blanks (c ∷ p ++ behind) (front ++ behind) (length behind) (same ∙ ap (λ (l : List ℕ). blanks ++ l) at) none) (sym (ap read at) ∙ e) in
+      let more = here.finishes c p behind (sym (ap read at) ∙ e) in
       record {
         text = more.text;
         tail = more.tail;
@@ -187,10 +187,10 @@ module _ (T : List ℕ → Type 0) (read : Reading) (local : Local read) (here :
     passes = λ front rest behind line tail e.
         let (before, at) = local.ends (behind_blanks (front ++ behind)) (rest ++ behind) e in
         skip_passes front rest behind line before tail (at ∙ sym (append_assoc before rest behind)) e;
-    finishes = λ front behind none e.
+    finishes = λ front behind e.
         let (blanks, same, skips) = blanks_of (front ++ behind) in
         let (p, at) = longer_end front blanks behind (behind_blanks (front ++ behind)) same (local.stops (behind_blanks (front ++ behind)) (length behind) e) in
-        skip_finishes front behind p none at e;
+        skip_finishes front behind p at e;
   }
 
 -- ---- one reading behind another
@@ -215,9 +215,9 @@ module _ (T : List ℕ → Type 0) (first second : Reading) (local : Local first
       behind_reached (first (front ++ line)) (rest ++ line) ((before ++ rest) ++ line) (one.passes front (before ++ rest) behind line (tails line tail) (is ∙ ap read_to middle))
       (two.passes (before ++ rest) rest behind line tail (sym (ap second middle) ∙ e))
 
-  both_finishes : (front behind : List ℕ) (o : Outcome) → NoFilter (front ++ behind) (length behind) → first (front ++ behind) ≡ o → (o >>= second) ≡ Err (Syntax (length behind)) → Finish T (first ⋙ second) front
-  both_finishes front behind (Err fault) none is e =
-      let more = one.finishes front behind none (is ∙ e) in
+  both_finishes : (front behind : List ℕ) (o : Outcome) → first (front ++ behind) ≡ o → (o >>= second) ≡ Err (Syntax (length behind)) → Finish T (first ⋙ second) front
+  both_finishes front behind (Err fault) is e =
+      let more = one.finishes front behind (is ∙ e) in
       let together : (line : List ℕ) → (32 ∷ ((more.text ++ (32 ∷ sample.text)) ++ line)) ≡ (32 ∷ (more.text ++ (32 ∷ (sample.text ++ line)))) = λ line. ap (λ (l : List ℕ). 32 ∷ l) (append_assoc more.text (32 ∷ sample.text) line) in
       record {
         text = more.text ++ (32 ∷ sample.text);
@@ -225,10 +225,10 @@ module _ (T : List ℕ → Type 0) (first second : Reading) (local : Local first
         ends = λ line tail. ends_at ((first ⋙ second) (front ++ (32 ∷ ((more.text ++ (32 ∷ sample.text)) ++ line)))) ((first ⋙ second) (front ++ (32 ∷ (more.text ++ (32 ∷ (sample.text ++ line)))))) line (ap (λ (l : List ℕ). (first ⋙ second) (front ++ l)) (together line))
             (ends_before (first (front ++ (32 ∷ (more.text ++ (32 ∷ (sample.text ++ line)))))) line (32 ∷ (sample.text ++ line)) (more.ends (32 ∷ (sample.text ++ line)) (sample.tail line tail)) (sample.reads line tail));
       }
-  both_finishes front behind (Ok mid) none is e =
+  both_finishes front behind (Ok mid) is e =
       let (a, same) = local.ends (front ++ behind) mid is in
       let (before, middle) = longer_end front a behind mid same (local_too.stops mid (length behind) e) in
-      let more = two.finishes before behind (filter_behind a (before ++ behind) (front ++ behind) (length behind) (same ∙ ap (λ (l : List ℕ). a ++ l) middle) none) (sym (ap second middle) ∙ e) in
+      let more = two.finishes before behind (sym (ap second middle) ∙ e) in
       record {
         text = more.text;
         tail = more.tail;
@@ -238,7 +238,7 @@ module _ (T : List ℕ → Type 0) (first second : Reading) (local : Local first
   pub open_both : ((l : List ℕ) → T l → Tail l) → Open T (first ⋙ second)
   open_both tails = record {
     passes = λ front rest behind line tail e. both_passes front rest behind line (first (front ++ behind)) tails tail refl e;
-    finishes = λ front behind none e. both_finishes front behind (first (front ++ behind)) none refl e;
+    finishes = λ front behind e. both_finishes front behind (first (front ++ behind)) refl e;
   }
 
   pub sample_both : Sample Tail first → Sample T (first ⋙ second)
@@ -279,7 +279,7 @@ module _ (s : ℕ) (plain : is_blank s ≡ false) (other : goes_with s ≡ false
         (λ is f. reached_at (this (c ∷ front ++ line)) (Ok (rest ++ line)) (rest ++ line) (rw is (ap (λ (l : List ℕ). Ok (l ++ line)) (append_cancel_right front rest behind (same_rest (front ++ behind) (rest ++ behind) f)))) (reached (rest ++ line)))
         (λ is f. absurd cc) e;
     idles = λ behind line tail e. sign_idles behind line e;
-    finishes = λ c front behind none e.
+    finishes = λ c front behind e.
         cond_both (eqb c s) (Ok (front ++ behind)) (Err (misfit (c ∷ front ++ behind))) (λ o. o ≡ Err (Syntax (length behind)) → Finish Tail this (c ∷ front)) (λ is f. absurd cc)
         (λ is f. absurd (no_misfit c front behind (same_left (length (c ∷ front ++ behind)) (length behind) f))) e;
     begins_at = λ behind e. record { text = s ∷ []; tail = sign_tail; ends = λ line tail. inl (sign_text line tail) };
@@ -323,9 +323,9 @@ module _ (T : List ℕ → Type 0) (tails : (l : List ℕ) → T l → Tail l) (
         (λ is f. reached_at (maybe (c ∷ front ++ line)) (read (front ++ line)) (rest ++ line) (rw is refl) (inner.passes front rest behind line tail f))
         (λ is f. reached_at (maybe (c ∷ front ++ line)) (Ok (rest ++ line)) (rest ++ line) (rw is (ap (λ (l : List ℕ). Ok (l ++ line)) (append_cancel_right (c ∷ front) rest behind (same_rest (c ∷ front ++ behind) (rest ++ behind) f)))) (reached (rest ++ line))) e;
     idles = λ behind line tail e. none_at line (tails line tail);
-    finishes = λ c front behind none e.
+    finishes = λ c front behind e.
         cond_both (eqb c s) (read (front ++ behind)) (Ok (c ∷ front ++ behind)) (λ o. o ≡ Err (Syntax (length behind)) → Finish T maybe (c ∷ front))
-        (λ is f. maybe_finishes c front behind is (inner.finishes front behind (filter_behind (c ∷ []) (front ++ behind) (c ∷ front ++ behind) (length behind) refl none) f)) (λ is f. absurd cc) e;
+        (λ is f. maybe_finishes c front behind is (inner.finishes front behind f)) (λ is f. absurd cc) e;
     begins_at = λ behind e. absurd (maybe_begins behind e);
   }
 
@@ -379,11 +379,11 @@ module _ (T : List ℕ → Type 0) (tails : (l : List ℕ) → T l → Tail l) (
       let end = ap length at in
       omega (arith, whole, end, some, length-append p r, length-append f behind)
 
-  verdict_finishes : (c : ℕ) (front behind p r : List ℕ) (t : Token) (v : Verdict) → judge t ≡ v → LocalVerdict v → OpenVerdict T v → NoFilter (c ∷ front ++ behind) (length behind) → token_at (c ∷ front ++ behind) ≡ Some (t, r) → c ∷ front ++ behind ≡ p ++ r
+  verdict_finishes : (c : ℕ) (front behind p r : List ℕ) (t : Token) (v : Verdict) → judge t ≡ v → LocalVerdict v → OpenVerdict T v → token_at (c ∷ front ++ behind) ≡ Some (t, r) → c ∷ front ++ behind ≡ p ++ r
       → judged (c ∷ front ++ behind) r v ≡ Err (Syntax (length behind)) → Finish T (right_here judge) (c ∷ front)
-  verdict_finishes c front behind p r t (goes_on read) verdict l o none is same e =
+  verdict_finishes c front behind p r t (goes_on read) verdict l o is same e =
       let (q, end) = longer_end (c ∷ front) p behind r same (l.stops r (length behind) e) in
-      let more = o.finishes q behind (filter_behind p (q ++ behind) (c ∷ front ++ behind) (length behind) (same ∙ ap (λ (l : List ℕ). p ++ l) end) none) (sym (ap read end) ∙ e) in
+      let more = o.finishes q behind (sym (ap read end) ∙ e) in
       record {
         text = more.text;
         tail = more.tail;
@@ -391,21 +391,21 @@ module _ (T : List ℕ → Type 0) (tails : (l : List ℕ) → T l → Tail l) (
             let moved = found_tail t (c ∷ front) q behind (32 ∷ (more.text ++ line)) (omega arith) (more.tail line tail) (is ∙ ap (λ (l : List ℕ). Some (t, l)) end) in
             ends_at (right_here judge (c ∷ front ++ (32 ∷ (more.text ++ line)))) (read (q ++ (32 ∷ (more.text ++ line)))) line (ap (scanned judge (c ∷ front ++ (32 ∷ (more.text ++ line)))) moved ∙ ap (judged (c ∷ front ++ (32 ∷ (more.text ++ line))) (q ++ (32 ∷ (more.text ++ line)))) verdict) (more.ends line tail);
       }
-  verdict_finishes c front behind p r t unfit verdict l o none is same e = absurd (no_misfit c front behind (same_left (length (c ∷ front ++ behind)) (length behind) e))
-  verdict_finishes c front behind p r t (exceeds why) verdict l o none is same e = absurd cc
-  verdict_finishes c front behind p r t (no_blob why) verdict l o none is same e = absurd cc
+  verdict_finishes c front behind p r t unfit verdict l o is same e = absurd (no_misfit c front behind (same_left (length (c ∷ front ++ behind)) (length behind) e))
+  verdict_finishes c front behind p r t (exceeds why) verdict l o is same e = absurd cc
+  verdict_finishes c front behind p r t (no_blob why) verdict l o is same e = absurd cc
 
-  token_finishes : (c : ℕ) (front behind : List ℕ) (found : Scanned) → NoFilter (c ∷ front ++ behind) (length behind) → token_at (c ∷ front ++ behind) ≡ found → scanned judge (c ∷ front ++ behind) found ≡ Err (Syntax (length behind)) → Finish T (right_here judge) (c ∷ front)
-  token_finishes c front behind None none is e = absurd (no_misfit c front behind (same_left (length (c ∷ front ++ behind)) (length behind) e))
-  token_finishes c front behind (Some (t, r)) none is e =
+  token_finishes : (c : ℕ) (front behind : List ℕ) (found : Scanned) → token_at (c ∷ front ++ behind) ≡ found → scanned judge (c ∷ front ++ behind) found ≡ Err (Syntax (length behind)) → Finish T (right_here judge) (c ∷ front)
+  token_finishes c front behind None is e = absurd (no_misfit c front behind (same_left (length (c ∷ front ++ behind)) (length behind) e))
+  token_finishes c front behind (Some (t, r)) is e =
       let (p, same, some) = found_some t (c ∷ front ++ behind) r is in
-      verdict_finishes c front behind p r t (judge t) refl (local t) (known t) none is same e
+      verdict_finishes c front behind p r t (judge t) refl (local t) (known t) is same e
 
   token_here : Finish T (next judge) [] → Here T (right_here judge)
   token_here begin = record {
     passes = λ c front rest behind line tail e. token_passes c front rest behind line (token_at (c ∷ front ++ behind)) tail refl e;
     idles = λ behind line tail e. absurd (token_idles behind (token_at behind) refl e);
-    finishes = λ c front behind none e. token_finishes c front behind (token_at (c ∷ front ++ behind)) none refl e;
+    finishes = λ c front behind e. token_finishes c front behind (token_at (c ∷ front ++ behind)) refl e;
     begins_at = λ behind e. begin;
   }
 
@@ -432,8 +432,8 @@ finish_of T read sample = record { text = sample.text; tail = sample.tail; ends 
 pub weaker : (T : List ℕ → Type 0) → ((l : List ℕ) → T l → Tail l) → (read : Reading) → Open Tail read → Open T read
 weaker T tails read inner = record {
   passes = λ front rest behind line tail e. inner.passes front rest behind line (tails line tail) e;
-  finishes = λ front behind none e.
-      let more = inner.finishes front behind none e in
+  finishes = λ front behind e.
+      let more = inner.finishes front behind e in
       record { text = more.text; tail = λ line tail. more.tail line (tails line tail); ends = λ line tail. more.ends line (tails line tail) };
 }
 
@@ -486,7 +486,7 @@ form_end = record {
   inner = open_skip Tail (λ here. Ok here) local_ok (record {
     passes = λ c front rest behind line tail e. (c ∷ front ++ line, refl, ap (λ (l : List ℕ). behind_blanks (l ++ line)) (append_cancel_right (c ∷ front) rest behind (same_rest (c ∷ front ++ behind) (rest ++ behind) e)));
     idles = λ behind line tail e. (behind_blanks line, refl, blanks_twice line);
-    finishes = λ c front behind none e. absurd cc;
+    finishes = λ c front behind e. absurd cc;
     begins_at = λ behind e. absurd cc;
   });
   skips = λ line. ap (λ (l : List ℕ). Ok l) (sym (blanks_twice line));
@@ -572,10 +572,10 @@ module _ (s : ℕ) (goes : (byte : ℕ) → goes_with byte ≡ false → eqb byt
           let known = form_at_most n in
           reached_at (each s item (front ++ line)) (at_most n s item (front ++ line)) (rest ++ line) (enough_at s item form.local n (front ++ line) (omega arith))
           (known.inner.passes front rest behind line tail (sym (enough_at s item form.local n (front ++ behind) (omega arith)) ∙ e));
-      finishes = λ front behind none e.
+      finishes = λ front behind e.
           let n = length (front ++ behind) in
           let known = form_at_most n in
-          let more = known.inner.finishes front behind none e in
+          let more = known.inner.finishes front behind e in
           record { text = more.text; tail = more.tail; ends = λ line tail. each_ends n (front ++ (32 ∷ (more.text ++ line))) line tail (more.ends line tail) };
     };
     skips = λ line.

@@ -1,11 +1,10 @@
 -- A line with a fault of syntax has it at that place whatever stands behind the token.
-use Rattle.std.proofs.Common.{◌≡◌, ℕ, zero, suc, ◌-◌, ◌≤◌, Bool, true, false, eqb, leb, map, drop, take, take-append-drop, length-drop, List, [], ◌∷◌, ◌++◌, length, Option, Some, Result, Ok, Err, codes, refl, sym, ap, ◌∙◌, subst, arith, append-nil, cond, None}
+use Rattle.std.proofs.Common.{◌≡◌, ℕ, zero, suc, ◌-◌, Bool, true, false, eqb, leb, map, drop, take, take-append-drop, length-drop, List, [], ◌∷◌, ◌++◌, length, Option, Some, Result, Ok, Err, codes, refl, sym, ap, ◌∙◌, arith, cond, None}
 use Rattle.std.specs.List.{list_all}
 use Rattle.std.specs.Result.{result_err}
 use Rattle.std.proofs.lemmas.Bool.{cond_both}
 use Rattle.cap_value.specs.Bytes.{bytes_eq, is_name}
-use Rattle.cap_value.specs.declared.refusal.Refusal.{Refusal}
-use Rattle.cap_value.specs.declared.refusal.Refusal.TheVariants.{BadFilter, BadName, BadSchema, TooLong}
+use Rattle.cap_value.specs.declared.refusal.Refusal.TheVariants.{BadName, BadSchema, TooLong}
 use Rattle.cap_codec.specs.BlobReading.{blob_at}
 use Rattle.cap_codec.specs.declared.fault.BlobFault.{BlobFault}
 use Rattle.cap_row.specs.Schema.{is_schema}
@@ -15,9 +14,9 @@ use Rattle.cap_script.specs.Reading.{Outcome, Reading, Verdict, fits_if, judged,
 use Rattle.cap_script.specs.Scanning.{Scanned, token_at}
 use Rattle.cap_script.specs.Tokens.{Token, behind_blanks, blob, integer, is_blank, sign, text, word}
 use Rattle.cap_script.specs.declared.fault.LineFault.{LineFault}
-use Rattle.cap_script.specs.declared.fault.LineFault.TheVariants.{BadBlob, Limit, OutOfMemory, Syntax}
+use Rattle.cap_script.specs.declared.fault.LineFault.TheVariants.{OutOfMemory, Syntax}
 use Rattle.cap_script.proofs.NoneLemmas.{alike}
-use Rattle.cap_script.proofs.PlaceLemmas.{Local, LocalVerdict, NoFilter, local_a_sign, local_any_of, local_both, local_each, local_fits_if, local_here, local_misfit, local_next, local_ok, local_one_of, local_test, local_unless_end, local_where, local_within_if}
+use Rattle.cap_script.proofs.PlaceLemmas.{Local, LocalVerdict, local_a_sign, local_any_of, local_both, local_each, local_fits_if, local_here, local_misfit, local_next, local_ok, local_one_of, local_test, local_unless_end, local_where, local_within_if}
 
 -- ---- tokens
 
@@ -141,7 +140,7 @@ abbrev pub never : Reading
 never bytes = Err OutOfMemory
 
 pub local_never : Local never
-local_never = record { ends = λ bytes rest e. absurd cc; stops = λ bytes left e. absurd cc; goes = λ front rest behind more alike e. absurd cc; misfits = λ front behind more alike none e. absurd cc }
+local_never = record { ends = λ bytes rest e. absurd cc; stops = λ bytes left e. absurd cc; goes = λ front rest behind more alike e. absurd cc; misfits = λ front behind more alike e. absurd cc }
 
 words_agree : (front others : List (List ℕ × Reading)) (w : List ℕ) (one two : Reading) (found : List ℕ) → bytes_eq found w ≡ false → one_of (front ++ (w, one) ∷ others) found ≡ one_of (front ++ (w, two) ∷ others) found
 words_agree [] others w one two found e = rw e refl
@@ -276,6 +275,6 @@ module _ (A : Type 0) where
         whole,
         sym long,
         λ more alike.
-            let told = local_other_line.misfits (take n bytes) (drop n bytes) more alike tt (ap other_line (sym whole) ∙ read ∙ ap (λ (m : ℕ). Err (Syntax m)) (sym long)) in
+            let told = local_other_line.misfits (take n bytes) (drop n bytes) more alike (ap other_line (sym whole) ∙ read ∙ ap (λ (m : ℕ). Err (Syntax m)) (sym long)) in
             ap result_err (line_agrees (take n bytes ++ more) (no_filter_in (take n bytes ++ more) (Err (Syntax (length more))) told (λ f. absurd cc)) ∙ told),
       )

@@ -15,16 +15,13 @@ use Rattle.cap_script.specs.declared.fault.LineFault.TheVariants.{Syntax}
 use Rattle.cap_script.proofs.LocalLemmas.{begin_after, blanks_moved, blanks_of, found_moved, found_some, longer_end, no_more_blanks}
 use Rattle.cap_script.proofs.TokenLemmas.{blanks_twice}
 
-abbrev pub NoFilter : List ℕ → ℕ → Type 0
-NoFilter line left = ⊤
-
 -- It ends in the line. Where it ends before a token, or at one that does not fit, it does so in each line that goes
 -- on with that token.
 pub record Local (read : Reading) : Type 0 where
   pub ends : (line rest : List ℕ) → read line ≡ Ok rest → (front : List ℕ) × (line ≡ front ++ rest)
   pub stops : (line : List ℕ) (left : ℕ) → read line ≡ Err (Syntax left) → left ≤ length line
   pub goes : (front rest behind more : List ℕ) → BeginAlike behind more → read (front ++ behind) ≡ Ok (rest ++ behind) → read (front ++ more) ≡ Ok (rest ++ more)
-  pub misfits : (front behind more : List ℕ) → BeginAlike behind more → NoFilter (front ++ behind) (length behind) → read (front ++ behind) ≡ Err (Syntax (length behind)) → read (front ++ more) ≡ Err (Syntax (length more))
+  pub misfits : (front behind more : List ℕ) → BeginAlike behind more → read (front ++ behind) ≡ Err (Syntax (length behind)) → read (front ++ more) ≡ Err (Syntax (length more))
 
 -- ---- outcomes
 
@@ -45,9 +42,6 @@ same_left m n e = ap left_of e
 abbrev pub read_to : List ℕ → Outcome
 read_to rest = Ok rest
 
-pub filter_behind : (front line whole : List ℕ) (left : ℕ) → whole ≡ front ++ line → NoFilter whole left → NoFilter line left
-filter_behind front line whole left same none = tt
-
 pub none_before : (front behind : List ℕ) → length (front ++ behind) ≡ length behind → front ≡ []
 none_before [] behind e = refl
 none_before (c ∷ front) behind e = absurd (omega (arith, e, length-append front behind))
@@ -59,7 +53,7 @@ local_ok = record {
   ends = λ line rest e. ([], same_rest line rest e);
   stops = λ line left e. absurd cc;
   goes = λ front rest behind more alike e. ap (λ (l : List ℕ). Ok (l ++ more)) (append_cancel_right front rest behind (same_rest (front ++ behind) (rest ++ behind) e));
-  misfits = λ front behind more alike none e. absurd cc;
+  misfits = λ front behind more alike e. absurd cc;
 }
 
 pub local_misfit : Local (λ here. Err (misfit here))
@@ -67,7 +61,7 @@ local_misfit = record {
   ends = λ line rest e. absurd cc;
   stops = λ line left e. let same = same_left (length line) left e in omega (arith, same);
   goes = λ front rest behind more alike e. absurd cc;
-  misfits = λ front behind more alike none e.
+  misfits = λ front behind more alike e.
       let empty = none_before front behind (same_left (length (front ++ behind)) (length behind) e) in
       ap (λ (l : List ℕ). Err (misfit (l ++ more))) empty;
 }
@@ -86,12 +80,12 @@ local_skip read local = record {
       let here = is ∙ sym (append_assoc before rest behind) in
       let moved = blanks_moved front (before ++ rest) behind more alike (blanks_twice (front ++ behind)) here in
       ap read moved ∙ local.goes (before ++ rest) rest behind more alike (sym (ap read here) ∙ e);
-  misfits = λ front behind more alike none e.
+  misfits = λ front behind more alike e.
       let (blanks, same, skips) = blanks_of (front ++ behind) in
       let few = local.stops (behind_blanks (front ++ behind)) (length behind) e in
       let (before, here) = longer_end front blanks behind (behind_blanks (front ++ behind)) same few in
       let moved = blanks_moved front before behind more alike (blanks_twice (front ++ behind)) here in
-      ap read moved ∙ local.misfits before behind more alike (filter_behind blanks (before ++ behind) (front ++ behind) (length behind) (same ∙ ap (λ (l : List ℕ). blanks ++ l) here) none) (sym (ap read here) ∙ e);
+      ap read moved ∙ local.misfits before behind more alike (sym (ap read here) ∙ e);
 }
 
 -- ---- one reading behind another
@@ -123,22 +117,22 @@ module _ (first second : Reading) (one : Local first) (two : Local second) where
       let gone = one.goes front (before ++ rest) behind more alike (is ∙ ap read_to here) in
       ap (λ (o : Outcome). o >>= second) gone ∙ two.goes (before ++ rest) rest behind more alike (sym (ap second here) ∙ e)
 
-  both_misfits : (front behind more : List ℕ) (o : Outcome) → BeginAlike behind more → NoFilter (front ++ behind) (length behind) → first (front ++ behind) ≡ o → (o >>= second) ≡ Err (Syntax (length behind)) → both (front ++ more) ≡ Err (Syntax (length more))
-  both_misfits front behind more (Err fault) alike none is e = ap (λ (o : Outcome). o >>= second) (one.misfits front behind more alike none (is ∙ e))
-  both_misfits front behind more (Ok mid) alike none is e =
+  both_misfits : (front behind more : List ℕ) (o : Outcome) → BeginAlike behind more → first (front ++ behind) ≡ o → (o >>= second) ≡ Err (Syntax (length behind)) → both (front ++ more) ≡ Err (Syntax (length more))
+  both_misfits front behind more (Err fault) alike is e = ap (λ (o : Outcome). o >>= second) (one.misfits front behind more alike (is ∙ e))
+  both_misfits front behind more (Ok mid) alike is e =
       let (a, same) = one.ends (front ++ behind) mid is in
       let few = two.stops mid (length behind) e in
       let (before, here) = longer_end front a behind mid same few in
       let gone = one.goes front before behind more alike (is ∙ ap read_to here) in
       ap (λ (o : Outcome). o >>= second) gone
-      ∙ two.misfits before behind more alike (filter_behind a (before ++ behind) (front ++ behind) (length behind) (same ∙ ap (λ (l : List ℕ). a ++ l) here) none) (sym (ap second here) ∙ e)
+      ∙ two.misfits before behind more alike (sym (ap second here) ∙ e)
 
   pub local_both : Local (first ⋙ second)
   local_both = record {
     ends = λ line rest e. both_ends line rest (first line) refl e;
     stops = λ line left e. both_stops line left (first line) refl e;
     goes = λ front rest behind more alike e. both_goes front rest behind more (first (front ++ behind)) alike refl e;
-    misfits = λ front behind more alike none e. both_misfits front behind more (first (front ++ behind)) alike none refl e;
+    misfits = λ front behind more alike e. both_misfits front behind more (first (front ++ behind)) alike refl e;
   }
 
 -- ---- signs
@@ -173,16 +167,16 @@ module _ (s : ℕ) (next other : Reading) (yes : Local next) (no : Local other) 
       cond_both (eqb c s) (next (front ++ behind)) (other (c ∷ (front ++ behind))) (λ o. o ≡ Ok (rest ++ behind) → read (c ∷ (front ++ more)) ≡ Ok (rest ++ more))
       (λ is f. rw is (yes.goes front rest behind more alike f)) (λ is f. rw is (no.goes (c ∷ front) rest behind more alike f)) e
 
-  sign_misfits : (front behind more : List ℕ) → BeginAlike behind more → NoFilter (front ++ behind) (length behind) → read (front ++ behind) ≡ Err (Syntax (length behind)) → read (front ++ more) ≡ Err (Syntax (length more))
-  sign_misfits [] [] more alike none e = subst (λ (m : List ℕ). read m ≡ Err (Syntax (length m))) (sym alike) e
-  sign_misfits [] (byte ∷ behind) [] alike none e = absurd alike
-  sign_misfits [] (byte ∷ behind) (c ∷ more) alike none e =
+  sign_misfits : (front behind more : List ℕ) → BeginAlike behind more → read (front ++ behind) ≡ Err (Syntax (length behind)) → read (front ++ more) ≡ Err (Syntax (length more))
+  sign_misfits [] [] more alike e = subst (λ (m : List ℕ). read m ≡ Err (Syntax (length m))) (sym alike) e
+  sign_misfits [] (byte ∷ behind) [] alike e = absurd alike
+  sign_misfits [] (byte ∷ behind) (c ∷ more) alike e =
       cond_both (eqb byte s) (next behind) (other (byte ∷ behind)) (λ o. o ≡ Err (Syntax (length (byte ∷ behind))) → read (c ∷ more) ≡ Err (Syntax (length (c ∷ more))))
       (λ is f. let few = yes.stops behind (length (byte ∷ behind)) f in absurd (omega (arith, few)))
-      (λ is f. rw (subst (λ (b : ℕ). eqb b s ≡ false) alike.0 is) (no.misfits [] (byte ∷ behind) (c ∷ more) alike none f)) e
-  sign_misfits (c ∷ front) behind more alike none e =
+      (λ is f. rw (subst (λ (b : ℕ). eqb b s ≡ false) alike.0 is) (no.misfits [] (byte ∷ behind) (c ∷ more) alike f)) e
+  sign_misfits (c ∷ front) behind more alike e =
       cond_both (eqb c s) (next (front ++ behind)) (other (c ∷ (front ++ behind))) (λ o. o ≡ Err (Syntax (length behind)) → read (c ∷ (front ++ more)) ≡ Err (Syntax (length more)))
-      (λ is f. rw is (yes.misfits front behind more alike (filter_behind (c ∷ []) (front ++ behind) (c ∷ (front ++ behind)) (length behind) refl none) f)) (λ is f. rw is (no.misfits (c ∷ front) behind more alike none f)) e
+      (λ is f. rw is (yes.misfits front behind more alike f)) (λ is f. rw is (no.misfits (c ∷ front) behind more alike f)) e
 
   pub local_sign : Local (by_sign s next other)
   local_sign = record { ends = sign_ends; stops = sign_stops; goes = sign_goes; misfits = sign_misfits }
@@ -213,11 +207,11 @@ module _ (next : Reading) (local : Local next) where
   end_goes [] rest (byte ∷ behind) (c ∷ more) alike e = local.goes [] rest (byte ∷ behind) (c ∷ more) alike e
   end_goes (c ∷ front) rest behind more alike e = local.goes (c ∷ front) rest behind more alike e
 
-  end_misfits : (front behind more : List ℕ) → BeginAlike behind more → NoFilter (front ++ behind) (length behind) → unless_end next (front ++ behind) ≡ Err (Syntax (length behind)) → unless_end next (front ++ more) ≡ Err (Syntax (length more))
-  end_misfits [] [] more alike none e = absurd cc
-  end_misfits [] (byte ∷ behind) [] alike none e = absurd alike
-  end_misfits [] (byte ∷ behind) (c ∷ more) alike none e = local.misfits [] (byte ∷ behind) (c ∷ more) alike none e
-  end_misfits (c ∷ front) behind more alike none e = local.misfits (c ∷ front) behind more alike none e
+  end_misfits : (front behind more : List ℕ) → BeginAlike behind more → unless_end next (front ++ behind) ≡ Err (Syntax (length behind)) → unless_end next (front ++ more) ≡ Err (Syntax (length more))
+  end_misfits [] [] more alike e = absurd cc
+  end_misfits [] (byte ∷ behind) [] alike e = absurd alike
+  end_misfits [] (byte ∷ behind) (c ∷ more) alike e = local.misfits [] (byte ∷ behind) (c ∷ more) alike e
+  end_misfits (c ∷ front) behind more alike e = local.misfits (c ∷ front) behind more alike e
 
   pub local_end_here : Local (unless_end next)
   local_end_here = record { ends = end_ends; stops = end_stops; goes = end_goes; misfits = end_misfits }
@@ -237,8 +231,8 @@ module _ (test : ℕ → Bool) (next other : Reading) (yes : Local next) (no : L
     stops = λ line left. cond_both (begins test line) (next line) (other line) (λ o. o ≡ Err (Syntax left) → left ≤ length line) (λ is e. yes.stops line left e) (λ is e. no.stops line left e);
     goes = λ front rest behind more alike. cond_both (begins test (front ++ behind)) (next (front ++ behind)) (other (front ++ behind)) (λ o. o ≡ Ok (rest ++ behind) → tested (front ++ more) ≡ Ok (rest ++ more))
         (λ is e. rw (sym (begin_after test front behind more alike) ∙ is) (yes.goes front rest behind more alike e)) (λ is e. rw (sym (begin_after test front behind more alike) ∙ is) (no.goes front rest behind more alike e));
-    misfits = λ front behind more alike none. cond_both (begins test (front ++ behind)) (next (front ++ behind)) (other (front ++ behind)) (λ o. o ≡ Err (Syntax (length behind)) → tested (front ++ more) ≡ Err (Syntax (length more)))
-        (λ is e. rw (sym (begin_after test front behind more alike) ∙ is) (yes.misfits front behind more alike none e)) (λ is e. rw (sym (begin_after test front behind more alike) ∙ is) (no.misfits front behind more alike none e));
+    misfits = λ front behind more alike. cond_both (begins test (front ++ behind)) (next (front ++ behind)) (other (front ++ behind)) (λ o. o ≡ Err (Syntax (length behind)) → tested (front ++ more) ≡ Err (Syntax (length more)))
+        (λ is e. rw (sym (begin_after test front behind more alike) ∙ is) (yes.misfits front behind more alike e)) (λ is e. rw (sym (begin_after test front behind more alike) ∙ is) (no.misfits front behind more alike e));
   }
 
 -- ---- tokens
@@ -320,36 +314,36 @@ module _ (judge : Token → Verdict) (local : (t : Token) → LocalVerdict (judg
       ap (scanned judge (front ++ more)) moved
       ∙ judged_goes (front ++ behind) (front ++ more) q rest behind more (judge t) (local t) alike (subst (λ (l : List ℕ). judged (front ++ behind) l (judge t) ≡ Ok (rest ++ behind)) tail e)
 
-  judged_misfits : (front behind more p r : List ℕ) (t : Token) (v : Verdict) → judge t ≡ v → LocalVerdict v → BeginAlike behind more → NoFilter (front ++ behind) (length behind) → token_at (front ++ behind) ≡ Some (t, r) → front ++ behind ≡ p ++ r → 0 < length p
+  judged_misfits : (front behind more p r : List ℕ) (t : Token) (v : Verdict) → judge t ≡ v → LocalVerdict v → BeginAlike behind more → token_at (front ++ behind) ≡ Some (t, r) → front ++ behind ≡ p ++ r → 0 < length p
       → judged (front ++ behind) r v ≡ Err (Syntax (length behind)) → right_here judge (front ++ more) ≡ Err (Syntax (length more))
-  judged_misfits front behind more p r t (goes_on read) verdict known alike none is same some e =
+  judged_misfits front behind more p r t (goes_on read) verdict known alike is same some e =
       let few = known.stops r (length behind) e in
       let (q, tail) = longer_end front p behind r same few in
       let moved = found_moved t front q behind more (some_front front behind p r q same tail some) alike (is ∙ ap (λ (l : List ℕ). Some (t, l)) tail) in
       ap (scanned judge (front ++ more)) moved ∙ ap (judged (front ++ more) (q ++ more)) verdict
-      ∙ known.misfits q behind more alike (filter_behind p (q ++ behind) (front ++ behind) (length behind) (same ∙ ap (λ (l : List ℕ). p ++ l) tail) none) (sym (ap read tail) ∙ e)
-  judged_misfits front behind more p r t unfit verdict known alike none is same some e =
+      ∙ known.misfits q behind more alike (sym (ap read tail) ∙ e)
+  judged_misfits front behind more p r t unfit verdict known alike is same some e =
       let empty = none_before front behind (same_left (length (front ++ behind)) (length behind) e) in
       let (q, found) = some_alike t r behind more alike (subst (λ (l : List ℕ). token_at (l ++ behind) ≡ Some (t, r)) empty is) in
       ap (λ (l : List ℕ). right_here judge (l ++ more)) empty ∙ ap (scanned judge more) found ∙ ap (judged more q) verdict
-  judged_misfits front behind more p r t (exceeds why) verdict known alike none is same some e = absurd cc
-  judged_misfits front behind more p r t (no_blob why) verdict known alike none is same some e = absurd cc
+  judged_misfits front behind more p r t (exceeds why) verdict known alike is same some e = absurd cc
+  judged_misfits front behind more p r t (no_blob why) verdict known alike is same some e = absurd cc
 
-  here_misfits : (front behind more : List ℕ) (found : Scanned) → BeginAlike behind more → NoFilter (front ++ behind) (length behind) → token_at (front ++ behind) ≡ found → scanned judge (front ++ behind) found ≡ Err (Syntax (length behind)) → right_here judge (front ++ more) ≡ Err (Syntax (length more))
-  here_misfits front behind more None alike none is e =
+  here_misfits : (front behind more : List ℕ) (found : Scanned) → BeginAlike behind more → token_at (front ++ behind) ≡ found → scanned judge (front ++ behind) found ≡ Err (Syntax (length behind)) → right_here judge (front ++ more) ≡ Err (Syntax (length more))
+  here_misfits front behind more None alike is e =
       let empty = none_before front behind (same_left (length (front ++ behind)) (length behind) e) in
       let found = none_alike behind more alike (subst (λ (l : List ℕ). token_at (l ++ behind) ≡ None) empty is) in
       ap (λ (l : List ℕ). right_here judge (l ++ more)) empty ∙ ap (scanned judge more) found
-  here_misfits front behind more (Some (t, r)) alike none is e =
+  here_misfits front behind more (Some (t, r)) alike is e =
       let (p, same, some) = found_some t (front ++ behind) r is in
-      judged_misfits front behind more p r t (judge t) refl (local t) alike none is same some e
+      judged_misfits front behind more p r t (judge t) refl (local t) alike is same some e
 
   pub local_here : Local (right_here judge)
   local_here = record {
     ends = λ line rest e. here_ends line rest (token_at line) refl e;
     stops = λ line left e. here_stops line left (token_at line) refl e;
     goes = λ front rest behind more alike e. here_goes front rest behind more (token_at (front ++ behind)) alike refl e;
-    misfits = λ front behind more alike none e. here_misfits front behind more (token_at (front ++ behind)) alike none refl e;
+    misfits = λ front behind more alike e. here_misfits front behind more (token_at (front ++ behind)) alike refl e;
   }
 
   pub local_next : Local (next judge)
@@ -415,7 +409,7 @@ module _ (s : ℕ) (item : Reading) (local : Local item) where
     goes = λ front rest behind more alike e.
         let n = length (front ++ behind) + length (front ++ more) in
         enough_at n (front ++ more) (omega arith) ∙ (local_at_most n).goes front rest behind more alike (sym (enough_at n (front ++ behind) (omega arith)) ∙ e);
-    misfits = λ front behind more alike none e.
+    misfits = λ front behind more alike e.
         let n = length (front ++ behind) + length (front ++ more) in
-        enough_at n (front ++ more) (omega arith) ∙ (local_at_most n).misfits front behind more alike none (sym (enough_at n (front ++ behind) (omega arith)) ∙ e);
+        enough_at n (front ++ more) (omega arith) ∙ (local_at_most n).misfits front behind more alike (sym (enough_at n (front ++ behind) (omega arith)) ∙ e);
   }
