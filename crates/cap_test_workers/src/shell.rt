@@ -5,9 +5,6 @@ use cap_run::{RunFault, run_shell};
 use cap_server::CallFault;
 use cap_test_support::{Failure, Memory, Sink, Source};
 use std::alloc::Global;
-use std::io;
-use std::io::{Read, Write};
-use std::sync::atomic::{AtomicU64, Ordering};
 use std::test::Fail;
 
 // More calls and requests than any shell makes.
@@ -60,7 +57,7 @@ fn first_lines(alloc: Global, count: usize) -> Result<Lines, Fail> {
         replies: Vec::new(alloc),
         faults: Vec::new(alloc),
     };
-    for (line, reply, fault) in &LINES[..count] {
+    for (line, reply, fault) in LINES.iter().take(count) {
         if !lines.text.is_empty() {
             lines.text.extend_from_slice(b"\n")?;
         }
@@ -144,8 +141,17 @@ fn each_read_of_a_shell_may_fail(rt: HostRuntime) -> Result<(), Fail> {
             return Ok(());
         }
         assert_eq!(rt; outcome, Err(RunFault::Read), "{call}");
-        assert!(rt; lines.replies.as_slice().starts_with(replies.taken.as_slice()), "{call}");
-        assert!(rt; lines.faults.as_slice().starts_with(faults.taken.as_slice()), "{call}");
+        assert!(rt;
+            lines
+                .replies
+                .as_slice()
+                .starts_with(replies.taken.as_slice()),
+            "{call}"
+        );
+        assert!(rt;
+            lines.faults.as_slice().starts_with(faults.taken.as_slice()),
+            "{call}"
+        );
     }
     Ok(())
 }
@@ -164,8 +170,17 @@ fn each_write_of_a_shell_may_fail(rt: HostRuntime) -> Result<(), Fail> {
             let mut faults = sink(rt.alloc(), second);
             let outcome = run(rt.alloc(), &mut reader, &mut replies, &mut faults);
             assert_eq!(rt; outcome, Err(RunFault::Write), "{call}");
-            assert!(rt; lines.replies.as_slice().starts_with(replies.taken.as_slice()), "{call}");
-            assert!(rt; lines.faults.as_slice().starts_with(faults.taken.as_slice()), "{call}");
+            assert!(rt;
+                lines
+                    .replies
+                    .as_slice()
+                    .starts_with(replies.taken.as_slice()),
+                "{call}"
+            );
+            assert!(rt;
+                lines.faults.as_slice().starts_with(faults.taken.as_slice()),
+                "{call}"
+            );
         }
     }
     Ok(())
@@ -196,76 +211,5 @@ fn each_allocation_of_a_shell_may_be_refused(rt: HostRuntime) -> Result<(), Fail
         }
     }
     assert!(rt; ended > 20 && !memory.has_refused());
-    Ok(())
-}
-
-// How many bytes were written and how many of them flushed.
-struct Shown {
-    written: AtomicU64,
-    flushed: AtomicU64,
-}
-
-// Gives a line at each read, and fails where not all replies to the lines before it were flushed.
-#[derive(Drop)]
-struct Typist<'a> {
-    shown: &'a Shown,
-    line: usize,
-    expected: u64,
-}
-
-impl<'a> Read for Typist<'a> {
-    fn read(&mut self, buf: &mut [u8]) -> io::Result<usize> {
-        if self.shown.flushed.load(Ordering::SeqCst) != self.expected {
-            return Err(io::Error::from(io::ErrorKind::Other));
-        }
-        let Some((line, reply, _)) = LINES.get(self.line) else {
-            return Ok(0);
-        };
-        self.line = self.line.saturating_add(1);
-        self.expected = self.expected.saturating_add(reply.len() as u64);
-        let count = line.len().min(buf.len().saturating_sub(1));
-        buf[..count].copy_from_slice(&line[..count]);
-        buf[count] = b'\n';
-        Ok(count.saturating_add(1))
-    }
-}
-
-#[derive(Drop)]
-struct Screen<'a> {
-    shown: &'a Shown,
-}
-
-impl<'a> Write for Screen<'a> {
-    fn write(&mut self, buf: &[u8]) -> io::Result<usize> {
-        let written = self.shown.written.load(Ordering::SeqCst);
-        let written = written.saturating_add(buf.len() as u64);
-        self.shown.written.store(written, Ordering::SeqCst);
-        Ok(buf.len())
-    }
-
-    fn flush(&mut self) -> io::Result<()> {
-        let written = self.shown.written.load(Ordering::SeqCst);
-        self.shown.flushed.store(written, Ordering::SeqCst);
-        Ok(())
-    }
-}
-
-// The reply to each line is flushed before the next line is read.
-#[test]
-fn each_reply_comes_at_once(rt: HostRuntime) -> Result<(), Fail> {
-    let shown = Shown {
-        written: AtomicU64::new(0),
-        flushed: AtomicU64::new(0),
-    };
-    let mut reader = Typist {
-        shown: &shown,
-        line: 0,
-        expected: 0,
-    };
-    let mut replies = Screen { shown: &shown };
-    let mut told = Vec::new(rt.alloc());
-    let outcome = run_shell(rt.alloc(), &mut reader, &mut replies, &mut told);
-    assert_eq!(rt; outcome, Ok(()));
-    assert!(rt; reader.line == LINES.len());
     Ok(())
 }
