@@ -26,7 +26,7 @@ struct Answered<A: AllocHandle> {
     reply: Reply<A>,
 }
 
-// A server after a restart of a session, and the capture of the session.
+// A server after a restart or a capture of a session, and what was captured.
 #[derive(Drop)]
 struct Part<A: AllocHandle> {
     core: Core<A>,
