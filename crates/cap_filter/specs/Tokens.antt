@@ -49,10 +49,10 @@ sign byte =
 -- The state of the scanner: between tokens; inside a quoted text; or behind a quote in a quoted text, which
 -- ends it unless another quote follows. A quoted text has the number of bytes from its first quote on, and
 -- its bytes so far.
-pub data Place : Type 0 where
-  between : Place
-  inside : ℕ → List ℕ → Place
-  behind_quote : ℕ → List ℕ → Place
+pub data ScannerState : Type 0 where
+  between : ScannerState
+  inside : ℕ → List ℕ → ScannerState
+  behind_quote : ℕ → List ℕ → ScannerState
 
 -- The tokens from a byte between tokens on, given those of the rest, scanned between tokens and inside
 -- quotes.
@@ -63,7 +63,7 @@ from_byte byte rest after in_quotes =
     else if is_word_byte byte then onto_word (suc (length rest)) byte (begins_word rest) after
     else (suc (length rest), sign byte) ∷ after
 
-unfoldable pub tokens_from : Place → List ℕ → Tokens
+unfoldable pub tokens_from : ScannerState → List ℕ → Tokens
 tokens_from between [] = []
 tokens_from between (byte ∷ rest) =
     from_byte byte rest (tokens_from between rest) (tokens_from (inside (suc (length rest)) []) rest)

@@ -4,7 +4,7 @@ use Rattle.std.specs.Borrow.{Bor}
 use Rattle.cap_row.specs.Fields.{Fields}
 use Rattle.cap_table.specs.declared.row_ref.RowRef.{RowRef}
 use Rattle.cap_table.specs.declared.row_ref.RowRef.TheVariants.{Key, Loose}
-use Rattle.cap_table.specs.declared.row_name.RowName as lent
+use Rattle.cap_table.specs.declared.row_name.RowName as row_name
 use Rattle.cap_table.specs.declared.row_name.RowName.TheVariants as named
 use Rattle.cap_table.specs.Table.{TableState}
 
@@ -16,11 +16,11 @@ module _ {A : Type 0} where
   abbrev pub rows : TableState A → List (RowRef A × Fields A)
   rows table = rows_from table.keyed table.loose
 
-  -- the name that is lent
-  abbrev pub name_shown : lent.RowName A → RowRef A
+  -- what a borrowed name shows
+  abbrev pub name_shown : row_name.RowName A → RowRef A
   name_shown (named.Key key) = Key key.now
   name_shown (named.Loose id) = Loose id
 
-  -- the row that is lent, with its name
-  abbrev pub row_shown : lent.RowName A × Bor (Fields A) → RowRef A × Fields A
+  -- what a borrowed row and its name show
+  abbrev pub row_shown : row_name.RowName A × Bor (Fields A) → RowRef A × Fields A
   row_shown item = (name_shown item.0, item.1.now)
