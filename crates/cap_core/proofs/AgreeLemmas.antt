@@ -15,7 +15,7 @@ use Rattle.cap_core.specs.Past.{Past, is_accepted}
 use Rattle.cap_core.specs.Session.{session_of, sessions}
 use Rattle.cap_core.proofs.NumberLemmas.{apart_numbers, equal_numbers, numbered, passing, unequal_numbers}
 use Rattle.cap_core.proofs.SessionLemmas.{and_false, cond-same, flags-elsewhere, session-quiet, session-refused, silent-elsewhere, speaks_to}
-use Rattle.cap_core.proofs.FlagLemmas.{session-told, told_session}
+use Rattle.cap_core.proofs.FlagLemmas.{session-of-command, session_after_command}
 
 inside_first : (a number : ℕ) → (nat_le a number && nat_lt number (a + 0)) ≡ false
 inside_first a number = grind (arith, nat_tests)
@@ -91,9 +91,9 @@ module _ {A : Type 0} where
         saves = λ i. cond accepted (save_under (name_saved event.command) (agree.mains i) (agree.saves i)) (agree.saves i);
         session = elim accepted as (λ b. accepted ≡ b → session_of (event ∷ past) number ≡ session_of (event ∷ other) number) [
           | true ↦ λ is.
-              session-told past event number is
-              ∙ (λ i. told_session number event.command (snapshots i) (agree.saves i) (agree.session i))
-              ∙ sym (session-told other event number is)
+              session-of-command past event number is
+              ∙ (λ i. session_after_command number event.command (snapshots i) (agree.saves i) (agree.session i))
+              ∙ sym (session-of-command other event number is)
           | false ↦ λ is. session-refused number event past is ∙ agree.session ∙ sym (session-refused number event other is)
         ] refl;
         made = λ i. cond (accepted && makes_session event.command) (agree.made i + 1) (agree.made i);

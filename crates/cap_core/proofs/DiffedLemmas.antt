@@ -41,7 +41,7 @@ use Rattle.cap_core.proofs.KeyedLemmas.{ordered}
 use Rattle.cap_core.proofs.NumberLemmas.{same_number}
 use Rattle.cap_core.proofs.SessionLemmas.{and_false, note-nothing, session-refused}
 use Rattle.cap_core.proofs.SmallLemmas.{either_false, other_false}
-use Rattle.cap_core.proofs.FlagLemmas.{session-told, told_session}
+use Rattle.cap_core.proofs.FlagLemmas.{session-of-command, session_after_command}
 use Rattle.cap_core.proofs.TouchedLemmas.{fields_same, get-find, put_entry-put, tied}
 
 no-write : (accepted writes renewed : Bool) → (accepted && (writes || renewed)) ≡ false → (accepted && writes) ≡ false
@@ -170,30 +170,30 @@ module _ {A : Type 0} where
       ] quiet
 
   -- what a session has of a key, where the command does not write or renew it
-  told-record : (session : ℕ) (c : Command A) (now : SnapshotState A) (databases : Databases A) (s : SessionState A) (name : List ℕ) (key : Fields A) → is_write c ≡ false → renews session c ≡ false
-      → record_of (told_session session c now databases s).tables name key ≡ record_of s.tables name key
-  told-record session (command.Attach other table) now databases s name key writes renewed =
+  record-after-command : (session : ℕ) (c : Command A) (now : SnapshotState A) (databases : Databases A) (s : SessionState A) (name : List ℕ) (key : Fields A) → is_write c ≡ false → renews session c ≡ false
+      → record_of (session_after_command session c now databases s).tables name key ≡ record_of s.tables name key
+  record-after-command session (command.Attach other table) now databases s name key writes renewed =
       elim (nat_eq other session) as (λ b. record_of (cond b (attached table s) s).tables name key ≡ record_of s.tables name key) [ true ↦ record-attach table s.tables name key | false ↦ refl ]
-  told-record session (command.AttachAll other) now databases s name key writes renewed =
+  record-after-command session (command.AttachAll other) now databases s name key writes renewed =
       elim (nat_eq other session) as (λ b. record_of (cond b (attach_all s) s).tables name key ≡ record_of s.tables name key) [ true ↦ refl | false ↦ refl ]
-  told-record session (command.SetFilter other filter) now databases s name key writes renewed =
+  record-after-command session (command.SetFilter other filter) now databases s name key writes renewed =
       elim (nat_eq other session) as (λ b. record_of (cond b (set_filter filter s) s).tables name key ≡ record_of s.tables name key) [ true ↦ refl | false ↦ refl ]
-  told-record session (command.Enable other asked) now databases s name key writes renewed =
+  record-after-command session (command.Enable other asked) now databases s name key writes renewed =
       elim (nat_eq other session) as (λ b. record_of (cond b (enabled_as asked s) s).tables name key ≡ record_of s.tables name key) [ true ↦ refl | false ↦ refl ]
-  told-record session (command.Indirect other asked) now databases s name key writes renewed =
+  record-after-command session (command.Indirect other asked) now databases s name key writes renewed =
       elim (nat_eq other session) as (λ b. record_of (cond b (indirect_as asked s) s).tables name key ≡ record_of s.tables name key) [ true ↦ refl | false ↦ refl ]
-  told-record session (command.Diff other from table) now databases s name key writes renewed =
+  record-after-command session (command.Diff other from table) now databases s name key writes renewed =
       ap (λ b. record_of (cond b (compared table (diff now.database databases from table) s) s).tables name key) renewed
-  told-record session (command.Restart other) now databases s name key writes renewed = ap (λ b. record_of (cond b (restart s) s).tables name key) renewed
-  told-record session (command.CreateTable table schema) now databases s name key writes renewed = cc
-  told-record session (command.Commit batch) now databases s name key writes renewed = cc
-  told-record session (command.Apply blob policy) now databases s name key writes renewed = cc
-  told-record session command.Read now databases s name key writes renewed = ap (λ t. record_of t.tables name key) (note-nothing now.database s)
-  told-record session (command.SaveAs table) now databases s name key writes renewed = ap (λ t. record_of t.tables name key) (note-nothing now.database s)
-  told-record session command.NewSession now databases s name key writes renewed = ap (λ t. record_of t.tables name key) (note-nothing now.database s)
-  told-record session (command.DropSession other) now databases s name key writes renewed = ap (λ t. record_of t.tables name key) (note-nothing now.database s)
-  told-record session (command.IsEmpty other) now databases s name key writes renewed = ap (λ t. record_of t.tables name key) (note-nothing now.database s)
-  told-record session (command.Capture other) now databases s name key writes renewed = ap (λ t. record_of t.tables name key) (note-nothing now.database s)
+  record-after-command session (command.Restart other) now databases s name key writes renewed = ap (λ b. record_of (cond b (restart s) s).tables name key) renewed
+  record-after-command session (command.CreateTable table schema) now databases s name key writes renewed = cc
+  record-after-command session (command.Commit batch) now databases s name key writes renewed = cc
+  record-after-command session (command.Apply blob policy) now databases s name key writes renewed = cc
+  record-after-command session command.Read now databases s name key writes renewed = ap (λ t. record_of t.tables name key) (note-nothing now.database s)
+  record-after-command session (command.SaveAs table) now databases s name key writes renewed = ap (λ t. record_of t.tables name key) (note-nothing now.database s)
+  record-after-command session command.NewSession now databases s name key writes renewed = ap (λ t. record_of t.tables name key) (note-nothing now.database s)
+  record-after-command session (command.DropSession other) now databases s name key writes renewed = ap (λ t. record_of t.tables name key) (note-nothing now.database s)
+  record-after-command session (command.IsEmpty other) now databases s name key writes renewed = ap (λ t. record_of t.tables name key) (note-nothing now.database s)
+  record-after-command session (command.Capture other) now databases s name key writes renewed = ap (λ t. record_of t.tables name key) (note-nothing now.database s)
 
   quiet-record : (session : ℕ) (past : Past A) (event : Event A) (name : List ℕ) (key : Fields A) → (is_accepted event.reply && (is_write event.command || renews session event.command)) ≡ false
       → record_of (session_of (event ∷ past) session).tables name key ≡ record_of (session_of past session).tables name key
@@ -201,8 +201,8 @@ module _ {A : Type 0} where
       elim (is_accepted event.reply) as (λ b. is_accepted event.reply ≡ b → (b && (is_write event.command || renews session event.command)) ≡ false
       → record_of (session_of (event ∷ past) session).tables name key ≡ record_of (session_of past session).tables name key) [
         | true ↦ λ accepted is.
-            ap (λ s. record_of s.tables name key) (session-told past event session accepted)
-            ∙ told-record session event.command (snapshot past) (saved past) (session_of past session) name key (either_false (is_write event.command) _ is) (other_false (is_write event.command) _ is)
+            ap (λ s. record_of s.tables name key) (session-of-command past event session accepted)
+            ∙ record-after-command session event.command (snapshot past) (saved past) (session_of past session) name key (either_false (is_write event.command) _ is) (other_false (is_write event.command) _ is)
         | false ↦ λ refused _. ap (λ s. record_of s.tables name key) (session-refused session event past refused)
       ] refl quiet
 
@@ -302,8 +302,8 @@ module _ {A : Type 0} where
     after-is : after ≡ touch_table name found (attach name before)
     unfolding before after found
     after-is =
-        ap (λ s. s.tables) (session-told past event session d.accepted
-        ∙ ap (λ c. told_session session c (snapshot past) (saved past) (session_of past session)) d.diffs
+        ap (λ s. s.tables) (session-of-command past event session d.accepted
+        ∙ ap (λ c. session_after_command session c (snapshot past) (saved past) (session_of past session)) d.diffs
         ∙ ap (λ b. cond b (compared name (diff (main past) (saved past) d.from name) (session_of past session)) (session_of past session)) (same_number session)
         ∙ ap (λ r. compared name r (session_of past session)) made.is)
 

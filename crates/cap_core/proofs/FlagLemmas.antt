@@ -162,15 +162,15 @@ module _ {A : Type 0} where
   -- ---- any command that was accepted
 
   -- what the command makes of a session, by the tables before it and the session as it was
-  abbrev pub told_session : ℕ → Command A → SnapshotState A → Databases A → SessionState A → SessionState A
-  told_session number (command.Attach other name) now saved session = cond (nat_eq other number) (attached name session) session
-  told_session number (command.AttachAll other) now saved session = cond (nat_eq other number) (attach_all session) session
-  told_session number (command.SetFilter other filter) now saved session = cond (nat_eq other number) (set_filter filter session) session
-  told_session number (command.Enable other asked) now saved session = cond (nat_eq other number) (enabled_as asked session) session
-  told_session number (command.Indirect other asked) now saved session = cond (nat_eq other number) (indirect_as asked session) session
-  told_session number (command.Diff other from name) now saved session = cond (nat_eq other number) (compared name (diff now.database saved from name) session) session
-  told_session number (command.Restart other) now saved session = cond (nat_eq other number) (restart session) session
-  told_session number c now saved session = note now.database (effect_of now.database (outcome now c)).changes session
+  abbrev pub session_after_command : ℕ → Command A → SnapshotState A → Databases A → SessionState A → SessionState A
+  session_after_command number (command.Attach other name) now saved session = cond (nat_eq other number) (attached name session) session
+  session_after_command number (command.AttachAll other) now saved session = cond (nat_eq other number) (attach_all session) session
+  session_after_command number (command.SetFilter other filter) now saved session = cond (nat_eq other number) (set_filter filter session) session
+  session_after_command number (command.Enable other asked) now saved session = cond (nat_eq other number) (enabled_as asked session) session
+  session_after_command number (command.Indirect other asked) now saved session = cond (nat_eq other number) (indirect_as asked session) session
+  session_after_command number (command.Diff other from name) now saved session = cond (nat_eq other number) (compared name (diff now.database saved from name) session) session
+  session_after_command number (command.Restart other) now saved session = cond (nat_eq other number) (restart session) session
+  session_after_command number c now saved session = note now.database (effect_of now.database (outcome now c)).changes session
 
   abbrev done : Command A → Event A
   done c = event_by 0 c Done
@@ -194,7 +194,7 @@ module _ {A : Type 0} where
       → (other number : ℕ) → other ≡ number → change (session_of past number) ≡ session_of (done (c other) ∷ past) number
   same_command past c change here other number is = here number ∙ ap (λ k. session_of (done (c k) ∷ past) number) (sym is)
 
-  done-session : (past : Past A) (number : ℕ) (c : Command A) → session_of (done c ∷ past) number ≡ told_session number c (snapshot past) (saved past) (session_of past number)
+  done-session : (past : Past A) (number : ℕ) (c : Command A) → session_of (done c ∷ past) number ≡ session_after_command number c (snapshot past) (saved past) (session_of past number)
   done-session past number (command.Attach other name) =
       either-session past (command.Attach other name) other number (attached name) (same_command past (λ k. command.Attach k name) (attached name) (λ k. attach-here past 0 k name) other number)
       (λ apart. apart-session past (command.Attach other name) number apart refl)
@@ -238,6 +238,6 @@ module _ {A : Type 0} where
   done-reply past by c (Capture capture) number accepted = refl
   done-reply past by c (Refused at why) number accepted = cc
 
-  pub session-told : (past : Past A) (event : Event A) (number : ℕ) → is_accepted event.reply ≡ true
-      → session_of (event ∷ past) number ≡ told_session number event.command (snapshot past) (saved past) (session_of past number)
-  session-told past event number accepted = done-reply past event.by event.command event.reply number accepted ∙ done-session past number event.command
+  pub session-of-command : (past : Past A) (event : Event A) (number : ℕ) → is_accepted event.reply ≡ true
+      → session_of (event ∷ past) number ≡ session_after_command number event.command (snapshot past) (saved past) (session_of past number)
+  session-of-command past event number accepted = done-reply past event.by event.command event.reply number accepted ∙ done-session past number event.command
