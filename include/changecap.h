@@ -41,17 +41,17 @@ extern "C" {
 /* ---- Statuses ---- */
 
 #define CHANGECAP_OK        0 /* the call did what it says */
-#define CHANGECAP_MALFORMED 1 /* the bytes are no blob: the fault is told */
-#define CHANGECAP_ROOM      2 /* the buffer is too short: the length that it takes is told */
+#define CHANGECAP_MALFORMED 1 /* the bytes are no blob: the fault is set */
+#define CHANGECAP_ROOM      2 /* the buffer is too short: the length that it takes is set */
 #define CHANGECAP_NOMEM     3 /* out of memory */
 #define CHANGECAP_PATCHSET  4 /* a patchset, where only a changeset serves */
 #define CHANGECAP_MISUSE    5 /* an argument that the call has no meaning for */
 #define CHANGECAP_REFUSED   6 /* the server refuses the command: its reply, or the fault, says why */
-#define CHANGECAP_COMMAND   7 /* the text is not one command: the fault is told */
+#define CHANGECAP_COMMAND   7 /* the text is not one command: the fault is set */
 #define CHANGECAP_FULL      8 /* the server has answered 2^63 - 1 commands */
 #define CHANGECAP_KIND      9 /* a changeset where the blob before it is a patchset, or the other way round */
 #define CHANGECAP_COLUMNS  10 /* a table that had other columns, or another key, before */
-#define CHANGECAP_FILTER   11 /* the text is no filter: the fault is told */
+#define CHANGECAP_FILTER   11 /* the text is no filter: the fault is set */
 #define CHANGECAP_ROW     100 /* the iterator is at a change */
 #define CHANGECAP_DONE    101 /* the iterator is behind the last change */
 
@@ -226,8 +226,8 @@ typedef struct changecap_decoder {
  *   OK, NOMEM. */
 uint32_t changecap_decoder_open(changecap_decoder *decoder);
 
-/* Takes the next piece. A fault is told where no further bytes can mend it, which is any but TRUNCATED; its offset is
- * counted from the first byte of the first piece, and it is told again whatever follows. The rest takes an open decoder
+/* Takes the next piece. A fault is set where no further bytes can mend it, which is any but TRUNCATED; its offset is
+ * counted from the first byte of the first piece, and it is set again whatever follows. The rest takes an open decoder
  * too.
  *   OK, MALFORMED (*fault), NOMEM (the piece is not taken). */
 uint32_t changecap_decoder_feed(changecap_decoder *decoder, const uint8_t *piece, size_t n, changecap_fault *fault);

@@ -13,6 +13,7 @@ pub mod EntryReading
 pub mod ChangeLeft
 pub mod Writable
 pub mod Spelling
+pub mod FaultName
 pub mod FaultPlace
 pub mod Pieces
 pub mod StreamCalls

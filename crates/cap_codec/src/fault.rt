@@ -1,6 +1,7 @@
 //! Faults of malformed blobs.
 
 ghost use Rattle.std.specs.Prelude.{◌≡◌};
+ghost use Rattle.cap_codec.specs.FaultName.{kind_name};
 
 use cap_value::Fault;
 use std::error::Error;
@@ -32,9 +33,13 @@ pub enum FaultKind {
     Mixed,
 }
 
-impl fmt::Display for FaultKind {
-    fn fmt<W: fmt::Write>(&self, f: &mut fmt::Formatter<W>) -> fmt::Result {
-        f.write_str(match self {
+impl FaultKind {
+    /// The number and the name, as they are printed.
+    #[tactic(auto, unfolding(crate::specs::FaultName::kind_name))]
+    pub fn name(self) -> &'static str
+        ensures name { result.now ≡ kind_name self }
+    {
+        match self {
             FaultKind::Truncated => "D1 Truncated",
             FaultKind::BadHeader => "D2 BadHeader",
             FaultKind::BadVarint => "D3 BadVarint",
@@ -45,7 +50,13 @@ impl fmt::Display for FaultKind {
             FaultKind::BadText => "D8 BadText",
             FaultKind::BadRecord => "D9 BadRecord",
             FaultKind::Mixed => "D10 Mixed",
-        })
+        }
+    }
+}
+
+impl fmt::Display for FaultKind {
+    fn fmt<W: fmt::Write>(&self, f: &mut fmt::Formatter<W>) -> fmt::Result {
+        f.write_str(self.name())
     }
 }
 

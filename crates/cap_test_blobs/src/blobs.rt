@@ -1,3 +1,4 @@
+//! Tests of whole blobs, read and written.
 use cap_changes::{ChangeList, FieldRecord, Group, RowChange, to_patches};
 use cap_codec::{BlobFault, Contents, FaultKind, read_blob, write_changes, write_patches};
 use cap_row::Schema;

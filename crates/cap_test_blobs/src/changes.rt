@@ -1,3 +1,4 @@
+//! Tests of change lists: made, inverted, and made patches of, with refused memory.
 ghost use Rattle.std.specs.Prelude.{◌≡◌, pos, [], ◌∷◌, true, false, IfOk};
 ghost use Rattle.std.specs.Option.{option_copied, option_map};
 ghost use Rattle.cap_value.specs.declared.value.Value.TheVariants.{Int, Text};

@@ -1,3 +1,4 @@
+//! Tests of blobs read from readers and written to writers, some of which fail.
 ghost use Rattle.std.specs.Prelude.{◌≤◌};
 
 use cap_changes::PatchList;
