@@ -1,0 +1,5 @@
+//! Tests of the texts of faults.
+#![tactic(auto)]
+
+#[cfg(test)]
+mod faults;
