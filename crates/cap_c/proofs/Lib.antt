@@ -1,5 +1,5 @@
 mod BetweenLemmas
 mod DecoderAsBox
 mod IterAsBox
-mod PlaceLemmas
+mod PositionLemmas
 mod ServerAsBox

@@ -1,4 +1,4 @@
--- What is at a place of a blob: the table, the change, and its fields (The Session Extension,
+-- What is at a position of a blob: the table, the change, and its fields (The Session Extension,
 -- "sqlite3changeset_op", "sqlite3changeset_old" and "sqlite3changeset_new").
 use Rattle.std.specs.Prelude.{ℕ, Bool, false, List, Option, Some, None, slice_get, slice_index_or}
 use Rattle.std.specs.Prelude.{if◌then◌else◌}
@@ -13,18 +13,18 @@ use Rattle.cap_changes.specs.declared.row_change.RowChange.TheVariants as change
 use Rattle.cap_codec.specs.declared.read.Contents.{Contents}
 use Rattle.cap_codec.specs.declared.read.Contents.TheVariants.{Changes, Patches}
 use Rattle.cap_c.specs.declared.iter_fields.Operation.{Operation}
-use Rattle.cap_c.specs.declared.iter_place.Place.{Place}
+use Rattle.cap_c.specs.declared.iter_position.Position.{Position}
 
 -- what a group says, where there is one
 abbrev pub in_group : {X Y : Type 0} → (TableEntries X → Y) → List (TableEntries X) → ℕ → Option Y
 in_group read groups group = option_map read (slice_get groups group)
 
 -- what a change says, where there is one
-abbrev pub entry_at : {X Y : Type 0} → (TableEntries X → X → Option Y) → List (TableEntries X) → Place →
+abbrev pub entry_at : {X Y : Type 0} → (TableEntries X → X → Option Y) → List (TableEntries X) → Position →
     Option Y
-entry_at read groups place = option_and_then
-    (λ group. option_and_then (λ entry. read group entry) (slice_get group.changes place.change))
-    (slice_get groups place.group)
+entry_at read groups position = option_and_then
+    (λ group. option_and_then (λ entry. read group entry) (slice_get group.changes position.change))
+    (slice_get groups position.group)
 
 module _ {A : Type 0} where
   -- the table's name
@@ -48,9 +48,11 @@ module _ {A : Type 0} where
   operation_of_patch (patched.Update indirect new) = record { byte = 23; indirect = indirect }
   operation_of_patch (patched.Delete indirect key) = record { byte = 9; indirect = indirect }
 
-  abbrev pub operation_at : Contents A → Place → Option Operation
-  operation_at (Changes list) place = entry_at (λ group change. Some (operation_of_change change)) list place
-  operation_at (Patches list) place = entry_at (λ group patch. Some (operation_of_patch patch)) list place
+  abbrev pub operation_at : Contents A → Position → Option Operation
+  operation_at (Changes list) position =
+      entry_at (λ group change. Some (operation_of_change change)) list position
+  operation_at (Patches list) position =
+      entry_at (λ group patch. Some (operation_of_patch patch)) list position
 
   -- the value of a column, where it is defined
   abbrev pub field : RecordFields A → ℕ → Option (Value A)
@@ -81,12 +83,12 @@ module _ {A : Type 0} where
       if slice_index_or flags column false then None else field new column
   patch_new flags (patched.Delete indirect key) column = None
 
-  abbrev pub old_at : Contents A → Place → ℕ → Option (Value A)
-  old_at (Changes list) place column = entry_at (λ group change. change_old change column) list place
-  old_at (Patches list) place column =
-      entry_at (λ group patch. patch_old group.schema patch column) list place
+  abbrev pub old_at : Contents A → Position → ℕ → Option (Value A)
+  old_at (Changes list) position column = entry_at (λ group change. change_old change column) list position
+  old_at (Patches list) position column =
+      entry_at (λ group patch. patch_old group.schema patch column) list position
 
-  abbrev pub new_at : Contents A → Place → ℕ → Option (Value A)
-  new_at (Changes list) place column = entry_at (λ group change. change_new change column) list place
-  new_at (Patches list) place column =
-      entry_at (λ group patch. patch_new group.schema patch column) list place
+  abbrev pub new_at : Contents A → Position → ℕ → Option (Value A)
+  new_at (Changes list) position column = entry_at (λ group change. change_new change column) list position
+  new_at (Patches list) position column =
+      entry_at (λ group patch. patch_new group.schema patch column) list position

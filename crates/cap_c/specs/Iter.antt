@@ -8,24 +8,24 @@ use Rattle.cap_codec.specs.declared.read.Contents.{Contents}
 use Rattle.cap_codec.specs.declared.read.Contents.TheVariants.{Changes, Patches}
 use Rattle.cap_c.specs.Bits.{bit}
 use Rattle.cap_c.specs.Fields.{new_at, old_at, operation_at, schema_at, table_at}
-use Rattle.cap_c.specs.Places.{IsFirstFrom, IsNoneFrom, counts}
+use Rattle.cap_c.specs.Positions.{IsFirstFrom, IsNoneFrom, counts}
 use Rattle.cap_c.specs.declared.change_info.ChangeInfo.{ChangeInfo}
 use Rattle.cap_c.specs.declared.iter.BlobIter.{BlobIter}
-use Rattle.cap_c.specs.declared.iter_place.Place.{Place}
+use Rattle.cap_c.specs.declared.iter_position.Position.{Position}
 
 -- before the first change
 abbrev pub begin : Contents Global → BlobIter
 begin contents = record { contents = contents; current = None; next = record { group = 0; change = 0 } }
 
 -- right behind a change
-abbrev pub behind : Place → Place
-behind place = record { group = place.group; change = place.change + 1 }
+abbrev pub behind : Position → Position
+behind position = record { group = position.group; change = position.change + 1 }
 
 -- It goes to the first change from where the next one is looked for. Where there is none it stands at no
 -- change.
 abbrev pub Steps : BlobIter → BlobIter → Bool → Type 0
-Steps old new true = (place : Place) × IsFirstFrom (counts old.contents) old.next place
-    × (new ≡ record { contents = old.contents; current = Some place; next = behind place })
+Steps old new true = (position : Position) × IsFirstFrom (counts old.contents) old.next position
+    × (new ≡ record { contents = old.contents; current = Some position; next = behind position })
 Steps old new false = IsNoneFrom (counts old.contents) old.next
     × (new ≡ record { contents = old.contents; current = None; next = old.next })
 
@@ -35,7 +35,7 @@ is_patchset (Patches list) = true
 
 -- the columns of the change's table
 abbrev pub flags_of : BlobIter → Option (List Bool)
-flags_of it = option_and_then (λ place. schema_at it.contents place.group) it.current
+flags_of it = option_and_then (λ position. schema_at it.contents position.group) it.current
 
 abbrev pub columns_of : BlobIter → ℕ
 columns_of it = option_map_or length (flags_of it) 0
@@ -44,18 +44,18 @@ abbrev pub is_key : BlobIter → ℕ → Bool
 is_key it column = option_map_or (λ flags. slice_index_or flags column false) (flags_of it) false
 
 abbrev pub table_of : BlobIter → Option (List ℕ)
-table_of it = option_and_then (λ place. table_at it.contents place.group) it.current
+table_of it = option_and_then (λ position. table_at it.contents position.group) it.current
 
 abbrev pub old_of : BlobIter → ℕ → Option (Value Global)
-old_of it column = option_and_then (λ place. old_at it.contents place column) it.current
+old_of it column = option_and_then (λ position. old_at it.contents position column) it.current
 
 abbrev pub new_of : BlobIter → ℕ → Option (Value Global)
-new_of it column = option_and_then (λ place. new_at it.contents place column) it.current
+new_of it column = option_and_then (λ position. new_at it.contents position column) it.current
 
 abbrev pub info_of : BlobIter → Option ChangeInfo
-info_of it = option_and_then (λ place. option_and_then (λ operation. Some (record {
+info_of it = option_and_then (λ position. option_and_then (λ operation. Some (record {
   op = operation.byte;
   indirect = bit operation.indirect;
   patchset = bit (is_patchset it.contents);
   columns = columns_of it;
-})) (operation_at it.contents place)) it.current
+})) (operation_at it.contents position)) it.current

@@ -16,7 +16,7 @@ pub mod Json
 pub mod KeyFlags
 pub mod Names
 pub mod Outputs
-pub mod Places
+pub mod Positions
 pub mod Reading
 pub mod Refusal
 pub mod Replies

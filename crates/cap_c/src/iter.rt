@@ -6,7 +6,7 @@ ghost use Rattle.cap_c.specs.Iter.{new_of, old_of, table_of};
 
 use crate::change_info::ChangeInfo;
 use crate::iter_fields::{new_at, old_at, operation_at, schema_at, table_at};
-use crate::iter_place::{Place, first_from};
+use crate::iter_position::{Position, first_from};
 use cap_codec::Contents;
 use cap_value::{Name, Value};
 use std::alloc::Global;
@@ -16,8 +16,8 @@ use std::alloc::Global;
 #[derive(Drop)]
 pub struct BlobIter {
     contents: Contents<Global>,
-    current: Option<Place>,
-    next: Place,
+    current: Option<Position>,
+    next: Position,
 }
 
 impl BlobIter {
@@ -28,7 +28,7 @@ impl BlobIter {
         BlobIter {
             contents,
             current: None,
-            next: Place {
+            next: Position {
                 group: 0,
                 change: 0,
             },
@@ -42,10 +42,10 @@ impl BlobIter {
         let found = first_from(&self.contents, self.next);
         self.current = found;
         match found {
-            Some(place) => {
-                self.next = Place {
-                    group: place.group,
-                    change: place.change + 1,
+            Some(position) => {
+                self.next = Position {
+                    group: position.group,
+                    change: position.change + 1,
                 };
                 true
             }
@@ -57,8 +57,8 @@ impl BlobIter {
     pub(crate) fn info(&self) -> Option<ChangeInfo>
         ensures { result ≡ info_of self.now }
     {
-        let place = self.current?;
-        let operation = operation_at(&self.contents, place)?;
+        let position = self.current?;
+        let operation = operation_at(&self.contents, position)?;
         Some(ChangeInfo {
             op: operation.byte,
             indirect: u32::from(operation.indirect),
@@ -78,7 +78,7 @@ impl BlobIter {
         ensures { result ≡ columns_of self.now }
     {
         match self.current {
-            Some(place) => match schema_at(&self.contents, place.group) {
+            Some(position) => match schema_at(&self.contents, position.group) {
                 Some(schema) => schema.width(),
                 None => 0,
             },
@@ -91,7 +91,7 @@ impl BlobIter {
         ensures { result ≡ is_key self.now column }
     {
         match self.current {
-            Some(place) => match schema_at(&self.contents, place.group) {
+            Some(position) => match schema_at(&self.contents, position.group) {
                 Some(schema) => schema.is_key(column),
                 None => false,
             },
@@ -104,7 +104,7 @@ impl BlobIter {
         ensures { option_copied result ≡ table_of self.now }
     {
         match self.current {
-            Some(place) => table_at(&self.contents, place.group),
+            Some(position) => table_at(&self.contents, position.group),
             None => None,
         }
     }
@@ -114,7 +114,7 @@ impl BlobIter {
         ensures { option_copied result ≡ old_of self.now column }
     {
         match self.current {
-            Some(place) => old_at(&self.contents, place, column),
+            Some(position) => old_at(&self.contents, position, column),
             None => None,
         }
     }
@@ -124,7 +124,7 @@ impl BlobIter {
         ensures { option_copied result ≡ new_of self.now column }
     {
         match self.current {
-            Some(place) => new_at(&self.contents, place, column),
+            Some(position) => new_at(&self.contents, position, column),
             None => None,
         }
     }

@@ -1,4 +1,4 @@
-//! What is at a place of a blob: the table, the change, and its fields.
+//! What is at a position of a blob: the table, the change, and its fields.
 ghost use Rattle.std.specs.Prelude.{◌≡◌};
 ghost use Rattle.std.specs.Option.{option_copied};
 ghost use Rattle.cap_c.specs.Fields.{change_new, change_old, entry_at, new_at, old_at};
@@ -6,7 +6,7 @@ ghost use Rattle.cap_c.specs.Fields.{operation_at, operation_of_change, operatio
 ghost use Rattle.cap_c.specs.Fields.{patch_new, patch_old};
 ghost use Rattle.cap_c.specs.Fields.{schema_at, table_at};
 
-use crate::iter_place::Place;
+use crate::iter_position::Position;
 use cap_changes::{ChangeList, Patch, PatchList, RowChange};
 use cap_codec::Contents;
 use cap_row::Schema;
@@ -59,19 +59,19 @@ pub(crate) fn schema_at(contents: &Contents<Global>, group: usize) -> Option<&Sc
 }
 
 /// The operation of a change.
-pub(crate) fn operation_at(contents: &Contents<Global>, place: Place) -> Option<Operation>
-    ensures { result ≡ operation_at contents.now place }
+pub(crate) fn operation_at(contents: &Contents<Global>, position: Position) -> Option<Operation>
+    ensures { result ≡ operation_at contents.now position }
 {
     match contents {
-        Contents::Changes(list) => match list.groups().get(place.group) {
-            Some(group) => match group.changes().get(place.change) {
+        Contents::Changes(list) => match list.groups().get(position.group) {
+            Some(group) => match group.changes().get(position.change) {
                 Some(change) => Some(operation_of_change(change)),
                 None => None,
             },
             None => None,
         },
-        Contents::Patches(list) => match list.groups().get(place.group) {
-            Some(group) => match group.changes().get(place.change) {
+        Contents::Patches(list) => match list.groups().get(position.group) {
+            Some(group) => match group.changes().get(position.change) {
                 Some(patch) => Some(operation_of_patch(patch)),
                 None => None,
             },
@@ -121,36 +121,40 @@ fn operation_of_patch(patch: &Patch<Global>) -> Operation
 /// The value of a column before a change, where it is defined.
 pub(crate) fn old_at(
     contents: &Contents<Global>,
-    place: Place,
+    position: Position,
     column: usize,
 ) -> Option<&Value<Global>>
-    ensures { option_copied result ≡ old_at contents.now place column }
+    ensures { option_copied result ≡ old_at contents.now position column }
 {
     match contents {
-        Contents::Changes(list) => old_in_changes(list, place, column),
-        Contents::Patches(list) => old_in_patches(list, place, column),
+        Contents::Changes(list) => old_in_changes(list, position, column),
+        Contents::Patches(list) => old_in_patches(list, position, column),
     }
 }
 
 /// The value of a column after a change, where it is defined.
 pub(crate) fn new_at(
     contents: &Contents<Global>,
-    place: Place,
+    position: Position,
     column: usize,
 ) -> Option<&Value<Global>>
-    ensures { option_copied result ≡ new_at contents.now place column }
+    ensures { option_copied result ≡ new_at contents.now position column }
 {
     match contents {
-        Contents::Changes(list) => new_in_changes(list, place, column),
-        Contents::Patches(list) => new_in_patches(list, place, column),
+        Contents::Changes(list) => new_in_changes(list, position, column),
+        Contents::Patches(list) => new_in_patches(list, position, column),
     }
 }
 
-fn old_in_changes(list: &ChangeList<Global>, place: Place, column: usize) -> Option<&Value<Global>>
-    ensures { option_copied result ≡ entry_at (λ group change. change_old change column) list.now place }
+fn old_in_changes(
+    list: &ChangeList<Global>,
+    position: Position,
+    column: usize,
+) -> Option<&Value<Global>>
+    ensures { option_copied result ≡ entry_at (λ group change. change_old change column) list.now position }
 {
-    match list.groups().get(place.group) {
-        Some(group) => match group.changes().get(place.change) {
+    match list.groups().get(position.group) {
+        Some(group) => match group.changes().get(position.change) {
             Some(change) => change_old(change, column),
             None => None,
         },
@@ -158,11 +162,15 @@ fn old_in_changes(list: &ChangeList<Global>, place: Place, column: usize) -> Opt
     }
 }
 
-fn new_in_changes(list: &ChangeList<Global>, place: Place, column: usize) -> Option<&Value<Global>>
-    ensures { option_copied result ≡ entry_at (λ group change. change_new change column) list.now place }
+fn new_in_changes(
+    list: &ChangeList<Global>,
+    position: Position,
+    column: usize,
+) -> Option<&Value<Global>>
+    ensures { option_copied result ≡ entry_at (λ group change. change_new change column) list.now position }
 {
-    match list.groups().get(place.group) {
-        Some(group) => match group.changes().get(place.change) {
+    match list.groups().get(position.group) {
+        Some(group) => match group.changes().get(position.change) {
             Some(change) => change_new(change, column),
             None => None,
         },
@@ -170,12 +178,16 @@ fn new_in_changes(list: &ChangeList<Global>, place: Place, column: usize) -> Opt
     }
 }
 
-fn old_in_patches(list: &PatchList<Global>, place: Place, column: usize) -> Option<&Value<Global>>
+fn old_in_patches(
+    list: &PatchList<Global>,
+    position: Position,
+    column: usize,
+) -> Option<&Value<Global>>
     ensures { option_copied result
-        ≡ entry_at (λ group patch. patch_old group.schema patch column) list.now place }
+        ≡ entry_at (λ group patch. patch_old group.schema patch column) list.now position }
 {
-    match list.groups().get(place.group) {
-        Some(group) => match group.changes().get(place.change) {
+    match list.groups().get(position.group) {
+        Some(group) => match group.changes().get(position.change) {
             Some(patch) => patch_old(group.schema(), patch, column),
             None => None,
         },
@@ -183,12 +195,16 @@ fn old_in_patches(list: &PatchList<Global>, place: Place, column: usize) -> Opti
     }
 }
 
-fn new_in_patches(list: &PatchList<Global>, place: Place, column: usize) -> Option<&Value<Global>>
+fn new_in_patches(
+    list: &PatchList<Global>,
+    position: Position,
+    column: usize,
+) -> Option<&Value<Global>>
     ensures { option_copied result
-        ≡ entry_at (λ group patch. patch_new group.schema patch column) list.now place }
+        ≡ entry_at (λ group patch. patch_new group.schema patch column) list.now position }
 {
-    match list.groups().get(place.group) {
-        Some(group) => match group.changes().get(place.change) {
+    match list.groups().get(position.group) {
+        Some(group) => match group.changes().get(position.change) {
             Some(patch) => patch_new(group.schema(), patch, column),
             None => None,
         },

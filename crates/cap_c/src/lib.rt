@@ -21,7 +21,7 @@ mod iter_calls;
 mod iter_fields;
 mod iter_handle;
 mod iter_outputs;
-mod iter_place;
+mod iter_position;
 mod json_text;
 mod key_flags;
 mod names;

@@ -1,32 +1,32 @@
-//! The places of the changes of a blob, in order.
+//! The positions of the changes of a blob, in order.
 ghost use Rattle.std.specs.Prelude.{◌≡◌, ◌+◌, ◌<◌, ◌^◌, IfSome, MatchOption, length, map, slice_index_or};
-ghost use Rattle.cap_c.specs.Places.{IsFirstFrom, IsNoneFrom, counts};
+ghost use Rattle.cap_c.specs.Positions.{IsFirstFrom, IsNoneFrom, counts};
 
 use cap_changes::{Entry, TableGroup};
 use cap_codec::Contents;
 use std::alloc::Global;
 
-/// The place of a change: its group, and its number within the group, both from 0 on.
+/// The position of a change: its group, and its number within the group, both from 0 on.
 #[derive(Clone, Copy, Drop)]
-pub struct Place {
+pub struct Position {
     pub(crate) group: usize,
     pub(crate) change: usize,
 }
 
-/// The first change at this place or behind it.
-pub(crate) fn first_from(contents: &Contents<Global>, from: Place) -> Option<Place>
+/// The first change at this position or behind it.
+pub(crate) fn first_from(contents: &Contents<Global>, from: Position) -> Option<Position>
     ensures first { MatchOption result (IsNoneFrom (counts contents.now) from)
         (λ found. IsFirstFrom (counts contents.now) from found) }
     ensures fits { IfSome result (λ found. found.change + 1 < 2 ^ 64) }
 {
     let groups = group_count(contents);
-    let mut place = from;
-    while place.group < groups {
-        if place.change < change_count(contents, place.group) {
-            return Some(place);
+    let mut position = from;
+    while position.group < groups {
+        if position.change < change_count(contents, position.group) {
+            return Some(position);
         }
-        place = Place {
-            group: place.group + 1,
+        position = Position {
+            group: position.group + 1,
             change: 0,
         };
     }
