@@ -1,5 +1,6 @@
 pub mod Crossing
 mod FaultLemmas
+mod FilterLaw
 mod FirstLemmas
 mod FitLemmas
 mod LineLemmas

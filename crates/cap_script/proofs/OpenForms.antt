@@ -254,3 +254,6 @@ form_places = form_keyword 112 (108 ∷ 97 ∷ 99 ∷ 101 ∷ 115 ∷ []) (plain
 
 pub form_report : Form (keyword (codes "report"))
 form_report = form_keyword 114 (101 ∷ 112 ∷ 111 ∷ 114 ∷ 116 ∷ []) (plain 114 (101 ∷ 112 ∷ 111 ∷ 114 ∷ 116 ∷ []) refl refl refl refl refl) refl
+
+pub form_filter_word : Form (keyword (codes "filter"))
+form_filter_word = form_keyword 102 (105 ∷ 108 ∷ 116 ∷ 101 ∷ 114 ∷ []) (plain 102 (105 ∷ 108 ∷ 116 ∷ 101 ∷ 114 ∷ []) refl refl refl refl refl) refl

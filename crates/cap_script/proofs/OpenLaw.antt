@@ -8,7 +8,7 @@ use Rattle.cap_codec.specs.BlobReading.{blob_at}
 use Rattle.cap_codec.specs.declared.fault.BlobFault.{BlobFault}
 use Rattle.hex.specs.Hex.{decode_of, decode_pairs}
 use Rattle.cap_filter.specs.Printed.{quote}
-use Rattle.cap_script.specs.FaultPlace.{BeginsLine, HasSyntaxFault, SetsFilter}
+use Rattle.cap_script.specs.FaultPlace.{BeginsLine, HasSyntaxFault}
 use Rattle.cap_script.specs.LineFaults.{contents, contents_read, flag, line, line_fault, name, on_contents, on_worker, operations, policy, row, schema, worker}
 use Rattle.cap_script.specs.Reading.{Outcome, Reading, Verdict, exceeds, fits, fits_if, judged, scanned, misfit, at_end, by_sign, keyword, keyword_or_end, natural, next, on_natural, on_word, one_of, right_here, space_here, unless_end, ◌>>=◌, ◌⋙◌}
 use Rattle.cap_script.specs.Scanning.{Scanned, token_at}
@@ -17,7 +17,7 @@ use Rattle.cap_script.specs.declared.fault.LineFault.TheVariants.{Limit, Syntax}
 use Rattle.cap_script.proofs.LocalLemmas.{blanks_of, found_some, longer_end, same_end}
 use Rattle.cap_script.proofs.OpenForms.{goes_64, form_flag, form_name, form_natural, form_operations, form_places, form_policy, form_report, form_row, form_schema, open_on_word, open_one_of, session_sample}
 use Rattle.cap_script.proofs.OpenLemmas.{Ends, Finish, Form, Here, Nothing, Open, OpenVerdict, Reached, Sample, Skips, Tail, blanks_at, ends_at, form_both, form_next, found_tail, goes_with, never_idle, nothing_tail, only_blanks, open_both, open_next, open_ok, open_skip, reached, reached_at, sample_both, tail_sign, weaker}
-use Rattle.cap_script.proofs.PlaceLaw.{line_agrees, local_at_end, local_keyword_or_end, local_on_contents, local_on_natural, local_on_others, local_on_word, local_other_command, local_other_line, local_worker, never, no_filter_in, of_err, other_command, other_line, others}
+use Rattle.cap_script.proofs.PlaceLaw.{line_agrees, local_at_end, local_keyword_or_end, local_on_contents, local_on_natural, local_on_others, local_on_word, local_other_command, local_other_line, local_worker, never, no_filter_in, of_err, other_command, other_line, others, SetsFilter}
 use Rattle.cap_script.proofs.PlaceLemmas.{Local, LocalVerdict, local_end_here, local_here, local_misfit, local_ok, local_sign, local_test, local_both, none_before, read_to, same_left, same_rest, some_front}
 use Rattle.cap_script.proofs.ScanLemmas.{blob_is}
 use Rattle.cap_script.proofs.TokenLemmas.{blanks_twice}
@@ -106,7 +106,7 @@ number_refused front behind (Some (t, r)) is e = by t e
     by (sign s) f = none_before front behind (same_left (length (front ++ behind)) (length behind) f)
 
 -- something that a space begins, or that is kept
-abbrev Goes : List ℕ → List ℕ → Type 0
+abbrev pub Goes : List ℕ → List ℕ → Type 0
 Goes q line = (0 < length q) ⊎ ((rest : List ℕ) × (line ≡ 32 ∷ rest))
 
 space_kept : (here rest : List ℕ) → space_here here ≡ Ok rest → here ≡ rest
@@ -159,7 +159,7 @@ worker_by front (c ∷ q) behind line [] tail goes at e =
 worker_by front q behind line (c ∷ before) tail goes at e =
     reached_at (worker (front ++ line)) (Ok (q ++ line)) (q ++ line) (ap at_sign (blanks_at front behind line c (before ++ q) at) ∙ sign_by c (before ++ q) q behind line tail goes (sym (ap at_sign at) ∙ e)) (reached (q ++ line))
 
-worker_moved : (front q behind line : List ℕ) → Tail line → Goes q line → worker (front ++ behind) ≡ Ok (q ++ behind) → Reached (worker (front ++ line)) (q ++ line)
+pub worker_moved : (front q behind line : List ℕ) → Tail line → Goes q line → worker (front ++ behind) ≡ Ok (q ++ behind) → Reached (worker (front ++ line)) (q ++ line)
 worker_moved front q behind line tail goes e =
     let (before, at) = local_at_sign.ends (behind_blanks (front ++ behind)) (q ++ behind) e in
     worker_by front q behind line before tail goes (at ∙ sym (append_assoc before q behind)) e
@@ -376,7 +376,7 @@ module _ (A : Type 0) where
       let (more, tail, goes, ended) = said_done q behind (other_command A (q ++ behind)) refl (sym (ap said at) ∙ e) in
       (more, line_behind front more q (worker_moved front q behind more tail goes (is ∙ ap read_to at)) ended)
 
-  -- what is told of the line that sets no filter
+  -- what is read of the line that sets no filter
   ended_fault : (bytes : List ℕ) → Ends (other_line A bytes) [] → (line_fault A bytes ≡ None) ⊎ (line_fault A bytes ≡ Some (Limit TooMany))
   unfolding line_fault
   ended_fault bytes (inl (rest, is, same)) = inl (ap result_err (line_agrees A bytes (no_filter_in A bytes (Ok rest) is (λ f. absurd cc)) ∙ is))

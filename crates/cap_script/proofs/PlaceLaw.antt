@@ -8,7 +8,7 @@ use Rattle.cap_value.specs.declared.refusal.Refusal.TheVariants.{BadName, BadSch
 use Rattle.cap_codec.specs.BlobReading.{blob_at}
 use Rattle.cap_codec.specs.declared.fault.BlobFault.{BlobFault}
 use Rattle.cap_row.specs.Schema.{is_schema}
-use Rattle.cap_script.specs.FaultPlace.{HasSyntaxFault, KeepsSyntaxFault, SetsFilter}
+use Rattle.cap_script.specs.FaultPlace.{HasSyntaxFault, KeepsSyntaxFault}
 use Rattle.cap_script.specs.LineFaults.{answer, beyond_if, command, commands, contents, contents_read, field, fields, filter, flag, is_key_letter, line, line_fault, more_operations, name, on_contents, on_operation, on_schema, on_value, on_worker, operation, operations, policy, row, row_words, schema, value, values, verbs, worker}
 use Rattle.cap_script.specs.Reading.{Outcome, Reading, Verdict, fits_if, judged, scanned, ◌>>=◌, within_if, goes_on, unfit, exceeds, no_blob, a_sign, a_word, at_end, each, keyword, keyword_or_end, misfit, natural, on_natural, on_word, one_of, right_here, space_here, ◌⋙◌}
 use Rattle.cap_script.specs.Scanning.{Scanned, token_at}
@@ -135,7 +135,15 @@ local_worker =
 
 -- ---- lines that set no filter
 
--- a reading that is never told
+-- up to the word `filter`
+abbrev pub to_filter : Reading
+to_filter = worker ⋙ keyword (codes "filter")
+
+-- the line's command is `filter`
+abbrev pub SetsFilter : List ℕ → Type 0
+SetsFilter line = (rest : List ℕ) × (to_filter line ≡ Ok rest)
+
+-- a reading in which nothing is ever found
 abbrev pub never : Reading
 never bytes = Err OutOfMemory
 
@@ -244,9 +252,9 @@ module _ (A : Type 0) where
   never_line bytes rest (Err fault) is e = absurd cc
   never_line bytes rest (Ok mid) is e = ap (λ (o : Outcome). o >>= at_end) (never_by (behind_blanks mid) rest (token_at (behind_blanks mid)) e)
 
-  -- what is told of a line is told of one that sets no filter
+  -- what is read of a line that sets no filter
   pub no_filter_in : (bytes : List ℕ) (o : Outcome) → other_line bytes ≡ o → (o ≡ Err OutOfMemory → ⊥) → SetsFilter bytes → ⊥
-  no_filter_in bytes o is told (rest, e) = told (sym is ∙ never_line bytes rest (worker bytes) refl e)
+  no_filter_in bytes o is other (rest, e) = other (sym is ∙ never_line bytes rest (worker bytes) refl e)
 
   pub local_on_others : (w : List ℕ) → LocalVerdict (one_of others w)
   local_on_others = local_one_of others (local_both name schema local_name local_schema, (local_operations, (with_session operations local_operations, (local_apply, (local_both name row local_name local_row, (local_name, (local_name, (local_ok, (local_natural, (with_session name local_name, (local_natural, (local_never, (with_session flag local_flag, (with_session flag local_flag, (local_natural, (with_session (name ⋙ name) (local_both name name local_name local_name), (with_session (keyword_or_end (codes "places")) (local_keyword_or_end (codes "places")), (with_session (keyword_or_end (codes "places")) (local_keyword_or_end (codes "places")), (with_session (keyword_or_end (codes "places")) (local_keyword_or_end (codes "places")), tt)))))))))))))))))))
@@ -275,6 +283,6 @@ module _ (A : Type 0) where
         whole,
         sym long,
         λ more alike.
-            let told = local_other_line.misfits (take n bytes) (drop n bytes) more alike (ap other_line (sym whole) ∙ read ∙ ap (λ (m : ℕ). Err (Syntax m)) (sym long)) in
-            ap result_err (line_agrees (take n bytes ++ more) (no_filter_in (take n bytes ++ more) (Err (Syntax (length more))) told (λ f. absurd cc)) ∙ told),
+            let again = local_other_line.misfits (take n bytes) (drop n bytes) more alike (ap other_line (sym whole) ∙ read ∙ ap (λ (m : ℕ). Err (Syntax m)) (sym long)) in
+            ap result_err (line_agrees (take n bytes ++ more) (no_filter_in (take n bytes ++ more) (Err (Syntax (length more))) again (λ f. absurd cc)) ∙ again),
       )

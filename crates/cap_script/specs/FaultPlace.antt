@@ -3,7 +3,7 @@ use Rattle.std.specs.Prelude.{◌≡◌, ◌⊎◌, ℕ, List, [], ◌∷◌, �
 use Rattle.std.specs.Option.{option_map}
 use Rattle.cap_value.specs.declared.refusal.Refusal.TheVariants.{TooMany}
 use Rattle.cap_script.specs.LineFaults.{line_fault, worker}
-use Rattle.cap_script.specs.Reading.{keyword, ◌⋙◌}
+use Rattle.cap_script.specs.Reading.{keyword, natural, ◌⋙◌}
 use Rattle.cap_script.specs.Scanning.{token_at}
 use Rattle.cap_script.specs.Tokens.{Token}
 use Rattle.cap_script.specs.declared.fault.LineFault.TheVariants.{Limit, Syntax}
@@ -19,9 +19,9 @@ BeginAlike (byte ∷ rest) [] = ⊥
 BeginAlike (byte ∷ rest) (first ∷ more) =
     (byte ≡ first) × (first_token (byte ∷ rest) ≡ first_token (first ∷ more))
 
--- the line's command is `filter`
-abbrev pub SetsFilter : List ℕ → Type 0
-SetsFilter line = (rest : List ℕ) × ((worker ⋙ keyword (codes "filter")) line ≡ Ok rest)
+-- the line's filter is reached: its command is `filter`, and the session's number is read
+abbrev pub ReachesFilter : List ℕ → Type 0
+ReachesFilter line = (rest : List ℕ) × ((worker ⋙ keyword (codes "filter") ⋙ natural) line ≡ Ok rest)
 
 -- the line has a fault of syntax, from whose token on it has this many bytes
 abbrev pub HasSyntaxFault : Type 0 → List ℕ → ℕ → Type 0

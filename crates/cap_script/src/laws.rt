@@ -1,7 +1,7 @@
 //! Laws of the texts of workloads.
 ghost use Rattle.std.specs.Prelude.{◌≡◌, ℕ, List, All};
 ghost use Rattle.cap_core.specs.Table.{BlobFits};
-ghost use Rattle.cap_script.specs.FaultPlace.{BeginsLine, HasSyntaxFault, KeepsSyntaxFault, SetsFilter};
+ghost use Rattle.cap_script.specs.FaultPlace.{BeginsLine, HasSyntaxFault, KeepsSyntaxFault, ReachesFilter};
 ghost use Rattle.cap_script.specs.Script.{SpellsScript};
 ghost use Rattle.cap_script.specs.declared.line.Line.{Line};
 
@@ -26,17 +26,18 @@ pub fn spelled_commands_fit<A: AllocHandle>()
     spelled_blobs_fit_their_tables::<A>();
 }
 
-/// A fault of syntax depends on nothing behind its token: each line that has the same bytes before, and the same
-/// token there, has the fault there. Lines that set a filter are left out: in a filter's text
+/// A fault of syntax depends on nothing behind its token: each line that has the same bytes before, and the
+/// same token there, has the fault there. Lines whose filter is reached are left out: in a filter's text
 /// `cap_filter::unfit_place` says which token does not fit.
 pub fn syntax_fault_lasts<A: AllocHandle>()
-    ensures { (line : List ℕ) (left : ℕ) → HasSyntaxFault A line left → (SetsFilter line → ⊥)
+    ensures { (line : List ℕ) (left : ℕ) → HasSyntaxFault A line left → (ReachesFilter line → ⊥)
         → KeepsSyntaxFault A line left }
 {}
 
-/// What stands before the token of a fault of syntax begins some line: there is a text behind which the line is
-/// read, or has a 10,001st operation. Lines that set a filter are left out.
+/// What is before the token of a fault of syntax begins some line: there is a text behind which the line is
+/// read, or has a 10,001st operation. Lines whose filter is reached are left out: of a filter's text
+/// `cap_filter::unfit_place` says the same.
 pub fn syntax_fault_place<A: AllocHandle>()
-    ensures { (line : List ℕ) (left : ℕ) → HasSyntaxFault A line left → (SetsFilter line → ⊥)
+    ensures { (line : List ℕ) (left : ℕ) → HasSyntaxFault A line left → (ReachesFilter line → ⊥)
         → BeginsLine A line left }
 {}

@@ -1,5 +1,5 @@
-use Rattle.cap_script.proofs.OpenLaw.{misfit_begins}
+use Rattle.cap_script.proofs.FilterLaw.{fault_begins}
 use Rattle.cap_script.proofs.laws.syntax_fault_place.Goals as goal
 
 pub returns : goal.returns
-returns g c = misfit_begins g.row.A.Denot
+returns g c = fault_begins g.row.A.Denot
