@@ -112,12 +112,12 @@ module _ {A : Type 0} where
   leaves_events h core so = ap (λ (s : State A). s.events) (sym so.state_is) ∙ events-state h
 
   -- no command was run
-  pub no_command : {P E : Type 0} (reply fault : P → List ℕ) (number : ℕ) (text : List ℕ) (line : ReadLine A) (told : List ℕ) (result : Result P E) (h : List (Event A)) (core : State A)
-      → after_line h line ≡ h → reply_to h line ≡ [] → fault_of number line ≡ told → IsReadAs number text line → Leaves h core → IfOk result (λ p. (reply p ≡ []) × (fault p ≡ told))
+  pub no_command : {P E : Type 0} (reply fault : P → List ℕ) (number : ℕ) (text : List ℕ) (line : ReadLine A) (shown : List ℕ) (result : Result P E) (h : List (Event A)) (core : State A)
+      → after_line h line ≡ h → reply_to h line ≡ [] → fault_of number line ≡ shown → IsReadAs number text line → Leaves h core → IfOk result (λ p. (reply p ≡ []) × (fault p ≡ shown))
       → IfOk result (λ p. HasAnswered number text h core (reply p) (fault p))
-  no_command reply fault number text line told (Ok p) h core same none fault_is is so (no_reply, fault_told) =
-      (line, is, subst (λ (k : List (Event A)). Leaves k core) (sym same) so, no_reply ∙ sym none, fault_told ∙ sym fault_is)
-  no_command reply fault number text line told (Err e) h core same none fault_is is so met = tt
+  no_command reply fault number text line shown (Ok p) h core same none fault_is is so (no_reply, fault_shown) =
+      (line, is, subst (λ (k : List (Event A)). Leaves k core) (sym same) so, no_reply ∙ sym none, fault_shown ∙ sym fault_is)
+  no_command reply fault number text line shown (Err e) h core same none fault_is is so met = tt
 
   -- the line's command was run
   pub answered_command : (number : ℕ) (text : List ℕ) (line : Line A) (h : List (Event A)) (core next : State A) (reply fault : List ℕ) → Leaves h core → BlobFits line.command → core.events < events_max
@@ -139,7 +139,7 @@ module _ {A : Type 0} where
 
   -- ---- lines one after the other
 
-  -- The lines that were done left this server, and what is printed and told of them was written. The others are
+  -- The lines that were done left this server, and their replies and faults were written. The others are
   -- what is left of the input.
   pub record IsAt (input left : Option (List ℕ)) (core : State A) (number : ℕ) (old new : Outputs) : Type 0 where
     pub lines : List (ReadLine A)
@@ -149,7 +149,7 @@ module _ {A : Type 0} where
     pub counted : number ≡ length texts
     pub leaves : Leaves (after_lines [] lines) core
     pub printed : Appends old.replies new.replies (replies_to [] lines)
-    pub told : Appends old.faults new.faults (faults_of 1 lines)
+    pub reported : Appends old.faults new.faults (faults_of 1 lines)
 
   pub at_first : (input left : Option (List ℕ)) (core : State A) (old : Outputs) → core ≡ state [] → ((others : List (List ℕ)) → HasLines left others → HasLines input others) → IsAt input left core 0 old old
   at_first input left core old is parts = record {
@@ -160,7 +160,7 @@ module _ {A : Type 0} where
     counted = refl;
     leaves = leaves_none core is;
     printed = Appends-nil old.replies;
-    told = Appends-nil old.faults;
+    reported = Appends-nil old.faults;
   }
 
   -- the text of the next line's fault, by its number
@@ -179,7 +179,7 @@ module _ {A : Type 0} where
   pub at_next : (input left rest : Option (List ℕ)) (core next : State A) (number count : ℕ) (a b c : Outputs) (text reply fault : List ℕ) (so : IsAt input left core number a b)
       → CutsLine text left rest → count ≡ number + 1 → HasAnswered count text (after_lines [] so.lines) next reply fault
       → Appends b.replies c.replies reply × Appends b.faults c.faults fault → IsAt input rest next count a c
-  at_next input left rest core next number count a b c text reply fault so cut is (line, one, leaves, reply_is, fault_is) (printed, told) = record {
+  at_next input left rest core next number count a b c text reply fault so cut is (line, one, leaves, reply_is, fault_is) (printed, reported) = record {
     lines = so.lines ++ line ∷ [];
     texts = so.texts ++ text ∷ [];
     parts = λ others has. subst (λ (l : List (List ℕ)). HasLines input l) (sym (append_assoc so.texts (text ∷ []) others)) (so.parts (text ∷ others) (lines_cut text left rest others cut has));
@@ -187,7 +187,7 @@ module _ {A : Type 0} where
     counted = omega (arith, is, so.counted, length-append so.texts (text ∷ []));
     leaves = subst (λ (h : List (Event A)). Leaves h next) (sym (after_push so.lines line [])) leaves;
     printed = subst (Appends a.replies c.replies) (ap (λ (t : List ℕ). replies_to [] so.lines ++ t) reply_is ∙ sym (replies_push so.lines line [])) (Appends-trans a.replies b.replies c.replies (replies_to [] so.lines) reply so.printed printed);
-    told = subst (Appends a.faults c.faults) (ap (λ (t : List ℕ). faults_of 1 so.lines ++ t) fault_is ∙ sym (fault_counted so.texts so.lines line number count so.read so.counted is)) (Appends-trans a.faults b.faults c.faults (faults_of 1 so.lines) fault so.told told);
+    reported = subst (Appends a.faults c.faults) (ap (λ (t : List ℕ). faults_of 1 so.lines ++ t) fault_is ∙ sym (fault_counted so.texts so.lines line number count so.read so.counted is)) (Appends-trans a.faults b.faults c.faults (faults_of 1 so.lines) fault so.reported reported);
   }
 
   has_run : (input left : Option (List ℕ)) (core : State A) (number : ℕ) (a b : Outputs) (so : IsAt input left core number a b) (others : List (List ℕ)) → HasLines left others → HasRun input others so.lines
@@ -200,7 +200,7 @@ module _ {A : Type 0} where
   }
 
   prints : (input left : Option (List ℕ)) (core : State A) (number : ℕ) (a b : Outputs) (so : IsAt input left core number a b) → Prints so.lines (Ok tt) a b
-  prints input left core number a b so = (subst (Appends a.replies b.replies) (sym (append-nil (replies_to [] so.lines))) so.printed, so.told)
+  prints input left core number a b so = (subst (Appends a.replies b.replies) (sym (append-nil (replies_to [] so.lines))) so.printed, so.reported)
 
   -- the input has ended
   pub at_end : (input left : Option (List ℕ)) (core : State A) (number : ℕ) (a b : Outputs) → IsAt input left core number a b → IsAtEnd left → WritesShell A input left (Ok tt) a b
@@ -227,7 +227,7 @@ module _ {A : Type 0} where
   pub at_line : (input left rest known : Option (List ℕ)) (core next : State A) (number count : ℕ) (a b c : Outputs) (text reply fault : List ℕ) (so : IsAt input left core number a b)
       → CutsLine text left rest → count ≡ number + 1 → HasAnswered count text (after_lines [] so.lines) next reply fault
       → AppendsFront b.replies c.replies reply × AppendsFront b.faults c.faults fault → WritesShell A input known (Err Write) a c
-  at_line input left rest known core next number count a b c text reply fault so cut is (line, one, leaves, reply_is, fault_is) (printed, told) =
+  at_line input left rest known core next number count a b c text reply fault so cut is (line, one, leaves, reply_is, fault_is) (printed, reported) =
       let others = lines_known rest in (
         so.lines ++ line ∷ [],
         others.0,
@@ -241,7 +241,7 @@ module _ {A : Type 0} where
         },
         (
           subst (AppendsFront a.replies c.replies) (ap (λ (t : List ℕ). replies_to [] so.lines ++ t) reply_is ∙ sym (replies_push so.lines line []) ∙ sym (append-nil (replies_to [] (so.lines ++ line ∷ [])))) (front_of a.replies b.replies c.replies (replies_to [] so.lines) reply so.printed printed),
-          subst (AppendsFront a.faults c.faults) (ap (λ (t : List ℕ). faults_of 1 so.lines ++ t) fault_is ∙ sym (fault_counted so.texts so.lines line number count so.read so.counted is)) (front_of a.faults b.faults c.faults (faults_of 1 so.lines) fault so.told told),
+          subst (AppendsFront a.faults c.faults) (ap (λ (t : List ℕ). faults_of 1 so.lines ++ t) fault_is ∙ sym (fault_counted so.texts so.lines line number count so.read so.counted is)) (front_of a.faults b.faults c.faults (faults_of 1 so.lines) fault so.reported reported),
         ),
       )
 
@@ -264,7 +264,7 @@ module _ {A : Type 0} where
         others,
         has_run input left core number a b so others has,
         ends_before fault (after_lines [] so.lines) core others so.leaves may some,
-        (Appends-trans a.replies b.replies after (replies_to [] so.lines) (ending (Err fault)) so.printed wrote, so.told),
+        (Appends-trans a.replies b.replies after (replies_to [] so.lines) (ending (Err fault)) so.printed wrote, so.reported),
       )
   at_fault input left known core number a b after fault (Err Read) so may some fails wrote = absurd wrote
   at_fault input left known core number a b after fault (Err Write) so may (others, has, some) fails wrote = (
@@ -272,7 +272,7 @@ module _ {A : Type 0} where
     others,
     Err fault,
     has_run input left core number a b so others has,
-    (front_of a.replies b.replies after (replies_to [] so.lines) (ending (Err fault)) so.printed wrote, front_all a.faults b.faults (faults_of 1 so.lines) so.told),
+    (front_of a.replies b.replies after (replies_to [] so.lines) (ending (Err fault)) so.printed wrote, front_all a.faults b.faults (faults_of 1 so.lines) so.reported),
   )
   at_fault input left known core number a b after fault (Err Memory) so may some fails wrote = absurd wrote
   at_fault input left known core number a b after fault (Err Close) so may some fails wrote = absurd wrote

@@ -175,7 +175,7 @@ fn answer_command<A: AllocHandle>(
     }
 }
 
-// Tells the fault of a line.
+// Prints the fault of a line.
 fn answer_refused<A: AllocHandle>(
     alloc: A,
     core: &Core<A>,
@@ -207,7 +207,7 @@ fn nothing<A: AllocHandle>(alloc: A) -> Printed<A>
 
 // The fault of a line that is not UTF-8.
 fn tell_no_text<A: AllocHandle>(alloc: A, number: u64) -> Result<Printed<A>, CallFault>
-    ensures told { IfOk result (λ printed. (string_bytes printed.reply ≡ []) × (string_bytes printed.fault
+    ensures fault { IfOk result (λ printed. (string_bytes printed.reply ≡ []) × (string_bytes printed.fault
         ≡ on_a_line (codes "line " ++ (decimal number ++ codes ": not UTF-8")))) }
     ensures memory { IfErr result (λ fault. fault ≡ CallFault.OutOfMemory) }
 {
@@ -219,7 +219,7 @@ fn tell_no_text<A: AllocHandle>(alloc: A, number: u64) -> Result<Printed<A>, Cal
 
 // The fault of a line that spells no command within the limits.
 fn tell_fault<A: AllocHandle>(alloc: A, fault: ScriptFault) -> Result<Printed<A>, CallFault>
-    ensures told { IfOk result (λ printed. (string_bytes printed.reply ≡ [])
+    ensures fault { IfOk result (λ printed. (string_bytes printed.reply ≡ [])
         × (string_bytes printed.fault ≡ on_a_line (fault_text fault))) }
     ensures memory { IfErr result (λ fault. fault ≡ CallFault.OutOfMemory) }
 {
@@ -231,7 +231,7 @@ fn tell_fault<A: AllocHandle>(alloc: A, fault: ScriptFault) -> Result<Printed<A>
 
 // A fault with this text.
 fn tell<A: AllocHandle>(alloc: A, text: String<A>) -> Result<Printed<A>, CallFault>
-    ensures told { IfOk result (λ printed. (string_bytes printed.reply ≡ [])
+    ensures fault { IfOk result (λ printed. (string_bytes printed.reply ≡ [])
         × (string_bytes printed.fault ≡ on_a_line (string_bytes text))) }
     ensures memory { IfErr result (λ fault. fault ≡ CallFault.OutOfMemory) }
 {

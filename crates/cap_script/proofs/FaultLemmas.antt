@@ -19,7 +19,7 @@ use Rattle.cap_codec.specs.declared.fault.BlobFault.{BlobFault}
 use Rattle.cap_codec.specs.BlobReading.{blob_at}
 use Rattle.cap_row.specs.Schema.{is_schema}
 use Rattle.cap_script.specs.Forms.{NotSpelled, Sign, Without}
-use Rattle.cap_script.specs.LineFaults.{Tells, line, line_fault, beyond_if, commands, contents_read, is_key_letter, on_contents, contents, on_schema, more_operations, on_operation, on_value, operation, row, row_words, value, values, verbs}
+use Rattle.cap_script.specs.LineFaults.{FaultIs, line, line_fault, beyond_if, commands, contents_read, is_key_letter, on_contents, contents, on_schema, more_operations, on_operation, on_value, operation, row, row_words, value, values, verbs}
 use Rattle.cap_script.specs.Reading.{Fails, Outcome, Reading, Reads, Verdict, goes_on, unfit, exceeds, no_blob, fits_if, within_if, judged, misfit, on_word, scanned, any_of, behind, keyword, natural, one_of, at_most, ◌>>=◌, ◌⋙◌}
 use Rattle.cap_script.specs.Refused.{blob_fault, limit_fault}
 use Rattle.cap_script.specs.Scanning.{Scanned, token_at}
@@ -68,8 +68,8 @@ module _ {X : Type 0} (answer : Bool → Result X Refusal) (x : X) (why : Refusa
 
   pub within_err : (b : Bool) (refused : Fault Refusal) (here rest : List ℕ) → AnswersUnlessMemory {X = X} (Err refused) (answer b) → Fails (limit_fault refused) (judged here rest (within_if b why))
   within_err b fault.OutOfMemory here rest e = tt
-  within_err true (Refused told) here rest e = absurd cc
-  within_err false (Refused told) here rest e = let same : ◌≡◌ {A = Result X Refusal} (Err why) (Err told) = sym no ∙ e in ap (λ (r : Refusal). Err (Limit r)) (cc)
+  within_err true (Refused other) here rest e = absurd cc
+  within_err false (Refused other) here rest e = let same : ◌≡◌ {A = Result X Refusal} (Err why) (Err other) = sym no ∙ e in ap (λ (r : Refusal). Err (Limit r)) (cc)
 
 -- ---- values
 
@@ -359,20 +359,20 @@ blob_here A bytes line rest short at is =
 
 -- ---- lines
 
-told_by : (Y : Type 0) (fault : LineFault) (read : Outcome) → Fails fault read → Tells {X = Y} (Err fault) (result_err read)
-told_by Y OutOfMemory read e = tt
-told_by Y (Syntax left) read e = ap result_err e
-told_by Y (Limit why) read e = ap result_err e
-told_by Y (BadBlob why) read e = ap result_err e
+fault_by : (Y : Type 0) (fault : LineFault) (read : Outcome) → Fails fault read → FaultIs {X = Y} (Err fault) (result_err read)
+fault_by Y OutOfMemory read e = tt
+fault_by Y (Syntax left) read e = ap result_err e
+fault_by Y (Limit why) read e = ap result_err e
+fault_by Y (BadBlob why) read e = ap result_err e
 
-told_at : {Y : Type 0} (r : Result Y LineFault) (fault : LineFault) (read : Outcome) → IsErrAnd r (λ e. e ≡ fault) → Fails fault read → Tells r (result_err read)
-told_at (Ok x) fault read is e = absurd is
-told_at {Y} (Err f) fault read is e = told_by Y f read (subst (λ (g : LineFault). Fails g read) (sym is) e)
+fault_at : {Y : Type 0} (r : Result Y LineFault) (fault : LineFault) (read : Outcome) → IsErrAnd r (λ e. e ≡ fault) → Fails fault read → FaultIs r (result_err read)
+fault_at (Ok x) fault read is e = absurd is
+fault_at {Y} (Err f) fault read is e = fault_by Y f read (subst (λ (g : LineFault). Fails g read) (sym is) e)
 
 -- a line that is not read
-pub line_told : {Y : Type 0} (A : Type 0) (bytes : List ℕ) (r : Result Y LineFault) (fault : LineFault) (read : Outcome) → line A bytes ≡ read → IsErrAnd r (λ e. e ≡ fault) → Fails fault read → Tells r (line_fault A bytes)
+pub line_fault_is : {Y : Type 0} (A : Type 0) (bytes : List ℕ) (r : Result Y LineFault) (fault : LineFault) (read : Outcome) → line A bytes ≡ read → IsErrAnd r (λ e. e ≡ fault) → Fails fault read → FaultIs r (line_fault A bytes)
 unfolding line_fault
-line_told A bytes r fault read same is e = told_at r fault (line A bytes) is (subst (λ (o : Outcome). Fails fault o) (sym same) e)
+line_fault_is A bytes r fault read same is e = fault_at r fault (line A bytes) is (subst (λ (o : Outcome). Fails fault o) (sym same) e)
 
 pub no_line_fault : (A : Type 0) (bytes rest : List ℕ) → line A bytes ≡ Ok rest → line_fault A bytes ≡ None
 unfolding line_fault

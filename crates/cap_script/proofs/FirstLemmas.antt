@@ -5,8 +5,8 @@ use Rattle.std.proofs.lemmas.Bool.{eqb-true}
 use Rattle.cap_value.specs.declared.memory.Fault.{Fault}
 use Rattle.cap_value.specs.declared.memory.Fault.TheVariants as fault
 use Rattle.cap_value.specs.declared.memory.Fault.TheVariants.{Refused}
-use Rattle.cap_script.specs.FirstRefused.{IsFirstRefused, TellsFirstRefused, SpellsWithin, line_of}
-use Rattle.cap_script.specs.LineFaults.{Tells, line_fault}
+use Rattle.cap_script.specs.FirstRefused.{IsFirstRefused, FaultOfFirstRefused, SpellsWithin, line_of}
+use Rattle.cap_script.specs.LineFaults.{FaultIs, line_fault}
 use Rattle.cap_script.specs.LineLimits.{AreWithinLimits, LineWithin}
 use Rattle.cap_script.specs.RefusedLines.{LeavesLines, NoLine, in_line}
 use Rattle.cap_script.specs.Script.{AreLines, IsCut, IsRead, SpellsLine, SpellsScript, TakesFirst, has_line_feed, is_ignored}
@@ -61,8 +61,8 @@ never_refused (script.Syntax line at) P p left = left
 never_refused (script.BadBlob line why) P p left = left
 
 -- out of memory
-pub first_memory : (A : Type 0) (n : ℕ) (told : Fault ScriptFault) (text : List ℕ) → told ≡ fault.OutOfMemory → TellsFirstRefused A n told text
-first_memory A n told text is = subst (λ (f : Fault ScriptFault). TellsFirstRefused A n f text) (sym is) tt
+pub first_memory : (A : Type 0) (n : ℕ) (why : Fault ScriptFault) (text : List ℕ) → why ≡ fault.OutOfMemory → FaultOfFirstRefused A n why text
+first_memory A n why text is = subst (λ (f : Fault ScriptFault). FaultOfFirstRefused A n f text) (sym is) tt
 
 module _ {A : Type 0} where
   -- ---- the first refused line, behind one more line
@@ -77,7 +77,7 @@ module _ {A : Type 0} where
     spelled = (so.spelled.0, ignored_more so.spelled.0 line so.before ignored so.spelled.1, so.spelled.2);
     said = so.said;
     none = so.none;
-    told = so.told;
+    why = so.why;
   }
 
   pub behind_one_line : (n : ℕ) (why : ScriptFault) (made : Line A) (text line rest : List ℕ) → IsCut text line rest → SpellsLine made line → LineWithin made → IsFirstRefused A (n + 1) why rest → IsFirstRefused A n why text
@@ -90,14 +90,14 @@ module _ {A : Type 0} where
     spelled = (made ∷ so.spelled.0, inr (spells, so.spelled.1), (within, so.spelled.2));
     said = so.said;
     none = so.none;
-    told = so.told;
+    why = so.why;
   }
 
   -- ---- the first line is refused
 
   first_is : (n : ℕ) (why : ScriptFault) (text line rest : List ℕ) → IsCut text line rest → is_ignored line ≡ false → line_of why ≡ n → ((made : Line A) → SpellsLine made line → LeavesLines (Refused why) (LineWithin made))
       → option_map (in_line (line_of why) line) (line_fault A line) ≡ Some (Refused why) → IsFirstRefused A n why text
-  first_is n why text line rest cut said number none told =
+  first_is n why text line rest cut said number none own =
       let parts = lines_behind text line rest cut in
       record {
         before = [];
@@ -108,18 +108,18 @@ module _ {A : Type 0} where
         spelled = ([], tt, tt);
         said = said;
         none = none;
-        told = told;
+        why = own;
       }
 
-  pub first_here : (fault : LineFault) (n : ℕ) (text line rest : List ℕ) → IsCut text line rest → is_ignored line ≡ false → NoLine A fault line → Tells {X = Line A} (Err fault) (line_fault A line) → TellsFirstRefused A n (in_line n line fault) text
-  first_here OutOfMemory n text line rest cut said none told = tt
-  first_here (Syntax left) n text line rest cut said none told = first_is n (script.Syntax n (length line - left)) text line rest cut said refl none (ap (option_map (in_line n line)) told)
-  first_here (Limit why) n text line rest cut said none told = first_is n (script.Limit n why) text line rest cut said refl none (ap (option_map (in_line n line)) told)
-  first_here (BadBlob why) n text line rest cut said none told = first_is n (script.BadBlob n why) text line rest cut said refl none (ap (option_map (in_line n line)) told)
+  pub first_here : (fault : LineFault) (n : ℕ) (text line rest : List ℕ) → IsCut text line rest → is_ignored line ≡ false → NoLine A fault line → FaultIs {X = Line A} (Err fault) (line_fault A line) → FaultOfFirstRefused A n (in_line n line fault) text
+  first_here OutOfMemory n text line rest cut said none own = tt
+  first_here (Syntax left) n text line rest cut said none own = first_is n (script.Syntax n (length line - left)) text line rest cut said refl none (ap (option_map (in_line n line)) own)
+  first_here (Limit why) n text line rest cut said none own = first_is n (script.Limit n why) text line rest cut said refl none (ap (option_map (in_line n line)) own)
+  first_here (BadBlob why) n text line rest cut said none own = first_is n (script.BadBlob n why) text line rest cut said refl none (ap (option_map (in_line n line)) own)
 
   -- ---- the whole text
 
-  pub first_over : (m n : ℕ) (fault : Fault ScriptFault) (rest text : List ℕ) → ((why : ScriptFault) → IsFirstRefused A m why rest → IsFirstRefused A n why text) → TellsFirstRefused A m fault rest → TellsFirstRefused A n fault text
+  pub first_over : (m n : ℕ) (fault : Fault ScriptFault) (rest text : List ℕ) → ((why : ScriptFault) → IsFirstRefused A m why rest → IsFirstRefused A n why text) → FaultOfFirstRefused A m fault rest → FaultOfFirstRefused A n fault text
   first_over m n fault.OutOfMemory rest text on so = tt
   first_over m n (Refused why) rest text on so = on why so
 

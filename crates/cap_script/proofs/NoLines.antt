@@ -82,5 +82,5 @@ module _ {A : Type 0} where
       let (left, here, within) = on lines spelled in
       leaves_lines_map fault within (none left here)
 
-  pub no_memory_left : (told : Fault ScriptFault) (start : List ℕ) → told ≡ fault.OutOfMemory → NoLines A told start
-  no_memory_left told start is lines spelled = subst (λ (f : Fault ScriptFault). LeavesLines f (AreWithinLimits lines)) (sym is) tt
+  pub no_memory_left : (why : Fault ScriptFault) (start : List ℕ) → why ≡ fault.OutOfMemory → NoLines A why start
+  no_memory_left why start is lines spelled = subst (λ (f : Fault ScriptFault). LeavesLines f (AreWithinLimits lines)) (sym is) tt

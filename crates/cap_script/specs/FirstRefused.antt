@@ -36,8 +36,8 @@ module _ (A : Type 0) where
     pub said : is_ignored refused ≡ false
     pub none :
         (line : Line A) → SpellsLine line refused → LeavesLines (Refused fault) (LineWithin line)
-    pub told : option_map (in_line (line_of fault) refused) (line_fault A refused) ≡ Some (Refused fault)
+    pub why : option_map (in_line (line_of fault) refused) (line_fault A refused) ≡ Some (Refused fault)
 
   -- a fault of the text is that of its first refused line
-  abbrev pub TellsFirstRefused : ℕ → Fault ScriptFault → List ℕ → Type 0
-  TellsFirstRefused first fault text = MatchFault fault ⊤ (λ why. IsFirstRefused first why text)
+  abbrev pub FaultOfFirstRefused : ℕ → Fault ScriptFault → List ℕ → Type 0
+  FaultOfFirstRefused first fault text = MatchFault fault ⊤ (λ why. IsFirstRefused first why text)

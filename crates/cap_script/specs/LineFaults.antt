@@ -175,8 +175,8 @@ module _ (A : Type 0) where
   unfoldable pub line_fault : List ℕ → Option LineFault
   line_fault bytes = result_err (line bytes)
 
--- a line that is read has no fault, and one that is not has the one that is told, unless memory ran out
-abbrev pub Tells : {X : Type 0} → Result X LineFault → Option LineFault → Type 0
-Tells (Ok x) fault = fault ≡ None
-Tells (Err OutOfMemory) fault = ⊤
-Tells (Err told) fault = fault ≡ Some told
+-- a line that is read has no fault, and one that is refused has this one, unless memory ran out
+abbrev pub FaultIs : {X : Type 0} → Result X LineFault → Option LineFault → Type 0
+FaultIs (Ok x) fault = fault ≡ None
+FaultIs (Err OutOfMemory) fault = ⊤
+FaultIs (Err why) fault = fault ≡ Some why

@@ -23,5 +23,5 @@ pub record HasFault (A : Type 0) (number : ℕ) (fault : Fault ScriptFault) (tex
   pub said : is_ignored text ≡ false
   pub numbered : MatchFault fault ⊤ (λ why. line_of why ≡ number)
   pub none : (line : Line A) → SpellsLine line text → LeavesLines fault (LineWithin line)
-  pub told :
+  pub why :
       MatchFault fault ⊤ (λ why. option_map (in_line number text) (line_fault A text) ≡ Some (Refused why))

@@ -36,7 +36,8 @@ Leaves fault within = ⊥
 
 -- the fault at the beginning of the line, where a value of this form is asked for
 abbrev pub NoneSpelled : {X : Type 0} → LineFault → (X → Type 0) → (X → Form) → List ℕ → Type 0
-NoneSpelled {X} fault Within form line = (x : X) (rest : List ℕ) → form x line rest → Leaves fault (Within x)
+NoneSpelled {X} fault IsWithin form line =
+    (x : X) (rest : List ℕ) → form x line rest → Leaves fault (IsWithin x)
 
 abbrev pub NoName : LineFault → List ℕ → Type 0
 NoName fault = NoneSpelled fault NameWithin Word

@@ -1,6 +1,6 @@
 //! A line of a workload.
 ghost use Rattle.std.specs.Prelude.{◌≡◌, IfOk, IfErr};
-ghost use Rattle.cap_script.specs.LineFaults.{Tells, line_fault};
+ghost use Rattle.cap_script.specs.LineFaults.{FaultIs, line_fault};
 ghost use Rattle.cap_script.specs.LineLimits.{LineWithin};
 ghost use Rattle.cap_script.specs.RefusedLines.{NoLine};
 ghost use Rattle.cap_script.specs.Script.{SpellsLine, is_ignored};
@@ -50,7 +50,7 @@ impl<A: AllocHandle> Line<A> {
         ensures spelled { IfOk result (λ line. SpellsLine line text.now) }
         ensures within { IfOk result (λ line. LineWithin line) }
         ensures none { IfErr result (λ fault. NoLine A fault text.now) }
-        ensures told { Tells result (line_fault A text.now) }
+        ensures fault { FaultIs result (line_fault A text.now) }
     {
         one_filter();
         no_bytes_spell_two::<A>();

@@ -1,6 +1,6 @@
 //! An iterator over the lines of a workload.
 ghost use Rattle.std.specs.Prelude.{◌≡◌, ◌≤◌, ◌<◌, List, length, IfOk, IfErr, IfSome, MatchResult};
-ghost use Rattle.cap_script.specs.FirstRefused.{TellsFirstRefused, SpellsWithin};
+ghost use Rattle.cap_script.specs.FirstRefused.{FaultOfFirstRefused, SpellsWithin};
 ghost use Rattle.cap_script.specs.RefusedLines.{NoLines};
 ghost use Rattle.cap_script.specs.Script.{IsLeft, SpellsScript, TakesFirst, begins_at};
 ghost use Rattle.cap_script.specs.declared.line.Line.{Line};
@@ -47,7 +47,7 @@ impl<'t, A: AllocHandle> Lines<'t, A> {
         // A text that spells lines within the limits is not refused.
         ensures none { IfErr result (λ fault. NoLines A fault text.now) }
         // A fault is that of the first line that is neither ignored nor a command within the limits.
-        ensures first { IfErr result (λ fault. TellsFirstRefused A 1 fault text.now) }
+        ensures first { IfErr result (λ fault. FaultOfFirstRefused A 1 fault text.now) }
     {
         let mut rest = Rest::new(text);
         while let Some(_line) = rest.read(alloc)? {}

@@ -1,7 +1,7 @@
 //! The part of a workload's text that is left to parse.
 ghost use Rattle.std.specs.Prelude.{◌≡◌, ◌+◌, ◌≤◌, ◌<◌, ◌^◌, ◌++◌, ◌∷◌, List, [], false, length};
 ghost use Rattle.std.specs.Prelude.{IfOk, IfErr, IfSome, MatchOption, MatchResult};
-ghost use Rattle.cap_script.specs.FirstRefused.{IsFirstRefused, TellsFirstRefused, SpellsWithin};
+ghost use Rattle.cap_script.specs.FirstRefused.{IsFirstRefused, FaultOfFirstRefused, SpellsWithin};
 ghost use Rattle.cap_script.specs.LineLimits.{LineWithin};
 ghost use Rattle.cap_script.specs.RefusedLines.{NoLines};
 ghost use Rattle.cap_script.specs.Script.{IsCut, IsLeft, IsRead, SpellsScript, TakesFirst};
@@ -41,7 +41,7 @@ impl<'t> Rest<'t> {
         ensures within { IfOk result (λ found. IfSome found (λ line. LineWithin line)) }
         ensures none { IfErr result (λ fault. NoLines A fault self.old.text.now) }
         ensures first { IfErr result (λ fault.
-            TellsFirstRefused A self.old.number fault self.old.text.now) }
+            FaultOfFirstRefused A self.old.number fault self.old.text.now) }
         ensures later { IfOk result (λ found. IfSome found (λ line. (fault : ScriptFault)
             → IsFirstRefused A self.new.number fault self.new.text.now
             → IsFirstRefused A self.old.number fault self.old.text.now)) }

@@ -1,6 +1,6 @@
 //! Reads a whole workload.
 ghost use Rattle.std.specs.Prelude.{◌≡◌, ◌++◌, ◌∷◌, [], IfOk, IfErr, OnOk};
-ghost use Rattle.cap_script.specs.FirstRefused.{TellsFirstRefused};
+ghost use Rattle.cap_script.specs.FirstRefused.{FaultOfFirstRefused};
 ghost use Rattle.cap_script.specs.LineLimits.{AreWithinLimits};
 ghost use Rattle.cap_script.specs.RefusedLines.{NoLines};
 ghost use Rattle.cap_script.specs.Script.{SpellsScript};
@@ -28,7 +28,7 @@ pub fn parse<A: AllocHandle>(alloc: A, text: &str) -> Result<Workload<A>, Fault<
     // A text that spells lines within the limits is not refused.
     ensures none { IfErr result (λ fault. NoLines A fault text.now) }
     // A fault is that of the first line that is neither ignored nor a command within the limits.
-    ensures first { IfErr result (λ fault. TellsFirstRefused A 1 fault text.now) }
+    ensures first { IfErr result (λ fault. FaultOfFirstRefused A 1 fault text.now) }
 {
     let mut rest = Rest::new(text);
     let mut lines = Vec::new(alloc);

@@ -24,7 +24,7 @@ module _ {A : Type 0} where
     pub few : length history ≤ events_max
     pub state_is : state history ≡ core
 
-  -- what the line was, the server after it, and what is printed and told of it
+  -- what the line was, the server after it, and the reply and the fault that are printed for it
   abbrev pub HasAnswered : ℕ → List ℕ → List (Event A) → State A → List ℕ → List ℕ → Type 0
   HasAnswered number text history core reply fault =
       (line : ReadLine A) × IsReadAs number text line × Leaves (after_line history line) core

@@ -18,7 +18,7 @@ loop-found-init g c =
       run = at_first input (prepend_known c.new-unread.result input) c.new-core.result (outputs (g.W.RunOutput.contents c.args.replies.now) (g.E.RunOutput.contents c.args.faults.now)) c.new-core.ensures
           (λ others has. lines_nil input others (subst (λ (u : List ℕ). HasLines (prepend_known u input) others) c.new-unread.ensures has));
       went = (0, refl);
-      told = (0, refl);
+      reported = (0, refl);
       counted = counted_none g.R.Source.gave 1099511627776 c.args.reader.now;
       few = omega (arith, ap (λ (l : List ℕ). length l) c.new-unread.ensures);
     }
@@ -34,7 +34,7 @@ returns-in-Err-OutOfMemory-clause-reported g c =
 pub returns-in-Err-OutOfMemory-clause-write_reported : goal.returns-in-Err-OutOfMemory-clause-write_reported
 returns-in-Err-OutOfMemory-clause-write_reported g c =
     first_alone g.W.RunOutput.went g.W.RunOutput.failed g.E.RunOutput.went g.E.RunOutput.failed c.end.result c.args.replies.now c.loop-found.replies c.end.new.replies c.args.faults.now c.loop-found.faults
-    c.loop-found.invariant.went c.loop-found.invariant.told c.end.ensures.reported
+    c.loop-found.invariant.went c.loop-found.invariant.reported c.end.ensures.reported
 
 pub returns-in-Err-OutOfMemory-clause-written : goal.returns-in-Err-OutOfMemory-clause-written
 returns-in-Err-OutOfMemory-clause-written g c =
@@ -93,7 +93,7 @@ returns-in-Err-clause-reported g c =
 pub returns-in-Err-clause-write_reported : goal.returns-in-Err-clause-write_reported
 returns-in-Err-clause-write_reported g c =
     first_alone g.W.RunOutput.went g.W.RunOutput.failed g.E.RunOutput.went g.E.RunOutput.failed c.end-in-Err.result c.args.replies.now c.loop-found.replies c.end-in-Err.new.replies c.args.faults.now c.loop-found.faults
-    c.loop-found.invariant.went c.loop-found.invariant.told c.end-in-Err.ensures.reported
+    c.loop-found.invariant.went c.loop-found.invariant.reported c.end-in-Err.ensures.reported
 
 pub returns-in-Err-clause-written : goal.returns-in-Err-clause-written
 returns-in-Err-clause-written g c =
@@ -119,7 +119,7 @@ returns-in-Err-write_printed-clause-reported g c =
 pub returns-in-Err-write_printed-clause-write_reported : goal.returns-in-Err-write_printed-clause-write_reported
 returns-in-Err-write_printed-clause-write_reported g c =
     both_later g.W.RunOutput.went g.W.RunOutput.failed g.E.RunOutput.went g.E.RunOutput.failed (Err c.in-Err-write_printed.fault) c.args.replies.now c.loop-found.replies c.write_printed.new.replies c.args.faults.now c.loop-found.faults c.write_printed.new.faults
-    c.loop-found.invariant.went c.loop-found.invariant.told c.in-Err-write_printed.ensures.reported
+    c.loop-found.invariant.went c.loop-found.invariant.reported c.in-Err-write_printed.ensures.reported
 
 pub returns-in-Err-write_printed-clause-written : goal.returns-in-Err-write_printed-clause-written
 returns-in-Err-write_printed-clause-written g c =
@@ -158,7 +158,7 @@ loop-found-preserved g c =
       run = at_next input left rest c.loop-found.core c.answer_line.new.core c.loop-found.number (c.loop-found.number + 1) old here after c.as_slice.result.now
           (string_bytes c.in-Ok-answer_line.printed.reply) (string_bytes c.in-Ok-answer_line.printed.fault) so text refl answered wrote.ok;
       went = went_on g.W.RunOutput.went g.W.RunOutput.failed c.args.replies.now c.loop-found.replies c.write_printed.new.replies c.loop-found.invariant.went wrote.reported.0;
-      told = went_on g.E.RunOutput.went g.E.RunOutput.failed c.args.faults.now c.loop-found.faults c.write_printed.new.faults c.loop-found.invariant.told wrote.reported.1;
+      reported = went_on g.E.RunOutput.went g.E.RunOutput.failed c.args.faults.now c.loop-found.faults c.write_printed.new.faults c.loop-found.invariant.reported wrote.reported.1;
       counted = counted_on g.R.Source.gave 1099511627776 c.loop-found.reads c.next_line.new.reads c.args.reader.now c.loop-found.reader c.next_line.new.reader c.loop-found.invariant.counted c.in-Ok.ensures.gave;
       few = omega (arith, c.loop-found.invariant.few, fewer);
     }

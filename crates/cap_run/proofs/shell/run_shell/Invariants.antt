@@ -11,7 +11,7 @@ invariant-loop-found g l = record {
   run : IsAt (g.R.Source.remaining l.initial.reader) (prepend_known l.unread (g.R.Source.remaining l.reader)) l.core l.number
       (outputs (g.W.RunOutput.contents l.initial.replies) (g.E.RunOutput.contents l.initial.faults)) (outputs (g.W.RunOutput.contents l.replies) (g.E.RunOutput.contents l.faults));
   went : AllWent g.W.RunOutput.went l.initial.replies l.replies;
-  told : AllWent g.E.RunOutput.went l.initial.faults l.faults;
+  reported : AllWent g.E.RunOutput.went l.initial.faults l.faults;
   counted : Counted g.R.Source.gave 1099511627776 l.reads l.initial.reader l.reader;
   few : l.number + (l.reads * 8192 + length l.unread) ≤ 9007199254740992;
 }

@@ -1,5 +1,5 @@
 use Rattle.std.proofs.Common.{List, ℕ, [], ◌∷◌, Option, IfSome, subst}
-use Rattle.cap_script.specs.FirstRefused.{IsFirstRefused, TellsFirstRefused}
+use Rattle.cap_script.specs.FirstRefused.{IsFirstRefused, FaultOfFirstRefused}
 use Rattle.cap_script.specs.LineLimits.{LineWithin}
 use Rattle.cap_script.specs.RefusedLines.{NoLines}
 use Rattle.cap_script.specs.Script.{IsRead, SpellsScript, TakesFirst}
@@ -52,10 +52,10 @@ returns-in_err-push_line-clause-none g c =
 
 pub returns-in_err-line-clause-first : goal.returns-in_err-line-clause-first
 returns-in_err-line-clause-first g c =
-    passed_on c.from_residual.result c.in_err-line.field-0.0 (λ fault. TellsFirstRefused g.row.A.Denot 1 fault c.args.text.now) c.from_residual.ensures.1
+    passed_on c.from_residual.result c.in_err-line.field-0.0 (λ fault. FaultOfFirstRefused g.row.A.Denot 1 fault c.args.text.now) c.from_residual.ensures.1
     (first_over {A = g.row.A.Denot} c.loop-lines.rest.number 1 c.in_err-line.field-0.0 c.loop-lines.rest.text.now c.args.text.now c.loop-lines.invariant.3 c.in_err-line.ensures.first)
 
 pub returns-in_err-push_line-clause-first : goal.returns-in_err-push_line-clause-first
 returns-in_err-push_line-clause-first g c =
-    passed_on c.from_residual-in_err-push_line.result c.in_err-push_line.field-0.0 (λ fault. TellsFirstRefused g.row.A.Denot 1 fault c.args.text.now) c.from_residual-in_err-push_line.ensures.1
+    passed_on c.from_residual-in_err-push_line.result c.in_err-push_line.field-0.0 (λ fault. FaultOfFirstRefused g.row.A.Denot 1 fault c.args.text.now) c.from_residual-in_err-push_line.ensures.1
     (first_memory g.row.A.Denot 1 c.in_err-push_line.field-0.0 c.args.text.now c.in_err-push_line.ensures.memory)

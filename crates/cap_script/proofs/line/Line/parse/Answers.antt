@@ -5,7 +5,7 @@ use Rattle.cap_script.proofs.NoneLemmas.{passed}
 use Rattle.std.proofs.Common.{[], refl, ◌∙◌}
 use Rattle.cap_script.specs.LineFaults.{command, worker}
 use Rattle.cap_script.specs.Reading.{at_end, ◌⋙◌, ◌>>=◌}
-use Rattle.cap_script.proofs.FaultLemmas.{line_told, no_line_fault}
+use Rattle.cap_script.proofs.FaultLemmas.{line_fault_is, no_line_fault}
 use Rattle.cap_script.proofs.ReadLemmas.{ends, then}
 use Rattle.cap_script.proofs.line.Line.parse.Goals as goal
 
@@ -31,36 +31,36 @@ pub returns-clause-spelled : goal.returns-clause-spelled
 returns-clause-spelled g c =
     (c.command.new.cursor.rest.now, (c.worker.new.self.rest.now, rw c.new-cursor.ensures at (rw c.in_ok-worker.was at c.worker.ensures.next), c.in_ok-command.ensures.next), c.in_ok-end.ensures.end)
 
-pub returns-in_err-worker-clause-told : goal.returns-in_err-worker-clause-told
-returns-in_err-worker-clause-told g c =
+pub returns-in_err-worker-clause-fault : goal.returns-in_err-worker-clause-fault
+returns-in_err-worker-clause-fault g c =
     let A = g.row.A.Denot in
     let line = c.args.text.now in
     let fault = c.in_err-worker.field-0.0 in
     let rest = command A ⋙ at_end in
-    line_told A line c.from_residual.result fault (worker line >>= rest) refl c.from_residual.ensures.1 (ends fault (worker line) rest (rw c.new-cursor.ensures at (rw c.in_err-worker.was at c.worker.ensures.reads)))
+    line_fault_is A line c.from_residual.result fault (worker line >>= rest) refl c.from_residual.ensures.1 (ends fault (worker line) rest (rw c.new-cursor.ensures at (rw c.in_err-worker.was at c.worker.ensures.reads)))
 
-pub returns-in_err-command-clause-told : goal.returns-in_err-command-clause-told
-returns-in_err-command-clause-told g c =
+pub returns-in_err-command-clause-fault : goal.returns-in_err-command-clause-fault
+returns-in_err-command-clause-fault g c =
     let A = g.row.A.Denot in
     let line = c.args.text.now in
     let here = c.worker.new.self.rest.now in
     let fault = c.in_err-command.field-0.0 in
-    line_told A line c.from_residual-in_err-command.result fault (command A here >>= at_end) (then (worker line) here (command A ⋙ at_end) (rw c.new-cursor.ensures at (rw c.in_ok-worker.was at c.worker.ensures.reads))) c.from_residual-in_err-command.ensures.1
+    line_fault_is A line c.from_residual-in_err-command.result fault (command A here >>= at_end) (then (worker line) here (command A ⋙ at_end) (rw c.new-cursor.ensures at (rw c.in_ok-worker.was at c.worker.ensures.reads))) c.from_residual-in_err-command.ensures.1
     (ends fault (command A here) at_end c.in_err-command.ensures.reads)
 
-pub returns-in_err-end-clause-told : goal.returns-in_err-end-clause-told
-returns-in_err-end-clause-told g c =
+pub returns-in_err-end-clause-fault : goal.returns-in_err-end-clause-fault
+returns-in_err-end-clause-fault g c =
     let A = g.row.A.Denot in
     let line = c.args.text.now in
     let here = c.worker.new.self.rest.now in
     let there = c.command.new.cursor.rest.now in
     let fault = c.in_err-end.field-0.0 in
-    line_told A line c.from_residual-in_err-end.result fault (at_end there)
+    line_fault_is A line c.from_residual-in_err-end.result fault (at_end there)
     (then (worker line) here (command A ⋙ at_end) (rw c.new-cursor.ensures at (rw c.in_ok-worker.was at c.worker.ensures.reads)) ∙ then (command A here) there at_end c.in_ok-command.ensures.reads)
     c.from_residual-in_err-end.ensures.1 c.in_err-end.ensures.reads
 
-pub returns-clause-told : goal.returns-clause-told
-returns-clause-told g c =
+pub returns-clause-fault : goal.returns-clause-fault
+returns-clause-fault g c =
     let A = g.row.A.Denot in
     let line = c.args.text.now in
     let here = c.worker.new.self.rest.now in

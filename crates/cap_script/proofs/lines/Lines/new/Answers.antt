@@ -1,5 +1,5 @@
 use Rattle.std.proofs.Common.{ℕ, List, [], Option, subst}
-use Rattle.cap_script.specs.FirstRefused.{IsFirstRefused, TellsFirstRefused}
+use Rattle.cap_script.specs.FirstRefused.{IsFirstRefused, FaultOfFirstRefused}
 use Rattle.cap_script.specs.RefusedLines.{NoLines}
 use Rattle.cap_script.specs.Script.{IsRead, SpellsScript}
 use Rattle.cap_script.specs.declared.line.Line.{Line}
@@ -46,5 +46,5 @@ returns-in_err-_line-clause-none g c =
 
 pub returns-in_err-_line-clause-first : goal.returns-in_err-_line-clause-first
 returns-in_err-_line-clause-first g c =
-    passed_on c.from_residual.result c.in_err-_line.field-0.0 (λ fault. TellsFirstRefused g.row.A.Denot 1 fault c.args.text.now) c.from_residual.ensures.1
+    passed_on c.from_residual.result c.in_err-_line.field-0.0 (λ fault. FaultOfFirstRefused g.row.A.Denot 1 fault c.args.text.now) c.from_residual.ensures.1
     (first_over {A = g.row.A.Denot} c.loop-line.rest.number 1 c.in_err-_line.field-0.0 c.loop-line.rest.text.now c.args.text.now c.loop-line.invariant.2 c.in_err-_line.ensures.first)

@@ -76,4 +76,4 @@ returns-in-Err-clause-first g c =
     let here = c.in-Some.ensures.here in
     rw c.in_line.ensures
     (first_over {A = g.row.A.Denot} c.next_text.new.self.number c.args.self.now.number _ c.next_text.new.self.text.now c.args.self.now.text.now c.in-Some.ensures.first
-    (first_here {A = g.row.A.Denot} c.in-Err.fault c.next_text.new.self.number c.next_text.new.self.text.now c.in-Some.text.now c.in-Some.behind.now here.0 here.1 c.in-Err.ensures.none c.in-Err.ensures.told))
+    (first_here {A = g.row.A.Denot} c.in-Err.fault c.next_text.new.self.number c.next_text.new.self.text.now c.in-Some.text.now c.in-Some.behind.now here.0 here.1 c.in-Err.ensures.none c.in-Err.ensures.fault))
