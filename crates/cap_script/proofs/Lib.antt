@@ -1,8 +1,10 @@
 pub mod Crossing
 mod FaultLemmas
 mod FilterLaw
+mod FilterSize
 mod FirstLemmas
 mod FitLemmas
+mod GivenLemmas
 mod LineLemmas
 mod LocalLemmas
 mod MoreLemmas
@@ -23,5 +25,6 @@ mod ReadLemmas
 mod RowLemmas
 mod ScanLemmas
 mod SpellLemmas
+mod SpelledLemmas
 mod TokenLemmas
 mod OneLine

@@ -1,13 +1,15 @@
 //! Laws of the texts of workloads.
-ghost use Rattle.std.specs.Prelude.{◌≡◌, ℕ, List, All};
+ghost use Rattle.std.specs.Prelude.{◌≡◌, ℕ, List, All, None};
 ghost use Rattle.cap_core.specs.Table.{BlobFits};
 ghost use Rattle.cap_script.specs.FaultPlace.{BeginsLine, HasSyntaxFault, KeepsSyntaxFault, ReachesFilter};
-ghost use Rattle.cap_script.specs.Script.{SpellsScript};
+ghost use Rattle.cap_script.specs.LineFaults.{line_fault};
+ghost use Rattle.cap_script.specs.LineLimits.{LineWithin};
+ghost use Rattle.cap_script.specs.Script.{SpellsLine, SpellsScript};
 ghost use Rattle.cap_script.specs.declared.line.Line.{Line};
 
 use cap_apply::spelled_blobs_fit_their_tables;
 use cap_codec::no_bytes_spell_two;
-use cap_filter::one_filter;
+use cap_filter::{one_filter, spelled_is_read};
 use cap_value::AllocHandle;
 
 /// A text spells at most one workload.
@@ -24,6 +26,18 @@ pub fn spelled_commands_fit<A: AllocHandle>()
         → All (λ line. BlobFits line.command) lines }
 {
     spelled_blobs_fit_their_tables::<A>();
+}
+
+/// A line has no fault exactly where it spells a command within the limits.
+pub fn a_line_without_fault<A: AllocHandle>()
+    ensures spelled { (text : List ℕ) → line_fault A text ≡ None
+        → (line : Line A) × SpellsLine line text × LineWithin line }
+    ensures read { (text : List ℕ) (line : Line A) → SpellsLine line text → LineWithin line
+        → line_fault A text ≡ None }
+{
+    spelled_is_read();
+    cap_filter::read_is_spelled();
+    cap_codec::read_is_spelled::<A>();
 }
 
 /// A fault of syntax depends on nothing behind its token: each line that has the same bytes before, and the

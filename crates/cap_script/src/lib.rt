@@ -23,7 +23,10 @@ mod workload;
 
 pub use fault::ScriptFault;
 pub use fault_text::print_fault;
-pub use laws::{one_workload, spelled_commands_fit, syntax_fault_lasts, syntax_fault_place};
+pub use laws::{
+    a_line_without_fault, one_workload, spelled_commands_fit, syntax_fault_lasts,
+    syntax_fault_place,
+};
 pub use line::{Line, Show};
 pub use lines::Lines;
 pub use one_line::read_line;

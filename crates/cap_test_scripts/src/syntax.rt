@@ -1,17 +1,22 @@
-//! Two lines with a fault of syntax: it stays whatever follows its token, and what is before begins a line.
+//! Lines with and without a fault of syntax: what the laws on faults say of them.
 ghost use Rattle.std.specs.Prelude.{codes};
 ghost use Rattle.cap_script.specs.FaultPlace.{BeginsLine, KeepsSyntaxFault};
+ghost use Rattle.cap_script.specs.LineLimits.{LineWithin};
+ghost use Rattle.cap_script.specs.Script.{SpellsLine};
+ghost use Rattle.cap_script.specs.declared.line.Line.{Line};
 
-use cap_script::{syntax_fault_lasts, syntax_fault_place};
+use cap_script::{a_line_without_fault, syntax_fault_lasts, syntax_fault_place};
 use cap_value::AllocHandle;
 
 /// The line `frob`, whose word is no command: its fault is at the first byte.
 pub fn an_unknown_command<A: AllocHandle>()
     ensures lasts { KeepsSyntaxFault A (codes "frob") 4 }
     ensures place { BeginsLine A (codes "frob") 4 }
+    ensures none { (line : Line A) → SpellsLine line (codes "frob") → LineWithin line → ⊥ }
 {
     syntax_fault_lasts::<A>();
     syntax_fault_place::<A>();
+    a_line_without_fault::<A>();
 }
 
 /// The line `filter x`, whose session has no number: its fault is at the last byte.
@@ -21,4 +26,11 @@ pub fn a_filter_without_a_session<A: AllocHandle>()
 {
     syntax_fault_lasts::<A>();
     syntax_fault_place::<A>();
+}
+
+/// The line `session`, which has no fault.
+pub fn a_new_session<A: AllocHandle>()
+    ensures { (line : Line A) × SpellsLine line (codes "session") × LineWithin line }
+{
+    a_line_without_fault::<A>();
 }
