@@ -7,4 +7,6 @@ pub mod FlagLemmas
 pub mod OverLemmas
 pub mod EachLemmas
 pub mod UnrestartedLemmas
+pub mod StepLemmas
+pub mod AcceptedLemmas
 pub mod PartLemmas

@@ -1,18 +1,15 @@
 -- What the concatenation of captures in a row has of the one capture over all of them.
-use Rattle.std.proofs.Common.{◌≡◌, ℕ, Bool, true, false, cond, Option, Some, None, Ok, IfOk, List, [], ◌∷◌, ◌++◌, ◌&&◌, refl, sym, ap, ◌∙◌}
+use Rattle.std.proofs.Common.{◌≡◌, ℕ, Bool, true, false, Option, Some, None, Ok, IfOk, List, [], ◌∷◌, ◌++◌, ◌&&◌, refl, sym, ap, ◌∙◌}
 use Rattle.std.specs.Prelude.{map}
 use Rattle.std.specs.List.{cons_option}
 use Rattle.cap_row.specs.Fields.{Fields}
-use Rattle.cap_row.specs.Key.{fields_eq}
 use Rattle.cap_database.specs.Operation.{run}
 use Rattle.cap_database.specs.Read.{row_at}
 use Rattle.cap_database.specs.Tables.{AreRising, Tables, create, schema_of}
 use Rattle.cap_database.specs.declared.op.Op.{Op}
-use Rattle.cap_changes.specs.Change.{change_of, new_field, old_field}
-use Rattle.cap_changes.specs.Column.{by_column}
+use Rattle.cap_changes.specs.Change.{change_of}
 use Rattle.cap_changes.specs.Group.{TableChanges}
 use Rattle.cap_changes.specs.declared.row_change.RowChange.{RowChange}
-use Rattle.cap_changes.specs.declared.row_change.RowChange.TheVariants.{Update}
 use Rattle.cap_codec.specs.declared.read.Contents.TheVariants.{Changes}
 use Rattle.cap_session.specs.declared.record.Record.{Record}
 use Rattle.cap_group.proofs.JoinLemmas.{followed, followed_marked}
@@ -29,7 +26,7 @@ use Rattle.cap_captures.proofs.CaptureLemmas.{no-table-row}
 use Rattle.cap_captures.proofs.ConcatLemmas.{concatenated}
 use Rattle.cap_captures.proofs.FlagLemmas.{counted}
 use Rattle.cap_captures.proofs.PeriodLemmas as period
-use Rattle.cap_captures.proofs.RecordLemmas.{record_from}
+use Rattle.cap_captures.proofs.RecordLemmas.{direct-same, record_from}
 
 module _ {A : Type 0} where
   module _ (runs_keep : (tables : Tables A) (ops : List (Op A)) → IfOk (run tables ops) (λ left. (other : List ℕ) → schema_of left.database other ≡ schema_of tables other))
@@ -49,14 +46,6 @@ module _ {A : Type 0} where
     over-record later name key = record_from (touches_over session later start) name key
 
     -- ---- the concatenation
-
-    direct-same : (flags : List Bool) (one other : Bool) (first last : Option (Fields A)) → map as_direct (cons_option (change_of flags one first last) []) ≡ map as_direct (cons_option (change_of flags other first last) [])
-    direct-same flags one other None None = refl
-    direct-same flags one other None (Some now) = refl
-    direct-same flags one other (Some image) None = refl
-    direct-same flags one other (Some image) (Some now) =
-        elim (fields_eq image now) as (λ b. map as_direct (cons_option (cond b None (Some (Update one (by_column old_field flags image now) (by_column new_field flags image now)))) [])
-        ≡ map as_direct (cons_option (cond b None (Some (Update other (by_column old_field flags image now) (by_column new_field flags image now)))) [])) [ true ↦ refl | false ↦ refl ]
 
     pub concatenated-captures : (event : Event A) (later : List (Event A)) → (is_accepted event.reply && restarts session event.command) ≡ true → IsSteady session (event ∷ later) start → BlobsFitPast (event ∷ later ++ start)
         → (groups : List (TableChanges A)) × (concat_of (map Changes (captures session (event ∷ later) start)) ≡ Ok (Changes groups)) × HasCaptureOver session (event ∷ later) start groups

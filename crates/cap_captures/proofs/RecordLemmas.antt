@@ -1,6 +1,6 @@
 -- Steps of a row, the record of a row that was touched, and touches with one indirect flag.
 use Rattle.std.proofs.Common.{◌≡◌, ℕ, Bool, true, false, cond, Option, Some, None, List, [], ◌∷◌, ◌++◌, ◌&&◌, refl, sym, ap, subst, ◌∙◌}
-use Rattle.std.specs.Prelude.{is_some, filter, flat_map}
+use Rattle.std.specs.Prelude.{is_some, filter, flat_map, map}
 use Rattle.std.specs.Option.{ForSome, option_map}
 use Rattle.std.specs.List.{AllByRecursion, cons_option, list_all}
 use Rattle.std.specs.Ordering.{eq_by_cmp}
@@ -29,6 +29,7 @@ use Rattle.cap_core.proofs.LawLemmas.{first_image}
 use Rattle.cap_core.proofs.RestartLemmas.{sooner}
 use Rattle.cap_core.proofs.SessionLemmas.{and_false, kept}
 use Rattle.cap_core.proofs.SmallLemmas.{second}
+use Rattle.cap_captures.specs.Captures.{as_direct}
 use Rattle.cap_captures.proofs.CaptureLemmas.{record-in}
 use Rattle.cap_captures.proofs.ConcatLemmas.{some_same}
 
@@ -111,6 +112,15 @@ module _ {A : Type 0} where
       subst (λ cs. Follow flags key first cs last) (sym (append-nil changes)) (subst (λ row. Follow flags key first changes row) (unchanged flags indirect mid last is) h)
   follow-next flags key indirect first changes mid last h under (Some change) is =
       follow-more flags key first changes mid last change h under (ap (λ i. change_of flags i mid last) (flag-of flags indirect mid last change is) ∙ is)
+
+  -- changes from one row to another differ in their flag alone
+  pub direct-same : (flags : List Bool) (one other : Bool) (first last : Option (Fields A)) → map as_direct (cons_option (change_of flags one first last) []) ≡ map as_direct (cons_option (change_of flags other first last) [])
+  direct-same flags one other None None = refl
+  direct-same flags one other None (Some now) = refl
+  direct-same flags one other (Some image) None = refl
+  direct-same flags one other (Some image) (Some now) =
+      elim (fields_eq image now) as (λ b. map as_direct (cons_option (cond b None (Some (Update one (by_column old_field flags image now) (by_column new_field flags image now)))) [])
+      ≡ map as_direct (cons_option (cond b None (Some (Update other (by_column old_field flags image now) (by_column new_field flags image now)))) [])) [ true ↦ refl | false ↦ refl ]
 
   -- ---- the record of a row
 

@@ -19,9 +19,9 @@ ghost use Rattle.cap_core.specs.Restarts.{AppliesAll, AppliesAllPatches, HoldsFi
 ghost use Rattle.cap_core.specs.Session.{session_of};
 ghost use Rattle.cap_core.specs.Table.{BlobsFitPast};
 ghost use Rattle.cap_core.specs.Touch.{restarts, touches};
-ghost use Rattle.cap_captures.specs.Captures.{AreUnrestarted, HasCaptureOver, capture_over, first_row};
-ghost use Rattle.cap_captures.specs.Captures.{session_over};
-ghost use Rattle.cap_captures.specs.Rows.{AreInARow, HasTogether};
+ghost use Rattle.cap_captures.specs.Captures.{AreUnrestarted, HasCaptureOver, as_direct, capture_over};
+ghost use Rattle.cap_captures.specs.Captures.{first_row, session_over};
+ghost use Rattle.cap_captures.specs.Rows.{AreInARow, HasTogether, row_changes};
 
 use cap_apply::{
     a_changeset_gives_the_rows_now, a_patchset_gives_the_rows_now, applied_blobs_keep_order,
@@ -37,6 +37,22 @@ pub fn concatenation_of_changesets_in_a_row<A: AllocHandle>()
         (lists : List (List (TableChanges A))) → AreInARow columns first last lists →
         (groups : List (TableChanges A)) × (concat_of (map Changes lists) ≡ Ok (Changes groups))
         × HasTogether columns lists groups }
+{}
+
+/// Changesets of which each begins from the rows that the one before it leaves can be concatenated in two
+/// steps: those before any place in the row, those behind it, and then the two. That has of each row the
+/// change that the concatenation at once has: the same operation with the same records. The indirect flag may
+/// differ.
+pub fn concatenation_in_two_steps<A: AllocHandle>()
+    ensures { (columns : List ℕ → Option (List Bool)) (first last : List ℕ → Fields A → Option (Fields A))
+        (lists others : List (List (TableChanges A))) → AreInARow columns first last (lists ++ others)
+        → (one other both whole : List (TableChanges A))
+        × (concat_of (map Changes lists) ≡ Ok (Changes one))
+        × (concat_of (map Changes others) ≡ Ok (Changes other))
+        × (concat_of (Changes one ∷ Changes other ∷ []) ≡ Ok (Changes both))
+        × (concat_of (map Changes (lists ++ others)) ≡ Ok (Changes whole))
+        × ((name : List ℕ) (key : Fields A)
+        → map as_direct (row_changes name key both) ≡ map as_direct (row_changes name key whole)) }
 {}
 
 /// The one capture over all of a session's restarts is what the session captures where it has a capture in

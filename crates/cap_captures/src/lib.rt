@@ -5,7 +5,8 @@ mod laws;
 mod parts;
 
 pub use laws::{
-    captures_in_a_row_are_the_one_capture, concatenation_of_changesets_in_a_row,
-    the_concatenation_applies_as_its_captures, the_one_capture_is_without_restarts,
+    captures_in_a_row_are_the_one_capture, concatenation_in_two_steps,
+    concatenation_of_changesets_in_a_row, the_concatenation_applies_as_its_captures,
+    the_one_capture_is_without_restarts,
 };
 pub use parts::{InParts, captured_in_two_parts};

@@ -1,5 +1,8 @@
 //! A session that is captured in two parts, and as a whole.
 ghost use Rattle.std.specs.Prelude.{◌≡◌, ℕ, Bool, true, List, Ok, Some, [], ◌∷◌, ◌++◌, IfOk, IfSome};
+ghost use Rattle.std.specs.Prelude.{length};
+ghost use Rattle.std.specs.Option.{IfNone};
+ghost use Rattle.std.specs.Result.{result_ok};
 ghost use Rattle.cap_changes.specs.Group.{TableChanges};
 ghost use Rattle.cap_codec.specs.BlobReading.{blob_at};
 ghost use Rattle.cap_codec.specs.Changeset.{list_bytes};
@@ -8,7 +11,8 @@ ghost use Rattle.cap_core.specs.declared.command.Command.TheVariants as command;
 ghost use Rattle.cap_core.specs.declared.event.Event.{Event};
 ghost use Rattle.cap_core.specs.declared.reply.Reply.TheVariants as reply;
 ghost use Rattle.cap_core.specs.Answer.{State, event_by};
-ghost use Rattle.cap_captures.specs.Parts.{IsCommit, IsInParts, Stands};
+ghost use Rattle.cap_core.specs.Past.{HasRoom};
+ghost use Rattle.cap_captures.specs.Parts.{AreAccepted, CanBeInParts, IsCommit, IsInParts, MadeWhere, Stands};
 
 use crate::laws::{
     captures_in_a_row_are_the_one_capture, the_concatenation_applies_as_its_captures,
@@ -44,8 +48,9 @@ pub struct InParts<A: AllocHandle> {
 
 /// Enables a session of a server and restarts it. From there each of two commits is carried out, and the
 /// session restarted after it, which gives two captures. In place of that each is carried out, and the
-/// session captured after it, and then once more, which gives the whole. `None` where a command is refused or
-/// is no commit, or where the history is full. The server does not change.
+/// session captured after it, and then once more, which gives the whole. `None` where there is no such
+/// session, where a command is no commit, where the first is refused, or the second after it, and where the
+/// history has no room for seven more events. The server does not change.
 pub fn captured_in_two_parts<A: AllocHandle>(
     alloc: A,
     core: &Core<A>,
@@ -53,8 +58,10 @@ pub fn captured_in_two_parts<A: AllocHandle>(
     first: &Command<A>,
     second: &Command<A>,
 ) -> Result<Option<InParts<A>>, OutOfMemory>
-    ensures { (h : List (Event A)) → Stands h core.now →
+    ensures parts { (h : List (Event A)) → Stands h core.now →
         IfOk result (λ made. IfSome made (IsInParts h session first.now second.now)) }
+    ensures none { (h : List (Event A)) → Stands h core.now →
+        IfOk result (λ made. IfNone made (CanBeInParts h session first.now second.now → ⊥)) }
 {
     bytes_of_a_capture_give_the_rows_now::<A>();
     captures_in_a_row_are_the_one_capture::<A>();
@@ -85,8 +92,9 @@ fn answered_by<A: AllocHandle>(
     core: &Core<A>,
     command: &Command<A>,
 ) -> Result<Option<Answered<A>>, OutOfMemory>
-    ensures { IfOk result (λ made. IfSome made (λ a. (h : List (Event A)) → Stands h core.now →
-        Stands (h ++ event_by 0 command.now a.reply ∷ []) a.core)) }
+    ensures { IfOk result (λ made. (h : List (Event A)) → Stands h core.now →
+        MadeWhere (HasRoom (length h)) made
+        (λ a. Stands (h ++ event_by 0 command.now a.reply ∷ []) a.core)) }
 {
     if core.events() >= EVENTS_MAX {
         return Ok(None);
@@ -100,16 +108,18 @@ fn carried_out<A: AllocHandle>(
     core: &Core<A>,
     command: Command<A>,
 ) -> Result<Option<Answered<A>>, OutOfMemory>
-    ensures { IfOk result (λ made. IfSome made (λ a. (h : List (Event A)) → Stands h core.now →
-        Stands (h ++ event_by 0 command a.reply ∷ []) a.core)) }
+    ensures { IfOk result (λ made. (h : List (Event A)) → Stands h core.now →
+        MadeWhere (HasRoom (length h)) made
+        (λ a. Stands (h ++ event_by 0 command a.reply ∷ []) a.core)) }
 {
     answered_by(core, &command)
 }
 
 // Captures a session.
 fn captured<A: AllocHandle>(core: &Core<A>, session: u64) -> Result<Option<Part<A>>, OutOfMemory>
-    ensures { IfOk result (λ made. IfSome made (λ p. (h : List (Event A)) → Stands h core.now →
-        Stands (h ++ event_by 0 (command.Capture session) (reply.Capture p.capture) ∷ []) p.core)) }
+    ensures { IfOk result (λ made. (h : List (Event A)) → Stands h core.now →
+        MadeWhere (AreAccepted h (command.Capture session ∷ [])) made
+        (λ p. Stands (h ++ event_by 0 (command.Capture session) (reply.Capture p.capture) ∷ []) p.core)) }
 {
     let Some(Answered { core, reply }) = carried_out(core, Command::Capture { session })? else {
         return Ok(None);
@@ -122,8 +132,9 @@ fn captured<A: AllocHandle>(core: &Core<A>, session: u64) -> Result<Option<Part<
 
 // Restarts a session.
 fn restarted<A: AllocHandle>(core: &Core<A>, session: u64) -> Result<Option<Part<A>>, OutOfMemory>
-    ensures { IfOk result (λ made. IfSome made (λ p. (h : List (Event A)) → Stands h core.now →
-        Stands (h ++ event_by 0 (command.Restart session) (reply.Capture p.capture) ∷ []) p.core)) }
+    ensures { IfOk result (λ made. (h : List (Event A)) → Stands h core.now →
+        MadeWhere (AreAccepted h (command.Restart session ∷ [])) made
+        (λ p. Stands (h ++ event_by 0 (command.Restart session) (reply.Capture p.capture) ∷ []) p.core)) }
 {
     let Some(Answered { core, reply }) = carried_out(core, Command::Restart { session })? else {
         return Ok(None);
@@ -136,9 +147,9 @@ fn restarted<A: AllocHandle>(core: &Core<A>, session: u64) -> Result<Option<Part
 
 // Enables a session.
 fn switched_on<A: AllocHandle>(core: &Core<A>, session: u64) -> Result<Option<Core<A>>, OutOfMemory>
-    ensures { IfOk result (λ made. IfSome made (λ left. (flag : Bool)
-        × ((h : List (Event A)) → Stands h core.now →
-        Stands (h ++ event_by 0 (command.Enable session (Some true)) (reply.Flag flag) ∷ []) left))) }
+    ensures { IfOk result (λ made. (h : List (Event A)) → Stands h core.now →
+        MadeWhere (AreAccepted h (command.Enable session (Some true) ∷ [])) made (λ left. (flag : Bool)
+        × Stands (h ++ event_by 0 (command.Enable session (Some true)) (reply.Flag flag) ∷ []) left)) }
 {
     let command = Command::Enable {
         session,
@@ -158,9 +169,9 @@ fn committed<A: AllocHandle>(
     core: &Core<A>,
     commit: &Command<A>,
 ) -> Result<Option<Core<A>>, OutOfMemory>
-    ensures { IfOk result (λ made. IfSome made (λ left. IsCommit commit.now × ((version : ℕ)
-        × ((h : List (Event A)) → Stands h core.now →
-        Stands (h ++ event_by 0 commit.now (reply.Written version) ∷ []) left)))) }
+    ensures { IfOk result (λ made. (h : List (Event A)) → Stands h core.now →
+        MadeWhere (IsCommit commit.now × AreAccepted h (commit.now ∷ [])) made (λ left. (version : ℕ)
+        × Stands (h ++ event_by 0 commit.now (reply.Written version) ∷ []) left)) }
 {
     match commit {
         Command::Commit(_) => {}
@@ -177,10 +188,11 @@ fn committed<A: AllocHandle>(
 
 // Enables a session and restarts it.
 fn enabled<A: AllocHandle>(core: &Core<A>, session: u64) -> Result<Option<Core<A>>, OutOfMemory>
-    ensures { IfOk result (λ made. IfSome made (λ left. (flag : Bool) × (old : List (TableChanges A))
-        × ((h : List (Event A)) → Stands h core.now →
-        Stands ((h ++ event_by 0 (command.Enable session (Some true)) (reply.Flag flag) ∷ [])
-        ++ event_by 0 (command.Restart session) (reply.Capture old) ∷ []) left))) }
+    ensures { IfOk result (λ made. (h : List (Event A)) → Stands h core.now → MadeWhere
+        (AreAccepted h (command.Enable session (Some true) ∷ command.Restart session ∷ [])) made
+        (λ left. (flag : Bool) × (old : List (TableChanges A))
+        × Stands ((h ++ event_by 0 (command.Enable session (Some true)) (reply.Flag flag) ∷ [])
+        ++ event_by 0 (command.Restart session) (reply.Capture old) ∷ []) left)) }
 {
     let Some(core) = switched_on(core, session)? else {
         return Ok(None);
@@ -197,10 +209,10 @@ fn restarted_part<A: AllocHandle>(
     session: u64,
     commit: &Command<A>,
 ) -> Result<Option<Part<A>>, OutOfMemory>
-    ensures { IfOk result (λ made. IfSome made (λ p. IsCommit commit.now × ((version : ℕ)
-        × ((h : List (Event A)) → Stands h core.now →
-        Stands ((h ++ event_by 0 commit.now (reply.Written version) ∷ [])
-        ++ event_by 0 (command.Restart session) (reply.Capture p.capture) ∷ []) p.core)))) }
+    ensures { IfOk result (λ made. (h : List (Event A)) → Stands h core.now → MadeWhere
+        (IsCommit commit.now × AreAccepted h (commit.now ∷ command.Restart session ∷ [])) made
+        (λ p. (version : ℕ) × Stands ((h ++ event_by 0 commit.now (reply.Written version) ∷ [])
+        ++ event_by 0 (command.Restart session) (reply.Capture p.capture) ∷ []) p.core)) }
 {
     match committed(core, commit)? {
         Some(core) => restarted(&core, session),
@@ -214,10 +226,10 @@ fn captured_part<A: AllocHandle>(
     session: u64,
     commit: &Command<A>,
 ) -> Result<Option<Part<A>>, OutOfMemory>
-    ensures { IfOk result (λ made. IfSome made (λ p. IsCommit commit.now × ((version : ℕ)
-        × ((h : List (Event A)) → Stands h core.now →
-        Stands ((h ++ event_by 0 commit.now (reply.Written version) ∷ [])
-        ++ event_by 0 (command.Capture session) (reply.Capture p.capture) ∷ []) p.core)))) }
+    ensures { IfOk result (λ made. (h : List (Event A)) → Stands h core.now → MadeWhere
+        (IsCommit commit.now × AreAccepted h (commit.now ∷ command.Capture session ∷ [])) made
+        (λ p. (version : ℕ) × Stands ((h ++ event_by 0 commit.now (reply.Written version) ∷ [])
+        ++ event_by 0 (command.Capture session) (reply.Capture p.capture) ∷ []) p.core)) }
 {
     match committed(core, commit)? {
         Some(core) => captured(&core, session),
@@ -232,13 +244,15 @@ fn captured_whole<A: AllocHandle>(
     first: &Command<A>,
     second: &Command<A>,
 ) -> Result<Option<Capture<A>>, OutOfMemory>
-    ensures { IfOk result (λ made. IfSome made (λ whole. (one two : List (TableChanges A)) × ((v w : ℕ)
-        × ((h : List (Event A)) → Stands h core.now → (left : State A) × Stands (((((h
+    ensures { IfOk result (λ made. (h : List (Event A)) → Stands h core.now → MadeWhere
+        ((IsCommit first.now × IsCommit second.now) × AreAccepted h (first.now ∷ command.Capture session
+        ∷ second.now ∷ command.Capture session ∷ command.Capture session ∷ [])) made
+        (λ whole. (one two : List (TableChanges A)) × ((v w : ℕ) × (left : State A) × Stands (((((h
         ++ event_by 0 first.now (reply.Written v) ∷ [])
         ++ event_by 0 (command.Capture session) (reply.Capture one) ∷ [])
         ++ event_by 0 second.now (reply.Written w) ∷ [])
         ++ event_by 0 (command.Capture session) (reply.Capture two) ∷ [])
-        ++ event_by 0 (command.Capture session) (reply.Capture whole) ∷ []) left)))) }
+        ++ event_by 0 (command.Capture session) (reply.Capture whole) ∷ []) left))) }
 {
     let Some(one) = captured_part(core, session, first)? else {
         return Ok(None);
@@ -257,7 +271,7 @@ fn read_back<A: AllocHandle>(
     alloc: A,
     capture: &Capture<A>,
 ) -> Result<Option<Contents<A>>, OutOfMemory>
-    ensures { IfOk result (λ made. IfSome made (λ blob. blob_at (list_bytes capture.now) ≡ Ok blob)) }
+    ensures { IfOk result (λ made. made ≡ result_ok (blob_at (list_bytes capture.now))) }
 {
     let bytes = capture.changeset(alloc)?;
     match read_blob(alloc, bytes.as_slice()) {
@@ -275,7 +289,7 @@ fn concatenated<A: AllocHandle>(
 ) -> Result<Option<Contents<A>>, OutOfMemory>
     ensures { (one two : Contents A) → blob_at (list_bytes first.now) ≡ Ok one →
         blob_at (list_bytes second.now) ≡ Ok two →
-        IfOk result (λ made. IfSome made (λ blob. concat_of (one ∷ two ∷ []) ≡ Ok blob)) }
+        IfOk result (λ made. made ≡ result_ok (concat_of (one ∷ two ∷ []))) }
 {
     let Some(one) = read_back(alloc, first)? else {
         return Ok(None);

@@ -1,12 +1,22 @@
-use Rattle.std.proofs.Common.{[], ◌∷◌, ◌++◌, subst}
-use Rattle.cap_core.specs.Answer.{event_by}
+use Rattle.std.proofs.Common.{[], refl, ◌∙◌}
 use Rattle.cap_core.specs.declared.command.Command.TheVariants as command
-use Rattle.cap_core.specs.declared.reply.Reply.{Reply}
-use Rattle.cap_captures.specs.Parts.{Stands}
-use Rattle.cap_captures.proofs.PartLemmas.{of_some}
+use Rattle.cap_core.specs.declared.reply.Reply.TheVariants as reply
+use Rattle.cap_core.proofs.CommitLemmas.{was-answered}
+use Rattle.cap_captures.proofs.AcceptedLemmas.{a-capture, alone-accepted, is-accepted, room-for}
 use Rattle.cap_captures.proofs.parts.captured.Goals as goal
 
 pub returns-in-Capture : goal.returns-in-Capture
 returns-in-Capture g c =
-    λ h stands. subst (λ (r : Reply g.row.A.Denot). Stands (h ++ event_by 0 (command.Capture c.args.session) r ∷ []) c.in-Some.field-0.core) c.in-Capture.is
-    (of_some _ c.in_ok-core.field-0 c.in-Some.field-0 c.in-Some.is c.in_ok-core.ensures h stands)
+    λ h stands.
+    let made = rw c.in-Capture.is at rw c.in-Some.is at c.in_ok-core.ensures h stands in
+    (alone-accepted h (command.Capture c.args.session) (reply.Capture c.in-Capture.capture) made.1.legal made.0 refl, made.1)
+
+pub returns-in_default-reply : goal.returns-in_default-reply
+returns-in_default-reply g c =
+    λ h stands all.
+    let made = rw c.in-Some.is at c.in_ok-core.ensures h stands in
+    let list = a-capture h c.args.session (is-accepted h (command.Capture c.args.session) [] all) in
+    c.in_default-reply.not-Capture list.0 (was-answered h 0 (command.Capture c.args.session) c.in-Some.field-0.reply made.1.legal ∙ list.1)
+
+pub returns-in_default : goal.returns-in_default
+returns-in_default g c = λ h stands all. (rw c.in_default.is at c.in_ok-core.ensures h stands) (room-for h (command.Capture c.args.session) [] all)

@@ -1,7 +1,30 @@
-use Rattle.cap_captures.proofs.PartLemmas.{of_some}
+use Rattle.std.proofs.Common.{Some, true, [], ◌∷◌, ◌++◌}
+use Rattle.cap_core.specs.declared.command.Command.TheVariants as command
+use Rattle.cap_core.specs.declared.reply.Reply.TheVariants as reply
+use Rattle.cap_core.specs.Answer.{event_by}
+use Rattle.cap_captures.proofs.AcceptedLemmas.{first-accepted, later-accepted, one-of}
 use Rattle.cap_captures.proofs.parts.enabled.Goals as goal
 
 pub returns-in-Some-2 : goal.returns-in-Some-2
 returns-in-Some-2 g c =
-    let on = of_some _ c.in_ok-core.field-0 c.in-Some.core c.in-Some.is c.in_ok-core.ensures in
-    (on.0, c.in-Some-2.field-0.capture, λ h stands. of_some _ c.in_ok-core-2.field-0 c.in-Some-2.field-0 c.in-Some-2.is c.in_ok-core-2.ensures _ (on.1 h stands))
+    λ h stands.
+    let on = rw c.in-Some.is at c.in_ok-core.ensures h stands in
+    let enable = command.Enable c.args.session (Some true) in
+    let old = rw c.in-Some-2.is at c.in_ok-core-2.ensures (h ++ event_by 0 enable (reply.Flag on.1.0) ∷ []) on.1.1 in (
+      first-accepted h enable (reply.Flag on.1.0) (command.Restart c.args.session ∷ []) on.1.1.legal on.0 old.0,
+      (on.1.0, c.in-Some-2.field-0.capture, old.1),
+    )
+
+pub returns : goal.returns
+returns g c =
+    λ h stands all.
+    let on = rw c.in-Some.is at c.in_ok-core.ensures h stands in
+    let enable = command.Enable c.args.session (Some true) in
+    let none = rw c.in-None.is at c.in_ok-core-2.ensures (h ++ event_by 0 enable (reply.Flag on.1.0) ∷ []) on.1.1 in
+    none (later-accepted h enable (reply.Flag on.1.0) (command.Restart c.args.session ∷ []) on.1.1.legal all)
+
+pub returns-in_default : goal.returns-in_default
+returns-in_default g c =
+    λ h stands all.
+    let none = rw c.in_default.is at c.in_ok-core.ensures h stands in
+    none (one-of h (command.Enable c.args.session (Some true)) (command.Restart c.args.session ∷ []) all)

@@ -1,7 +1,21 @@
-use Rattle.cap_captures.proofs.PartLemmas.{of_made, of_some}
+use Rattle.std.proofs.Common.{[], ◌∷◌, ◌++◌}
+use Rattle.cap_core.specs.declared.command.Command.TheVariants as command
+use Rattle.cap_core.specs.declared.reply.Reply.TheVariants as reply
+use Rattle.cap_core.specs.Answer.{event_by}
+use Rattle.cap_captures.specs.Parts.{Stands}
+use Rattle.cap_captures.specs.declared.parts.Part.{Part}
+use Rattle.cap_captures.proofs.AcceptedLemmas.{one-of}
+use Rattle.cap_captures.proofs.PartLemmas.{with-commit}
 use Rattle.cap_captures.proofs.parts.restarted_part.Goals as goal
 
 pub returns-in-Some : goal.returns-in-Some
 returns-in-Some g c =
-    let committed = of_some _ c.in_ok-core.field-0 c.in-Some.core c.in-Some.is c.in_ok-core.ensures in
-    of_made _ _ c.restarted.result (λ p stands. (committed.0, (committed.1.0, λ h before. stands _ (committed.1.1 h before)))) c.restarted.ensures
+    with-commit c.args.core.now c.in-Some.core c.args.commit.now (command.Restart c.args.session)
+    (λ h (p : Part g.row.A.Denot). Stands (h ++ event_by 0 (command.Restart c.args.session) (reply.Capture p.capture) ∷ []) p.core) c.restarted.result
+    (λ h stands. rw c.in-Some.is at c.in_ok-core.ensures h stands) c.restarted.ensures
+
+pub returns-in-None : goal.returns-in-None
+returns-in-None g c =
+    λ h stands all.
+    let none = rw c.in-None.is at c.in_ok-core.ensures h stands in
+    none (all.0, one-of h c.args.commit.now (command.Restart c.args.session ∷ []) all.1)

@@ -1,14 +1,21 @@
-use Rattle.std.proofs.Common.{[], ◌∷◌, ◌++◌, Some, true, subst}
-use Rattle.cap_core.specs.Answer.{event_by}
+use Rattle.std.proofs.Common.{Some, true, [], refl, ◌∙◌}
 use Rattle.cap_core.specs.declared.command.Command.TheVariants as command
-use Rattle.cap_core.specs.declared.reply.Reply.{Reply}
-use Rattle.cap_captures.specs.Parts.{Stands}
-use Rattle.cap_captures.proofs.PartLemmas.{of_some}
+use Rattle.cap_core.specs.declared.reply.Reply.TheVariants as reply
+use Rattle.cap_core.proofs.CommitLemmas.{was-answered}
+use Rattle.cap_captures.proofs.AcceptedLemmas.{a-flag, alone-accepted, is-accepted, room-for}
 use Rattle.cap_captures.proofs.parts.switched_on.Goals as goal
 
 pub returns-in-Flag : goal.returns-in-Flag
-returns-in-Flag g c = (
-  c.in-Flag.field-0,
-  λ h stands. subst (λ (r : Reply g.row.A.Denot). Stands (h ++ event_by 0 (command.Enable c.args.session (Some true)) r ∷ []) c.in-Some.field-0.core) c.in-Flag.is
-      (of_some _ c.in_ok-core.field-0 c.in-Some.field-0 c.in-Some.is c.in_ok-core.ensures h stands),
-)
+returns-in-Flag g c =
+    λ h stands.
+    let made = rw c.in-Flag.is at rw c.in-Some.is at c.in_ok-core.ensures h stands in
+    (alone-accepted h (command.Enable c.args.session (Some true)) (reply.Flag c.in-Flag.field-0) made.1.legal made.0 refl, (c.in-Flag.field-0, made.1))
+
+pub returns-in_default-reply : goal.returns-in_default-reply
+returns-in_default-reply g c =
+    λ h stands all.
+    let made = rw c.in-Some.is at c.in_ok-core.ensures h stands in
+    c.in_default-reply.not-Flag true (was-answered h 0 (command.Enable c.args.session (Some true)) c.in-Some.field-0.reply made.1.legal ∙ a-flag h c.args.session (is-accepted h (command.Enable c.args.session (Some true)) [] all))
+
+pub returns-in_default : goal.returns-in_default
+returns-in_default g c = λ h stands all. (rw c.in_default.is at c.in_ok-core.ensures h stands) (room-for h (command.Enable c.args.session (Some true)) [] all)
