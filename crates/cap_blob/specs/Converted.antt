@@ -10,6 +10,8 @@ use Rattle.cap_codec.specs.declared.fault.BlobFault.{BlobFault}
 use Rattle.cap_codec.specs.declared.key_flags.KeyFlags.{KeyFlags}
 use Rattle.cap_codec.specs.declared.read.Contents.{Contents}
 use Rattle.cap_codec.specs.declared.read.Contents.TheVariants.{Changes, Patches}
+use Rattle.cap_blob.specs.Conversion.{converted_list}
+use Rattle.cap_blob.specs.declared.conversion.Conversion.{Conversion}
 use Rattle.cap_blob.specs.declared.refusal.BytesRefusal.{BytesRefusal}
 use Rattle.cap_blob.specs.declared.refusal.BytesRefusal.TheVariants.{Malformed, Patchset}
 
@@ -27,6 +29,10 @@ module _ (A : Type 0) where
       Result (List ℕ) BytesRefusal
   written bytes (Ok list) = Ok (bytes list)
   written bytes (Err why) = Err why
+
+  -- what is made of the changeset that these bytes are
+  abbrev pub converted_at : KeyFlags → Conversion → List ℕ → Result (List ℕ) BytesRefusal
+  converted_at key_flags conversion bytes = written (converted_list key_flags conversion) (changes_at bytes)
 
   -- the bytes of the inverse of the changeset that these are
   abbrev pub inverse_at : KeyFlags → List ℕ → Result (List ℕ) BytesRefusal

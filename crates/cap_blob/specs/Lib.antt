@@ -1,1 +1,4 @@
+pub mod Conversion
 pub mod Converted
+pub mod Header
+pub mod Passing

@@ -10,12 +10,15 @@ ghost use Rattle.cap_codec.specs.FirstByte.{first_fault};
 ghost use Rattle.cap_codec.specs.Patchset.{patch_list_bytes_with};
 ghost use Rattle.cap_codec.specs.Spelling.{Spells};
 ghost use Rattle.cap_codec.specs.declared.read.Contents.TheVariants.{Changes};
-ghost use Rattle.cap_blob.specs.Converted.{changes_at, inverse_at, patchset_at};
+ghost use Rattle.cap_blob.specs.Converted.{changes_at, converted_at, inverse_at, patchset_at};
+ghost use Rattle.cap_blob.specs.Passing.{begins_changeset};
 ghost use Rattle.cap_blob.specs.declared.refusal.BytesRefusal.TheVariants.{Malformed};
 
 use crate::BytesRefusal;
-use cap_changes::{ChangeList, invert, to_patches};
-use cap_codec::{Contents, KeyFlags, read_blob, write_changes_with, write_patches_with};
+use crate::conversion::{CHANGESET, Conversion};
+use crate::group::convert_groups;
+use cap_changes::ChangeList;
+use cap_codec::{Contents, KeyFlags, read_blob};
 use cap_value::{AllocHandle, Fault};
 
 /// The bytes of the inverse of a changeset, written with these key flags (The Session Extension,
@@ -36,9 +39,7 @@ pub fn invert_bytes<A: AllocHandle>(
     // A first byte that begins no group is refused without memory.
     ensures first { RefusesFirst (option_map Malformed (first_fault bytes.now)) result }
 {
-    let list = read_changes(alloc, bytes)?;
-    let inverse = invert(alloc, &list)?;
-    Ok(write_changes_with(alloc, key_flags, &inverse)?)
+    convert(alloc, Conversion::Inverse, key_flags, bytes)
 }
 
 /// The bytes of the patchset of a changeset, written with these key flags (The Session Extension,
@@ -56,16 +57,48 @@ pub fn patchset_bytes<A: AllocHandle>(
     // A first byte that begins no group is refused without memory.
     ensures first { RefusesFirst (option_map Malformed (first_fault bytes.now)) result }
 {
-    let list = read_changes(alloc, bytes)?;
-    let patches = to_patches(alloc, &list)?;
-    Ok(write_patches_with(alloc, key_flags, &patches)?)
+    convert(alloc, Conversion::Patchset, key_flags, bytes)
 }
 
+fn convert<A: AllocHandle>(
+    alloc: A,
+    conversion: Conversion,
+    key_flags: KeyFlags,
+    bytes: &[u8],
+) -> Result<Vec<u8, A>, Fault<BytesRefusal>>
+    ensures answers { ShowsUnlessMemory (λ out. out.items) result
+        (converted_at A key_flags conversion bytes.now) }
+    ensures first { RefusesFirst (option_map Malformed (first_fault bytes.now)) result }
+{
+    if !begins_changeset(bytes) {
+        // They are no bytes, or refused.
+        read_changes(alloc, bytes)?;
+        return Ok(Vec::new(alloc));
+    }
+    // What is written is as long as what is read, without the groups that have no change.
+    let mut out = Vec::with_capacity(alloc, bytes.len())?;
+    match convert_groups(&mut out, conversion, key_flags, bytes.len(), bytes) {
+        Ok(()) => Ok(out),
+        Err(Fault::Refused(fault)) => Err(Fault::Refused(BytesRefusal::Malformed(fault))),
+        Err(Fault::OutOfMemory) => Err(Fault::OutOfMemory),
+    }
+}
+
+// Whether these bytes begin with a group of a changeset.
+fn begins_changeset(bytes: &[u8]) -> bool
+    ensures { result ≡ begins_changeset bytes.now }
+{
+    match bytes {
+        [] => false,
+        [kind, ..] => *kind == CHANGESET,
+    }
+}
+
+// The changes of a changeset that is read as a list.
 fn read_changes<A: AllocHandle>(
     alloc: A,
     bytes: &[u8],
 ) -> Result<ChangeList<A>, Fault<BytesRefusal>>
-    ensures spelled { IfOk result (λ list. Spells (Changes list) bytes.now) }
     ensures answers { ShowsUnlessMemory (λ list. list) result (changes_at A bytes.now) }
     ensures first { RefusesFirst (option_map Malformed (first_fault bytes.now)) result }
 {

@@ -1,0 +1,115 @@
+//! What is made of the groups of a changeset.
+
+ghost use Rattle.std.specs.Prelude.{◌≡◌, ◌≤◌, IfOk, length, map};
+ghost use Rattle.std.specs.List.{flat_map};
+ghost use Rattle.cap_value.specs.Memory.{ShowsUnlessMemory};
+ghost use Rattle.cap_codec.specs.BlobReading as blob;
+ghost use Rattle.cap_codec.specs.BlobReading.{is_operation, change_at, changes_at, group_at, groups_at};
+ghost use Rattle.cap_codec.specs.HeaderReading.{is_set};
+ghost use Rattle.cap_blob.specs.Conversion.{converted, converted_group, listed};
+ghost use Rattle.cap_blob.specs.Passing.{appended, begins_change};
+
+use crate::conversion::{CHANGESET, Conversion, DELETE, INSERT, PATCHSET, UPDATE, convert_change};
+use crate::field::place_of;
+use crate::header::{push_header, take_header};
+use cap_codec::{BlobFault, FaultKind, KeyFlags};
+use cap_value::{AllocHandle, Fault};
+
+fn is_operation(byte: u8) -> bool
+    ensures { result ≡ blob.is_operation byte }
+{
+    byte == INSERT || byte == UPDATE || byte == DELETE
+}
+
+// Whether these bytes begin with a change.
+fn begins_change(bytes: &[u8]) -> bool
+    ensures { result ≡ begins_change bytes.now }
+{
+    match bytes {
+        [] => false,
+        [byte, ..] => is_operation(*byte),
+    }
+}
+
+// Appends what is written for the changes of a group of these columns, and answers the bytes behind them.
+fn convert_changes<'a, A: AllocHandle>(
+    out: &mut Vec<u8, A>,
+    conversion: Conversion,
+    flags: &[u8],
+    total: usize,
+    bytes: &'a [u8],
+) -> Result<&'a [u8], Fault<BlobFault>>
+    ensures reads { ShowsUnlessMemory (λ rest. (out.new.items, rest.now)) result
+        (appended (flat_map (converted conversion (map is_set flags.now))) out.old.items
+        (changes_at (change_at {A = A}) (length bytes.now) total (map is_set flags.now) bytes.now)) }
+    ensures behind { IfOk result (λ rest. length rest.now ≤ length bytes.now) }
+{
+    let mut rest = bytes;
+    while let [byte, behind @ ..] = rest {
+        if !is_operation(*byte) {
+            break;
+        }
+        rest = convert_change(out, conversion, *byte, flags, total, behind)?;
+    }
+    Ok(rest)
+}
+
+// Appends what is written for the group behind its kind byte, and answers the bytes behind it. For a group
+// without changes nothing is written.
+fn convert_group<'a, A: AllocHandle>(
+    out: &mut Vec<u8, A>,
+    conversion: Conversion,
+    key_flags: KeyFlags,
+    total: usize,
+    bytes: &'a [u8],
+) -> Result<&'a [u8], Fault<BlobFault>>
+    ensures reads { ShowsUnlessMemory (λ rest. (out.new.items, rest.now)) result
+        (appended (converted_group key_flags conversion) out.old.items (group_at {A = A} total bytes.now)) }
+    ensures behind { IfOk result (λ rest. length rest.now ≤ length bytes.now) }
+{
+    let (header, rest) = take_header(total, bytes)?;
+    if !begins_change(rest) {
+        return Ok(rest);
+    }
+    push_header(out, key_flags, conversion.kind_byte(), header)?;
+    convert_changes(out, conversion, header.flags, total, rest)
+}
+
+// The fault of a byte that neither continues a group nor begins another.
+fn wrong_kind(kind: u8, at: usize) -> BlobFault
+    ensures { result ≡ blob.wrong_kind kind at }
+{
+    if kind == CHANGESET || kind == PATCHSET {
+        BlobFault {
+            at,
+            kind: FaultKind::Mixed,
+        }
+    } else {
+        BlobFault {
+            at,
+            kind: FaultKind::BadOp,
+        }
+    }
+}
+
+/// Appends what is written for the groups of a changeset.
+pub fn convert_groups<A: AllocHandle>(
+    out: &mut Vec<u8, A>,
+    conversion: Conversion,
+    key_flags: KeyFlags,
+    total: usize,
+    bytes: &[u8],
+) -> Result<(), Fault<BlobFault>>
+    ensures { ShowsUnlessMemory (λ _. out.new.items) result
+        (listed key_flags conversion out.old.items
+        (groups_at (group_at {A = A}) 0x54 (length bytes.now) total bytes.now)) }
+{
+    let mut rest = bytes;
+    while let [kind, behind @ ..] = rest {
+        if *kind != CHANGESET {
+            return Err(Fault::Refused(wrong_kind(*kind, place_of(total, rest))));
+        }
+        rest = convert_group(out, conversion, key_flags, total, behind)?;
+    }
+    Ok(())
+}
