@@ -1,13 +1,12 @@
 -- What was read and what is behind it, where the one or the other is known.
-use Rattle.std.proofs.Common.{◌≡◌, ℕ, ◌-◌, List, ◌++◌, length, take, Result, Ok, Err, refl, sym, ap, subst, ◌∙◌, arith, take_at, length-append}
+use Rattle.std.proofs.Common.{◌≡◌, ℕ, ◌-◌, List, ◌++◌, length, take, Result, Ok, Err, refl, sym, ap, subst, arith, take_at, length-append}
 use Rattle.std.specs.Prelude.{IsOk}
 use Rattle.cap_value.specs.declared.memory.Fault.{Fault}
 use Rattle.cap_value.specs.declared.memory.Fault.TheVariants.{Refused, OutOfMemory}
 use Rattle.cap_value.specs.Memory.{RefusesUnlessMemory}
 use Rattle.cap_codec.specs.declared.fault.BlobFault.{BlobFault}
-use Rattle.cap_codec.specs.Reading.{◌>>=◌}
 use Rattle.cap_codec.proofs.Binds.{ok_is, err_is}
-use Rattle.cap_blob.specs.Passing.{behind, appended, value_in}
+use Rattle.cap_blob.specs.Passing.{behind, appended}
 
 -- the bytes before the last ones
 pub front_is : (bytes front rest : List ℕ) → bytes ≡ front ++ rest → take (length bytes - length rest) bytes ≡ front

@@ -1,9 +1,9 @@
 -- The fields of records, one after the other: passed over, or written in place of them.
-use Rattle.std.proofs.Common.{◌≡◌, ℕ, suc, ◌+◌, ◌-◌, ◌<◌, ◌≤◌, ◌==◌, Bool, true, false, not, nat_lt, List, [], ◌∷◌, ◌++◌, length, take, drop, get_or, map, Option, Some, None, is_none, Result, Ok, Err, inl, inr, refl, sym, ap, subst, ◌∙◌, append_assoc, add-one, drop-cons, arith}
+use Rattle.std.proofs.Common.{◌≡◌, ℕ, ◌+◌, ◌-◌, ◌<◌, ◌≤◌, ◌==◌, Bool, true, false, cond, not, nat_lt, List, [], ◌∷◌, ◌++◌, length, take, drop, get_or, map, Option, Some, None, is_none, Result, Ok, Err, inl, inr, refl, sym, ap, subst, ◌∙◌, append_assoc, add-one, drop-cons, arith}
 use Rattle.std.specs.Prelude.{if◌then◌else◌, IsOk}
 use Rattle.std.proofs.lemmas.List.{append-nil, drop_all, length-map, get_or-map}
 use Rattle.cap_value.specs.declared.value.Value.{Value}
-use Rattle.cap_value.specs.declared.value.Value.TheVariants.{Null, Int, Text, Blob}
+use Rattle.cap_value.specs.declared.value.Value.TheVariants.{Null}
 use Rattle.cap_changes.specs.FieldRecord.{RecordFields}
 use Rattle.cap_changes.specs.Patch.{key_record, update_record}
 use Rattle.cap_changes.specs.Requirements.{requirement_of, requirements, new_requirement, new_requirements, satisfies}
@@ -15,11 +15,12 @@ use Rattle.cap_codec.specs.declared.fault.BlobFault.{BlobFault}
 use Rattle.cap_codec.specs.Field.{field_bytes, defined_bytes, record_bytes, key_bytes}
 use Rattle.cap_codec.specs.FieldReading.{allows, number_at, sized_at, text_at, content_at, typed_at, field_at}
 use Rattle.cap_codec.specs.HeaderReading.{is_set}
-use Rattle.cap_codec.specs.Reading.{◌>>=◌, place, byte_at}
+use Rattle.cap_codec.specs.Reading.{◌>>=◌, place}
 use Rattle.cap_codec.specs.RecordReading.{record_at}
 use Rattle.cap_codec.proofs.Binds.{bind_ok, guard_ok, chosen, ok_is}
 use Rattle.cap_codec.proofs.ChangeAgain.{all_asked, of_full}
 use Rattle.cap_codec.proofs.FieldAgain.{asked_bytes}
+use Rattle.cap_codec.proofs.Left.{behind_of, behind-is}
 use Rattle.cap_codec.proofs.FitLemmas.{field_meets, record_meets}
 use Rattle.cap_codec.proofs.Spelled.{AreLow, low_behind, field_spelled, record_spelled}
 use Rattle.cap_blob.specs.Passing.{behind, appended, value_in, BeginsOld, old_in, merged_at, without_key}
@@ -45,6 +46,9 @@ flags-past flags i le = rw (drop_all i flags le) refl
 
 pub requirements-past : (record_kind : RecordKind) (flags : List ℕ) (i : ℕ) → length flags ≤ i → requirements record_kind (map is_set (drop i flags)) ≡ []
 requirements-past record_kind flags i le = rw (drop_all i flags le) refl
+
+skip : {X : Type 0} (a b : Bool) (x y z : X) → a ≡ false → b ≡ false → cond a x (cond b y z) ≡ z
+skip a b x y z e e' = rw (e, e') refl
 
 module _ (A : Type 0) where
   -- ---- fields
@@ -93,6 +97,20 @@ module _ (A : Type 0) where
   unfolding field_at
   some_there total [] known = absurd cc
   some_there total (kind ∷ bytes) known = omega arith
+
+  content_of : (total kind : ℕ) (bytes : List ℕ) → IsOk (field_at {A = A} total required.Any (kind ∷ bytes)) → field_at {A = A} total required.Any (kind ∷ bytes) ≡ content_at total (place total (kind ∷ bytes)) kind bytes
+  unfolding field_at
+  content_of total kind bytes known =
+      let x = ok_of (typed_at {A = A} total (place total (kind ∷ bytes)) required.Any kind bytes) known in
+      let a = guard_ok (kind == 2) _ _ x.0 x.1 in
+      let b = guard_ok (nat_lt 5 kind) _ _ x.0 a.1 in
+      skip (kind == 2) (nat_lt 5 kind) _ _ (content_at total (place total (kind ∷ bytes)) kind bytes) a.0 b.0
+
+  -- the value of a field that is known to be there
+  pub content_there : (total : ℕ) (bytes : List ℕ) → IsOk (field_at {A = A} total required.Any bytes) → field_at {A = A} total required.Any bytes ≡ content_at total (place total bytes) (get_or bytes 0 0) (behind_of bytes)
+  unfolding field_at
+  content_there total [] known = absurd cc
+  content_there total (kind ∷ bytes) known = content_of total kind bytes known ∙ ap (λ (b : List ℕ). content_at {A = A} total (place total (kind ∷ bytes)) kind b) (sym (behind-is kind bytes))
 
   -- a field that is not defined has the type byte zero
   pub zero_is_none : (total : ℕ) (bytes : List ℕ) → IsOk (field_at {A = A} total required.Any bytes) → (get_or bytes 0 0 == 0) ≡ is_none (value_in None (field_at {A = A} total required.Any bytes))

@@ -1,5 +1,4 @@
--- Parts of a changeset that are read without a value of their own: the bytes behind them, and the bytes that are
--- written in their place.
+-- Parts of a changeset that are passed over: the bytes behind them, and those that are written in their place.
 use Rattle.std.specs.Prelude.{ℕ, Bool, false, List, [], ◌∷◌, ◌++◌, None, map, Result, Ok, Err, IsOk}
 use Rattle.std.specs.Prelude.{◌==◌, if◌then◌else◌}
 use Rattle.std.specs.List.{zip}
@@ -48,7 +47,8 @@ module _ (A : Type 0) where
   old_in total flags bytes = value_in [] (record_at total (requirements Keyed flags) bytes)
 
   -- the two records of an UPDATE
-  abbrev pub records_at : ℕ → List Bool → List ℕ → Result ((RecordFields A × RecordFields A) × List ℕ) BlobFault
+  abbrev pub records_at : ℕ → List Bool → List ℕ →
+      Result ((RecordFields A × RecordFields A) × List ℕ) BlobFault
   records_at total flags bytes = record_at {A = A} total (requirements Keyed flags) bytes >>= (λ old.
       record_at total (new_requirements flags old.0) old.1 >>= (λ new. Ok ((old.0, new.0), new.1)))
 

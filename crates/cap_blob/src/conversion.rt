@@ -114,7 +114,8 @@ fn push_patch_update<'a, A: AllocHandle>(
     ensures reads { ShowsUnlessMemory (λ rest. (out.new.items, rest.now)) result
         (appended (λ fields. 0x17 ∷ flag_byte (is_set given.entry.indirect)
         ∷ record_bytes (update_record (map is_set given.entry.flags.now) fields.0 fields.1))
-        out.old.items (records_at A given.entry.total (map is_set given.entry.flags.now) given.entry.bytes.now)) }
+        out.old.items
+        (records_at A given.entry.total (map is_set given.entry.flags.now) given.entry.bytes.now)) }
     ensures behind { IfOk result (λ rest. length rest.now ≤ length given.entry.bytes.now) }
 {
     let ChangeRef {
@@ -137,7 +138,8 @@ fn push_inverse_update<'a, A: AllocHandle>(
         (appended (λ fields. 0x17 ∷ flag_byte (is_set given.entry.indirect)
         ∷ (record_bytes (update_record (map is_set given.entry.flags.now) fields.0 fields.1)
         ++ record_bytes (update_record (map is_set given.entry.flags.now) fields.1 fields.0)))
-        out.old.items (records_at A given.entry.total (map is_set given.entry.flags.now) given.entry.bytes.now)) }
+        out.old.items
+        (records_at A given.entry.total (map is_set given.entry.flags.now) given.entry.bytes.now)) }
     ensures behind { IfOk result (λ rest. length rest.now ≤ length given.entry.bytes.now) }
 {
     let rest = push_patch_update(out, given)?;

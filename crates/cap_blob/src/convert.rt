@@ -105,7 +105,7 @@ fn read_changes<A: AllocHandle>(
     match read_blob(alloc, bytes) {
         Ok(Contents::Changes(list)) => Ok(list),
         Ok(Contents::Patches(_)) => Err(Fault::Refused(BytesRefusal::Patchset)),
-        Err(Fault::Refused(fault)) => Err(Fault::Refused(BytesRefusal::Malformed(fault))),
+        Err(Fault::Refused(why)) => Err(Fault::Refused(BytesRefusal::Malformed(why))),
         Err(Fault::OutOfMemory) => Err(Fault::OutOfMemory),
     }
 }

@@ -15,9 +15,13 @@ use cap_value::{AllocHandle, BYTES_MAX};
 pub const UNDEFINED: u8 = 0x00;
 // The type bytes of the others.
 const INTEGER: u8 = 0x01;
+
 const REAL: u8 = 0x02;
+
 const TEXT: u8 = 0x03;
+
 const BLOB: u8 = 0x04;
+
 const NULL: u8 = 0x05;
 
 /// The offset of the first of these bytes, the last ones of a blob of `total` bytes.
@@ -204,14 +208,49 @@ pub fn pass_field<'a, A: AllocHandle>(
     pass_content::<A>(total, at, kind, rest)
 }
 
-/// The bytes behind a field that is known to be there.
+// The bytes behind a text that is known to be there.
+#[tactic(auto, unfolding(cap_codec::specs::FieldReading::text_at))]
+fn behind_text(total: usize, at: usize, bytes: &[u8]) -> &[u8]
+    requires { IsOk (text_at total at bytes.now) }
+    ensures reads { behind (text_at total at bytes.now) ≡ Ok result.now }
+    ensures behind { length result.now ≤ length bytes.now }
+{
+    match take_sized(total, at, bytes) {
+        Ok((_, rest)) => rest,
+        Err(_) => unreachable!(),
+    }
+}
+
+// The bytes behind a value that is known to be there.
+#[tactic(auto, unfolding(cap_codec::specs::FieldReading::content_at))]
+fn behind_content<'a, A: AllocHandle>(
+    total: usize,
+    at: usize,
+    kind: u8,
+    bytes: &'a [u8],
+) -> &'a [u8]
+    requires { IsOk (content_at {A = A} total at kind bytes.now) }
+    ensures reads { behind (content_at {A = A} total at kind bytes.now) ≡ Ok result.now }
+    ensures behind { length result.now ≤ length bytes.now }
+{
+    if kind == TEXT {
+        return behind_text(total, at, bytes);
+    }
+    match pass_content::<A>(total, at, kind, bytes) {
+        Ok(rest) => rest,
+        Err(_) => unreachable!(),
+    }
+}
+
+/// The bytes behind a field that is known to be there. A text is not looked at again.
 pub fn behind_field<'a, A: AllocHandle>(total: usize, bytes: &'a [u8]) -> &'a [u8]
     requires { IsOk (field_at {A = A} total Any bytes.now) }
     ensures reads { behind (field_at {A = A} total Any bytes.now) ≡ Ok result.now }
     ensures behind { length result.now ≤ length bytes.now }
 {
-    match pass_field::<A>(total, FieldRequirement::Any, bytes) {
-        Ok(rest) => rest,
-        Err(_) => unreachable!(),
+    let at = place_of(total, bytes);
+    match bytes {
+        [] => unreachable!(),
+        [kind, rest @ ..] => behind_content::<A>(total, at, *kind, rest),
     }
 }

@@ -1,6 +1,6 @@
 //! The header of a group.
 
-ghost use Rattle.std.specs.Prelude.{◌≡◌, ◌<◌, ◌≤◌, ◌++◌, ◌∷◌, [], length, map, take, position, IfSome, IfOk, OnOk};
+ghost use Rattle.std.specs.Prelude.{◌≡◌, ◌<◌, ◌≤◌, ◌++◌, length, map, take, position, IfSome, IfOk, OnOk};
 ghost use Rattle.std.specs.List.{list_any};
 ghost use Rattle.cap_codec.specs.declared.key_flags.KeyFlags.TheVariants.{Ones, Places};
 ghost use Rattle.cap_codec.specs.Changeset.{flags_bytes, header_bytes};

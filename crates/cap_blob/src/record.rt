@@ -12,7 +12,8 @@ ghost use Rattle.cap_codec.specs.FieldReading.{field_at};
 ghost use Rattle.cap_codec.specs.HeaderReading.{is_set};
 ghost use Rattle.cap_codec.specs.Reading.{Reads};
 ghost use Rattle.cap_codec.specs.RecordReading.{record_at};
-ghost use Rattle.cap_blob.specs.Passing.{behind, appended, value_in, BeginsOld, old_in, merged_at, without_key};
+ghost use Rattle.cap_blob.specs.Passing.{behind, appended, value_in, BeginsOld, old_in, merged_at};
+ghost use Rattle.cap_blob.specs.Passing.{without_key};
 
 use crate::field::{UNDEFINED, before, behind_field, pass_field};
 use cap_changes::{FieldRequirement, RecordKind};
@@ -149,8 +150,8 @@ pub fn push_others<A: AllocHandle>(
     old: &[u8],
 ) -> Result<(), OutOfMemory>
     requires { BeginsOld A total (map is_set flags.now) old.now }
-    ensures { OnOk result (out.new.items ≡ out.old.items
-        ++ record_bytes (without_key (map is_set flags.now) (old_in A total (map is_set flags.now) old.now))) }
+    ensures { OnOk result (out.new.items ≡ out.old.items ++ record_bytes
+        (without_key (map is_set flags.now) (old_in A total (map is_set flags.now) old.now))) }
 {
     let mut field = old;
     for flag in flags {

@@ -1,4 +1,3 @@
-use Rattle.std.proofs.Common.{sym}
 use Rattle.cap_blob.proofs.ConvertedLemmas.{changeset_written, changeset_fault, others_are_none}
 use Rattle.cap_blob.proofs.convert.convert.Goals as goal
 

@@ -16,7 +16,7 @@ loop-rest-init g c = record { read = changes_start g.row.A.Denot c.args.conversi
 pub loop-rest-preserved : goal.loop-rest-preserved
 loop-rest-preserved g c = record {
   read = changes_go_on g.row.A.Denot c.args.conversion (map is_set c.args.flags.now) c.loop-rest.out.items c.convert_change.new.out.items c.args.total c.loop-rest.rest.now c.in_ok-rest.rest.now _ c.in-len1-up.len_at_least
-    (cc (c.is_operation.ensures, c.if-not-is_operation.false)) c.in_ok-rest.ensures.reads c.in_ok-rest.ensures.behind c.loop-rest.invariant.read;
+      (cc (c.is_operation.ensures, c.if-not-is_operation.false)) c.in_ok-rest.ensures.reads c.in_ok-rest.ensures.behind c.loop-rest.invariant.read;
   behind = omega (arith, length-drop {A = ℕ}, length-take {A = ℕ}, c.in_ok-rest.ensures.behind);
 }
 

@@ -10,7 +10,7 @@ use Rattle.cap_blob.proofs.group.convert_changes.Given as goal
 abbrev pub invariant-loop-rest : goal.invariant-loop-rest
 invariant-loop-rest g l = record {
   read : ChangesLeft g.row.A.Denot l.conversion (map is_set l.flags) l.out.items l.total l.rest
-    (appended (flat_map (converted l.conversion (map is_set l.flags))) l.fn.out.items (changes_at (change_at {A = g.row.A.Denot}) (length l.bytes) l.total (map is_set l.flags) l.bytes));
+      (appended (flat_map (converted l.conversion (map is_set l.flags))) l.fn.out.items (changes_at (change_at {A = g.row.A.Denot}) (length l.bytes) l.total (map is_set l.flags) l.bytes));
   behind : length l.rest ≤ length l.bytes;
 }
 

@@ -1,11 +1,7 @@
-use Rattle.std.proofs.Common.{List, ℕ, Bool, length, map, ap, ◌∙◌}
-use Rattle.std.specs.List.{flat_map}
+use Rattle.std.proofs.Common.{map}
 use Rattle.std.proofs.lemmas.Result.{err_from_is_err_and}
-use Rattle.cap_codec.specs.BlobReading.{change_at, changes_at}
 use Rattle.cap_codec.specs.HeaderReading.{is_set}
-use Rattle.cap_blob.specs.Conversion.{converted}
 use Rattle.cap_blob.specs.Header.{header_of}
-use Rattle.cap_blob.specs.Passing.{appended}
 use Rattle.cap_blob.proofs.GroupLemmas.{group_begun, group_cut, group_empty}
 use Rattle.cap_blob.proofs.group.convert_group.Goals as goal
 

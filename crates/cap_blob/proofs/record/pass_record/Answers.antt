@@ -1,4 +1,4 @@
-use Rattle.std.proofs.Common.{arith, refl}
+use Rattle.std.proofs.Common.{arith}
 use Rattle.std.proofs.lemmas.Result.{err_from_is_err_and}
 use Rattle.cap_blob.proofs.RecordLemmas.{requirements-cons, requirements-past, pass_goes_on, pass_fails, pass_ends}
 use Rattle.cap_blob.proofs.record.pass_record.Goals as goal

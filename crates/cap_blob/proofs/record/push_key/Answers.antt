@@ -17,7 +17,7 @@ loop-flag-preserved g c =
     record {
       low = low_after g.row.A.Denot c.args.total c.requirement.result c.loop-flag.rest.now c.in_ok-after.after.now c.loop-flag.invariant.low c.in_ok-after.ensures.reads;
       read = key_goes_on g.row.A.Denot c.args.total _ _ key c.loop-flag.rest.now c.in_ok-after.after.now c.loop-flag.out.items c.push.new.out.items _ (flags-cons c.args.flags.now c.loop-flag.flag-index key c.loop-flag-test.true refl)
-        c.loop-flag.invariant.low (rw c.requirement.ensures at c.in_ok-after.ensures.reads) written c.loop-flag.invariant.read;
+          c.loop-flag.invariant.low (rw c.requirement.ensures at c.in_ok-after.ensures.reads) written c.loop-flag.invariant.read;
       behind = omega (arith, c.in_ok-after.ensures.behind);
     }
 

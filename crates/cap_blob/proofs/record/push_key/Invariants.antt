@@ -13,6 +13,6 @@ abbrev pub invariant-loop-flag : goal.invariant-loop-flag
 invariant-loop-flag g l = record {
   low : AreLow l.rest;
   read : appended (λ old. key_bytes (key_record (map is_set (drop l.flag-index l.flags)) old)) l.out.items (record_at {A = g.row.A.Denot} l.total (requirements Full (map is_set (drop l.flag-index l.flags))) l.rest)
-    ≡ appended (λ old. key_bytes (key_record (map is_set l.flags) old)) l.fn.out.items (record_at {A = g.row.A.Denot} l.total (requirements Full (map is_set l.flags)) l.bytes);
+      ≡ appended (λ old. key_bytes (key_record (map is_set l.flags) old)) l.fn.out.items (record_at {A = g.row.A.Denot} l.total (requirements Full (map is_set l.flags)) l.bytes);
   behind : length l.rest ≤ length l.bytes;
 }

@@ -41,7 +41,7 @@ loop-flag-preserved g c =
       low_new = low_after g.row.A.Denot c.args.total c.requirement_beside-requirement.result rest after c.loop-flag.invariant.low_new c.in_ok-after.ensures.reads;
       old = old_goes_on g.row.A.Denot c.args.total _ _ key field behind parts c.loop-flag.invariant.old c.behind_field-behind.ensures.reads;
       read = merged_goes_on g.row.A.Denot c.args.total _ _ key field behind rest after c.loop-flag.out.items c.push.new.out.items _ parts c.loop-flag.invariant.low_old c.loop-flag.invariant.low_new
-        c.loop-flag.invariant.old c.behind_field-behind.ensures.reads (rw c.requirement_beside-requirement.ensures at c.in_ok-after.ensures.reads) written c.loop-flag.invariant.read;
+          c.loop-flag.invariant.old c.behind_field-behind.ensures.reads (rw c.requirement_beside-requirement.ensures at c.in_ok-after.ensures.reads) written c.loop-flag.invariant.read;
       behind = omega (arith, c.in_ok-after.ensures.behind);
     }
 

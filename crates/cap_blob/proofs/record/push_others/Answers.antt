@@ -1,4 +1,4 @@
-use Rattle.std.proofs.Common.{◌≡◌, ◌++◌, ◌∷◌, [], ◌-◌, length, take, get_or, refl, sym, arith}
+use Rattle.std.proofs.Common.{◌≡◌, ◌++◌, ◌∷◌, [], ◌-◌, length, take, get_or, refl, arith}
 use Rattle.std.specs.Prelude.{if◌then◌else◌}
 use Rattle.cap_changes.specs.declared.field_requirement.FieldRequirement.TheVariants.{Any}
 use Rattle.cap_codec.specs.HeaderReading.{is_set}
@@ -26,7 +26,7 @@ loop-flag-preserved g c =
       low = low_after g.row.A.Denot c.args.total Any field behind c.loop-flag.invariant.low c.behind_field-behind.ensures.reads;
       old = old_goes_on g.row.A.Denot c.args.total _ _ key field behind parts c.loop-flag.invariant.old c.behind_field-behind.ensures.reads;
       written = others_go_on g.row.A.Denot c.args.total _ _ key field behind c.loop-flag.out.items c.push.new.out.items _ parts c.loop-flag.invariant.low c.loop-flag.invariant.old
-        c.behind_field-behind.ensures.reads here c.loop-flag.invariant.written;
+          c.behind_field-behind.ensures.reads here c.loop-flag.invariant.written;
     }
 
 pub returns : goal.returns

@@ -10,5 +10,5 @@ invariant-loop-flag g l = record {
   low : AreLow l.field;
   old : BeginsOld g.row.A.Denot l.total (map is_set (drop l.flag-index l.flags)) l.field;
   written : l.out.items ++ record_bytes (without_key (map is_set (drop l.flag-index l.flags)) (old_in g.row.A.Denot l.total (map is_set (drop l.flag-index l.flags)) l.field))
-    ≡ l.fn.out.items ++ record_bytes (without_key (map is_set l.flags) (old_in g.row.A.Denot l.total (map is_set l.flags) l.old));
+      ≡ l.fn.out.items ++ record_bytes (without_key (map is_set l.flags) (old_in g.row.A.Denot l.total (map is_set l.flags) l.old));
 }
