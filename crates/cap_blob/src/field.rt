@@ -146,6 +146,7 @@ fn pass_text(total: usize, at: usize, bytes: &[u8]) -> Result<&[u8], BlobFault>
 }
 
 // The bytes behind the value of a type byte that is allowed. `at` is the offset of that byte.
+#[inline(always)]
 #[tactic(auto, unfolding(cap_codec::specs::FieldReading::content_at))]
 fn pass_content<'a, A: AllocHandle>(
     total: usize,
