@@ -15,10 +15,15 @@ use cap_value::{AllocHandle, BYTES_MAX};
 /// A field of a record, as a reference into a blob.
 #[derive(Clone, Copy)]
 pub enum FieldRef<'a> {
+    /// It is not defined.
     Undefined,
+    /// NULL.
     Null,
+    /// An integer.
     Int(i64),
+    /// A text.
     Text(&'a str),
+    /// A blob.
     Blob(&'a [u8]),
 }
 

@@ -17,7 +17,8 @@ use cap_changes::TableGroup;
 use cap_row::Schema;
 use cap_value::{AllocHandle, Fault, Name, OutOfMemory};
 
-fn own_name<A: AllocHandle>(alloc: A, name: &str) -> Result<Name<A>, Fault<BlobFault>>
+/// The name of a table, copied out of a header.
+pub fn own_name<A: AllocHandle>(alloc: A, name: &str) -> Result<Name<A>, Fault<BlobFault>>
     requires { IsTrue (is_name name.now) }
     ensures { ShowsUnlessMemory (λ name. name) result (Ok name.now) }
 {

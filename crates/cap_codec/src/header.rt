@@ -13,11 +13,12 @@ use crate::field_ref::{place_of, take_bytes, take_varint, text_in};
 use cap_row::COLUMNS_MAX;
 use cap_value::NAME_MAX;
 
-/// A header, as references into a blob: one byte for each column, zero where it is not in the key, and the
-/// table's name.
+/// A header, as references into a blob.
 #[derive(Clone, Copy)]
 pub struct HeaderRef<'a> {
+    /// One byte for each column, zero where it is not in the key.
     pub flags: &'a [u8],
+    /// The table's name.
     pub table: &'a str,
 }
 

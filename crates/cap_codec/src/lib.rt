@@ -25,14 +25,21 @@ mod write;
 
 pub use decoder::Decoder;
 pub use fault::{BlobFault, FaultKind};
+pub use field_ref::{FieldRef, place_of, take_byte, take_field, take_varint};
+pub use group::{own_name, own_schema};
+pub use header::{HeaderRef, take_header};
 pub use key_flags::KeyFlags;
 pub use laws::{
     a_fault_lasts, fault_place, key_flags_read_alike, no_bytes_spell_two,
     no_two_have_the_same_bytes, read_is_spelled, written_is_read_again, written_is_spelled,
 };
-pub use read::{Contents, read_blob};
+pub use operation::Operation;
+pub use read::{Contents, read_blob, wrong_kind};
 pub use source_and_sink::{Sink, Source};
 pub use stream::{ReadFault, WriteFault, read_from, write_changes_to, write_patches_to};
 pub use touched::{is_changed, push_change_between, push_group_header};
 pub use writable::{changes_are_writable, patches_are_writable};
-pub use write::{write_changes, write_changes_with, write_patches, write_patches_with};
+pub use write::{
+    CHANGESET, PATCHSET, push_header, write_changes, write_changes_with, write_patches,
+    write_patches_with,
+};
