@@ -1,9 +1,12 @@
 -- The fields of records, one after the other: passed over, or written in place of them.
 use Rattle.std.proofs.Common.{◌≡◌, ℕ, ◌+◌, ◌-◌, ◌<◌, ◌≤◌, ◌==◌, Bool, true, false, cond, not, nat_lt, List, [], ◌∷◌, ◌++◌, length, take, drop, get_or, map, Option, Some, None, is_none, Result, Ok, Err, inl, inr, refl, sym, ap, subst, ◌∙◌, append_assoc, add-one, drop-cons, arith}
 use Rattle.std.specs.Prelude.{if◌then◌else◌, IsOk}
+use Rattle.std.specs.Int.{w64, from_be_bytes, cast_signed}
+use Rattle.std.specs.Str.{is_utf8}
+use Rattle.std.proofs.lemmas.Bool.{ltb-false}
 use Rattle.std.proofs.lemmas.List.{append-nil, drop_all, length-map, get_or-map}
 use Rattle.cap_value.specs.declared.value.Value.{Value}
-use Rattle.cap_value.specs.declared.value.Value.TheVariants.{Null}
+use Rattle.cap_value.specs.declared.value.Value.TheVariants.{Null, Int, Text, Blob}
 use Rattle.cap_changes.specs.FieldRecord.{RecordFields}
 use Rattle.cap_changes.specs.Patch.{key_record, update_record}
 use Rattle.cap_changes.specs.Requirements.{requirement_of, requirements, new_requirement, new_requirements, satisfies}
@@ -12,12 +15,13 @@ use Rattle.cap_changes.specs.declared.field_requirement.FieldRequirement.TheVari
 use Rattle.cap_changes.specs.declared.record_kind.RecordKind.{RecordKind}
 use Rattle.cap_changes.specs.declared.record_kind.RecordKind.TheVariants.{Full, Keyed}
 use Rattle.cap_codec.specs.declared.fault.BlobFault.{BlobFault}
+use Rattle.cap_codec.specs.declared.fault.FaultKind.TheVariants.{BadText}
 use Rattle.cap_codec.specs.Field.{field_bytes, defined_bytes, record_bytes, key_bytes}
 use Rattle.cap_codec.specs.FieldReading.{allows, number_at, sized_at, text_at, content_at, typed_at, field_at}
 use Rattle.cap_codec.specs.HeaderReading.{is_set}
-use Rattle.cap_codec.specs.Reading.{◌>>=◌, place}
+use Rattle.cap_codec.specs.Reading.{◌>>=◌, fault, place, bytes_at, varint_at}
 use Rattle.cap_codec.specs.RecordReading.{record_at}
-use Rattle.cap_codec.proofs.Binds.{bind_ok, guard_ok, chosen, ok_is}
+use Rattle.cap_codec.proofs.Binds.{bind_ok, guard_ok, check_ok, chosen, ok_is}
 use Rattle.cap_codec.proofs.ChangeAgain.{all_asked, of_full}
 use Rattle.cap_codec.proofs.FieldAgain.{asked_bytes}
 use Rattle.cap_codec.proofs.Left.{behind_of, behind-is}
@@ -36,6 +40,22 @@ flag_within flags i lt = subst (λ (n : ℕ). i < n) (sym (length-map flags is_s
 
 pub flag_at : (flags : List ℕ) (i : ℕ) → i < length flags → get_or (map is_set flags) i false ≡ is_set (get_or flags i 0)
 flag_at flags i lt = get_or-map is_set flags i 0 false lt
+
+-- ---- a length and that many bytes that are known to be there
+
+sized_is : (total at count : ℕ) (bytes rest : List ℕ) (sized : List ℕ × List ℕ) → sized_at total at bytes ≡ Ok sized → varint_at total bytes ≡ Ok (count, rest) → (count ≤ length rest) × (behind (sized_at total at bytes) ≡ Ok (drop count rest))
+unfolding sized_at
+sized_is total at count bytes rest sized e read =
+    let fits = guard_ok (nat_lt 1000000000 count) _ (bytes_at total count rest) sized (rw read at e) in
+    let long = guard_ok (nat_lt (length rest) count) _ (Ok (take count rest, drop count rest)) sized fits.1 in
+    (ltb-false (length rest) count long.0, rw (read, fits.0, long.0) refl)
+
+pub sized_there : (total at count : ℕ) (bytes rest : List ℕ) → IsOk (sized_at total at bytes) → varint_at total bytes ≡ Ok (count, rest) → (count ≤ length rest) × (behind (sized_at total at bytes) ≡ Ok (drop count rest))
+sized_there total at count bytes rest known read = let sized = ok_of (sized_at total at bytes) known in sized_is total at count bytes rest sized.0 sized.1 read
+
+pub no_length : (total at : ℕ) (bytes : List ℕ) (f : BlobFault) → IsOk (sized_at total at bytes) → varint_at total bytes ≡ Err f → ⊥
+unfolding sized_at
+no_length total at bytes f known read = let wrong = rw read at known in absurd cc
 
 pub requirements-cons : (record_kind : RecordKind) (flags : List ℕ) (i : ℕ) (requirement : FieldRequirement) → i < length flags → requirement ≡ requirement_of record_kind (is_set (get_or flags i 0))
     → requirements record_kind (map is_set (drop i flags)) ≡ requirement ∷ requirements record_kind (map is_set (drop (i + 1) flags))
@@ -111,6 +131,44 @@ module _ (A : Type 0) where
   unfolding field_at
   content_there total [] known = absurd cc
   content_there total (kind ∷ bytes) known = content_of total kind bytes known ∙ ap (λ (b : List ℕ). content_at {A = A} total (place total (kind ∷ bytes)) kind b) (sym (behind-is kind bytes))
+
+  -- an integer that is known to be there has eight bytes
+  eight_bytes : (total at : ℕ) (bytes : List ℕ) → IsOk (content_at {A = A} total at 1 bytes) → 8 ≤ length bytes
+  unfolding content_at
+  eight_bytes total at bytes known =
+      let x = ok_of (content_at {A = A} total at 1 bytes) known in
+      let n = bind_ok (number_at total bytes) (λ n. Ok (Some (Int n.0), n.1)) x.0 x.1 in
+      let b = bind_ok (bytes_at total 8 bytes) (λ n. Ok (cast_signed w64 (from_be_bytes w64 n.0), n.1)) n.0 n.1 in
+      let long = guard_ok (nat_lt (length bytes) 8) _ (Ok (take 8 bytes, drop 8 bytes)) b.0 b.1 in ltb-false (length bytes) 8 long.0
+
+  pub integer_there : (total at kind : ℕ) (bytes : List ℕ) → kind ≡ 1 → IsOk (content_at {A = A} total at kind bytes) → 8 ≤ length bytes
+  integer_there total at kind bytes is known = eight_bytes total at bytes (subst (λ (k : ℕ). IsOk (content_at {A = A} total at k bytes)) is known)
+
+  -- a text or a blob has a length and that many bytes
+  abbrev IsSized : ℕ → ℕ → ℕ → List ℕ → Type 0
+  IsSized total at kind bytes = IsOk (sized_at total at bytes) × (behind (content_at {A = A} total at kind bytes) ≡ behind (sized_at total at bytes))
+
+  text_is_sized : (total at : ℕ) (bytes : List ℕ) → IsOk (content_at {A = A} total at 3 bytes) → IsSized total at 3 bytes
+  unfolding content_at text_at
+  text_is_sized total at bytes known =
+      let x = ok_of (content_at {A = A} total at 3 bytes) known in
+      let text = bind_ok (text_at total at bytes) (λ text. Ok (Some (Text text.0), text.1)) x.0 x.1 in
+      let sized = bind_ok (sized_at total at bytes) (λ text. cond (is_utf8 text.0) (Ok text) (fault BadText at)) text.0 text.1 in
+      let utf8 = check_ok (is_utf8 sized.0.0) _ (Ok sized.0) text.0 sized.2 in
+      (rw sized.1 refl, rw (sized.1, utf8.0) refl)
+
+  blob_is_sized : (total at : ℕ) (bytes : List ℕ) → IsOk (content_at {A = A} total at 4 bytes) → IsSized total at 4 bytes
+  unfolding content_at
+  blob_is_sized total at bytes known =
+      let x = ok_of (content_at {A = A} total at 4 bytes) known in
+      let sized = bind_ok (sized_at total at bytes) (λ blob. Ok (Some (Blob blob.0), blob.1)) x.0 x.1 in
+      (rw sized.1 refl, rw sized.1 refl)
+
+  pub text_sized : (total at kind : ℕ) (bytes : List ℕ) → kind ≡ 3 → IsOk (content_at {A = A} total at kind bytes) → IsOk (sized_at total at bytes) × (behind (content_at {A = A} total at kind bytes) ≡ behind (sized_at total at bytes))
+  text_sized total at kind bytes is known = subst (λ (k : ℕ). IsSized total at k bytes) (sym is) (text_is_sized total at bytes (subst (λ (k : ℕ). IsOk (content_at {A = A} total at k bytes)) is known))
+
+  pub blob_sized : (total at kind : ℕ) (bytes : List ℕ) → kind ≡ 4 → IsOk (content_at {A = A} total at kind bytes) → IsOk (sized_at total at bytes) × (behind (content_at {A = A} total at kind bytes) ≡ behind (sized_at total at bytes))
+  blob_sized total at kind bytes is known = subst (λ (k : ℕ). IsSized total at k bytes) (sym is) (blob_is_sized total at bytes (subst (λ (k : ℕ). IsOk (content_at {A = A} total at k bytes)) is known))
 
   -- a field that is not defined has the type byte zero
   pub zero_is_none : (total : ℕ) (bytes : List ℕ) → IsOk (field_at {A = A} total required.Any bytes) → (get_or bytes 0 0 == 0) ≡ is_none (value_in None (field_at {A = A} total required.Any bytes))

@@ -1,4 +1,3 @@
 pub mod Conversion
 pub mod Converted
-pub mod Header
 pub mod Passing

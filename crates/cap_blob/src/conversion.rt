@@ -9,26 +9,15 @@ ghost use Rattle.cap_codec.specs.BlobReading.{change_at};
 ghost use Rattle.cap_codec.specs.Changeset.{flag_byte};
 ghost use Rattle.cap_codec.specs.Field.{record_bytes, key_bytes};
 ghost use Rattle.cap_codec.specs.HeaderReading.{is_set};
+ghost use Rattle.cap_codec.specs.Operation.{operation_byte};
 ghost use Rattle.cap_codec.specs.RecordReading.{record_at};
 ghost use Rattle.cap_blob.specs.Conversion.{kind_byte, converted};
 ghost use Rattle.cap_blob.specs.Passing.{appended, records_at};
 
-use crate::field::take_byte;
 use crate::record::{pass_record, push_full, push_key, push_merged, push_others};
 use cap_changes::RecordKind;
-use cap_codec::BlobFault;
+use cap_codec::{BlobFault, CHANGESET, Operation, PATCHSET, take_byte};
 use cap_value::{AllocHandle, Fault, OutOfMemory};
-
-/// The first byte of a group of a changeset.
-pub const CHANGESET: u8 = 0x54;
-/// The first byte of a group of a patchset.
-pub const PATCHSET: u8 = 0x50;
-/// The byte that begins an INSERT.
-pub const INSERT: u8 = 0x12;
-/// The byte that begins an UPDATE.
-pub const UPDATE: u8 = 0x17;
-/// The byte that begins a DELETE.
-pub const DELETE: u8 = 0x09;
 
 /// What is made of a changeset.
 #[derive(Clone, Copy)]
@@ -54,13 +43,13 @@ impl Conversion {
 // Appends an operation byte, and the indirect flag by the byte that is read for it.
 fn push_start<A: AllocHandle>(
     out: &mut Vec<u8, A>,
-    operation: u8,
+    operation: Operation,
     indirect: u8,
 ) -> Result<(), OutOfMemory>
-    ensures { OnOk result
-        (out.new.items ≡ out.old.items ++ operation ∷ flag_byte (is_set indirect) ∷ []) }
+    ensures { OnOk result (out.new.items
+        ≡ out.old.items ++ operation_byte operation ∷ flag_byte (is_set indirect) ∷ []) }
 {
-    out.extend_from_slice(&[operation, (indirect != 0) as u8])?;
+    out.extend_from_slice(&[operation.byte(), (indirect != 0) as u8])?;
     Ok(())
 }
 
@@ -77,12 +66,12 @@ struct ChangeRef<'a, 's> {
 // Appends a change with this operation and the record, in which every field is defined.
 fn push_whole<'a, A: AllocHandle>(
     out: &mut Vec<u8, A>,
-    operation: u8,
+    operation: Operation,
     given: ChangeRef<'a, '_>,
 ) -> Result<&'a [u8], Fault<BlobFault>>
     ensures reads { ShowsUnlessMemory (λ rest. (out.new.items, rest.now)) result
-        (appended (λ fields. operation ∷ flag_byte (is_set given.entry.indirect) ∷ record_bytes fields)
-        out.old.items (record_at {A = A} given.entry.total
+        (appended (λ fields. operation_byte operation ∷ flag_byte (is_set given.entry.indirect)
+        ∷ record_bytes fields) out.old.items (record_at {A = A} given.entry.total
         (requirements Full (map is_set given.entry.flags.now)) given.entry.bytes.now)) }
     ensures behind { IfOk result (λ rest. length rest.now ≤ length given.entry.bytes.now) }
 {
@@ -102,7 +91,7 @@ fn push_patch_delete<'a, A: AllocHandle>(
         (requirements Full (map is_set given.entry.flags.now)) given.entry.bytes.now)) }
     ensures behind { IfOk result (λ rest. length rest.now ≤ length given.entry.bytes.now) }
 {
-    push_start(out, DELETE, given.indirect)?;
+    push_start(out, Operation::Delete, given.indirect)?;
     push_key(out, given.total, given.flags, given.bytes)
 }
 
@@ -125,7 +114,7 @@ fn push_patch_update<'a, A: AllocHandle>(
         bytes,
     } = given;
     let new = pass_record::<A>(total, RecordKind::Keyed, flags, bytes)?;
-    push_start(out, UPDATE, indirect)?;
+    push_start(out, Operation::Update, indirect)?;
     push_merged(out, total, flags, bytes, new)
 }
 
@@ -147,19 +136,19 @@ fn push_inverse_update<'a, A: AllocHandle>(
     Ok(rest)
 }
 
-/// Appends what is written for the change behind this operation byte, and answers the bytes behind it.
+/// Appends what is written for the change behind its operation byte, and answers the bytes behind it.
 #[tactic(auto, unfolding(cap_codec::specs::BlobReading::change_at))]
 pub fn convert_change<'a, A: AllocHandle>(
     out: &mut Vec<u8, A>,
     conversion: Conversion,
-    operation: u8,
+    operation: Operation,
     flags: &[u8],
     total: usize,
     bytes: &'a [u8],
 ) -> Result<&'a [u8], Fault<BlobFault>>
     ensures reads { ShowsUnlessMemory (λ rest. (out.new.items, rest.now)) result
         (appended (converted conversion (map is_set flags.now)) out.old.items
-        (change_at {A = A} total (map is_set flags.now) operation bytes.now)) }
+        (change_at {A = A} total (map is_set flags.now) (operation_byte operation) bytes.now)) }
     ensures behind { IfOk result (λ rest. length rest.now ≤ length bytes.now) }
 {
     let (indirect, bytes) = take_byte(total, bytes)?;
@@ -170,11 +159,11 @@ pub fn convert_change<'a, A: AllocHandle>(
         bytes,
     };
     match (conversion, operation) {
-        (Conversion::Inverse, INSERT) => push_whole(out, DELETE, given),
-        (Conversion::Inverse, UPDATE) => push_inverse_update(out, given),
-        (Conversion::Inverse, _) => push_whole(out, INSERT, given),
-        (Conversion::Patchset, INSERT) => push_whole(out, INSERT, given),
-        (Conversion::Patchset, UPDATE) => push_patch_update(out, given),
-        (Conversion::Patchset, _) => push_patch_delete(out, given),
+        (Conversion::Inverse, Operation::Insert) => push_whole(out, Operation::Delete, given),
+        (Conversion::Inverse, Operation::Update) => push_inverse_update(out, given),
+        (Conversion::Inverse, Operation::Delete) => push_whole(out, Operation::Insert, given),
+        (Conversion::Patchset, Operation::Insert) => push_whole(out, Operation::Insert, given),
+        (Conversion::Patchset, Operation::Update) => push_patch_update(out, given),
+        (Conversion::Patchset, Operation::Delete) => push_patch_delete(out, given),
     }
 }

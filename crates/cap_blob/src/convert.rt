@@ -15,10 +15,10 @@ ghost use Rattle.cap_blob.specs.Passing.{begins_changeset};
 ghost use Rattle.cap_blob.specs.declared.refusal.BytesRefusal.TheVariants.{Malformed};
 
 use crate::BytesRefusal;
-use crate::conversion::{CHANGESET, Conversion};
+use crate::conversion::Conversion;
 use crate::group::convert_groups;
 use cap_changes::ChangeList;
-use cap_codec::{Contents, KeyFlags, read_blob};
+use cap_codec::{CHANGESET, Contents, KeyFlags, read_blob};
 use cap_value::{AllocHandle, Fault};
 
 /// The bytes of the inverse of a changeset, written with these key flags (The Session Extension,
@@ -77,7 +77,7 @@ fn convert<A: AllocHandle>(
     }
     // What is written is as long as what is read, without the groups that have no change.
     let mut out = Vec::with_capacity(alloc, bytes.len())?;
-    match convert_groups(&mut out, conversion, key_flags, bytes.len(), bytes) {
+    match convert_groups(alloc, &mut out, conversion, key_flags, bytes.len(), bytes) {
         Ok(()) => Ok(out),
         Err(Fault::Refused(fault)) => Err(Fault::Refused(BytesRefusal::Malformed(fault))),
         Err(Fault::OutOfMemory) => Err(Fault::OutOfMemory),

@@ -3,23 +3,17 @@
 ghost use Rattle.std.specs.Prelude.{◌≡◌, ◌≤◌, IfOk, length, map};
 ghost use Rattle.std.specs.List.{flat_map};
 ghost use Rattle.cap_value.specs.Memory.{ShowsUnlessMemory};
-ghost use Rattle.cap_codec.specs.BlobReading as blob;
-ghost use Rattle.cap_codec.specs.BlobReading.{is_operation, change_at, changes_at, group_at, groups_at};
+ghost use Rattle.cap_codec.specs.BlobReading.{change_at, changes_at, group_at, groups_at};
 ghost use Rattle.cap_codec.specs.HeaderReading.{is_set};
 ghost use Rattle.cap_blob.specs.Conversion.{converted, converted_group, listed};
 ghost use Rattle.cap_blob.specs.Passing.{appended, begins_change};
 
-use crate::conversion::{CHANGESET, Conversion, DELETE, INSERT, PATCHSET, UPDATE, convert_change};
-use crate::field::place_of;
-use crate::header::{push_header, take_header};
-use cap_codec::{BlobFault, FaultKind, KeyFlags};
+use crate::conversion::{Conversion, convert_change};
+use cap_codec::{
+    BlobFault, CHANGESET, KeyFlags, Operation, own_name, own_schema, place_of, push_header,
+    take_header, wrong_kind,
+};
 use cap_value::{AllocHandle, Fault};
-
-fn is_operation(byte: u8) -> bool
-    ensures { result ≡ blob.is_operation byte }
-{
-    byte == INSERT || byte == UPDATE || byte == DELETE
-}
 
 // Whether these bytes begin with a change.
 fn begins_change(bytes: &[u8]) -> bool
@@ -27,7 +21,7 @@ fn begins_change(bytes: &[u8]) -> bool
 {
     match bytes {
         [] => false,
-        [byte, ..] => is_operation(*byte),
+        [byte, ..] => Operation::of(*byte).is_some(),
     }
 }
 
@@ -46,10 +40,10 @@ fn convert_changes<'a, A: AllocHandle>(
 {
     let mut rest = bytes;
     while let [byte, behind @ ..] = rest {
-        if !is_operation(*byte) {
+        let Some(operation) = Operation::of(*byte) else {
             break;
-        }
-        rest = convert_change(out, conversion, *byte, flags, total, behind)?;
+        };
+        rest = convert_change(out, conversion, operation, flags, total, behind)?;
     }
     Ok(rest)
 }
@@ -57,6 +51,7 @@ fn convert_changes<'a, A: AllocHandle>(
 // Appends what is written for the group behind its kind byte, and answers the bytes behind it. For a group
 // without changes nothing is written.
 fn convert_group<'a, A: AllocHandle>(
+    alloc: A,
     out: &mut Vec<u8, A>,
     conversion: Conversion,
     key_flags: KeyFlags,
@@ -71,29 +66,15 @@ fn convert_group<'a, A: AllocHandle>(
     if !begins_change(rest) {
         return Ok(rest);
     }
-    push_header(out, key_flags, conversion.kind_byte(), header)?;
+    let table = own_name(alloc, header.table)?;
+    let schema = own_schema(alloc, header.flags)?;
+    push_header(out, key_flags, conversion.kind_byte(), &table, &schema)?;
     convert_changes(out, conversion, header.flags, total, rest)
-}
-
-// The fault of a byte that neither continues a group nor begins another.
-fn wrong_kind(kind: u8, at: usize) -> BlobFault
-    ensures { result ≡ blob.wrong_kind kind at }
-{
-    if kind == CHANGESET || kind == PATCHSET {
-        BlobFault {
-            at,
-            kind: FaultKind::Mixed,
-        }
-    } else {
-        BlobFault {
-            at,
-            kind: FaultKind::BadOp,
-        }
-    }
 }
 
 /// Appends what is written for the groups of a changeset.
 pub fn convert_groups<A: AllocHandle>(
+    alloc: A,
     out: &mut Vec<u8, A>,
     conversion: Conversion,
     key_flags: KeyFlags,
@@ -109,7 +90,7 @@ pub fn convert_groups<A: AllocHandle>(
         if *kind != CHANGESET {
             return Err(Fault::Refused(wrong_kind(*kind, place_of(total, rest))));
         }
-        rest = convert_group(out, conversion, key_flags, total, behind)?;
+        rest = convert_group(alloc, out, conversion, key_flags, total, behind)?;
     }
     Ok(())
 }

@@ -5,7 +5,6 @@ mod conversion;
 mod convert;
 mod field;
 mod group;
-mod header;
 mod record;
 mod refusal;
 
