@@ -167,8 +167,8 @@ impl<A: AllocHandle> Applied<A> {
         self.database.put_row(table, key, row)
     }
 
-    // Replaces the row of a key by the row after an update, where there is a row and the policy applies the update
-    // to it. Answers the conflict.
+    // Replaces the row of a key by the row after an update, where there is a row and the policy applies the
+    // update to it. Answers the conflict.
     pub(crate) fn replace(
         &mut self,
         table: &Name<A>,

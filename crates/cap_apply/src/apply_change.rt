@@ -1,6 +1,6 @@
 //! Applying one change. An insert and a delete are made at once, and undone where the row that was found is a
-//! conflict and the policy omits the change. An update is judged where its row is found. So the key is searched
-//! once.
+//! conflict and the policy omits the change. An update is judged where its row is found. So the key is
+//! searched once.
 ghost use Rattle.std.specs.Prelude.{◌≡◌, [], Bool, IsTrue, is_some};
 ghost use Rattle.cap_row.specs.Key.{is_key};
 ghost use Rattle.cap_row.specs.Schema.{has_key};

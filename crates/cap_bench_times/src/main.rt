@@ -21,8 +21,8 @@ const LOADS: &str = "tree [N..], codec, txn, apply, core, sessions, transactions
 // Runs the load that the command line names: `tree [N..]` trees of N keys beside std's map, `codec` a
 // changeset, `txn` operations on tables, `apply` applying changesets, `core` commits under a session,
 // `sessions` commits under one and under 64 sessions, captures and a diff, `transactions` commits of
-// transactions and of batches, and `server`, by the wall clock, commits and transactions from several threads and
-// readers beside a writer.
+// transactions and of batches, and `server`, by the wall clock, commits and transactions from several threads
+// and readers beside a writer.
 fn run<R>(rt: &R) -> Result<()>
 where
     R: Print + Eprint + Env + Clock + CpuClock + Threads + Wait + Sync + AllocGlobal,

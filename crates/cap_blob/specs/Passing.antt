@@ -1,4 +1,5 @@
--- Parts of a changeset that are passed over: the bytes behind them, and those that are written in their place.
+-- Parts of a changeset that are passed over: the bytes behind them, and those that are written in their
+-- place.
 use Rattle.std.specs.Prelude.{ℕ, Bool, false, List, [], ◌∷◌, ◌++◌, None, map, Result, Ok, Err, IsOk}
 use Rattle.std.specs.Prelude.{◌==◌, if◌then◌else◌}
 use Rattle.std.specs.List.{zip}

@@ -11,8 +11,9 @@ use cap_apply::{Answer, Policy};
 use cap_core::Reply;
 use std::alloc::Global;
 
-/// The version that a blob made, how many of its changes were applied, met a conflict or were omitted, and how
-/// many of its groups were skipped. A change that replaced a row in spite of a conflict is an applied one.
+/// The version that a blob made, how many of its changes were applied, met a conflict or were omitted, and
+/// how many of its groups were skipped. A change that replaced a row in spite of a conflict is an applied
+/// one.
 #[repr(C)]
 #[derive(Clone, Copy, Drop)]
 pub struct ApplyReport {

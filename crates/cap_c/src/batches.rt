@@ -179,8 +179,8 @@ pub extern "C" fn changecap_insert(
     status
 }
 
-/// Puts an UPDATE last in the batch: of the columns that are set, in the row with this id, or where it is 0 with
-/// the key that is bound.
+/// Puts an UPDATE last in the batch: of the columns that are set, in the row with this id, or where it is 0
+/// with the key that is bound.
 #[unsafe(no_mangle)]
 pub extern "C" fn changecap_update(
     alloc: Global,

@@ -20,7 +20,8 @@ pub enum CapturedForm {
     Patchset,
 }
 
-/// Writes the bytes of a capture. Where there is no room, or no memory, the command is refused with that status.
+/// Writes the bytes of a capture. Where there is no room, or no memory, the command is refused with that
+/// status.
 #[derive(Drop)]
 pub(crate) struct CaptureHook<'o, 'l> {
     pub(crate) alloc: Global,
@@ -58,7 +59,8 @@ impl<'o, 'l> CaptureHook<'o, 'l> {
     fn write(&mut self, capture: &Capture<Global>) -> Result<(), u32>
         ensures out { self.new.out.ghost_name ≡ self.old.out.ghost_name }
         ensures len { self.new.len.ghost_name ≡ self.old.len.ghost_name }
-        ensures written { OnOk result (WritesAll (Some (captured_bytes self.old.form self.old.key_flags capture.now))
+        ensures written { OnOk result
+            (WritesAll (Some (captured_bytes self.old.form self.old.key_flags capture.now))
             self.old.out.now self.new.out.now self.old.len.now self.new.len.now) }
         ensures not_written { IfErr result (λ status.
             NotWritten (Some (captured_bytes self.old.form self.old.key_flags capture.now)) status

@@ -35,13 +35,17 @@ pub extern "C" fn changecap_session_changeset(
     ensures ran { IsAnswered result →
         Between handle.old.value handle.new.value (λ old new. Runs old new (command.Capture session) result) }
     ensures fault { IsAnswered result →
-        Holds handle.old.value (λ old. fault.new ≡ fault_output (answer old.core (command.Capture session)) fault.old) }
+        Holds handle.old.value
+        (λ old. fault.new ≡ fault_output (answer old.core (command.Capture session)) fault.old) }
     // The bytes of the changeset, or how many there are.
     ensures written { (flags : Flags) → key_flags_of key_flags ≡ Some flags → result ≡ DONE →
-        Holds handle.old.value (λ old. WritesAll (bytes_asked Changeset flags (answer old.core (command.Capture session)))
+        Holds handle.old.value
+        (λ old. WritesAll (bytes_asked Changeset flags (answer old.core (command.Capture session)))
         out.old out.new len.old len.new) }
     ensures room { (flags : Flags) → key_flags_of key_flags ≡ Some flags → result ≡ NO_ROOM →
-        Holds handle.old.value (λ old. LacksRoom (bytes_asked Changeset flags (answer old.core (command.Capture session))) out.old len.new) }
+        Holds handle.old.value
+        (λ old. LacksRoom
+        (bytes_asked Changeset flags (answer old.core (command.Capture session))) out.old len.new) }
     // Exactly a number that names no key flags is misuse.
     ensures misuse { (result ≡ MISUSE) ↔ (key_flags_of key_flags ≡ None) }
     ensures why { ¬ (IsAnswered result) → ¬ (result ≡ NO_ROOM) → ¬ (result ≡ MISUSE) →
@@ -83,13 +87,17 @@ pub extern "C" fn changecap_session_patchset(
     ensures ran { IsAnswered result →
         Between handle.old.value handle.new.value (λ old new. Runs old new (command.Capture session) result) }
     ensures fault { IsAnswered result →
-        Holds handle.old.value (λ old. fault.new ≡ fault_output (answer old.core (command.Capture session)) fault.old) }
+        Holds handle.old.value
+        (λ old. fault.new ≡ fault_output (answer old.core (command.Capture session)) fault.old) }
     // The bytes of the patchset, or how many there are.
     ensures written { (flags : Flags) → key_flags_of key_flags ≡ Some flags → result ≡ DONE →
-        Holds handle.old.value (λ old. WritesAll (bytes_asked Patchset flags (answer old.core (command.Capture session)))
+        Holds handle.old.value
+        (λ old. WritesAll (bytes_asked Patchset flags (answer old.core (command.Capture session)))
         out.old out.new len.old len.new) }
     ensures room { (flags : Flags) → key_flags_of key_flags ≡ Some flags → result ≡ NO_ROOM →
-        Holds handle.old.value (λ old. LacksRoom (bytes_asked Patchset flags (answer old.core (command.Capture session))) out.old len.new) }
+        Holds handle.old.value
+        (λ old. LacksRoom
+        (bytes_asked Patchset flags (answer old.core (command.Capture session))) out.old len.new) }
     // Exactly a number that names no key flags is misuse.
     ensures misuse { (result ≡ MISUSE) ↔ (key_flags_of key_flags ≡ None) }
     ensures why { ¬ (IsAnswered result) → ¬ (result ≡ NO_ROOM) → ¬ (result ≡ MISUSE) →
@@ -131,13 +139,17 @@ pub extern "C" fn changecap_session_restart(
     ensures ran { IsAnswered result →
         Between handle.old.value handle.new.value (λ old new. Runs old new (command.Restart session) result) }
     ensures fault { IsAnswered result →
-        Holds handle.old.value (λ old. fault.new ≡ fault_output (answer old.core (command.Restart session)) fault.old) }
+        Holds handle.old.value
+        (λ old. fault.new ≡ fault_output (answer old.core (command.Restart session)) fault.old) }
     // The bytes of the changeset, or how many there are.
     ensures written { (flags : Flags) → key_flags_of key_flags ≡ Some flags → result ≡ DONE →
-        Holds handle.old.value (λ old. WritesAll (bytes_asked Changeset flags (answer old.core (command.Restart session)))
+        Holds handle.old.value
+        (λ old. WritesAll (bytes_asked Changeset flags (answer old.core (command.Restart session)))
         out.old out.new len.old len.new) }
     ensures room { (flags : Flags) → key_flags_of key_flags ≡ Some flags → result ≡ NO_ROOM →
-        Holds handle.old.value (λ old. LacksRoom (bytes_asked Changeset flags (answer old.core (command.Restart session))) out.old len.new) }
+        Holds handle.old.value
+        (λ old. LacksRoom
+        (bytes_asked Changeset flags (answer old.core (command.Restart session))) out.old len.new) }
     // Exactly a number that names no key flags is misuse.
     ensures misuse { (result ≡ MISUSE) ↔ (key_flags_of key_flags ≡ None) }
     ensures why { ¬ (IsAnswered result) → ¬ (result ≡ NO_ROOM) → ¬ (result ≡ MISUSE) →

@@ -54,7 +54,8 @@ impl TextServer {
         ensures ran { IsAnswered result → Runs self.old self.new command.now result }
         ensures number { IsAnswered result →
             number.new ≡ number_output (answer self.old.core command.now) number.old }
-        ensures fault { IsAnswered result → fault.new ≡ fault_output (answer self.old.core command.now) fault.old }
+        ensures fault { IsAnswered result →
+            fault.new ≡ fault_output (answer self.old.core command.now) fault.old }
         ensures why { ¬ (IsAnswered result) → NoReply self.old result }
         ensures kept { ¬ (IsAnswered result) → self.new ≡ self.old }
         ensures unset { ¬ (IsAnswered result) → (number.new ≡ number.old) × (fault.new ≡ fault.old) }
@@ -73,8 +74,10 @@ impl TextServer {
         fault: &mut PlacedFault,
     ) -> u32
         ensures ran { IsAnswered result → Runs self.old self.new command.now result }
-        ensures flag { IsAnswered result → flag.new ≡ flag_output (answer self.old.core command.now) flag.old }
-        ensures fault { IsAnswered result → fault.new ≡ fault_output (answer self.old.core command.now) fault.old }
+        ensures flag { IsAnswered result →
+            flag.new ≡ flag_output (answer self.old.core command.now) flag.old }
+        ensures fault { IsAnswered result →
+            fault.new ≡ fault_output (answer self.old.core command.now) fault.old }
         ensures why { ¬ (IsAnswered result) → NoReply self.old result }
         ensures kept { ¬ (IsAnswered result) → self.new ≡ self.old }
         ensures unset { ¬ (IsAnswered result) → (flag.new ≡ flag.old) × (fault.new ≡ fault.old) }
@@ -88,7 +91,8 @@ impl TextServer {
     /// Carries out a command, and sets nothing but the fault where it is refused.
     pub(crate) fn set_refusal(&mut self, command: &Command<Global>, fault: &mut PlacedFault) -> u32
         ensures ran { IsAnswered result → Runs self.old self.new command.now result }
-        ensures fault { IsAnswered result → fault.new ≡ fault_output (answer self.old.core command.now) fault.old }
+        ensures fault { IsAnswered result →
+            fault.new ≡ fault_output (answer self.old.core command.now) fault.old }
         ensures why { ¬ (IsAnswered result) → NoReply self.old result }
         ensures kept { ¬ (IsAnswered result) → self.new ≡ self.old }
         ensures unset { ¬ (IsAnswered result) → fault.new ≡ fault.old }
@@ -112,10 +116,13 @@ impl TextServer {
         fault: &mut PlacedFault,
     ) -> u32
         ensures ran { IsAnswered result → Runs self.old self.new command.now result }
-        ensures fault { IsAnswered result → fault.new ≡ fault_output (answer self.old.core command.now) fault.old }
-        ensures done { result ≡ DONE → WritesAll (bytes_asked form key_flags (answer self.old.core command.now))
+        ensures fault { IsAnswered result →
+            fault.new ≡ fault_output (answer self.old.core command.now) fault.old }
+        ensures done { result ≡ DONE →
+            WritesAll (bytes_asked form key_flags (answer self.old.core command.now))
             out.old out.new len.old len.new }
-        ensures room { result ≡ NO_ROOM → LacksRoom (bytes_asked form key_flags (answer self.old.core command.now))
+        ensures room { result ≡ NO_ROOM →
+            LacksRoom (bytes_asked form key_flags (answer self.old.core command.now))
             out.old len.new }
         ensures why { ¬ (IsAnswered result) → ¬ (result ≡ NO_ROOM) → NoReply self.old result }
         ensures kept { ¬ (IsAnswered result) → (self.new ≡ self.old) × (fault.new ≡ fault.old) }

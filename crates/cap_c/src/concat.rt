@@ -64,7 +64,8 @@ fn set_concat(
 ) -> u32
     ensures status { (said : Result (List ℕ) Refused) → ShowsUnlessMemory (λ bytes. bytes.items) answer said →
         IsUnlessMemory result (concat_status said (length out.old)) }
-    ensures outputs { (said : Result (List ℕ) Refused) → ShowsUnlessMemory (λ bytes. bytes.items) answer said →
+    ensures outputs { (said : Result (List ℕ) Refused) →
+        ShowsUnlessMemory (λ bytes. bytes.items) answer said →
         ¬ (result ≡ NO_MEMORY) → OutputsConcat said result out.old out.new len.new fault.new blob.new }
     ensures misuse { ¬ (result ≡ MISUSE) }
     ensures kept { ¬ (result ≡ DONE) → out.new ≡ out.old }

@@ -6,8 +6,8 @@ ghost use Rattle.cap_c.specs.Refusal.{refusal_number, refused};
 use cap_codec::{BlobFault, FaultKind};
 use cap_value::Refusal;
 
-/// Why bytes are no blob, by the number of the kind (docs/FORMAT.md, "Faults"), and where. Or why a command is
-/// refused, by the number of the refusal, and which of its operations.
+/// Why bytes are no blob, by the number of the kind (docs/FORMAT.md, "Faults"), and where. Or why a command
+/// is refused, by the number of the refusal, and which of its operations.
 #[repr(C)]
 #[derive(Clone, Copy, Drop)]
 pub struct PlacedFault {

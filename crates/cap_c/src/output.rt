@@ -36,7 +36,8 @@ pub(crate) fn set_bytes(
 ) -> u32
     ensures status { (said : Result (List ℕ) Refused) → ShowsUnlessMemory (λ bytes. bytes.items) answer said →
         IsUnlessMemory result (bytes_status said (length out.old)) }
-    ensures outputs { (said : Result (List ℕ) Refused) → ShowsUnlessMemory (λ bytes. bytes.items) answer said →
+    ensures outputs { (said : Result (List ℕ) Refused) →
+        ShowsUnlessMemory (λ bytes. bytes.items) answer said →
         ¬ (result ≡ NO_MEMORY) → Outputs said result out.old out.new len.new fault.new }
     ensures kept { ¬ (result ≡ DONE) → out.new ≡ out.old }
     ensures unchanged { result ≡ NO_MEMORY → (len.new ≡ len.old) × (fault.new ≡ fault.old) }

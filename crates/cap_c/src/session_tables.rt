@@ -193,7 +193,8 @@ fn diff(
     ensures ran { IsAnswered result →
         Runs server.old server.new (command.Diff session from.now table.now) result }
     ensures fault { IsAnswered result →
-        fault.new ≡ fault_output (answer server.old.core (command.Diff session from.now table.now)) fault.old }
+        fault.new ≡ fault_output
+        (answer server.old.core (command.Diff session from.now table.now)) fault.old }
     ensures misuse { result ≡ MISUSE → ¬ (IsName from.now × IsName table.now) }
     ensures named { ¬ (result ≡ MISUSE) → IsName from.now × IsName table.now }
     ensures why { ¬ (IsAnswered result) → ¬ (result ≡ MISUSE) → NoReply server.old result }

@@ -156,9 +156,11 @@ pub extern "C" fn changecap_session_enable(
 ) -> u32
     requires opened { IsSome handle.old.value }
     ensures ran { (value : Option Bool) → asked_of asked ≡ Some value → IsAnswered result →
-        Between handle.old.value handle.new.value (λ old new. Runs old new (command.Enable session value) result) }
+        Between handle.old.value handle.new.value
+        (λ old new. Runs old new (command.Enable session value) result) }
     ensures flag { (value : Option Bool) → asked_of asked ≡ Some value → IsAnswered result →
-        Holds handle.old.value (λ old. flag.new ≡ flag_output (answer old.core (command.Enable session value)) flag.old) }
+        Holds handle.old.value
+        (λ old. flag.new ≡ flag_output (answer old.core (command.Enable session value)) flag.old) }
     ensures fault { (value : Option Bool) → asked_of asked ≡ Some value → IsAnswered result →
         Holds handle.old.value
         (λ old. fault.new ≡ fault_output (answer old.core (command.Enable session value)) fault.old) }
@@ -190,9 +192,11 @@ pub extern "C" fn changecap_session_indirect(
 ) -> u32
     requires opened { IsSome handle.old.value }
     ensures ran { (value : Option Bool) → asked_of asked ≡ Some value → IsAnswered result →
-        Between handle.old.value handle.new.value (λ old new. Runs old new (command.Indirect session value) result) }
+        Between handle.old.value handle.new.value
+        (λ old new. Runs old new (command.Indirect session value) result) }
     ensures flag { (value : Option Bool) → asked_of asked ≡ Some value → IsAnswered result →
-        Holds handle.old.value (λ old. flag.new ≡ flag_output (answer old.core (command.Indirect session value)) flag.old) }
+        Holds handle.old.value
+        (λ old. flag.new ≡ flag_output (answer old.core (command.Indirect session value)) flag.old) }
     ensures fault { (value : Option Bool) → asked_of asked ≡ Some value → IsAnswered result →
         Holds handle.old.value
         (λ old. fault.new ≡ fault_output (answer old.core (command.Indirect session value)) fault.old) }

@@ -60,9 +60,11 @@ fn create(
     ensures ran { IsAnswered result →
         Runs server.old server.new (command.CreateTable table.now (key_columns key.now)) result }
     ensures version { IsAnswered result → version.new
-        ≡ number_output (answer server.old.core (command.CreateTable table.now (key_columns key.now))) version.old }
+        ≡ number_output
+        (answer server.old.core (command.CreateTable table.now (key_columns key.now))) version.old }
     ensures fault { IsAnswered result → fault.new
-        ≡ fault_output (answer server.old.core (command.CreateTable table.now (key_columns key.now))) fault.old }
+        ≡ fault_output
+        (answer server.old.core (command.CreateTable table.now (key_columns key.now))) fault.old }
     ensures misuse { result ≡ MISUSE → ¬ (IsTable table.now key.now) }
     ensures table { ¬ (result ≡ MISUSE) → IsTable table.now key.now }
     ensures why { ¬ (IsAnswered result) → ¬ (result ≡ MISUSE) → NoReply server.old result }

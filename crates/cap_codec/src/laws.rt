@@ -57,8 +57,8 @@ pub fn a_fault_lasts<A: AllocHandle>()
         lasting (blob_at {A = A} (front ++ more)) ≡ Err fault }
 {}
 
-/// A fault other than `Truncated` is reported at the part that has it: some blob begins with the bytes before its
-/// offset, and none with these and that part.
+/// A fault other than `Truncated` is reported at the part that has it: some blob begins with the bytes before
+/// its offset, and none with these and that part.
 pub fn fault_place<A: AllocHandle>()
     ensures { (bytes : List ℕ) (fault : BlobFault) → AreBytes bytes →
         lasting (blob_at {A = A} bytes) ≡ Err fault → IsFaultAt A bytes fault }

@@ -19,8 +19,8 @@ pub enum Command<A: AllocHandle> {
         schema: Schema<A>,
     },
     /// Commits a transaction: all of its operations, or none. Refused with `Stale` where something that the
-    /// transaction looked at has changed, or, in a batch whose base is a number alone, where it is not the present
-    /// version; and otherwise as its first refused operation.
+    /// transaction looked at has changed, or, in a batch whose base is a number alone, where it is not the
+    /// present version; and otherwise as its first refused operation.
     Commit(Batch<A>),
     /// Applies a changeset or patchset (sqlite3changeset_apply). Refused with `Aborted` or `Misuse`.
     Apply {

@@ -259,8 +259,8 @@ pub fn order_of_two_sessions_does_not_matter<A: AllocHandle>()
         ≡ answer (state_after (later ++ first ∷ second ∷ past)) (Command.Capture session) }
 {}
 
-/// A history whose last event is taken off a legal one is legal, and that event has the reply to its command after
-/// it.
+/// A history whose last event is taken off a legal one is legal, and that event has the reply to its command
+/// after it.
 pub fn legal_histories_were_legal<A: AllocHandle>()
     ensures legal { (h : List (Event A)) (by : ℕ) (command : Command A) (reply : Reply A)
         → IsLegal (h ++ event_by by command reply ∷ []) → IsLegal h }
@@ -268,9 +268,9 @@ pub fn legal_histories_were_legal<A: AllocHandle>()
         → IsLegal (h ++ event_by by command reply ∷ []) → reply ≡ reply_of h command }
 {}
 
-/// The commit of a transaction's batch is accepted exactly where nothing that the transaction looked at has changed,
-/// and then its calls, made whole at that point, are answered as they were. Else it is refused with the first item
-/// that has changed.
+/// The commit of a transaction's batch is accepted exactly where nothing that the transaction looked at has
+/// changed, and then its calls, made whole at that point, are answered as they were. Else it is refused with
+/// the first item that has changed.
 pub fn transactions_commit_if_unchanged<A: AllocHandle>()
     ensures { (now : State A) (batch : BatchState A) → EachRises now.main →
         WhereSeen batch.base batch.seen (StandsFor batch.ops) →
@@ -281,8 +281,8 @@ pub fn transactions_commit_if_unchanged<A: AllocHandle>()
 }
 
 /// After any history whose blobs fit the names of the tables rise. In each table keys and ids rise, each row
-/// has as many fields as the table has columns, and is stored under its own primary key, or under its id where
-/// it has none. The next id is at least 1 and at most 2^63.
+/// has as many fields as the table has columns, and is stored under its own primary key, or under its id
+/// where it has none. The next id is at least 1 and at most 2^63.
 pub fn rows_stand_under_own_keys<A: AllocHandle>()
     ensures names { (h : List (Event A)) → BlobsFit h → IsOrdered bytes_cmp (state h).main }
     ensures keyed { (h : List (Event A)) → BlobsFit h → All (λ named. IsKeyed named.1) (state h).main }
@@ -303,8 +303,8 @@ pub fn captures_have_no_empty_group<A: AllocHandle>()
 /// The bytes of a capture, with either key flags, are read as just its changes, and those of its patchset as
 /// the patches of these, or as an empty changeset where there is no change. What is read, applied to a
 /// database with the first images, gives the present rows at the touched keys, and changes nothing else. It
-/// counts each change as applied, under any policy, and there is no conflict. The changes of every capture can
-/// be written (`Capture::is_writable`).
+/// counts each change as applied, under any policy, and there is no conflict. The changes of every capture
+/// can be written (`Capture::is_writable`).
 pub fn bytes_of_a_capture_give_the_rows_now<A: AllocHandle>()
     ensures changeset_read { (past : Past A) (session : ℕ) (list : List (TableChanges A))
         (key_flags : KeyFlags)

@@ -1,5 +1,6 @@
 //! Databases: tables under their names.
-ghost use Rattle.std.specs.Prelude.{◌≡◌, ◌≤◌, [], length, Ok, Err, Some, None, IfOk, IfSome, IfNone, IsTrue, OnOk, OnErr, is_some};
+ghost use Rattle.std.specs.Prelude.{◌≡◌, ◌≤◌, [], length, Ok, Err, Some, None, IfOk, IfSome, IfNone, IsTrue};
+ghost use Rattle.std.specs.Prelude.{OnOk, OnErr, is_some};
 ghost use Rattle.std.specs.Option.{option_copied};
 ghost use Rattle.cap_value.specs.Bytes.{bytes_cmp};
 ghost use Rattle.cap_value.specs.declared.refusal.Refusal.{Refusal};
@@ -73,8 +74,9 @@ impl<A: AllocHandle> Database<A> {
         self.tables.len()
     }
 
-    /// A law of every database, for who keeps rows of it: in each table keys and ids rise, each row has the table's
-    /// width, and is stored under its own key, or where it has none under an id that was given. The call does nothing.
+    /// A law of every database, for who keeps rows of it: in each table keys and ids rise, each row has the
+    /// table's width, and is stored under its own key, or where it has none under an id that was given. The
+    /// call does nothing.
     pub fn rows_stand(&self)
         ensures { EachRises self.now }
     {
@@ -91,8 +93,8 @@ impl<A: AllocHandle> Database<A> {
         }
     }
 
-    /// Adds a table without rows. Refused with `TableExists` where a table has the name already, and then with
-    /// `TooMany` where there are `TABLES_MAX`. On an error the database is as before.
+    /// Adds a table without rows. Refused with `TableExists` where a table has the name already, and then
+    /// with `TooMany` where there are `TABLES_MAX`. On an error the database is as before.
     pub fn create(&mut self, name: Name<A>, schema: Schema<A>) -> Result<(), Fault<Refusal>>
         ensures tables { LeavesUnlessMemory result (create self.old name schema) self.new }
         ensures kept { OnErr result (self.new ≡ self.old) }
@@ -111,8 +113,8 @@ impl<A: AllocHandle> Database<A> {
         Ok(())
     }
 
-    /// Makes one operation, and answers its changes. Refused with `NoTable` where no table has the name, and then as
-    /// the table's call refuses it. On an error the database is as before.
+    /// Makes one operation, and answers its changes. Refused with `NoTable` where no table has the name, and
+    /// then as the table's call refuses it. On an error the database is as before.
     pub fn step(&mut self, op: &Op<A>) -> Result<Effect<A>, Fault<Refusal>>
         ensures tables { LeavesUnlessMemory result (step self.old op.now) self.new }
         ensures kept { OnErr result (self.new ≡ self.old) }
@@ -126,8 +128,8 @@ impl<A: AllocHandle> Database<A> {
         }
     }
 
-    /// The key of the row that an operation adds, takes out, or changes outside its key: of a row that has one and
-    /// keeps it. None of any other operation, and where no table has the name.
+    /// The key of the row that an operation adds, takes out, or changes outside its key: of a row that has
+    /// one and keeps it. None of any other operation, and where no table has the name.
     pub fn kept_key(&self, op: &Op<A>) -> Result<Option<Key<A>>, OutOfMemory>
         ensures key { IfOk result (λ key. key ≡ kept_key self.now op.now) }
         ensures first { table_of self.now op.now.table ≡ None → result ≡ Ok None }
@@ -138,9 +140,9 @@ impl<A: AllocHandle> Database<A> {
         }
     }
 
-    /// Makes an operation on a row that keeps this key, by one search, if the hook allows it, with `step`'s refusals.
-    /// The hook is asked once, after all memory is reserved, and only if the rules accept the operation. It is shown
-    /// the row under the key before and after. On an error the database is as before.
+    /// Makes an operation on a row that keeps this key, by one search, if the hook allows it, with `step`'s
+    /// refusals. The hook is asked once, after all memory is reserved, and only if the rules accept the
+    /// operation. It is shown the row under the key before and after. On an error the database is as before.
     pub fn step_keyed<H: Hook<Row<A>>>(
         &mut self,
         op: &Op<A>,
@@ -165,8 +167,8 @@ impl<A: AllocHandle> Database<A> {
         step_keyed_at(&mut self.tables, place, op, key, hook)
     }
 
-    /// Puts a row under its own key in the table of this name, and answers the row that was there, if any, which may go
-    /// back. The table is searched once. On an error the database is as before.
+    /// Puts a row under its own key in the table of this name, and answers the row that was there, if any,
+    /// which may go back. The table is searched once. On an error the database is as before.
     pub fn put_row(
         &mut self,
         table: &Name<A>,
@@ -184,11 +186,11 @@ impl<A: AllocHandle> Database<A> {
         put_under(&mut self.tables, table, key, row)
     }
 
-    /// Replaces the row of a key in the table of this name by one that `hook` makes of it, and answers the row that was
-    /// there, or none where no row has the key. The table is searched once.
+    /// Replaces the row of a key in the table of this name by one that `hook` makes of it, and answers the
+    /// row that was there, or none where no row has the key. The table is searched once.
     ///
-    /// `hook` is asked once, after all other memory is reserved, and only if there is a row. If it refuses, or on
-    /// `OutOfMemory`, the database is as before.
+    /// `hook` is asked once, after all other memory is reserved, and only if there is a row. If it refuses,
+    /// or on `OutOfMemory`, the database is as before.
     pub fn replace_row<H: Remake<Row<A>>>(
         &mut self,
         table: &Name<A>,
@@ -204,8 +206,8 @@ impl<A: AllocHandle> Database<A> {
         replace_under(&mut self.tables, table, key, hook)
     }
 
-    /// Takes the row of a key out of the table of this name, and answers it, if any; it may go back. The table is
-    /// searched once. On an error the database is as before.
+    /// Takes the row of a key out of the table of this name, and answers it, if any; it may go back. The
+    /// table is searched once. On an error the database is as before.
     pub fn take_row(&mut self, table: &Name<A>, key: &Key<A>) -> Result<Option<Row<A>>, OutOfMemory>
         requires there { IsTrue (is_some (table_of self.old table.now)) }
         ensures set { OnOk result (self.new ≡ row_set self.old table.now key.now None) }
@@ -228,8 +230,8 @@ impl<A: AllocHandle> Database<A> {
         }
     }
 
-    /// All rows of a table, each with its name: those with a key in the order of their keys, and then the others by
-    /// their ids. Refused with `NoTable` where no table has the name.
+    /// All rows of a table, each with its name: those with a key in the order of their keys, and then the
+    /// others by their ids. Refused with `NoTable` where no table has the name.
     pub fn scan(&self, table: &Name<A>) -> Result<Scan<'_, A>, Refusal>
         ensures { result ≡ rows_of self.now table.now }
     {

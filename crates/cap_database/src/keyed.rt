@@ -1,4 +1,5 @@
-//! A row put under its key in one table, one taken out from under it, and one replaced by another that is made of it.
+//! A row put under its key in one table, one taken out from under it, and one replaced by another that is
+//! made of it.
 ghost use Rattle.std.specs.Prelude.{◌≡◌, Some, None, IfOk, IfSome, IfNone, OnOk, OnErr, IsTrue, is_some};
 ghost use Rattle.cap_value.specs.Bytes.{bytes_cmp};
 ghost use Rattle.cap_row.specs.Fields.{Fields};

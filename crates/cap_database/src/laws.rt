@@ -24,8 +24,8 @@ use cap_table::{
 };
 use cap_value::AllocHandle;
 
-/// Where the operations in front are accepted and the next one is refused on what they leave, the list is refused at
-/// its place, whatever follows.
+/// Where the operations in front are accepted and the next one is refused on what they leave, the list is
+/// refused at its place, whatever follows.
 pub fn first_refusal_ends_the_list<A: AllocHandle>()
     ensures { (tables : Tables A) (front back : List (Op A)) (op : Op A)
         (left : OutcomeState A) (why : Refusal) →
@@ -33,24 +33,25 @@ pub fn first_refusal_ends_the_list<A: AllocHandle>()
         run tables (front ++ op ∷ back) ≡ Err (record { at = length front; why = why }) }
 {}
 
-/// A list that is refused has operations in front of the refused one that are all accepted, and leave what they leave
-/// alone; on that the one at the index answered is refused.
+/// A list that is refused has operations in front of the refused one that are all accepted, and leave what
+/// they leave alone; on that the one at the index answered is refused.
 pub fn operations_in_front_are_accepted<A: AllocHandle>()
     ensures { (tables : Tables A) (ops : List (Op A)) (refused : RefusedAt) → run tables ops ≡ Err refused →
         IsFirstRefused tables ops refused }
 {}
 
-/// Two operations on different tables, of which the second is accepted after the first, are accepted the other way
-/// round as well and leave the same database.
+/// Two operations on different tables, of which the second is accepted after the first, are accepted the
+/// other way round as well and leave the same database.
 pub fn operations_on_different_tables_commute<A: AllocHandle>()
     ensures { (tables one both : Tables A) (first second : Op A) → AreRising tables →
         bytes_eq first.table second.table ≡ false → step tables first ≡ Ok one → step one second ≡ Ok both →
         (other : Tables A) × (step tables second ≡ Ok other) × (step other first ≡ Ok both) }
 {}
 
-/// Two operations that speak of different rows of one table, by their keys and ids, and are each accepted on it, the
-/// second also after the first: so is the first after the second. Either order leaves the same keyed rows and the same
-/// next id, and where only one of them gives an id, the same table. In a database it is so as well.
+/// Two operations that speak of different rows of one table, by their keys and ids, and are each accepted on
+/// it, the second also after the first: so is the first after the second. Either order leaves the same keyed
+/// rows and the same next id, and where only one of them gives an id, the same table. In a database it is so
+/// as well.
 pub fn operations_on_different_rows_commute<A: AllocHandle>()
     ensures table { (table one other both : TableState A) (first second : Action A) → IsRising table →
         AreApart (rows_touched table first) (rows_touched table second) →
@@ -73,8 +74,8 @@ pub fn last_operation_adds_its_changes<A: AllocHandle>()
         }) }
 {}
 
-/// A refused batch leaves nothing: batches one after another leave the database and the changes that the operations of
-/// the accepted ones alone leave, made as one list.
+/// A refused batch leaves nothing: batches one after another leave the database and the changes that the
+/// operations of the accepted ones alone leave, made as one list.
 pub fn refused_batches_leave_nothing<A: AllocHandle>()
     ensures refused { (tables : Tables A) (batch : List (Op A)) (batches : List (List (Op A)))
         (why : RefusedAt) → run tables batch ≡ Err why →
@@ -95,8 +96,8 @@ pub fn deletes_undo_inserts<A: AllocHandle>()
     delete_undoes_insert::<A>();
 }
 
-/// Over any list of operations each table's next id never falls, a row under an id that no row had is under one
-/// that was not given before, and an id that was given and whose row was deleted names no row ever after.
+/// Over any list of operations each table's next id never falls, a row under an id that no row had is under
+/// one that was not given before, and an id that was given and whose row was deleted names no row ever after.
 pub fn lists_give_ids_once<A: AllocHandle>()
     ensures { (tables : Tables A) (ops : List (Op A)) →
         IfOk (run tables ops) (λ left. GiveIdsOnce tables left.database) }
@@ -115,8 +116,8 @@ pub fn tables_keep_columns<A: AllocHandle>()
     operations_keep_columns::<A>();
 }
 
-/// In a database that tables and operations were made in, names, keys and ids rise, each row has its table's width, and
-/// is stored under its own key, or where it has none under an id that was given.
+/// In a database that tables and operations were made in, names, keys and ids rise, each row has its table's
+/// width, and is stored under its own key, or where it has none under an id that was given.
 pub fn tables_keep_order<A: AllocHandle>()
     ensures empty { AreRising {A = A} [] }
     ensures run { (tables : Tables A) (ops : List (Op A)) → AreRising tables

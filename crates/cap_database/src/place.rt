@@ -1,5 +1,6 @@
 //! The tables of a database, in the order of their names: where a name is, and changes at that index.
-ghost use Rattle.std.specs.Prelude.{◌≡◌, ◌<◌, ◌≤◌, List, ℕ, length, slice_set, slice_index_or, MatchResult, Some, None, Ok, IfOk, OnOk, OnErr, is_some, true, false};
+ghost use Rattle.std.specs.Prelude.{◌≡◌, ◌<◌, ◌≤◌, List, ℕ, length, slice_set, slice_index_or, MatchResult};
+ghost use Rattle.std.specs.Prelude.{Some, None, Ok, IfOk, OnOk, OnErr, is_some, true, false};
 ghost use Rattle.std.specs.List.{insert};
 ghost use Rattle.cap_value.specs.Bytes.{bytes_cmp};
 ghost use Rattle.cap_tree.specs.Tree.{IsOrdered, get, put_entry};
@@ -88,7 +89,8 @@ pub(crate) fn step_at<A: AllocHandle>(
     Effect::make(table, op)
 }
 
-// Makes an operation on a row that keeps this key, on the table at the index of its name, if the hook allows it.
+// Makes an operation on a row that keeps this key, on the table at the index of its name, if the hook allows
+// it.
 pub(crate) fn step_keyed_at<A: AllocHandle, H: Hook<Row<A>>>(
     tables: &mut [(Name<A>, Table<A>)],
     place: usize,

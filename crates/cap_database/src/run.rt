@@ -6,8 +6,8 @@ ghost use Rattle.cap_database.specs.Operation.{run, changes_made};
 use crate::{Change, Database, Effect, Op, Outcome, RefusedAt};
 use cap_value::{AllocHandle, Fault, OutOfMemory};
 
-/// Makes operations one after another, all of them or none: the database after them and all their changes, or the
-/// place of the first that is refused and why. The database that they start from stays as it is.
+/// Makes operations one after another, all of them or none: the database after them and all their changes, or
+/// the place of the first that is refused and why. The database that they start from stays as it is.
 ///
 /// The operations are made in place on one snapshot, so a node of a tree is copied once however many of them
 /// change it.

@@ -52,8 +52,8 @@ impl<A: AllocHandle> Snapshot<A> {
         self.database.get(table, row)
     }
 
-    /// All rows of a table, each with its name: those with a key in the order of their keys, and then the others by
-    /// their ids. Refused with `NoTable` where no table has the name.
+    /// All rows of a table, each with its name: those with a key in the order of their keys, and then the
+    /// others by their ids. Refused with `NoTable` where no table has the name.
     pub fn scan(&self, table: &Name<A>) -> Result<Scan<'_, A>, Refusal>
         ensures { result ≡ rows_of self.now.database table.now }
     {

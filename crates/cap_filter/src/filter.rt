@@ -1,5 +1,6 @@
 //! Filters: which names one accepts, its size and its text.
-ghost use Rattle.std.specs.Prelude.{◌≡◌, ◌+◌, ◌<◌, ◌≤◌, ◌⊎◌, ◌++◌, ◌∷◌, [], map, MatchOption, IfOk, OnErr, OnOk, string_bytes};
+ghost use Rattle.std.specs.Prelude.{◌≡◌, ◌+◌, ◌<◌, ◌≤◌, ◌⊎◌, ◌++◌, ◌∷◌, [], map, MatchOption, IfOk, OnErr};
+ghost use Rattle.std.specs.Prelude.{OnOk, string_bytes};
 ghost use mathlib.Core.List.{IsPrefix};
 ghost use Rattle.cap_filter.specs.Printed.{double_quotes, quote, quoted};
 

@@ -1,5 +1,6 @@
 //! The parser of a filter's text.
-ghost use Rattle.std.specs.Prelude.{◌≡◌, ◌+◌, ◌≤◌, ℕ, Bool, List, [], Result, Ok, option_map, map, length, IfOk, OnOk, IsTrue, ◌++◌, ◌∷◌};
+ghost use Rattle.std.specs.Prelude.{◌≡◌, ◌+◌, ◌≤◌, ℕ, Bool, List, [], Result, Ok, option_map, map, length};
+ghost use Rattle.std.specs.Prelude.{IfOk, OnOk, IsTrue, ◌++◌, ◌∷◌};
 ghost use Rattle.cap_filter.specs.Limits.{is_within_limits, depth, nodes, depth_of_all, nodes_of_all};
 ghost use Rattle.cap_filter.specs.Plain.{rule_of, rules};
 ghost use Rattle.cap_value.specs.Memory.{LeadsUnlessMemory};

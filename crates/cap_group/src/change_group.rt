@@ -67,7 +67,8 @@ impl<A: AllocHandle> ChangeGroup<A> {
     ///
     /// Refused with `OtherKind` where it has changes of one kind, changeset or patchset, and the changegroup
     /// has had those of the other, and then with `OtherColumns` at the first group whose table had other
-    /// columns or another key. A group without changes adds nothing. On an error the changegroup is as before.
+    /// columns or another key. A group without changes adds nothing. On an error the changegroup is as
+    /// before.
     pub fn add(&mut self, blob: &Contents<A>) -> Result<(), Fault<GroupRefusal>>
         ensures content { LeavesUnlessMemory result (added self.old blob.now) self.new }
         ensures kept { OnErr result (self.new ≡ self.old) }

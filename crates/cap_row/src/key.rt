@@ -13,10 +13,12 @@ use std::marker::Model;
 use std::slice;
 use std::sync::Arc;
 
-/// The values of a key that is being made. Two fit inline, so that most keys of several columns are one allocation.
+/// The values of a key that is being made. Two fit inline, so that most keys of several columns are one
+/// allocation.
 pub type KeyValues<A> = SmallVec<Value<A>, 2, A>;
 
-/// A primary key: the values of a row's key columns, in column order, none of them NULL. Copies share the values.
+/// A primary key: the values of a row's key columns, in column order, none of them NULL. Copies share the
+/// values.
 pub struct Key<A: AllocHandle> {
     values: Values<A>,
 }
@@ -65,8 +67,8 @@ impl<A: AllocHandle> Key<A> {
         Key::of_values(alloc, values)
     }
 
-    /// The key of values that were put one after another, or none where there is no value, or a NULL among them. One
-    /// value takes no memory.
+    /// The key of values that were put one after another, or none where there is no value, or a NULL among
+    /// them. One value takes no memory.
     pub fn of_values(alloc: A, values: KeyValues<A>) -> Result<Option<Self>, OutOfMemory>
         ensures { IfOk result (λ key. key ≡ key_from values.items) }
     {

@@ -1,5 +1,6 @@
 //! Rows.
-ghost use Rattle.std.specs.Prelude.{◌≡◌, ◌≤◌, ◌<◌, ◌↔◌, List, ℕ, length, map, IfOk, OnOk, IfSome, IsTrue, nat_eq, slice_get};
+ghost use Rattle.std.specs.Prelude.{◌≡◌, ◌≤◌, ◌<◌, ◌↔◌, List, ℕ, length, map, IfOk, OnOk, IfSome, IsTrue};
+ghost use Rattle.std.specs.Prelude.{nat_eq, slice_get};
 ghost use Rattle.std.specs.List.{list_any};
 ghost use Rattle.std.specs.Option.{option_copied};
 ghost use Rattle.std.specs.Result.{result_err};
@@ -129,8 +130,8 @@ impl<A: AllocHandle> Debug for Row<A> {
 // Up to so many fields are compared with each other.
 const FEW: usize = 8;
 
-/// Whether an update may set these fields of a table with so many columns: each is one of them, counted from 0,
-/// and none is named twice.
+/// Whether an update may set these fields of a table with so many columns: each is one of them, counted from
+/// 0, and none is named twice.
 pub fn are_columns<A: AllocHandle>(width: usize, fields: &[(usize, Value<A>)]) -> bool
     requires { width ≤ COLUMNS_MAX }
     ensures { result ≡ are_columns width (columns_of fields.now) }

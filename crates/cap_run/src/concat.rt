@@ -31,7 +31,8 @@ pub fn concat_blobs<A: AllocHandle, R: Source, W: RunOutput>(
     // a write failed, and else nothing.
     ensures written { IfSome (R.remaining reader.old) (λ given. IfOk (concat_at A concatenation given)
         (λ output. WritesOutput output result (W.contents writer.old) (W.contents writer.new))) }
-    // The first blob that is refused gives its fault with its number, where it is known what the reader gives.
+    // The first blob that is refused gives its fault with its number, where it is known what the reader
+    // gives.
     ensures refused { IfSome (R.remaining reader.old) (λ given. IfErr (concat_at A concatenation given)
         (λ fault. IsErrAnd result (λ f. (f ≡ fault) ⊎ IsUnread f))) }
     ensures just { IfSome (R.remaining reader.old) (λ given. IfErr result (λ fault.

@@ -23,8 +23,8 @@ pub fn convert_blob<A: AllocHandle, R: Source, W: RunOutput>(
     reader: &mut R,
     writer: &mut W,
 ) -> Result<(), RunFault>
-    // What is written, where it is known what the reader gives: the inverse or the patchset, a beginning of it
-    // where a write failed, and else nothing.
+    // What is written, where it is known what the reader gives: the inverse or the patchset, a beginning of
+    // it where a write failed, and else nothing.
     ensures written { IfSome (R.remaining reader.old) (λ given. IfOk (converted_at A conversion given)
         (λ output. WritesOutput output result (W.contents writer.old) (W.contents writer.new))) }
     // Input that is not hex, not a blob or a patchset is refused with its fault, where it is known what the

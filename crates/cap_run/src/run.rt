@@ -33,9 +33,9 @@ use cap_value::{AllocHandle, Fault};
 /// then its fault, and the run ends.
 ///
 /// The contracts say exactly which input is refused as not UTF-8, where it is known what the reader gives. A
-/// failed read and out of memory may come before any other answer. They say which other texts are refused, and
-/// at which line; the offset within it is tested. The contracts determine the whole output, for writers whose
-/// content is known.
+/// failed read and out of memory may come before any other answer. They say which other texts are refused,
+/// and at which line; the offset within it is tested. The contracts determine the whole output, for writers
+/// whose content is known.
 pub fn run_core<A: AllocHandle, R: Source, W: RunOutput>(
     alloc: A,
     reader: &mut R,
@@ -47,9 +47,11 @@ pub fn run_core<A: AllocHandle, R: Source, W: RunOutput>(
     ensures text { IfSome (R.remaining reader.old) (λ given.
         result ≡ Err RunFault.NotUtf8 → ¬ (IsUtf8 given)) }
 
-    // A text that is refused is refused at its first line that spells no command within the limits, and no text
-    // that spells lines within the limits is. Every other text is, but for a failed read and out of memory.
-    ensures refused { IfSome (R.remaining reader.old) (λ given. IfErr result (λ fault. IsOfText A fault given)) }
+    // A text that is refused is refused at its first line that spells no command within the limits, and no
+    // text that spells lines within the limits is. Every other text is, but for a failed read and out of
+    // memory.
+    ensures refused { IfSome (R.remaining reader.old)
+        (λ given. IfErr result (λ fault. IsOfText A fault given)) }
     ensures read { IfSome (R.remaining reader.old) (λ given. SpellsWithin A given
         → IfErr result (λ fault. is_script fault ≡ false)) }
     ensures no_lines { IfSome (R.remaining reader.old) (λ given. ¬ (SpellsWithin A given)

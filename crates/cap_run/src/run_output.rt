@@ -7,15 +7,15 @@ ghost use Rattle.cap_run.specs.Writes.{ReportsFlush, ReportsWrite};
 use std::io;
 use std::io::Write;
 
-/// A writer of a run's output. Each `Write` is one, of which no contract knows the outcome of a call; a writer
-/// whose outcomes are known states them in `went` and `failed`.
+/// A writer of a run's output. Each `Write` is one, of which no contract knows the outcome of a call; a
+/// writer whose outcomes are known states them in `went` and `failed`.
 ///
 /// A run makes an interrupted write again. So it is no failed write, as it is for a `Sink` of a blob.
 pub trait RunOutput {
     // The bytes that the writer holds, where they are known.
     ghost contents: { Self → Option (List ℕ) };
-    // What is known of a write that took some bytes or was interrupted, and of a flush without an error, by the
-    // states before and after it.
+    // What is known of a write that took some bytes or was interrupted, and of a flush without an error, by
+    // the states before and after it.
     ghost went: { Self → Self → Type 0 };
     // What is known of a write or a flush that failed.
     ghost failed: { Self → Self → Type 0 };

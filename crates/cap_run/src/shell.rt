@@ -1,5 +1,6 @@
 //! Runs each line of an input as it is read.
-ghost use Rattle.std.specs.Prelude.{◌≡◌, ◌≤◌, ◌++◌, List, [], Err, Some, IfErr, IfOk, OnOk, codes, decimal, false};
+ghost use Rattle.std.specs.Prelude.{◌≡◌, ◌≤◌, ◌++◌, List, [], Err, Some, IfErr, IfOk, OnOk, codes, decimal};
+ghost use Rattle.std.specs.Prelude.{false};
 ghost use Rattle.std.specs.Prelude.{string_bytes};
 ghost use Rattle.std.specs.Io.KnownBytes.{Appends};
 ghost use Rattle.cap_core.specs.declared.event.Event.{Event};

@@ -64,9 +64,11 @@ pub fn run_workload<
     ensures text { IfSome (R.remaining reader.old) (λ given.
         result ≡ Err RunFault.NotUtf8 → ¬ (IsUtf8 given)) }
 
-    // A text that is refused is refused at its first line that spells no command within the limits, and no text
-    // that spells lines within the limits is. Every other text is, but for a failed read and out of memory.
-    ensures refused { IfSome (R.remaining reader.old) (λ given. IfErr result (λ fault. IsOfText A fault given)) }
+    // A text that is refused is refused at its first line that spells no command within the limits, and no
+    // text that spells lines within the limits is. Every other text is, but for a failed read and out of
+    // memory.
+    ensures refused { IfSome (R.remaining reader.old)
+        (λ given. IfErr result (λ fault. IsOfText A fault given)) }
     ensures read { IfSome (R.remaining reader.old) (λ given. SpellsWithin A given
         → IfErr result (λ fault. is_script fault ≡ false)) }
     ensures no_lines { IfSome (R.remaining reader.old) (λ given. ¬ (SpellsWithin A given)
@@ -83,10 +85,10 @@ pub fn run_workload<
 
     // The output is the replies in the order of the lines that the input spells. They are the replies of one
     // legal history that has each line's call once, each seat's in the order of its lines, and no other call.
-    // The calls of a block stand there behind those of all lines before it, and before those of all behind it.
-    // Where the run ends at a fault, it is the first replies, and each seat's calls are a prefix of its calls
-    // in such a history; where that fault is `Close`, it is all replies. The history has at least as many
-    // events as the fault reports: 2^63 - 1 where it is full.
+    // The calls of a block stand there behind those of all lines before it, and before those of all behind
+    // it. Where the run ends at a fault, it is the first replies, and each seat's calls are a prefix of its
+    // calls in such a history; where that fault is `Close`, it is all replies. The history has at least as
+    // many events as the fault reports: 2^63 - 1 where it is full.
     ensures written { WritesWorkload A threads (R.remaining reader.old) result
         (W.contents writer.old) (W.contents writer.new) }
 {

@@ -133,8 +133,8 @@ fn commit_at<A: AllocHandle>(
     Ok((Command::Commit(batch), Show::Plain))
 }
 
-// Reads a blob, a policy, which is the answers to DATA, NOTFOUND and CONFLICT, and how the outcome is printed:
-// `x'..' D N C`.
+// Reads a blob, a policy, which is the answers to DATA, NOTFOUND and CONFLICT, and how the outcome is
+// printed: `x'..' D N C`.
 fn apply<A: AllocHandle>(
     alloc: A,
     cursor: &mut Cursor<'_>,

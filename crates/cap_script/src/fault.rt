@@ -39,8 +39,8 @@ pub enum ScriptFault {
 // Why a line has no command.
 #[derive(Clone, Copy, Debug, PartialEq, Eq, Drop)]
 pub(crate) enum LineFault {
-    // A token is not expected where it stands: from its first byte on the line has this many bytes, none where
-    // it ends too early.
+    // A token is not expected where it stands: from its first byte on the line has this many bytes, none
+    // where it ends too early.
     Syntax { left: usize },
     // The next token exceeds a limit.
     Limit(Refusal),

@@ -17,7 +17,8 @@ pub fn read_line<A: AllocHandle>(
 ) -> Result<Option<Line<A>>, Fault<ScriptFault>>
     // None where the line is ignored, and else what it spells within the limits.
     ensures found { IfOk result (λ found. IsFound found text.now) }
-    // A line that spells a command within the limits is not refused. The fault is the line's, with the number.
+    // A line that spells a command within the limits is not refused. The fault is the line's, with the
+    // number.
     ensures refused { IfErr result (λ fault. HasFault A number fault text.now) }
 {
     if is_ignored(text) {

@@ -38,8 +38,9 @@ impl<J: Naming, A: AllocHandle> Server<J, A> {
         self.call(rt, seat, &Command::CreateTable { table, schema })
     }
 
-    /// Commits a transaction. Its batch is accepted exactly where nothing that the transaction looked at has changed
-    /// since it began. Then its calls, made whole at their place in the history, are answered as they were.
+    /// Commits a transaction. Its batch is accepted exactly where nothing that the transaction looked at has
+    /// changed since it began. Then its calls, made whole at their place in the history, are answered as they
+    /// were.
     pub fn commit<R: Wait>(
         &self,
         rt: &R,

@@ -53,8 +53,9 @@ impl<J: Naming, A: AllocHandle> Server<J, A> {
         self.lock(rt).step(&self.front, seat, command)
     }
 
-    // Takes the lock. A short wait is spent awake: to sleep and to be woken takes longer than many commits. The
-    // pauses grow, so that a thread with more to commit commits some of it before the state moves to another processor.
+    // Takes the lock. A short wait is spent awake: to sleep and to be woken takes longer than many commits.
+    // The pauses grow, so that a thread with more to commit commits some of it before the state moves to
+    // another processor.
     fn lock<R: Wait>(&self, rt: &R) -> MutexGuard<'_, Locked<J, A>> {
         for doublings in 0..LOCK_TRIES {
             if let Some(locked) = self.locked.try_lock() {
@@ -84,7 +85,8 @@ impl<J: Naming, A: AllocHandle> Server<J, A> {
         self.front.meet(first, second);
     }
 
-    /// Takes all seats back, and gives the sequential server after the history of all calls. It does not block.
+    /// Takes all seats back, and gives the sequential server after the history of all calls. It does not
+    /// block.
     pub fn close(
         self,
         seats: Vec<Seat<J, A>, A>,

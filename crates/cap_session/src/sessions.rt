@@ -1,5 +1,6 @@
 //! All sessions of a core, by number.
-ghost use Rattle.std.specs.Prelude.{◌≡◌, [], ◌∷◌, ◌++◌, Ok, Err, Some, None, IfOk, IfErr, OnOk, OnErr, length};
+ghost use Rattle.std.specs.Prelude.{◌≡◌, [], ◌∷◌, ◌++◌, Ok, Err, Some, None, IfOk, IfErr, OnOk, OnErr};
+ghost use Rattle.std.specs.Prelude.{length};
 ghost use Rattle.std.specs.Option.{option_copied, option_map};
 ghost use Rattle.cap_value.specs.Memory.{MatchFault};
 ghost use Rattle.cap_session.specs.Code.Numbered.{made_of};
@@ -81,8 +82,8 @@ impl<A: AllocHandle> Sessions<A> {
         Some(&self.sessions[place].session)
     }
 
-    /// Adds a new session with this number, where the hook allows it. The hook is asked once, after all memory is
-    /// reserved, and is shown the session. On an error the sessions are unchanged.
+    /// Adds a new session with this number, where the hook allows it. The hook is asked once, after all
+    /// memory is reserved, and is shown the session. On an error the sessions are unchanged.
     pub fn add_hooked<H: Hook<Session<A>>>(
         &mut self,
         number: u64,

@@ -15,9 +15,9 @@ use json::Writer;
 
 /// A changeset as JSON, on a line: an array with an object for each change.
 ///
-/// An object has the `table`, the `op` (`insert`, `update` or `delete`), whether the change is `indirect`, the
-/// names of the `key` columns, and its `old` and `new` records. Columns are `c0`, `c1` and so on. A value is
-/// null, a number, a string, or `{"blob":..}` with hex digits. Undefined fields are left out.
+/// An object has the `table`, the `op` (`insert`, `update` or `delete`), whether the change is `indirect`,
+/// the names of the `key` columns, and its `old` and `new` records. Columns are `c0`, `c1` and so on. A value
+/// is null, a number, a string, or `{"blob":..}` with hex digits. Undefined fields are left out.
 pub fn changeset_json<A: AllocHandle>(
     alloc: A,
     changes: &ChangeList<A>,

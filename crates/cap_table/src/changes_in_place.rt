@@ -5,7 +5,9 @@ ghost use Rattle.cap_value.specs.Memory.{AnswersUnlessMemory, LeavesUnlessMemory
 ghost use Rattle.cap_row.specs.Key.{key_of, fields_cmp};
 ghost use Rattle.cap_row.specs.Row.{row_with};
 ghost use Rattle.cap_tree.specs.Tree.{get};
-ghost use Rattle.cap_table.specs.Operation.{insert_row, update_row, delete_row, moved, rekeyed, under_key, under_next_id, with_id, without, row_of, refused_delete, refused_insert, refused_update};
+ghost use Rattle.cap_table.specs.Operation.{insert_row, update_row, delete_row, moved, rekeyed, under_key};
+ghost use Rattle.cap_table.specs.Operation.{under_next_id, with_id, without, row_of, refused_delete};
+ghost use Rattle.cap_table.specs.Operation.{refused_insert, refused_update};
 
 use crate::table::{IDS_END, Table};
 use crate::{Replaced, RowRef};
@@ -15,8 +17,9 @@ use cap_value::{AllocHandle, Fault, OutOfMemory, Refusal, Value};
 impl<A: AllocHandle> Table<A> {
     /// Adds a row, and answers its primary key, or none where it has none and gets the next id.
     ///
-    /// Refused with `WrongWidth` where the row has another width than the table, `Duplicate` where a row has its key
-    /// already, and `IdsSpent` where it has no key and the last id was given. On an error the table is as before.
+    /// Refused with `WrongWidth` where the row has another width than the table, `Duplicate` where a row has
+    /// its key already, and `IdsSpent` where it has no key and the last id was given. On an error the table
+    /// is as before.
     pub fn insert(&mut self, row: Row<A>) -> Result<Option<Key<A>>, Fault<Refusal>>
         ensures table { LeavesUnlessMemory result (insert_row self.old row) self.new }
         ensures kept { OnErr result (self.new ≡ self.old) }
@@ -35,12 +38,12 @@ impl<A: AllocHandle> Table<A> {
         Ok(answer)
     }
 
-    /// Sets fields of the row of this name, each a column, counted from 0, and its new value. Answers the primary key
-    /// of the new row, or none, and the old row.
+    /// Sets fields of the row of this name, each a column, counted from 0, and its new value. Answers the
+    /// primary key of the new row, or none, and the old row.
     ///
-    /// Refused with `BadColumn` where a column is outside the table or named twice, `NoRow` where no row has the
-    /// name, `Duplicate` where another row has the new key, and `IdsSpent` where the row loses its key and the last
-    /// id was given. On an error the table is as before.
+    /// Refused with `BadColumn` where a column is outside the table or named twice, `NoRow` where no row has
+    /// the name, `Duplicate` where another row has the new key, and `IdsSpent` where the row loses its key
+    /// and the last id was given. On an error the table is as before.
     pub fn update(
         &mut self,
         name: &RowRef<A>,

@@ -1,6 +1,7 @@
-//! Operations on rows that have a key, each by one search: the tree shows the table's hook the present row of the key,
-//! and the table's hook checks it before it asks the caller's hook.
-ghost use Rattle.std.specs.Prelude.{◌≡◌, Result, Ok, Err, Some, None, IfOk, IfErr, OnOk, OnErr, IsTrue, length, get_or, is_some, option_map, false};
+//! Operations on rows that have a key, each by one search: the tree shows the table's hook the present row of
+//! the key, and the table's hook checks it before it asks the caller's hook.
+ghost use Rattle.std.specs.Prelude.{◌≡◌, Result, Ok, Err, Some, None, IfOk, IfErr, OnOk, OnErr, IsTrue};
+ghost use Rattle.std.specs.Prelude.{length, get_or, is_some, option_map, false};
 ghost use Rattle.std.specs.List.{list_any};
 ghost use Rattle.cap_value.specs.declared.refusal.Refusal.{Refusal};
 ghost use Rattle.cap_row.specs.Fields.{Fields};
@@ -142,9 +143,9 @@ impl<A: AllocHandle> Table<A> {
         !names_key_column(self.schema.flags(), fields)
     }
 
-    /// Adds a row under its key if the hook allows it. Refused with `Duplicate` where a row has the key already. The
-    /// hook is asked once, after all memory is reserved, and only if no row has the key. On an error the table is as
-    /// before.
+    /// Adds a row under its key if the hook allows it. Refused with `Duplicate` where a row has the key
+    /// already. The hook is asked once, after all memory is reserved, and only if no row has the key. On an
+    /// error the table is as before.
     pub fn insert_keyed_hooked<H: Hook<Row<A>>>(
         &mut self,
         key: Key<A>,
@@ -187,8 +188,8 @@ impl<A: AllocHandle> Table<A> {
         }
     }
 
-    /// Removes the row of this key if the hook allows it, with `delete`'s refusals. The hook is shown the row. On an
-    /// error the table is as before.
+    /// Removes the row of this key if the hook allows it, with `delete`'s refusals. The hook is shown the
+    /// row. On an error the table is as before.
     pub fn delete_keyed_hooked<H: Hook<Row<A>>>(
         &mut self,
         key: &Key<A>,
@@ -213,8 +214,8 @@ impl<A: AllocHandle> Table<A> {
         }
     }
 
-    /// Sets fields of the row of this key, where that leaves its key, if the hook allows it. The hook is shown the row
-    /// before and after. On an error the table is as before.
+    /// Sets fields of the row of this key, where that leaves its key, if the hook allows it. The hook is
+    /// shown the row before and after. On an error the table is as before.
     pub fn update_kept_hooked<H: Hook<Row<A>>>(
         &mut self,
         key: &Key<A>,
@@ -226,7 +227,8 @@ impl<A: AllocHandle> Table<A> {
             ≡ Ok after
             → H.can_ask hook.old (get fields_cmp self.old.keyed key.now)
             (option_map (row_with fields.now) (get fields_cmp self.old.keyed key.now)) }
-        ensures table { LeavesOnceAllowed result (update_row self.old (RowRef.Key key.now) fields.now) self.new
+        ensures table { LeavesOnceAllowed result
+            (update_row self.old (RowRef.Key key.now) fields.now) self.new
             (hook.new ≡ hook.old)
             (λ answer. H.gives hook.old (get fields_cmp self.old.keyed key.now)
             (option_map (row_with fields.now) (get fields_cmp self.old.keyed key.now)) answer hook.new) }

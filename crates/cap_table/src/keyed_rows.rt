@@ -1,6 +1,6 @@
-//! A row got by its key, put under it, taken out from under it, or replaced by one that is made of it, in place and by one
-//! search. Whoever judges a put or a take by the row that it finds makes the change first, and puts the row back where the
-//! change is not to be.
+//! A row got by its key, put under it, taken out from under it, or replaced by one that is made of it, in
+//! place and by one search. Whoever judges a put or a take by the row that it finds makes the change first,
+//! and puts the row back where the change is not to be.
 ghost use Rattle.std.specs.Prelude.{◌≡◌, length, IfOk, IfSome, OnOk, OnErr, Some};
 ghost use Rattle.std.specs.Option.{option_copied};
 ghost use Rattle.cap_row.specs.Key.{key_of, fields_cmp};
@@ -51,11 +51,11 @@ impl<A: AllocHandle> Table<A> {
         Ok(before)
     }
 
-    /// Replaces the row of a key by one that `hook` makes of it, and answers the row that was there, or none where no row
-    /// has the key. It searches once.
+    /// Replaces the row of a key by one that `hook` makes of it, and answers the row that was there, or none
+    /// where no row has the key. It searches once.
     ///
-    /// `hook` is asked once, after all other memory is reserved, and only if there is a row. If it refuses, or on
-    /// `OutOfMemory`, the table is as before.
+    /// `hook` is asked once, after all other memory is reserved, and only if there is a row. If it refuses,
+    /// or on `OutOfMemory`, the table is as before.
     pub fn replace_keyed<H: Remake<Row<A>>>(
         &mut self,
         key: &Key<A>,

@@ -6,7 +6,8 @@ ghost use Rattle.cap_row.specs.Key.{fields_cmp, key_of};
 ghost use Rattle.cap_value.specs.declared.value.Value.{Value};
 ghost use Rattle.cap_tree.specs.Tree.{get};
 ghost use Rattle.cap_table.specs.Ids.{GivesIdsOnce};
-ghost use Rattle.cap_table.specs.Operation.{delete_row, empty_table, insert_row, update_row, with_key, without};
+ghost use Rattle.cap_table.specs.Operation.{delete_row, empty_table, insert_row, update_row, with_key};
+ghost use Rattle.cap_table.specs.Operation.{without};
 ghost use Rattle.cap_table.specs.Sound.{IsRising};
 ghost use Rattle.cap_table.specs.Table.{TableState};
 ghost use Rattle.cap_table.specs.declared.row_ref.RowRef.{RowRef};
@@ -27,9 +28,9 @@ pub fn insert_takes_next_id<A: AllocHandle>()
         (after.next_id ≡ before.next_id + 1) × (get nat_cmp after.loose before.next_id ≡ Some row) }
 {}
 
-/// Ids are never given again: the next id never falls, a row under an id that no row had stands under one that was not
-/// given before and is now, and an id that was given and whose row is gone names no row ever after. It holds from each
-/// state to the next, and so over any number of operations.
+/// Ids are never given again: the next id never falls, a row under an id that no row had stands under one
+/// that was not given before and is now, and an id that was given and whose row is gone names no row ever
+/// after. It holds from each state to the next, and so over any number of operations.
 pub fn ids_are_given_once<A: AllocHandle>()
     ensures insert { (table : TableState A) (row : Fields A) →
         IfOk (insert_row table row) (GivesIdsOnce table) }
@@ -52,8 +53,8 @@ pub fn operations_keep_columns<A: AllocHandle>()
         IfOk (delete_row table name) (λ after. after.schema ≡ table.schema) }
 {}
 
-/// In a table that operations have left, keys and ids rise, each row has the table's width, and stands under its own
-/// key, or where it has none under an id that was given.
+/// In a table that operations have left, keys and ids rise, each row has the table's width, and stands under
+/// its own key, or where it has none under an id that was given.
 pub fn operations_keep_tables<A: AllocHandle>()
     ensures empty { (schema : List Bool) → IsRising (empty_table {A = A} schema) }
     ensures insert { (table : TableState A) (row : Fields A) → IsRising table
@@ -64,8 +65,8 @@ pub fn operations_keep_tables<A: AllocHandle>()
         → IfOk (delete_row table name) IsRising }
 {}
 
-/// A row that is put under its own key, or taken out from under it, leaves such a table too, and a row that is found
-/// under a key has the table's width and that key.
+/// A row that is put under its own key, or taken out from under it, leaves such a table too, and a row that
+/// is found under a key has the table's width and that key.
 pub fn keyed_rows_keep_tables<A: AllocHandle>()
     ensures put { (table : TableState A) (key row : Fields A) → IsRising table
         → length row ≡ length table.schema → key_of table.schema row ≡ Some key
@@ -77,8 +78,8 @@ pub fn keyed_rows_keep_tables<A: AllocHandle>()
         → (length row ≡ length table.schema) × (key_of table.schema row ≡ Some key) }
 {}
 
-/// A row that goes back under its key, after another was put there or after it was taken out, leaves the table as it
-/// was; and nothing is taken out where no row has the key.
+/// A row that goes back under its key, after another was put there or after it was taken out, leaves the
+/// table as it was; and nothing is taken out where no row has the key.
 pub fn keyed_rows_go_back<A: AllocHandle>()
     ensures put { (table : TableState A) (key row other : Fields A) → IsRising table
         → get fields_cmp table.keyed key ≡ Some row → with_key (with_key table key other) key row ≡ table }

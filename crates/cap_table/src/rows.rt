@@ -8,8 +8,8 @@ use cap_tree::Tree;
 use cap_value::{AllocHandle, OutOfMemory};
 use std::marker::Model;
 
-/// All rows of a table as it stood, each with its name: those with a key in the order of their keys, and then the others
-/// by their ids. They share the table's nodes.
+/// All rows of a table as it stood, each with its name: those with a key in the order of their keys, and then
+/// the others by their ids. They share the table's nodes.
 pub struct Rows<A: AllocHandle> {
     keyed: Tree<Key<A>, Row<A>, A>,
     loose: Tree<u64, Row<A>, A>,

@@ -11,8 +11,8 @@ use cap_value::AllocHandle;
 use std::iter::FusedIterator;
 use std::marker::Model;
 
-/// The rows of a table that are still to come, each with its name: those with a key in the order of their keys, and
-/// then the others by their ids.
+/// The rows of a table that are still to come, each with its name: those with a key in the order of their
+/// keys, and then the others by their ids.
 #[derive(Drop)]
 pub struct Scan<'a, A: AllocHandle> {
     keyed: Iter<'a, Key<A>, Row<A>, A>,

@@ -15,8 +15,9 @@ use std::marker::Model;
 /// (Rowid Tables).
 pub const IDS_END: u64 = 1 << 63;
 
-/// A table: its columns and its rows. A row whose key columns are all there and not NULL is stored under its primary
-/// key; every other row is stored under an id. The ids start at 1, count upwards, and are never given again.
+/// A table: its columns and its rows. A row whose key columns are all there and not NULL is stored under its
+/// primary key; every other row is stored under an id. The ids start at 1, count upwards, and are never given
+/// again.
 ///
 /// Copies share rows and nodes.
 pub struct Table<A: AllocHandle> {
@@ -71,7 +72,8 @@ impl<A: AllocHandle> Table<A> {
         }
     }
 
-    /// An empty table that gives ids from `next_id` on: for a copy that goes on where the ids of another ended.
+    /// An empty table that gives ids from `next_id` on: for a copy that goes on where the ids of another
+    /// ended.
     pub fn with_next_id(alloc: A, schema: Schema<A>, next_id: u64) -> Self
         requires first { 1 ≤ next_id }
         requires last { next_id ≤ 2 ^ 63 }
@@ -128,7 +130,8 @@ impl<A: AllocHandle> Table<A> {
         }
     }
 
-    /// All rows, each with its name: those with a key in the order of their keys, and then the others by their ids.
+    /// All rows, each with its name: those with a key in the order of their keys, and then the others by
+    /// their ids.
     pub fn scan(&self) -> Scan<'_, A>
         ensures { result ≡ rows self.now }
     {

@@ -1,5 +1,5 @@
-//! Reads every blob that is one byte off a known one, and every front of five others, and counts what comes of it.
-//! Whatever reads is written, read and written again, and the bytes have to stay the same.
+//! Reads every blob that is one byte off a known one, and every front of five others, and counts what comes
+//! of it. Whatever reads is written, read and written again, and the bytes have to stay the same.
 #![tactic(auto)]
 
 ghost use Rattle.std.specs.Prelude.{◌<◌};

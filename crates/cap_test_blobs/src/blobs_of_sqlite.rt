@@ -6,9 +6,9 @@ use cap_codec::{
 use std::process::Abort;
 use std::test::*;
 
-/// What `sqlite3session_changeset` gave. The table is `t(a, b, c, d, primary key (b, d))` with the rows (0, 7, 1, 7)
-/// and (0, 8, 1, 8), of which the second is deleted, after ('x', 1, NULL, 2) was inserted and `c` set to 5 in the
-/// first. `00 01 00 02` are the key flags.
+/// What `sqlite3session_changeset` gave. The table is `t(a, b, c, d, primary key (b, d))` with the rows (0,
+/// 7, 1, 7) and (0, 8, 1, 8), of which the second is deleted, after ('x', 1, NULL, 2) was inserted and `c`
+/// set to 5 in the first. `00 01 00 02` are the key flags.
 const CHANGESET: [u8; 112] = [
     0x54, 4, 0, 1, 0, 2, 0x74, 0, 9, 0, 1, 0, 0, 0, 0, 0, 0, 0, 0, 1, 0, 0, 0, 0, 0, 0, 0, 8, 1, 0,
     0, 0, 0, 0, 0, 0, 1, 1, 0, 0, 0, 0, 0, 0, 0, 8, 0x12, 0, 3, 1, 0x78, 1, 0, 0, 0, 0, 0, 0, 0, 1,

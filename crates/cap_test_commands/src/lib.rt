@@ -1,5 +1,5 @@
-//! Tests of each command: as a step of the sequential server and as a call of the shared one, with ample memory and with
-//! each request for memory refused.
+//! Tests of each command: as a step of the sequential server and as a call of the shared one, with ample
+//! memory and with each request for memory refused.
 #![tactic(auto)]
 
 #[cfg(test)]

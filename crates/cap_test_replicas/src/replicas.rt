@@ -18,8 +18,8 @@ const OMIT: Policy = Policy {
     on_conflict: Answer::Abort,
 };
 
-// A replica is taken before rows change, and holds the first images. In either form it then has the rows of the
-// server; another that lacks a row meets a conflict.
+// A replica is taken before rows change, and holds the first images. In either form it then has the rows of
+// the server; another that lacks a row meets a conflict.
 fn replicated<J: Naming + Send + Sync, R: Wait + Abort>(
     rt: &R,
     opened: Opened<Global>,

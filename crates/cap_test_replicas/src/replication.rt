@@ -43,8 +43,8 @@ pub enum NotReplicated {
 
 /// Captures a session through a seat, and applies the bytes of the capture to a replica, under any policy.
 ///
-/// Whatever the schedule, the capture is the sequential server's at one point of one growing history. Where the replica
-/// holds the first images, it then has the rows at that point.
+/// Whatever the schedule, the capture is the sequential server's at one point of one growing history. Where
+/// the replica holds the first images, it then has the rows at that point.
 pub fn replicate<J: Naming, A: AllocHandle, R: Wait>(
     rt: &R,
     alloc: A,

@@ -24,7 +24,8 @@ fn first_reply(alloc: Global) -> Option<Reply<Global>>
     }
 }
 
-// Two seats append to the empty history; the second has to see the first one's event in place of adding its own.
+// Two seats append to the empty history; the second has to see the first one's event in place of adding its
+// own.
 fn append_from_both<J: Naming, R: Abort>(
     rt: &R,
     front: &Front<J, Global>,
@@ -45,7 +46,8 @@ fn append_from_both<J: Naming, R: Abort>(
     assert!(rt; (second.seen(), second.calls()) == (1, 0));
 }
 
-// Two seats append to the empty history; the second has to see the first one's event in place of adding its own.
+// Two seats append to the empty history; the second has to see the first one's event in place of adding its
+// own.
 fn append_twice<J: Naming, R: Abort>(
     rt: &R,
     opened: Opened<Global>,

@@ -9,8 +9,8 @@ use std::marker::Brand;
 use std::process::Abort;
 use std::test::*;
 
-// Whether a read from the seat under the lock is overtaken by a history of two events. The seat has then seen these, and
-// has made so many calls.
+// Whether a read from the seat under the lock is overtaken by a history of two events. The seat has then seen
+// these, and has made so many calls.
 fn is_overtaken<J: Naming>(
     front: &Front<J, Global>,
     lock: &mut Locked<J, Global>,
@@ -23,8 +23,8 @@ fn is_overtaken<J: Naming>(
     }
 }
 
-// Two seats call under one lock. Under the other the third seat finds a longer history, and so does the first, whose calls
-// are not those that this lock has counted.
+// Two seats call under one lock. Under the other the third seat finds a longer history, and so does the
+// first, whose calls are not those that this lock has counted.
 fn call_under_both<J: Naming, R: Abort>(
     rt: &R,
     front: &Front<J, Global>,

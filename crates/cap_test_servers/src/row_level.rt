@@ -13,8 +13,8 @@ use std::process::Abort;
 use std::sync::Wait;
 use std::test::*;
 
-// A transaction's calls, a workload that is carried out meanwhile, and the reply to the transaction's commit. The
-// transactions begin at version 3, where t has (1,'a') and (2,'b').
+// A transaction's calls, a workload that is carried out meanwhile, and the reply to the transaction's commit.
+// The transactions begin at version 3, where t has (1,'a') and (2,'b').
 const ROWS: &[(&[&str], &str, &str)] = &[
     (
         &["get t key(1)", "commit update t key(1) set 1 = 'c'"],

@@ -249,8 +249,8 @@ fn held<A: AllocHandle>(session: &Session<A>) -> (usize, u128) {
     (session.attached().count(), session.stored())
 }
 
-// Makes a call on a copy of the session, with this request for memory refused: whether it is made. Where it is not, the
-// copy is as before, and the same call is made on it again. None where anything else comes of it.
+// Makes a call on a copy of the session, with this request for memory refused: whether it is made. Where it
+// is not, the copy is as before, and the same call is made on it again. None where anything else comes of it.
 fn with_a_request_refused<A: AllocHandle>(
     memory: &Memory<&LocalHeap>,
     session: &Session<A>,
@@ -289,8 +289,8 @@ fn first_unused_request<A: AllocHandle>(
     None
 }
 
-// Whether each call, with each of its requests refused in turn, leaves the session as it was, and is answered when it
-// is made again.
+// Whether each call, with each of its requests refused in turn, leaves the session as it was, and is answered
+// when it is made again.
 fn each_call_may_be_refused<A: AllocHandle>(
     alloc: A,
     memory: &Memory<&LocalHeap>,

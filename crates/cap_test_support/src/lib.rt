@@ -1,5 +1,5 @@
-//! What the test crates share: memory that refuses one request, readers and writers that fail, and a commit hook that
-//! counts.
+//! What the test crates share: memory that refuses one request, readers and writers that fail, and a commit
+//! hook that counts.
 #![tactic(auto)]
 
 mod hook;

@@ -1,6 +1,7 @@
 //! Readers and writers of which one call fails.
 
-ghost use Rattle.std.specs.Prelude.{◌≡◌, ◌≢◌, ◌↔◌, ◌-◌, min, max, length, IsTrue, IsErr, IfOk, IfErr, OnOk, Some, true};
+ghost use Rattle.std.specs.Prelude.{◌≡◌, ◌≢◌, ◌↔◌, ◌-◌, min, max, length, IsTrue, IsErr, IfOk, IfErr, OnOk};
+ghost use Rattle.std.specs.Prelude.{Some, true};
 ghost use Rattle.std.specs.Io.{ReadsAtMost, WritesAtMost};
 ghost use Rattle.std.specs.Io.KnownBytes.{Keeps, ReadConsumes, WriteAppends};
 ghost use Rattle.std.specs.IoError.{error_kind};

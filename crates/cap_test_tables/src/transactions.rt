@@ -201,8 +201,8 @@ fn up_to_64_tables(rt: HostRuntime) -> Result<(), Fail> {
     Ok(())
 }
 
-// Makes an operation with this request for memory refused: whether it is made. Where it is not, the transaction is as
-// before. None where anything else comes of it.
+// Makes an operation with this request for memory refused: whether it is made. Where it is not, the
+// transaction is as before. None where anything else comes of it.
 fn op_with_a_request_refused<A: AllocHandle>(
     memory: &Memory<&LocalHeap>,
     txn: &mut Txn<A>,
@@ -244,8 +244,8 @@ fn back_with_a_request_refused<A: AllocHandle>(
     Some(!is_refused)
 }
 
-// Makes an operation with each of its requests refused in turn, on one transaction, until it is made: whether there
-// were such requests.
+// Makes an operation with each of its requests refused in turn, on one transaction, until it is made: whether
+// there were such requests.
 fn op_in_refused_memory<A: AllocHandle>(
     alloc: A,
     memory: &Memory<&LocalHeap>,
@@ -287,8 +287,8 @@ fn transact<A: AllocHandle>(alloc: A, memory: &Memory<&LocalHeap>) -> Result<boo
     Ok(is_made && is_undone && txn.into_batch().ops().is_empty())
 }
 
-// Each request for memory of an operation and of going back is refused in turn. The transaction is as before, and the
-// same call made again on it is answered.
+// Each request for memory of an operation and of going back is refused in turn. The transaction is as before,
+// and the same call made again on it is answered.
 #[test]
 fn each_allocation_may_be_refused(rt: HostRuntime) -> Result<(), Fail> {
     let heap = LocalHeap::new(rt.alloc(), 32768)?;

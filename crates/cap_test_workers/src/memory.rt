@@ -44,7 +44,8 @@ fn ends_for_memory(replies: &str, written: &[u8]) -> bool {
     }
 }
 
-// Whether a run that met a refused request ended as it should. A request that reserves memory for a hint is not needed.
+// Whether a run that met a refused request ended as it should. A request that reserves memory for a hint is
+// not needed.
 fn is_as_it_should(outcome: Result<(), RunFault>, replies: &str, written: &[u8]) -> bool {
     match outcome {
         Ok(()) => written == replies.as_bytes(),

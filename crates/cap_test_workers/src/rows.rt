@@ -49,8 +49,8 @@ pub(crate) const CHANGESET: &str =
 pub(crate) const SHOWN: &str =
     "changeset\ngroup t kvv\ninsert indirect (300,x'',null)\ninsert direct (-9223372036854775808,'',9223372036854775807)\nupdate direct old (1,'old',-) new (-,'it''s new',-)\ndelete direct (2,'gone',x'00ff')\ngroup größe kvk\nupdate indirect old ('k',-1,9) new (-,0,-)\n";
 
-/// Its inverse. SQLite's has the key flags of the changeset, of whose second table the third column is the first of
-/// the key; here the places are in the order of the columns.
+/// Its inverse. SQLite's has the key flags of the changeset, of whose second table the third column is the
+/// first of the key; here the places are in the order of the columns.
 pub(crate) const INVERSE: &str =
     "54030100007400090101000000000000012c04000509000180000000000000000300017fffffffffffffff1700010000000000000001030869742773206e6577000003036f6c640012000100000000000000020304676f6e65040200ff54030100026772c3b6c39f6500170103016b0100000000000000000100000000000000090001ffffffffffffffff00\n";
 
@@ -74,7 +74,8 @@ pub(crate) const TO_PATCHSET: Conversion = Conversion {
 pub(crate) const TO_JOIN: &str =
     "54030100007400120101000000000000012c04000512000180000000000000000300017fffffffffffffff170001000000000000000103036f6c640000030869742773206e65770009000100000000000000020304676f6e65040200ff54030200016772c3b6c39f6500170103016b01ffffffffffffffff0100000000000000090001000000000000000000\n54030100007400090101000000000000012c040005\n";
 
-/// What SQLite 3.40 makes of both, with the changes in the order of their keys, and the key flags as of the inverse.
+/// What SQLite 3.40 makes of both, with the changes in the order of their keys, and the key flags as of the
+/// inverse.
 pub(crate) const JOINED: &str =
     "5403010000740012000180000000000000000300017fffffffffffffff170001000000000000000103036f6c640000030869742773206e65770009000100000000000000020304676f6e65040200ff54030100026772c3b6c39f6500170103016b01ffffffffffffffff0100000000000000090001000000000000000000\n";
 

@@ -14,7 +14,8 @@ use std::io::{ErrorKind, Read, Write};
 use std::sync::Wait;
 use std::thread::Threads;
 
-/// A reader or a writer, and whether a call of it has failed. An interruption is no failure of a read or a write.
+/// A reader or a writer, and whether a call of it has failed. An interruption is no failure of a read or a
+/// write.
 #[derive(Drop)]
 pub struct Watched<S> {
     pub stream: S,

@@ -222,7 +222,8 @@ fn orders() -> [[u64; 4]; 24] {
     ]
 }
 
-// Whatever the order of the calls, each line's reply is that of its own call, and they stand in the order of the lines.
+// Whatever the order of the calls, each line's reply is that of its own call, and they stand in the order of
+// the lines.
 #[test]
 fn every_order_of_four_calls(rt: HostRuntime) -> Result<(), Fail> {
     let text = format!(in rt.alloc();

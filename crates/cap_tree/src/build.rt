@@ -1,5 +1,6 @@
 //! The nodes of a whole list of entries at once, as full as they can be.
-ghost use Rattle.std.specs.Prelude.{◌≡◌, ℕ, ◌+◌, ◌-◌, ◌*◌, ◌^◌, ◌<◌, ◌≤◌, ◌++◌, length, vec_len, IsTrue, IfOk, ◌↔◌};
+ghost use Rattle.std.specs.Prelude.{◌≡◌, ℕ, ◌+◌, ◌-◌, ◌*◌, ◌^◌, ◌<◌, ◌≤◌, ◌++◌, length, vec_len, IsTrue};
+ghost use Rattle.std.specs.Prelude.{IfOk, ◌↔◌};
 ghost use Rattle.std.specs.Arc.{arc_value};
 ghost use Rattle.cap_tree.specs.Shape.{seen, entries_of, AreChildren, IsFit, AreFit, EachBelow, NoneBelow};
 ghost use Rattle.cap_tree.specs.Root.{root_entries, IsRoot};
@@ -29,8 +30,8 @@ pub(crate) fn is_ordered<K: Ord, V>(entries: &[(K, V)]) -> bool
     true
 }
 
-// How many of so many entries the last child of a node gets, of which each has room for `share`: so many that no
-// child is less than half full.
+// How many of so many entries the last child of a node gets, of which each has room for `share`: so many that
+// no child is less than half full.
 fn last_share(rest: usize, share: usize) -> usize
     requires some { 0 < rest }
     requires room { 0 < share }
@@ -166,8 +167,8 @@ fn last_child<K: Ord + Exact + Drop, V: Drop, A: AllocHandle>(
     Ok(Child { least, node })
 }
 
-// The least height at which a node has room for so many entries, and how many of them each of its children has room
-// for.
+// The least height at which a node has room for so many entries, and how many of them each of its children
+// has room for.
 fn lowest_for(count: usize) -> (u64, usize)
     requires { 0 < count }
     ensures share { result.1 ≡ 16 ^ result.0 }

@@ -63,8 +63,8 @@ fn is_up_to_last<K: Ord, V, A: AllocHandle>(children: &[Child<K, V, A>], key: &K
     }
 }
 
-// How many of the children, from the first on, are not above the key. It looks at the last one first, since rising
-// keys belong there.
+// How many of the children, from the first on, are not above the key. It looks at the last one first, since
+// rising keys belong there.
 #[inline]
 pub(crate) fn count_up_to<K: Ord, V, A: AllocHandle>(children: &[Child<K, V, A>], key: &K) -> usize
     ensures within { result ≤ length children.now }

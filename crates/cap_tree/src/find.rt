@@ -9,8 +9,8 @@ use crate::leaf::search;
 use crate::node::{Child, Link, Node};
 use cap_value::AllocHandle;
 
-// The child among whose entries the key belongs, and the children behind it. It is the first one where all entries
-// are above the key.
+// The child among whose entries the key belongs, and the children behind it. It is the first one where all
+// entries are above the key.
 #[inline]
 pub(crate) fn child_for<'a, K: Ord, V, A: AllocHandle>(
     children: &'a [Child<K, V, A>],

@@ -5,11 +5,11 @@ ghost use Rattle.cap_value.specs.Memory.{MatchFault};
 
 use cap_value::Fault;
 
-/// A hook that is shown the present value of a key and its next one, and allows the change or refuses it. It may
-/// change itself.
+/// A hook that is shown the present value of a key and its next one, and allows the change or refuses it. It
+/// may change itself.
 ///
-/// A call that takes one asks it once, after all memory is reserved and before anything changes. Once it allows the
-/// change, the change cannot fail. If it refuses, nothing changes.
+/// A call that takes one asks it once, after all memory is reserved and before anything changes. Once it
+/// allows the change, the change cannot fail. If it refuses, nothing changes.
 pub trait Hook<V> {
     /// Why the hook refuses.
     type Refusal: Drop;

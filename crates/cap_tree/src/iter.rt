@@ -31,7 +31,8 @@ impl<'a, K: Ord, V, A: AllocHandle> Model for Iter<'a, K, V, A> {
 
     ghost view = { λ s. s.leaf.now ++ pending s.path.items };
 
-    ghost invariant = { λ s. IsPath 32 s.path.items × (length (s.leaf.now ++ pending s.path.items) < 2 ^ 64) };
+    ghost invariant = { λ s. IsPath 32 s.path.items
+        × (length (s.leaf.now ++ pending s.path.items) < 2 ^ 64) };
 }
 
 impl<'a, K: Ord, V, A: AllocHandle> Iter<'a, K, V, A> {

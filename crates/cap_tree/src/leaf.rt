@@ -1,5 +1,6 @@
 //! Entries of a leaf.
-ghost use Rattle.std.specs.Prelude.{◌≡◌, ℕ, ◌+◌, ◌<◌, ◌≤◌, length, slice_set, slice_index_or, vec_len, true, MatchResult, Some, None};
+ghost use Rattle.std.specs.Prelude.{◌≡◌, ℕ, ◌+◌, ◌<◌, ◌≤◌, length, slice_set, slice_index_or, vec_len, true};
+ghost use Rattle.std.specs.Prelude.{MatchResult, Some, None};
 ghost use Rattle.std.specs.List.{insert, remove};
 ghost use Rattle.std.specs.Vec.{vec_capacity};
 ghost use Rattle.cap_tree.specs.Tree.{IsOrdered, get, put_entry, take_entry};
@@ -22,8 +23,8 @@ fn is_past_last<K: Ord, V>(entries: &[(K, V)], key: &K) -> bool
     }
 }
 
-// The index of the key, or the index where it belongs. It looks at the last entry first, since rising keys belong
-// behind it.
+// The index of the key, or the index where it belongs. It looks at the last entry first, since rising keys
+// belong behind it.
 #[inline]
 pub(crate) fn search<K: Ord, V>(entries: &[(K, V)], key: &K) -> Result<usize, usize>
     requires { IsOrdered K.cmp entries.now }

@@ -1,5 +1,6 @@
-//! Ordered maps whose old versions stay readable: a [`Tree`] is a B+ tree with up to sixteen items a node. Trees share
-//! nodes through `Arc`. A change copies the shared nodes on the path from the root, and changes the others in place.
+//! Ordered maps whose old versions stay readable: a [`Tree`] is a B+ tree with up to sixteen items a node.
+//! Trees share nodes through `Arc`. A change copies the shared nodes on the path from the root, and changes
+//! the others in place.
 #![tactic(auto)]
 
 mod build;

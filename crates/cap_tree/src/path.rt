@@ -11,8 +11,8 @@ use arrayvec::ArrayVec;
 use cap_value::AllocHandle;
 use std::cmp::Ordering;
 
-/// The most levels of inner nodes that a path has room for. No tree has as many: each node has four children, but for
-/// the root, and a length has 64 binary digits.
+/// The most levels of inner nodes that a path has room for. No tree has as many: each node has four children,
+/// but for the root, and a length has 64 binary digits.
 pub(crate) const ROOM: usize = 32;
 
 /// The children that are still to come of each inner node on the way down, the highest node first.

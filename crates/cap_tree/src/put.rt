@@ -1,5 +1,6 @@
 //! A put in place, with a hook.
-ghost use Rattle.std.specs.Prelude.{if◌then◌else◌, ◌≡◌, ◌+◌, ◌<◌, ◌≤◌, ◌^◌, length, vec_len, Some, Ok, Err, IfOk, IfErr, OnOk, OnErr};
+ghost use Rattle.std.specs.Prelude.{if◌then◌else◌, ◌≡◌, ◌+◌, ◌<◌, ◌≤◌, ◌^◌, length, vec_len, Some, Ok, Err};
+ghost use Rattle.std.specs.Prelude.{IfOk, IfErr, OnOk, OnErr};
 ghost use Rattle.std.specs.Arc.{arc_value};
 ghost use Rattle.std.specs.Option.{is_some};
 ghost use Rattle.cap_value.specs.Memory.{MatchFault};
@@ -61,8 +62,8 @@ fn put_in_leaf<K: Ord + Drop, V: Drop, A: AllocHandle, H: Hook<V>>(
     }
 }
 
-// Puts the entry into a node that is not full. On the way down shared nodes are copied and full ones are split, which
-// keeps the entries; `hook` is asked at the bottom, where there is room.
+// Puts the entry into a node that is not full. On the way down shared nodes are copied and full ones are
+// split, which keeps the entries; `hook` is asked at the bottom, where there is room.
 #[cycle(put)]
 pub(crate) fn put_in_node<K: Ord + Exact + Drop, V: Exact + Drop, A: AllocHandle, H: Hook<V>>(
     node: &mut Node<K, V, A>,

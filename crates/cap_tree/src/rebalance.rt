@@ -1,8 +1,10 @@
 //! Underfull nodes take items of a sibling, or are merged with it.
-ghost use Rattle.std.specs.Prelude.{List, ◌≡◌, ◌≢◌, ℕ, ◌+◌, ◌<◌, ◌≤◌, ◌^◌, ◌⊎◌, ◌++◌, length, vec_len, take, drop, IfOk, OnOk, OnErr};
+ghost use Rattle.std.specs.Prelude.{List, ◌≡◌, ◌≢◌, ℕ, ◌+◌, ◌<◌, ◌≤◌, ◌^◌, ◌⊎◌, ◌++◌, length, vec_len, take};
+ghost use Rattle.std.specs.Prelude.{drop, IfOk, OnOk, OnErr};
 ghost use Rattle.std.specs.Arc.{arc_value};
 ghost use Rattle.cap_tree.specs.Tree.{IsOrdered};
-ghost use Rattle.cap_tree.specs.Shape.{seen, place, items_at, entries_of, AreChildren, AreFit, IsFilled, EachBelow, NoneBelow};
+ghost use Rattle.cap_tree.specs.Shape.{seen, place, items_at, entries_of, AreChildren, AreFit, IsFilled};
+ghost use Rattle.cap_tree.specs.Shape.{EachBelow, NoneBelow};
 ghost use Rattle.cap_tree.specs.Cut.{IsCut, merged, of_entries, of_children};
 
 use crate::child::count_of;
@@ -12,8 +14,8 @@ use cap_value::{AllocHandle, Exact, OutOfMemory};
 use std::cmp::Ordering;
 use std::sync::Arc;
 
-// Redistributes the entries of two sibling leaves, so that the front one has `at` of them, and answers the first
-// key of the back one.
+// Redistributes the entries of two sibling leaves, so that the front one has `at` of them, and answers the
+// first key of the back one.
 fn redistribute_entries<K: Ord + Exact + Drop, V: Drop, A: AllocHandle>(
     front: &mut Vec<(K, V), A>,
     back: &mut Vec<(K, V), A>,
@@ -34,8 +36,9 @@ fn redistribute_entries<K: Ord + Exact + Drop, V: Drop, A: AllocHandle>(
     Ok(least)
 }
 
-// Redistributes the children of two sibling nodes, so that the front one has `at` of them, and answers the least
-// key of the back one and the number of its entries. Its own least key was `least`, which its first child gets.
+// Redistributes the children of two sibling nodes, so that the front one has `at` of them, and answers the
+// least key of the back one and the number of its entries. Its own least key was `least`, which its first
+// child gets.
 fn redistribute_child_lists<K: Ord + Exact + Drop, V: Drop, A: AllocHandle>(
     front: &mut Vec<Child<K, V, A>, A>,
     back: &mut Vec<Child<K, V, A>, A>,
@@ -79,8 +82,8 @@ fn redistribute_child_lists<K: Ord + Exact + Drop, V: Drop, A: AllocHandle>(
     Ok((next, behind))
 }
 
-// Moves the children of the back node behind those of the front one. The back node's least key was `least`, which its
-// first child gets.
+// Moves the children of the back node behind those of the front one. The back node's least key was `least`,
+// which its first child gets.
 fn merge_child_lists<K: Ord + Exact + Drop, V: Drop, A: AllocHandle>(
     front: &mut Vec<Child<K, V, A>, A>,
     back: &mut Vec<Child<K, V, A>, A>,
@@ -148,8 +151,8 @@ fn merge<K: Ord + Exact + Drop, V: Drop, A: AllocHandle>(
     }
 }
 
-// Redistributes the items of two sibling nodes, so that the front one has `at` of them, and answers the least key
-// of the back one, which was `least`.
+// Redistributes the items of two sibling nodes, so that the front one has `at` of them, and answers the least
+// key of the back one, which was `least`.
 fn redistribute<K: Ord + Exact + Drop, V: Drop, A: AllocHandle>(
     front: &mut Node<K, V, A>,
     back: &mut Node<K, V, A>,
@@ -189,7 +192,8 @@ fn redistribute<K: Ord + Exact + Drop, V: Drop, A: AllocHandle>(
     }
 }
 
-// The back child's items go behind those of the front one. What is left of the back child is to be thrown away.
+// The back child's items go behind those of the front one. What is left of the back child is to be thrown
+// away.
 fn merge_pair<K: Ord + Exact + Drop, V: Exact + Drop, A: AllocHandle>(
     front: &mut Child<K, V, A>,
     back: &mut Child<K, V, A>,
@@ -278,8 +282,8 @@ fn merge_children<K: Ord + Exact + Drop, V: Exact + Drop, A: AllocHandle>(
     Ok(())
 }
 
-// Redistributes the items of the child at `at` and of the one behind it, so that the front one has `cut` of them, and
-// answers which of the two the key belongs to.
+// Redistributes the items of the child at `at` and of the one behind it, so that the front one has `cut` of
+// them, and answers which of the two the key belongs to.
 fn redistribute_children<K: Ord + Exact + Drop, V: Exact + Drop, A: AllocHandle>(
     children: &mut Vec<Child<K, V, A>, A>,
     height: u64,
@@ -318,8 +322,8 @@ fn redistribute_children<K: Ord + Exact + Drop, V: Exact + Drop, A: AllocHandle>
     }
 }
 
-// Fills the child at `at` or the one behind it, of which one is underfull, from the other, and answers where the key, which
-// belongs to one of them, belongs then.
+// Fills the child at `at` or the one behind it, of which one is underfull, from the other, and answers where
+// the key, which belongs to one of them, belongs then.
 fn refill<K: Ord + Exact + Drop, V: Exact + Drop, A: AllocHandle>(
     children: &mut Vec<Child<K, V, A>, A>,
     height: u64,

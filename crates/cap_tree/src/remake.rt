@@ -6,8 +6,9 @@ use cap_value::Fault;
 
 /// A hook that makes the new value of a key from the present one, or refuses. It may change itself.
 ///
-/// A call that takes one asks it once, after all other memory is reserved and before anything changes, and only
-/// if the key has a value. Once it answers a value the change cannot fail. If it refuses, nothing changes.
+/// A call that takes one asks it once, after all other memory is reserved and before anything changes, and
+/// only if the key has a value. Once it answers a value the change cannot fail. If it refuses, nothing
+/// changes.
 pub trait Remake<V> {
     /// Why the hook refuses.
     type Refusal: Drop;

@@ -1,5 +1,6 @@
 //! Changes of the root node in place, each with a hook.
-ghost use Rattle.std.specs.Prelude.{◌≡◌, ◌+◌, ◌<◌, ◌≤◌, [], ◌^◌, length, Some, None, Ok, Err, IfOk, IfErr, IfSome, IfNone, OnOk, OnErr};
+ghost use Rattle.std.specs.Prelude.{◌≡◌, ◌+◌, ◌<◌, ◌≤◌, [], ◌^◌, length, Some, None, Ok, Err, IfOk, IfErr};
+ghost use Rattle.std.specs.Prelude.{IfSome, IfNone, OnOk, OnErr};
 ghost use Rattle.std.specs.Arc.{arc_value};
 ghost use Rattle.cap_value.specs.Memory.{MatchFault};
 ghost use Rattle.cap_tree.specs.Tree.{IsOrdered, get, put_entry, take_entry};
@@ -89,7 +90,8 @@ fn lone_child<K: Ord + Drop, V: Drop, A: AllocHandle>(
     }
 }
 
-// Takes the entry at the key out below a root that has a node. The node is replaced by its child where only one is left.
+// Takes the entry at the key out below a root that has a node. The node is replaced by its child where only
+// one is left.
 pub(crate) fn take_from_root<K: Ord + Exact + Drop, V: Exact + Drop, A: AllocHandle, H: Hook<V>>(
     root: &mut Arc<Node<K, V, A>, A>,
     key: &K,

@@ -1,5 +1,6 @@
 //! Items that move between two vectors, of which one goes on where the other ends.
-ghost use Rattle.std.specs.Prelude.{◌≡◌, ◌+◌, ◌<◌, ◌≤◌, ◌++◌, length, vec_len, take, drop, slice_index_or, OnOk};
+ghost use Rattle.std.specs.Prelude.{◌≡◌, ◌+◌, ◌<◌, ◌≤◌, ◌++◌, length, vec_len, take, drop, slice_index_or};
+ghost use Rattle.std.specs.Prelude.{OnOk};
 ghost use Rattle.std.specs.Vec.{vec_capacity};
 
 use crate::room::insert_in_room;
@@ -26,8 +27,8 @@ pub(crate) fn shift_back<T: Drop, A: AllocHandle>(
     }
 }
 
-// Moves as many of the first items of the back one to the front one that the front one has `at`, for which it has
-// room.
+// Moves as many of the first items of the back one to the front one that the front one has `at`, for which it
+// has room.
 pub(crate) fn shift_front<T: Drop, A: AllocHandle>(
     front: &mut Vec<T, A>,
     back: &mut Vec<T, A>,

@@ -1,5 +1,6 @@
 //! Full nodes are split in two.
-ghost use Rattle.std.specs.Prelude.{List, ◌≡◌, ℕ, ◌+◌, ◌<◌, ◌≤◌, ◌^◌, ◌++◌, length, vec_len, take, drop, slice_index_or, IfOk, OnOk, OnErr};
+ghost use Rattle.std.specs.Prelude.{List, ◌≡◌, ℕ, ◌+◌, ◌<◌, ◌≤◌, ◌^◌, ◌++◌, length, vec_len, take, drop};
+ghost use Rattle.std.specs.Prelude.{slice_index_or, IfOk, OnOk, OnErr};
 ghost use Rattle.std.specs.Arc.{arc_value};
 ghost use Rattle.cap_tree.specs.Tree.{IsOrdered};
 ghost use Rattle.cap_tree.specs.Shape.{seen, place, entries_of, AreChildren, AreFit, IsFilled};
@@ -14,9 +15,9 @@ use std::cmp::Ordering;
 use std::sync::Arc;
 
 impl<K: Ord, V, A: AllocHandle> Node<K, V, A> {
-    // Where a full node is split into which the key is to be put: near its end where the key belongs behind all items,
-    // near its start where it belongs in front of all, so that rising and falling keys leave full nodes behind, and
-    // else in the middle.
+    // Where a full node is split into which the key is to be put: near its end where the key belongs behind
+    // all items, near its start where it belongs in front of all, so that rising and falling keys leave full
+    // nodes behind, and else in the middle.
     pub(crate) fn cut_for(&self, key: &K) -> usize
         ensures least { 4 ≤ result }
         ensures most { result ≤ 12 }

@@ -1,5 +1,6 @@
 //! A removal in place, with a hook.
-ghost use Rattle.std.specs.Prelude.{if◌then◌else◌, ◌≡◌, ◌+◌, ◌<◌, ◌≤◌, ◌^◌, length, vec_len, true, None, Ok, Err, IfOk, IfErr, OnOk, OnErr};
+ghost use Rattle.std.specs.Prelude.{if◌then◌else◌, ◌≡◌, ◌+◌, ◌<◌, ◌≤◌, ◌^◌, length, vec_len, true, None, Ok};
+ghost use Rattle.std.specs.Prelude.{Err, IfOk, IfErr, OnOk, OnErr};
 ghost use Rattle.std.specs.Arc.{arc_value};
 ghost use Rattle.std.specs.Option.{is_some};
 ghost use Rattle.cap_value.specs.Memory.{MatchFault};
@@ -68,8 +69,9 @@ pub(crate) fn ask_for_none<V: Drop, H: Hook<V>>(
     Ok(None)
 }
 
-// Takes the entry at the key out of a node, if there is one. On the way down shared nodes are copied and underfull ones are
-// refilled from a sibling, which keeps the entries; `hook` is asked at the bottom, also where no key is equal.
+// Takes the entry at the key out of a node, if there is one. On the way down shared nodes are copied and
+// underfull ones are refilled from a sibling, which keeps the entries; `hook` is asked at the bottom, also
+// where no key is equal.
 #[cycle(take)]
 pub(crate) fn take_from_node<K: Ord + Exact + Drop, V: Exact + Drop, A: AllocHandle, H: Hook<V>>(
     node: &mut Node<K, V, A>,
@@ -102,7 +104,8 @@ pub(crate) fn take_from_node<K: Ord + Exact + Drop, V: Exact + Drop, A: AllocHan
     }
 }
 
-// Takes the entry at the key out of a child that can lose an item, and becomes the only owner of its node first.
+// Takes the entry at the key out of a child that can lose an item, and becomes the only owner of its node
+// first.
 #[cycle(take)]
 fn take_from_child<K: Ord + Exact + Drop, V: Exact + Drop, A: AllocHandle, H: Hook<V>>(
     child: &mut Child<K, V, A>,

@@ -1,5 +1,7 @@
 //! The tree, seen as the list of its entries in the order of their keys.
-ghost use Rattle.std.specs.Prelude.{◌≡◌, ℕ, ◌+◌, ◌-◌, ◌*◌, ◌^◌, ◌<◌, ◌≤◌, [], ◌++◌, length, slice_get, IfNone, IfSome, IsTrue, IsSome, IfOk, IfErr, OnOk, OnErr, Ok, Err, None, Some, is_some, if◌then◌else◌, ◌↔◌};
+ghost use Rattle.std.specs.Prelude.{◌≡◌, ℕ, ◌+◌, ◌-◌, ◌*◌, ◌^◌, ◌<◌, ◌≤◌, [], ◌++◌, length, slice_get};
+ghost use Rattle.std.specs.Prelude.{IfNone, IfSome, IsTrue, IsSome, IfOk, IfErr, OnOk, OnErr, Ok, Err, None};
+ghost use Rattle.std.specs.Prelude.{Some, is_some, if◌then◌else◌, ◌↔◌};
 ghost use Rattle.std.specs.Option.{option_copied};
 ghost use Rattle.std.specs.List.{All};
 ghost use Rattle.std.specs.BTreeMap.Range.{entries_below, entries_from};
@@ -25,8 +27,8 @@ use std::sync::Arc;
 
 /// A map whose old versions stay readable: a snapshot costs the same whatever the tree holds.
 ///
-/// A tree and its snapshots share nodes. A change copies the shared nodes on one way down, at most once each, and
-/// changes the others in place, so it takes time in proportion to the logarithm of the number of entries.
+/// A tree and its snapshots share nodes. A change copies the shared nodes on one way down, at most once each,
+/// and changes the others in place, so it takes time in proportion to the logarithm of the number of entries.
 /// Errors are those of the allocator; an error leaves every tree as it was.
 ///
 /// In a clause a tree is the list of its entries, in the order of the keys. No two keys are equal by `Ord`.
@@ -82,11 +84,11 @@ impl<K: Ord, V, A: AllocHandle> Tree<K, V, A> {
         self.len() == 0
     }
 
-    /// The number of nodes on the way from the root down to an entry, which is the same for all, and 0 for the empty
-    /// tree.
+    /// The number of nodes on the way from the root down to an entry, which is the same for all, and 0 for
+    /// the empty tree.
     ///
-    /// Each node holds at most 16 items, and at least 4 unless it is the root, which then has at least 2 children.
-    /// So a tree is at most as high as the number of its entries has binary digits.
+    /// Each node holds at most 16 items, and at least 4 unless it is the root, which then has at least 2
+    /// children. So a tree is at most as high as the number of its entries has binary digits.
     pub fn height(&self) -> u64
         ensures empty { (result ≡ 0) ↔ (self.now ≡ []) }
         ensures most { length self.now ≤ 16 ^ result }
@@ -125,7 +127,8 @@ impl<K: Ord, V, A: AllocHandle> Tree<K, V, A> {
         }
     }
 
-    /// The entries in the order of their keys. Going over all of them takes time in proportion to their number.
+    /// The entries in the order of their keys. Going over all of them takes time in proportion to their
+    /// number.
     pub fn iter(&self) -> Iter<'_, K, V, A>
         ensures rest { result ≡ self.now }
         ensures ordered { IsOrdered K.cmp self.now }
@@ -189,10 +192,11 @@ impl<'a, K: Ord, V, A: AllocHandle> IntoIterator for &'a Tree<K, V, A> {
 }
 
 impl<K: Ord + Exact + Drop, V: Exact + Drop, A: AllocHandle> Tree<K, V, A> {
-    /// Puts the value at the key if the hook allows it, and answers the value that was there. It searches once.
+    /// Puts the value at the key if the hook allows it, and answers the value that was there. It searches
+    /// once.
     ///
-    /// `hook` is asked once, after all memory is reserved, and is shown the present value of the key, if any, and the
-    /// new one. If it refuses, or on `OutOfMemory`, the tree is as it was.
+    /// `hook` is asked once, after all memory is reserved, and is shown the present value of the key, if any,
+    /// and the new one. If it refuses, or on `OutOfMemory`, the tree is as it was.
     pub fn insert_hooked<H: Hook<V>>(
         &mut self,
         key: K,
@@ -220,10 +224,11 @@ impl<K: Ord + Exact + Drop, V: Exact + Drop, A: AllocHandle> Tree<K, V, A> {
         }
     }
 
-    /// Removes the entry at the key, if there is one, if the hook allows it, and answers its value. It searches once.
+    /// Removes the entry at the key, if there is one, if the hook allows it, and answers its value. It
+    /// searches once.
     ///
-    /// `hook` is asked once, after all memory is reserved, and is shown the present value of the key, if any. If it
-    /// refuses, or on `OutOfMemory`, the tree is as it was.
+    /// `hook` is asked once, after all memory is reserved, and is shown the present value of the key, if any.
+    /// If it refuses, or on `OutOfMemory`, the tree is as it was.
     pub fn remove_hooked<H: Hook<V>>(
         &mut self,
         key: &K,
@@ -243,11 +248,11 @@ impl<K: Ord + Exact + Drop, V: Exact + Drop, A: AllocHandle> Tree<K, V, A> {
         }
     }
 
-    /// Replaces the value at the key by one that `hook` makes of it, and answers the value that was there, or none
-    /// where no key is equal. It searches once, and splits or merges no node.
+    /// Replaces the value at the key by one that `hook` makes of it, and answers the value that was there, or
+    /// none where no key is equal. It searches once, and splits or merges no node.
     ///
-    /// `hook` is asked once, after all other memory is reserved, and only if there is a value. If it refuses, or on
-    /// `OutOfMemory`, the tree is as it was.
+    /// `hook` is asked once, after all other memory is reserved, and only if there is a value. If it refuses,
+    /// or on `OutOfMemory`, the tree is as it was.
     pub fn replace_hooked<H: Remake<V>>(
         &mut self,
         key: &K,
@@ -330,8 +335,8 @@ impl<K: Ord + Exact + Drop, V: Exact + Drop, A: AllocHandle> Tree<K, V, A> {
         Ok(whole)
     }
 
-    /// The tree of a list of entries, or none where some key is not below the one that follows it. It takes time in
-    /// proportion to the number of entries, and its nodes are as full as they can be.
+    /// The tree of a list of entries, or none where some key is not below the one that follows it. It takes
+    /// time in proportion to the number of entries, and its nodes are as full as they can be.
     pub fn from_sorted(alloc: A, entries: Vec<(K, V), A>) -> Result<Option<Self>, OutOfMemory>
         ensures entries { IfOk result (λ o. IfSome o (λ t. t ≡ entries.items)) }
         ensures ordered { IfOk result (λ o. IsSome o ↔ IsOrdered K.cmp entries.items) }

@@ -15,8 +15,8 @@ use std::marker::Model;
 /// The most operations of a batch, and of a transaction those that are not undone.
 pub const OPS_MAX: usize = 10_000;
 
-/// Operations that are made whole or not at all: on any version, on one alone, or, where a transaction made them,
-/// where all that it looked at is still as it was.
+/// Operations that are made whole or not at all: on any version, on one alone, or, where a transaction made
+/// them, where all that it looked at is still as it was.
 #[derive(Drop)]
 pub struct Batch<A: AllocHandle> {
     base: Option<u64>,
@@ -73,8 +73,8 @@ impl<A: AllocHandle> Batch<A> {
         }
     }
 
-    /// Puts an operation last. Refused with `TooMany` where there are `OPS_MAX`. What a transaction saw is dropped:
-    /// the batch keeps its base as a number alone. On an error the batch is as before.
+    /// Puts an operation last. Refused with `TooMany` where there are `OPS_MAX`. What a transaction saw is
+    /// dropped: the batch keeps its base as a number alone. On an error the batch is as before.
     pub fn push(&mut self, op: Op<A>) -> Result<(), Fault<Refusal>>
         ensures batch { LeavesUnlessMemory result (push self.old op) self.new }
         ensures kept { OnErr result (self.new ≡ self.old) }
@@ -106,8 +106,8 @@ impl<A: AllocHandle> Batch<A> {
         self.base
     }
 
-    /// What the transaction looked at, each item once, in order of first look. It is empty where no transaction
-    /// made the batch, or an operation was put last since.
+    /// What the transaction looked at, each item once, in order of first look. It is empty where no
+    /// transaction made the batch, or an operation was put last since.
     pub fn footprint(&self) -> &[Item<A>]
         ensures { result.now ≡ footprint_of self.now.seen }
     {
@@ -127,17 +127,17 @@ impl<A: AllocHandle> Batch<A> {
         }
     }
 
-    /// A law of every batch that a transaction made, for who commits it: its operations are what stands after the
-    /// calls of its trace on its base, with the answers there. The call does nothing.
+    /// A law of every batch that a transaction made, for who commits it: its operations are what stands after
+    /// the calls of its trace on its base, with the answers there. The call does nothing.
     pub fn seen_stands(&self)
         ensures { WhereSeen self.now.base self.now.seen (StandsFor self.now.ops) }
     {
         let _ops = &self.ops;
     }
 
-    /// Why the batch is out of date on a database of this version, if it is. The batch of a transaction is where an
-    /// item of its footprint has changed, and the refusal has the number of the first that has. Another with a
-    /// base is where the version is not its base. It takes no memory.
+    /// Why the batch is out of date on a database of this version, if it is. The batch of a transaction is
+    /// where an item of its footprint has changed, and the refusal has the number of the first that has.
+    /// Another with a base is where the version is not its base. It takes no memory.
     pub fn stale(&self, version: u64, database: &Database<A>) -> Option<Refusal>
         ensures stale { result
             ≡ stale self.now.base self.now.seen (record { version = version; database = database.now }) }

@@ -1,11 +1,13 @@
 //! What a call looks at.
-ghost use Rattle.std.specs.Prelude.{◌≡◌, ◌∷◌, [], ◌++◌, length, Some, None, IfOk, OnOk, IsTrue, if◌then◌else◌};
+ghost use Rattle.std.specs.Prelude.{◌≡◌, ◌∷◌, [], ◌++◌, length, Some, None, IfOk, OnOk, IsTrue};
+ghost use Rattle.std.specs.Prelude.{if◌then◌else◌};
 ghost use Rattle.cap_row.specs.Key.{key_of};
 ghost use Rattle.cap_row.specs.Row.{are_columns, columns_of, row_with};
 ghost use Rattle.cap_table.specs.Operation.{row_of};
 ghost use Rattle.cap_value.specs.declared.refusal.Refusal.TheVariants.{TooMany};
 ghost use Rattle.cap_txn.specs.Calls.{items_at};
-ghost use Rattle.cap_txn.specs.Footprint.{action_items, moved_items, op_items, place_items, read_items, updated_items};
+ghost use Rattle.cap_txn.specs.Footprint.{action_items, moved_items, op_items, place_items, read_items};
+ghost use Rattle.cap_txn.specs.Footprint.{updated_items};
 
 use crate::{Asked, Item};
 use cap_database::{Action, Assignments, Database, Op};
@@ -101,7 +103,8 @@ fn push_insert<A: AllocHandle>(
     table: &Table<A>,
     row: &Row<A>,
 ) -> Result<(), OutOfMemory>
-    ensures { OnOk result (items.new.items ≡ items.old.items ++ action_items name.now table.now (Action.Insert row.now)) }
+    ensures { OnOk result
+        (items.new.items ≡ items.old.items ++ action_items name.now table.now (Action.Insert row.now)) }
 {
     if row.width() != table.schema().width() {
         return Ok(());
@@ -132,7 +135,9 @@ fn push_update<A: AllocHandle>(
     row: &RowRef<A>,
     fields: &Assignments<A>,
 ) -> Result<(), OutOfMemory>
-    ensures { OnOk result (items.new.items ≡ items.old.items ++ (if are_columns (length table.now.schema) (columns_of fields.now)
+    ensures { OnOk result
+        (items.new.items
+        ≡ items.old.items ++ (if are_columns (length table.now.schema) (columns_of fields.now)
         then updated_items name.now table.now.schema row.now fields.now (row_of table.now row.now) else [])) }
 {
     if !are_columns(table.schema().width(), fields.fields()) {

@@ -15,8 +15,8 @@ ghost use Rattle.cap_txn.specs.declared.look.Asked.{Asked};
 use cap_value::AllocHandle;
 
 /// A transaction's database is always what its operations leave of the snapshot's, and so is that of each
-/// savepoint: it holds at first and after each call. So the operations that stand, made on the database that the
-/// transaction began with, are accepted and leave what the transaction showed.
+/// savepoint: it holds at first and after each call. So the operations that stand, made on the database that
+/// the transaction began with, are accepted and leave what the transaction showed.
 pub fn transactions_stand<A: AllocHandle>()
     ensures begin { (snapshot : SnapshotState A) → IsStanding (begin snapshot) }
     ensures op { (txn : WorkspaceState A) (op : Op A) → IsStanding txn →
@@ -28,8 +28,8 @@ pub fn transactions_stand<A: AllocHandle>()
         Leaves txn.base.database txn.ops txn.database }
 {}
 
-/// A transaction's footprint and trace are those of its calls: at first, and after each call. So its batch is a
-/// transaction's.
+/// A transaction's footprint and trace are those of its calls: at first, and after each call. So its batch is
+/// a transaction's.
 pub fn transactions_are_traced<A: AllocHandle>()
     ensures begin { (snapshot : SnapshotState A) → IsTraced (begin_traced snapshot) }
     ensures call { (txn : TxnState A) (call : Asked A) → IsTraced txn → IsTraced (traced txn call) }
@@ -37,8 +37,8 @@ pub fn transactions_are_traced<A: AllocHandle>()
         StandsFor txn.standing.ops txn.standing.base.version (seen_of txn) }
 {}
 
-/// Where each item of the footprint looks as it did, the calls are answered as they were, and the operations that
-/// stood are accepted.
+/// Where each item of the footprint looks as it did, the calls are answered as they were, and the operations
+/// that stood are accepted.
 pub fn unchanged_footprints_answer_alike<A: AllocHandle>()
     ensures { (base now : SnapshotState A) (calls : List (Asked A)) → EachRises base.database →
         EachRises now.database → Unchanged base.database now.database (footprint calls base) →

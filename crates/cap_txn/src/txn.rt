@@ -20,8 +20,8 @@ use cap_table::{RowRef, Rows};
 use cap_value::{AllocHandle, Fault, Name, OutOfMemory, Refusal};
 use std::marker::Model;
 
-/// Operations on a snapshot that are tried one by one, with all that was looked at and answered, and handed on as a
-/// batch.
+/// Operations on a snapshot that are tried one by one, with all that was looked at and answered, and handed
+/// on as a batch.
 #[derive(Drop)]
 pub struct Txn<A: AllocHandle> {
     alloc: A,
@@ -57,8 +57,8 @@ impl<A: AllocHandle> Txn<A> {
         })
     }
 
-    /// A law of every transaction: its database is what its operations leave of the snapshot's, its savepoints' numbers
-    /// rise, and its footprint and trace are those of its calls. The call does nothing.
+    /// A law of every transaction: its database is what its operations leave of the snapshot's, its
+    /// savepoints' numbers rise, and its footprint and trace are those of its calls. The call does nothing.
     pub fn stands(&self)
         ensures standing { IsStanding self.now.standing }
         ensures traced { IsTraced self.now }
@@ -66,9 +66,9 @@ impl<A: AllocHandle> Txn<A> {
         let _standing = &self.standing;
     }
 
-    /// Makes an operation on what stands. Refused with `TooMany` where `OPS_MAX` operations stand, and then as the
-    /// operation itself. The call is the last of the trace, also where it is refused. When out of memory, the transaction
-    /// is as before.
+    /// Makes an operation on what stands. Refused with `TooMany` where `OPS_MAX` operations stand, and then
+    /// as the operation itself. The call is the last of the trace, also where it is refused. When out of
+    /// memory, the transaction is as before.
     pub fn op(&mut self, op: Op<A>) -> Result<(), Fault<Refusal>>
         ensures { IsAnswered (λ _. Answer.Done) result (Asked.Op op) self.old self.new }
     {
@@ -95,9 +95,9 @@ impl<A: AllocHandle> Txn<A> {
         }
     }
 
-    /// The row of this name in a table as it stands, or its absence. Refused with `NoTable` where no table has the
-    /// name. The call is the last of the trace, also where it is refused. When out of memory, the transaction is as
-    /// before.
+    /// The row of this name in a table as it stands, or its absence. Refused with `NoTable` where no table
+    /// has the name. The call is the last of the trace, also where it is refused. When out of memory, the
+    /// transaction is as before.
     pub fn get(
         &mut self,
         table: &Name<A>,
@@ -117,9 +117,10 @@ impl<A: AllocHandle> Txn<A> {
         handed_on(found)
     }
 
-    /// All rows of a table as it stands, each with its name, in the time of two snapshots: those with a key in the order
-    /// of their keys, and then the others by their ids. Refused with `NoTable` where no table has the name. The call is
-    /// the last of the trace, also where it is refused. When out of memory, the transaction is as before.
+    /// All rows of a table as it stands, each with its name, in the time of two snapshots: those with a key
+    /// in the order of their keys, and then the others by their ids. Refused with `NoTable` where no table
+    /// has the name. The call is the last of the trace, also where it is refused. When out of memory, the
+    /// transaction is as before.
     pub fn scan(&mut self, table: &Name<A>) -> Result<Rows<A>, Fault<Refusal>>
         ensures answered { IsAnswered Answer.Rows result (Asked.Scan table.now) self.old self.new }
         ensures standing { ReadsStanding self.old (λ tables. rows_of tables table.now) result }
@@ -135,9 +136,9 @@ impl<A: AllocHandle> Txn<A> {
         handed_on(found)
     }
 
-    /// Makes a savepoint (SQL As Understood By SQLite, "SAVEPOINT"). Refused with `TooMany` where `SAVEPOINTS_MAX`
-    /// were made, undone ones too. The call is the last of the trace, also where it is refused. When out of memory, the
-    /// transaction is as before.
+    /// Makes a savepoint (SQL As Understood By SQLite, "SAVEPOINT"). Refused with `TooMany` where
+    /// `SAVEPOINTS_MAX` were made, undone ones too. The call is the last of the trace, also where it is
+    /// refused. When out of memory, the transaction is as before.
     pub fn savepoint(&mut self) -> Result<Mark, Fault<Refusal>>
         ensures answered { IsAnswered Answer.Mark result Asked.Savepoint self.old self.new }
         ensures once { IfOk result (IsNewMark self.old) }
@@ -159,10 +160,10 @@ impl<A: AllocHandle> Txn<A> {
         }
     }
 
-    /// Goes back to a savepoint, which stays, and undoes all later ones (SQL As Understood By SQLite, "ROLLBACK TO").
-    /// Refused with `NoMark` where there is no savepoint of the mark, or it was undone. The call is the last of the
-    /// trace, also where it is refused; the footprint keeps what was looked at since. When out of memory, the
-    /// transaction is as before.
+    /// Goes back to a savepoint, which stays, and undoes all later ones (SQL As Understood By SQLite,
+    /// "ROLLBACK TO"). Refused with `NoMark` where there is no savepoint of the mark, or it was undone. The
+    /// call is the last of the trace, also where it is refused; the footprint keeps what was looked at since.
+    /// When out of memory, the transaction is as before.
     pub fn back_to(&mut self, mark: Mark) -> Result<(), Fault<Refusal>>
         ensures { IsAnswered (λ _. Answer.Done) result (Asked.BackTo mark) self.old self.new }
     {
@@ -193,8 +194,8 @@ impl<A: AllocHandle> Txn<A> {
         } = self;
     }
 
-    /// The operations that stand, to be made where all that was looked at is still as it was in the snapshot. It takes no
-    /// memory.
+    /// The operations that stand, to be made where all that was looked at is still as it was in the snapshot.
+    /// It takes no memory.
     pub fn into_batch(self) -> Batch<A>
         ensures { result ≡ batch_of self }
     {

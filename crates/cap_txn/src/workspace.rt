@@ -1,11 +1,13 @@
 //! What stands of a transaction.
-ghost use Rattle.std.specs.Prelude.{◌≡◌, ◌<◌, ◌≤◌, ◌+◌, Some, None, length, take, slice_index_or, MatchOption, IfOk, OnErr, if◌then◌else◌};
+ghost use Rattle.std.specs.Prelude.{◌≡◌, ◌<◌, ◌≤◌, ◌+◌, Some, None, length, take, slice_index_or};
+ghost use Rattle.std.specs.Prelude.{MatchOption, IfOk, OnErr, if◌then◌else◌};
 ghost use Rattle.std.specs.Result.{result_err};
 ghost use Rattle.cap_value.specs.Memory.{LeavesUnlessMemory, RefusesFirst};
 ghost use Rattle.cap_txn.specs.Batch.{refused_push};
 ghost use Rattle.cap_database.specs.Read.{read, rows_of};
 ghost use Rattle.cap_value.specs.declared.refusal.Refusal.TheVariants.{TooMany};
-ghost use Rattle.cap_txn.specs.Workspace.{begin, after_op, after_savepoint, refused_savepoint, after_back, numbered, up_to};
+ghost use Rattle.cap_txn.specs.Workspace.{begin, after_op, after_savepoint, refused_savepoint, after_back};
+ghost use Rattle.cap_txn.specs.Workspace.{numbered, up_to};
 ghost use Rattle.cap_txn.specs.declared.savepoint.Savepoint as saved;
 
 use crate::savepoint::Savepoint;
@@ -67,8 +69,8 @@ impl<A: AllocHandle> Workspace<A> {
         })
     }
 
-    // Makes an operation on what stands. Refused with `TooMany` where `OPS_MAX` operations stand, and then as the
-    // operation itself. On an error the transaction is as before.
+    // Makes an operation on what stands. Refused with `TooMany` where `OPS_MAX` operations stand, and then as
+    // the operation itself. On an error the transaction is as before.
     pub(crate) fn op(&mut self, op: Op<A>) -> Result<(), Fault<Refusal>>
         ensures txn { LeavesUnlessMemory result (after_op self.old op) self.new }
         ensures kept { OnErr result (self.new ≡ self.old) }
@@ -110,8 +112,8 @@ impl<A: AllocHandle> Workspace<A> {
         }
     }
 
-    // Makes a savepoint (SQL As Understood By SQLite, "SAVEPOINT"). Refused with `TooMany` where `SAVEPOINTS_MAX`
-    // were made, undone ones too. On an error the transaction is as before.
+    // Makes a savepoint (SQL As Understood By SQLite, "SAVEPOINT"). Refused with `TooMany` where
+    // `SAVEPOINTS_MAX` were made, undone ones too. On an error the transaction is as before.
     pub(crate) fn savepoint(&mut self) -> Result<Mark, Fault<Refusal>>
         ensures txn { LeavesUnlessMemory result (after_savepoint self.old) self.new }
         ensures kept { OnErr result (self.new ≡ self.old) }
@@ -134,9 +136,9 @@ impl<A: AllocHandle> Workspace<A> {
         Ok(Mark { number })
     }
 
-    // Goes back to a savepoint, which stays, and undoes all later ones (SQL As Understood By SQLite, "ROLLBACK TO").
-    // Refused with `NoMark` where there is no savepoint of the mark, or it was undone. On an error the transaction is
-    // as before.
+    // Goes back to a savepoint, which stays, and undoes all later ones (SQL As Understood By SQLite,
+    // "ROLLBACK TO"). Refused with `NoMark` where there is no savepoint of the mark, or it was undone. On an
+    // error the transaction is as before.
     pub(crate) fn back_to(&mut self, mark: Mark) -> Result<(), Fault<Refusal>>
         ensures txn { LeavesUnlessMemory result (after_back self.old mark.number) self.new }
         ensures kept { OnErr result (self.new ≡ self.old) }

@@ -10,7 +10,8 @@ use std::fmt::{Debug, Display};
 /// Out of memory. Every call that allocates may answer it, and then it has changed nothing.
 pub use std::alloc::AllocError as OutOfMemory;
 
-/// A handle to an allocator that every value can keep a copy of: `Global`, and each reference to an allocator.
+/// A handle to an allocator that every value can keep a copy of: `Global`, and each reference to an
+/// allocator.
 ///
 /// The one bound on allocators in this workspace. It is `Allocator + Copy` with a law: a handle has no
 /// size or that of a reference, so that a value that holds one inline has a size that is known to be small.

@@ -36,16 +36,16 @@ pub enum Refusal {
     /// One more than a limit allows.
     #[error("E10 TooMany")]
     TooMany,
-    /// A batch was made on version `base`, and the version is `now`; where it is a transaction's, something that the
-    /// transaction looked at has changed since.
+    /// A batch was made on version `base`, and the version is `now`; where it is a transaction's, something
+    /// that the transaction looked at has changed since.
     #[error("E11 Stale base {base} now {now}{}", ItemText(*.item))]
     Stale {
         /// The version that the batch was made on.
         base: u64,
         /// The version of the database.
         now: u64,
-        /// The first item of the batch's footprint that has changed, counted from 0; none where its base is a number
-        /// alone.
+        /// The first item of the batch's footprint that has changed, counted from 0; none where its base is a
+        /// number alone.
         item: Option<u64>,
     },
     /// A filter's text is not in the grammar, from byte `at` on.

@@ -6,7 +6,8 @@ ghost use Rattle.cap_value.specs.Memory.{AnswersUnlessMemory, RefusesFirst};
 use crate::{AllocHandle, Blob, Exact, Fault, OutOfMemory, Refusal, Text};
 use std::cmp::Ordering;
 
-/// A value of a row: SQLite's storage classes without REAL (Datatypes In SQLite, "Storage Classes and Datatypes").
+/// A value of a row: SQLite's storage classes without REAL (Datatypes In SQLite, "Storage Classes and
+/// Datatypes").
 #[derive(Drop)]
 #[derive_where(Debug)]
 pub enum Value<A: AllocHandle> {
@@ -22,7 +23,8 @@ pub enum Value<A: AllocHandle> {
 
 impl<A: AllocHandle> Value<A> {
     ghost use Rattle.cap_value.specs.Bytes.{within_limit};
-    ghost use Rattle.cap_value.specs.Value.{IsValue, value_cmp, storage_class, is_null, text_value, blob_value};
+    ghost use Rattle.cap_value.specs.Value.{IsValue, value_cmp, storage_class, is_null, text_value};
+    ghost use Rattle.cap_value.specs.Value.{blob_value};
 
     /// A text value. Refused with `TooLong` where it has more than `BYTES_MAX` bytes.
     pub fn text(alloc: A, text: &str) -> Result<Self, Fault<Refusal>>
@@ -93,7 +95,8 @@ impl<A: AllocHandle> Value<A> {
         self == other
     }
 
-    /// The value is within the limits of its storage class. This shows it to a proof, and does nothing when it runs.
+    /// The value is within the limits of its storage class. This shows it to a proof, and does nothing when
+    /// it runs.
     pub fn keeps_limits(&self)
         ensures { IsValue self.now }
     {

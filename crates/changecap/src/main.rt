@@ -1,6 +1,6 @@
 //! The program `changecap`. `run` runs the workload on standard input and prints the replies; `shell` runs
-//! each line as it is read; `show` prints the changes in a blob; `invert` and `patchset` print the inverse and
-//! the patchset of a changeset; `concat` prints the concatenation of blobs.
+//! each line as it is read; `show` prints the changes in a blob; `invert` and `patchset` print the inverse
+//! and the patchset of a changeset; `concat` prints the concatenation of blobs.
 #![tactic(auto)]
 
 ghost use Rattle.cap_run.specs.Options.{IsThreadCount};
