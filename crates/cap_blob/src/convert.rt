@@ -71,11 +71,11 @@ fn convert<A: AllocHandle>(
     ensures first { RefusesFirst (option_map Malformed (first_fault bytes.now)) result }
 {
     if !begins_changeset(bytes) {
-        // They are no bytes, or refused.
+        // There are no bytes, or they are refused: they are a patchset, or no blob.
         read_changes(alloc, bytes)?;
         return Ok(Vec::new(alloc));
     }
-    // What is written is as long as what is read, without the groups that have no change.
+    // What is written is at most as long as what is read.
     let mut out = Vec::with_capacity(alloc, bytes.len())?;
     match convert_groups(alloc, &mut out, conversion, key_flags, bytes.len(), bytes) {
         Ok(()) => Ok(out),

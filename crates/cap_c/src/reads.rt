@@ -29,7 +29,8 @@ use cap_database::Database;
 use cap_value::{Name, Refusal};
 use std::alloc::Global;
 
-/// Reads the row with this id, or where it is 0 with the key that is bound.
+/// Reads the row with this id, or where it is 0 with the key that is bound. Nothing is bound after that.
+/// Where there is no such row there is none to step to. Where there is no such table the query is refused.
 #[unsafe(no_mangle)]
 pub extern "C" fn changecap_get(
     alloc: Global,
@@ -60,7 +61,7 @@ pub extern "C" fn changecap_get(
     status
 }
 
-/// Reads all rows of a table.
+/// Reads all rows of a table. Nothing is bound after that. Where there is no such table the query is refused.
 #[unsafe(no_mangle)]
 pub extern "C" fn changecap_scan(
     alloc: Global,

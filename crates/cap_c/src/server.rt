@@ -1,4 +1,4 @@
-//! A server that takes commands as text, one after the other.
+//! A server that C calls, with commands as text or by words and numbers.
 ghost use Rattle.std.specs.Prelude.{◌≡◌, ◌+◌, ◌<◌, ◌^◌};
 ghost use Rattle.cap_c.specs.Server.{IsAnswered, IsNew, Ran, RunsLine, reply_status};
 ghost use Rattle.cap_c.specs.declared.status.TheConstants.{FULL};

@@ -12,7 +12,7 @@ pub(crate) const NO_MEMORY: u32 = 3;
 pub(crate) const PATCHSET: u32 = 4;
 /// An argument is none that the call has a meaning for.
 pub(crate) const MISUSE: u32 = 5;
-/// The server refuses the command. The reply says why.
+/// The server refuses the command. The reply, or the fault, says why.
 pub(crate) const REFUSED: u32 = 6;
 /// The text is not one command. The fault has why, and where.
 pub(crate) const NO_COMMAND: u32 = 7;
@@ -24,7 +24,7 @@ pub(crate) const OTHER_KIND: u32 = 9;
 pub(crate) const OTHER_COLUMNS: u32 = 10;
 /// The text is no filter. The fault has why, and where.
 pub(crate) const NO_FILTER: u32 = 11;
-/// The iterator is at a change.
+/// The iterator is at a change, or the server at one of the rows that were read.
 pub(crate) const ROW: u32 = 100;
-/// The iterator is behind the last change.
+/// The iterator is behind the last change, or the server behind the last row.
 pub(crate) const END: u32 = 101;

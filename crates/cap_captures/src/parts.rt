@@ -103,7 +103,7 @@ fn answered_by<A: AllocHandle>(
     Ok(Some(Answered { core, reply }))
 }
 
-// The same of a command that is then dropped.
+// `answered_by` for an owned command.
 fn carried_out<A: AllocHandle>(
     core: &Core<A>,
     command: Command<A>,

@@ -37,11 +37,11 @@ module _ {A : Type 0} where
   abbrev pub new_field : Bool → Option (Value A) → Option (Value A) → Option (Value A)
   new_field key before after = if is_modified key before after then after else None
 
-  -- whether a field differs
+  -- whether a field outside the key differs
   abbrev pub differ : List Bool → RecordFields A → RecordFields A → Bool
   differ flags before after = list_any (λ modified. modified) (by_column is_modified flags before after)
 
-  -- the UPDATE from one record to another, none where no field differs
+  -- the UPDATE from one record to another, none where no field outside the key differs
   abbrev pub update_between : List Bool → Bool → RecordFields A → RecordFields A → Option (RowChange A)
   update_between flags indirect before after =
       if differ flags before after

@@ -132,7 +132,8 @@ impl<A: AllocHandle> ChangeGroup<A> {
 
     /// Adds the changes of the blob with these bytes, as `add` does.
     ///
-    /// Refused with `Malformed` where the bytes are no blob. On an error the changegroup is as before.
+    /// Refused with `Malformed` where the bytes are no blob, and with `Group` where `add` refuses the blob.
+    /// On an error the changegroup is as before.
     pub fn add_bytes(&mut self, bytes: &[u8]) -> Result<(), Fault<BlobRefusal>>
         // The blob that the bytes spell is added.
         ensures spelled { OnOk result ((blob : Spelled A) × Spells blob bytes.now

@@ -5,7 +5,8 @@ use thiserror::Error;
 /// Why a blob is not added to a changegroup. SQLite's codes are `SQLITE_ERROR` and `SQLITE_SCHEMA`.
 #[derive(Clone, Copy, Debug, PartialEq, Eq, Drop, Error)]
 pub enum GroupRefusal {
-    /// A changeset's changes and a patchset's.
+    /// The blob has the changes of a changeset, and the changegroup has had those of a patchset, or the other
+    /// way round.
     #[error("changeset and patchset")]
     OtherKind,
     /// A group whose table had other columns, or another key, in the changes before it.

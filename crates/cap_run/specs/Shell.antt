@@ -59,7 +59,7 @@ module _ {A : Type 0} where
   reply_to history (Spelled line) = on_a_line (reply_text line (reply_of history line.command))
   reply_to history (Refused why) = []
 
-  -- what is printed for it among the faults: its own
+  -- what is printed for it on the writer of the faults: its fault
   abbrev pub fault_of : ℕ → ReadLine A → List ℕ
   fault_of number NoText = on_a_line (codes "line " ++ (decimal number ++ codes ": not UTF-8"))
   fault_of number Ignored = []

@@ -49,7 +49,7 @@ module _ {A : Type 0} where
   EndsBlock line [] = Unit {0}
   EndsBlock line (next ∷ behind) = (line.worker ≡ None) ⊎ (next.worker ≡ None)
 
-  -- so it is of the lines up to the end of each block that have replies, and the lines behind it
+  -- at the end of each block whose lines have replies, this holds of the lines up to there and those behind
   abbrev pub EachBlock : List (Line A) → List (Reply A) → (List (Line A) → List (Line A) → Type 0) → Type 0
   EachBlock lines replies IsSo = (before : List (Line A)) (line : Line A) (behind : List (Line A))
       → lines ≡ before ++ line ∷ behind → EndsBlock line behind → length before < length replies

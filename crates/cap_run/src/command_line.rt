@@ -239,10 +239,10 @@ fn flag<'a>(alloc: Global, word: &'a str, help: &'a str) -> Arg<'a> {
 /// Parses the words after the program's name.
 ///
 /// `run` runs a workload, on N threads with `--threads N`, N from 1 to 63, and otherwise on one. `shell` runs
-/// each line as it is read. `show` shows a blob, with `--sql` or `--json` as such. `invert` and `patchset`
-/// convert one, and `concat` concatenates several, with key flags by places, or by ones with
-/// `--key-flags ones`. A blob is given and written as hex digits, or with `--binary` as its bytes. Other
-/// words are refused with a message. `--help` and `--version` give their text as a fault of status 0.
+/// each line as it is read. `show` shows a blob as text, with `--sql` as SQL, or with `--json` as JSON.
+/// `invert` and `patchset` convert one, and `concat` concatenates several, with key flags by places, or by
+/// ones with `--key-flags ones`. A blob is given and written as hex digits, or with `--binary` as its bytes.
+/// Other words are refused with a message. `--help` and `--version` give their text as a fault of status 0.
 pub fn options(alloc: Global, words: &[String]) -> Result<Options, OptionsFault>
     // The number of threads is in range.
     ensures range { IfOk result IsInRange }

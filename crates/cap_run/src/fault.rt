@@ -43,7 +43,7 @@ pub enum ConcatFault {
     },
 }
 
-/// Why a run ended before its workload did, or why a blob was neither shown nor converted.
+/// Why a run or a shell failed, or why blobs were not shown, converted or concatenated.
 #[derive(Clone, Copy, Debug, PartialEq, Eq, Drop, Error)]
 pub enum RunFault {
     /// The text is refused. Nothing was run.
@@ -67,13 +67,15 @@ pub enum RunFault {
     /// A command has no reply. The replies before it were printed, and then this fault.
     #[error(transparent)]
     Call(CallFault),
-    /// A read failed, or the reader had not ended after 2^40 reads. Nothing was run or printed.
+    /// A read failed, or the reader had not ended after 2^40 reads. A shell has run and answered the lines
+    /// before; in all other cases nothing was run or printed.
     #[error("a read failed")]
     Read,
     /// A write failed. A prefix of the output was written.
     #[error("a write failed")]
     Write,
-    /// Out of memory for the input. Nothing was run or printed.
+    /// Out of memory for the input, for a new server, or for the whole of what is shown, converted or
+    /// concatenated. Nothing was run or printed.
     #[error("no memory for the input")]
     Memory,
     /// The server could not be closed. All lines were run and their replies printed.

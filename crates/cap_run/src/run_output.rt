@@ -10,7 +10,8 @@ use std::io::Write;
 /// A writer of a run's output. Each `Write` is one, of which no contract knows the outcome of a call; a
 /// writer whose outcomes are known states them in `went` and `failed`.
 ///
-/// A run makes an interrupted write again. So it is no failed write, as it is for a `Sink` of a blob.
+/// A run makes an interrupted write again, so an interruption is no failed write. For a `Sink` of a blob it
+/// is one.
 pub trait RunOutput {
     // The bytes that the writer holds, where they are known.
     ghost contents: { Self → Option (List ℕ) };

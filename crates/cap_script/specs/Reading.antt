@@ -139,12 +139,12 @@ keyword_or_end w line = unless_end (keyword w) (behind_blanks line)
 abbrev pub space_here : Reading
 space_here here = if begins is_blank here then Ok here else Err (misfit here)
 
--- a call with this fault reads this, unless memory ran out
+-- this reading has the fault of the call, unless memory ran out
 abbrev pub Fails : LineFault → Outcome → Type 0
 Fails OutOfMemory read = ⊤
 Fails fault read = read ≡ Err fault
 
--- a call that answers so, and leaves this rest, reads this, unless memory ran out
+-- this reading leaves the rest that the call leaves, or has its fault, unless memory ran out
 abbrev pub Reads : {X : Type 0} → Result X LineFault → List ℕ → Outcome → Type 0
 Reads (Ok x) rest read = read ≡ Ok rest
 Reads (Err fault) rest read = Fails fault read

@@ -112,7 +112,8 @@ fn shell<R: Input + Print + Eprint + AllocGlobal, E: Write>(
     }
 }
 
-// Does what the command line asks for, and gives the exit status. What a shell tells goes to `faults`.
+// Does what the command line asks for, and gives the exit status. A shell writes the faults of its lines to
+// `faults`.
 fn run_program<R: Input + Print + Eprint + Env + AllocGlobal + Threads + Wait + Sync, E: Write>(
     rt: &R,
     faults: &mut E,
