@@ -1,4 +1,5 @@
--- The blobs that fit the tables that they are applied to.
+-- Blobs whose changes fit the columns that their groups have. The tables of a database may have others: such
+-- a group is skipped.
 use Rattle.cap_changes.specs.Entries.{AreFitting}
 use Rattle.cap_changes.specs.Fits.{change_fits, patch_fits}
 use Rattle.cap_codec.specs.declared.read.Contents.{Contents}

@@ -80,6 +80,7 @@ impl<A: AllocHandle> Applied<A> {
         self.changes.as_slice()
     }
 
+    /// What became of the blob's changes and groups.
     pub fn report(&self) -> &Report<A>
         ensures { result.now ≡ self.now.report }
     {

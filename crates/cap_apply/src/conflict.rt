@@ -18,6 +18,8 @@ pub enum ConflictKind {
 pub struct Conflict {
     /// The number of the change, counted from 0 over the whole blob.
     pub change: u64,
+    /// What the change met. A patchset has no old values, so its changes never meet `Data`.
     pub kind: ConflictKind,
+    /// What the policy answered.
     pub answer: Answer,
 }

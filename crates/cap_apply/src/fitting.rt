@@ -4,8 +4,8 @@ ghost use Rattle.cap_apply.specs.Fitting.{FitsItsTables};
 use cap_codec::Contents;
 use cap_value::AllocHandle;
 
-/// A lemma: each group of a blob has a key column, and its changes fit its columns. At run time it only
-/// visits each group.
+/// A law: each group of a blob has a key column, and its changes fit its columns. At run time it only visits
+/// each group.
 pub fn blob_fits_its_tables<A: AllocHandle>(blob: &Contents<A>)
     ensures { FitsItsTables blob.now }
 {

@@ -56,8 +56,8 @@ pub fn a_patchset_gives_the_rows_now<A: AllocHandle>()
         GivesAllRowsNow policy ts (Patches (patch_list_of (map changes_of ts))) database }
 {}
 
-/// A captured changeset of several tables that each have a difference fits these tables, and so does its
-/// patchset.
+/// The changes of a captured changeset of several tables that each have a difference fit the columns of their
+/// groups, and so do those of its patchset.
 pub fn captures_fit_their_tables<A: AllocHandle>()
     ensures changeset { (ts : List (TableRows A)) (database : Tables A) → AllBefore ts database → AllDiffer ts
         → FitsItsTables (Changes (map changes_of ts)) }
@@ -65,7 +65,7 @@ pub fn captures_fit_their_tables<A: AllocHandle>()
         → FitsItsTables (Patches (patch_list_of (map changes_of ts))) }
 {}
 
-/// What bytes spell fits its tables.
+/// The changes that bytes spell fit the columns of their groups.
 pub fn spelled_blobs_fit_their_tables<A: AllocHandle>()
     ensures { (blob : Contents A) (bytes : List ℕ) → Spells blob bytes → FitsItsTables blob }
 {}
@@ -125,7 +125,7 @@ pub fn applied_blobs_keep_columns<A: AllocHandle>()
 {}
 
 /// In a database whose names, keys and ids rise and whose rows are under their own keys, this still holds
-/// after a blob that fits its tables is applied.
+/// after a blob whose changes fit the columns of their groups is applied.
 pub fn applied_blobs_keep_order<A: AllocHandle>()
     ensures { (tables : Tables A) (blob : Contents A) (policy : Policy) → AreRising tables
         → FitsItsTables blob → IfOk (apply tables blob policy) (λ left. AreRising left.database) }

@@ -73,7 +73,7 @@ impl<A: AllocHandle> Report<A> {
         self.omitted.as_slice()
     }
 
-    /// The numbers of the skipped groups, for which the database has no table.
+    /// The numbers of the skipped groups, for which the database has no fitting table.
     pub fn skipped(&self) -> &[u64]
         ensures { result.now ≡ self.now.skipped }
     {

@@ -28,7 +28,7 @@ use Rattle.cap_core.specs.declared.event.Event.{Event}
 use Rattle.cap_core.specs.History.{main}
 use Rattle.cap_core.specs.Past.{Past, is_accepted}
 use Rattle.cap_core.specs.Restarts.{IsSteady, captures, first_touched, touches_over}
-use Rattle.cap_core.specs.Session.{mark}
+use Rattle.cap_core.specs.Session.{all_indirect}
 use Rattle.cap_core.specs.Table.{BlobsFitPast}
 use Rattle.cap_core.specs.Touch.{Touch, event_touches, restarts, touches, touches_of}
 use Rattle.cap_core.proofs.RestartLemmas.{first-append, sooner}
@@ -299,7 +299,7 @@ module _ {A : Type 0} where
             ∙ ap (λ (l : List (RowChange A)). Led later name key ++ l) (by_touch (get fields_cmp (touches_of name (touches session (later ++ start))) key) since)
           where
             by_touch : (found : Option (Touch A)) → option_map (λ touch. touch.image) found ≡ Some image
-                → cons_option (option_and_then (λ (r : Record A). change_of flags r.indirect r.image (Now later name key)) (option_map (λ touch. record { image = touch.image; indirect = mark (touches_of name (touches session (later ++ start))) key }) found)) []
+                → cons_option (option_and_then (λ (r : Record A). change_of flags r.indirect r.image (Now later name key)) (option_map (λ touch. record { image = touch.image; indirect = all_indirect (touches_of name (touches session (later ++ start))) key }) found)) []
                 ≡ cons_option (change_of flags (mark-in (touches session (later ++ start)) name key) image (Now later name key)) []
             by_touch None is = cc
             by_touch (Some touch) is = ap (λ row. cons_option (change_of flags (mark-in (touches session (later ++ start)) name key) row (Now later name key)) []) (some_same is)
@@ -312,7 +312,7 @@ module _ {A : Type 0} where
             ∙ append-nil (Led later name key)
           where
             by_touch : (found : Option (Touch A)) → option_map (λ touch. touch.image) found ≡ None
-                → cons_option (option_and_then (λ (r : Record A). change_of flags r.indirect r.image (Now later name key)) (option_map (λ touch. record { image = touch.image; indirect = mark (touches_of name (touches session (later ++ start))) key }) found)) [] ≡ []
+                → cons_option (option_and_then (λ (r : Record A). change_of flags r.indirect r.image (Now later name key)) (option_map (λ touch. record { image = touch.image; indirect = all_indirect (touches_of name (touches session (later ++ start))) key }) found)) [] ≡ []
             by_touch None is = refl
             by_touch (Some touch) is = cc
 
@@ -397,7 +397,7 @@ module _ {A : Type 0} where
         ∙ ap (λ l. mark-in (before_restart all) name key && list_all (λ touch. touch.1.indirect) l) (none-rows (touches session (all ++ start)) name key (period.since-restart runs_keep creates_keep rises session start fresh event later name key restarted))
         ∙ and-true (mark-in (before_restart all) name key)) in
         elim (get fields_cmp (touches_of name (touches_over session all start)) key) as (λ o. get fields_cmp (touches_of name (touches_over session all start)) key ≡ o → together combined flags (Led all name key)
-        ≡ change_of flags (period.flag_or runs_keep creates_keep rises session start fresh true (option_map (λ touch. record { image = touch.image; indirect = mark (touches_of name (touches_over session all start)) key }) o)) (First all name key) (Now all name key)) [
+        ≡ change_of flags (period.flag_or runs_keep creates_keep rises session start fresh true (option_map (λ touch. record { image = touch.image; indirect = all_indirect (touches_of name (touches_over session all start)) key }) o)) (First all name key) (Now all name key)) [
           | None ↦ λ is.
               let none : Over all name key ≡ None = ap (option_map (λ touch. touch.image)) is in
               ap (together combined flags) (counts.none (sym over_closed ∙ none))

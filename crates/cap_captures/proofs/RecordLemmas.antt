@@ -22,7 +22,7 @@ use Rattle.cap_core.specs.declared.event.Event.{Event}
 use Rattle.cap_core.specs.History.{is_write}
 use Rattle.cap_core.specs.Past.{Past, is_accepted}
 use Rattle.cap_core.specs.Restarts.{first_touched}
-use Rattle.cap_core.specs.Session.{mark, session_of}
+use Rattle.cap_core.specs.Session.{all_indirect, session_of}
 use Rattle.cap_core.specs.Touch.{Touch, attach_list, restarts, touches, touches_of}
 use Rattle.cap_core.proofs.HistoryLemmas.{is_among, touches-none, touches_of-append}
 use Rattle.cap_core.proofs.LawLemmas.{first_image}
@@ -126,24 +126,24 @@ module _ {A : Type 0} where
 
   abbrev pub record_from : List (Touch A) → List ℕ → Fields A → Option (Record A)
   record_from ts name key =
-      option_map (λ touch. record { image = touch.image; indirect = mark (touches_of name ts) key }) (get fields_cmp (touches_of name ts) key)
+      option_map (λ touch. record { image = touch.image; indirect = all_indirect (touches_of name ts) key }) (get fields_cmp (touches_of name ts) key)
 
   pub session-record : (past : Past A) (session : ℕ) (name : List ℕ) (key : Fields A) → record_of (session_of past session).tables name key ≡ record_from (touches session past) name key
   session-record past session name key =
       record-in (kept past session) (attach_list session past) name key
       ∙ elim (is_among name (attach_list session past)) as (λ b. is_among name (attach_list session past) ≡ b → cond b (get fields_cmp (kept past session name) key) None ≡ record_from (touches session past) name key) [
         | true ↦ λ _. first_image (touches_of name (touches session past)) key
-        | false ↦ λ absent. ap (λ pairs. option_map (λ touch. record { image = touch.image; indirect = mark pairs key }) (get fields_cmp pairs key)) (sym (touches-none session name past absent))
+        | false ↦ λ absent. ap (λ pairs. option_map (λ touch. record { image = touch.image; indirect = all_indirect pairs key }) (get fields_cmp pairs key)) (sym (touches-none session name past absent))
       ] refl
 
   pub image-touched : (ts : List (Touch A)) (name : List ℕ) (key : Fields A) → option_map (λ (r : Record A). r.image) (record_from ts name key) ≡ first_touched ts name key
   image-touched ts name key =
-      elim (get fields_cmp (touches_of name ts) key) as (λ o. option_map (λ (r : Record A). r.image) (option_map (λ touch. record { image = touch.image; indirect = mark (touches_of name ts) key }) o) ≡ option_map (λ touch. touch.image) o) [
+      elim (get fields_cmp (touches_of name ts) key) as (λ o. option_map (λ (r : Record A). r.image) (option_map (λ touch. record { image = touch.image; indirect = all_indirect (touches_of name ts) key }) o) ≡ option_map (λ touch. touch.image) o) [
         | None ↦ refl
         | Some touch ↦ refl
       ]
 
-  -- ---- touches with one mark
+  -- ---- touches with one all_indirect
 
   abbrev pub AllMarked : Bool → List (Fields A × Touch A) → Type 0
   AllMarked indirect pairs = AllByRecursion (λ touch. touch.1.indirect ≡ indirect) pairs
@@ -163,7 +163,7 @@ module _ {A : Type 0} where
   pub rows-append : (xs ys : List (Touch A)) (name : List ℕ) (key : Fields A) → rows-in (xs ++ ys) name key ≡ rows-in xs name key ++ rows-in ys name key
   rows-append xs ys name key = ap (filter (λ touch. eq_by_cmp fields_cmp key touch.0)) (touches_of-append name xs ys) ∙ filter-append (λ touch. eq_by_cmp fields_cmp key touch.0) (touches_of name xs) (touches_of name ys)
 
-  pub mark-is : (key : Fields A) (indirect : Bool) (pairs : List (Fields A × Touch A)) (touch : Touch A) → get fields_cmp pairs key ≡ Some touch → AllMarked indirect (filter (λ t. eq_by_cmp fields_cmp key t.0) pairs) → mark pairs key ≡ indirect
+  pub mark-is : (key : Fields A) (indirect : Bool) (pairs : List (Fields A × Touch A)) (touch : Touch A) → get fields_cmp pairs key ≡ Some touch → AllMarked indirect (filter (λ t. eq_by_cmp fields_cmp key t.0) pairs) → all_indirect pairs key ≡ indirect
   mark-is key indirect [] touch is all = cc
   mark-is key indirect (pair ∷ pairs) touch is all =
       let others = filter (λ t. eq_by_cmp fields_cmp key t.0) pairs in
@@ -175,7 +175,7 @@ module _ {A : Type 0} where
   -- the flag of a record whose touches have one
   pub record-marked : (ts : List (Touch A)) (name : List ℕ) (key : Fields A) (indirect : Bool) (r : Record A) → record_from ts name key ≡ Some r → AllMarked indirect (rows-in ts name key) → r.indirect ≡ indirect
   record-marked ts name key indirect r is all =
-      elim (get fields_cmp (touches_of name ts) key) as (λ o. get fields_cmp (touches_of name ts) key ≡ o → option_map (λ touch. record { image = touch.image; indirect = mark (touches_of name ts) key }) o ≡ Some r → r.indirect ≡ indirect) [
+      elim (get fields_cmp (touches_of name ts) key) as (λ o. get fields_cmp (touches_of name ts) key ≡ o → option_map (λ touch. record { image = touch.image; indirect = all_indirect (touches_of name ts) key }) o ≡ Some r → r.indirect ≡ indirect) [
         | None ↦ λ _ e. cc
         | Some touch ↦ λ at e. ap (λ (kept : Record A). kept.indirect) (sym (some_same e)) ∙ mark-is key indirect (touches_of name ts) touch at all
       ] refl is

@@ -61,6 +61,7 @@ impl<C: Entry, A: AllocHandle> TableGroup<C, A> {
         Ok(())
     }
 
+    /// The table's name.
     pub fn table(&self) -> &Name<A>
         ensures { result.now ≡ self.now.table }
     {
@@ -83,7 +84,7 @@ impl<C: Entry, A: AllocHandle> TableGroup<C, A> {
         self.changes.as_slice()
     }
 
-    /// A lemma: the schema has a key column, and each change fits it. Does nothing at run time.
+    /// A law: the schema has a key column, and each change fits it. Does nothing at run time.
     pub fn fits(&self)
         ensures { IsFitting C.fits_in self.now }
     {

@@ -55,7 +55,7 @@ impl<C: Entry, A: AllocHandle> GroupList<C, A> {
         self.groups.as_slice()
     }
 
-    /// A lemma: the schema of each group has a key column, and its changes fit it. At run time it only visits
+    /// A law: the schema of each group has a key column, and its changes fit it. At run time it only visits
     /// each group.
     pub fn groups_fit(&self)
         ensures { AreFitting C.fits_in self.now }

@@ -6,23 +6,26 @@ use cap_row::Schema;
 use cap_value::AllocHandle;
 
 /// One change of a patchset, which leaves out the old row but for its key (The Session Extension,
-/// "sqlite3session_patchset").
+/// "sqlite3session_patchset"). A change is indirect where every touch of its row was.
 #[derive(Drop)]
 pub enum Patch<A: AllocHandle> {
     /// An insert. Every field is defined.
     Insert {
+        /// Whether it is indirect.
         indirect: bool,
         /// The row now.
         new: FieldRecord<A>,
     },
     /// An update: other values under the same key.
     Update {
+        /// Whether it is indirect.
         indirect: bool,
         /// The key fields, and the modified fields as they are now.
         new: FieldRecord<A>,
     },
     /// A delete. Only the key fields are defined.
     Delete {
+        /// Whether it is indirect.
         indirect: bool,
         /// The key fields.
         key: FieldRecord<A>,

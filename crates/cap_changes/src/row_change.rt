@@ -11,12 +11,14 @@ use cap_value::AllocHandle;
 pub enum RowChange<A: AllocHandle> {
     /// An insert. Every field is defined.
     Insert {
+        /// Whether it is indirect.
         indirect: bool,
         /// The row now.
         new: FieldRecord<A>,
     },
     /// An update: other values under the same key.
     Update {
+        /// Whether it is indirect.
         indirect: bool,
         /// The row before: its key fields and its modified fields.
         old: FieldRecord<A>,
@@ -25,6 +27,7 @@ pub enum RowChange<A: AllocHandle> {
     },
     /// A delete. Every field is defined.
     Delete {
+        /// Whether it is indirect.
         indirect: bool,
         /// The row before.
         old: FieldRecord<A>,

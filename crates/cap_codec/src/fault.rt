@@ -65,6 +65,7 @@ impl fmt::Display for FaultKind {
 pub struct BlobFault {
     /// The offset of the part with the fault, or the blob's length where it ends too early.
     pub at: usize,
+    /// What is wrong there.
     pub kind: FaultKind,
 }
 

@@ -83,7 +83,7 @@ fn is_patch_group<A: AllocHandle>(group: &PatchGroup<A>)
     patches_have_values(group.changes());
 }
 
-/// A lemma: a list of changes can be written, and is read again as it was, without its empty groups. At run
+/// A law: a list of changes can be written, and is read again as it was, without its empty groups. At run
 /// time it only visits each value.
 pub fn changes_are_writable<A: AllocHandle>(list: &ChangeList<A>)
     ensures writable { IsWritable (kinds.Changes list.now) }

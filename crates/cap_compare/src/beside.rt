@@ -89,7 +89,7 @@ impl<'a, K: Ord, V, W, A: AllocHandle> Iterator for Beside<'a, K, V, W, A> {
 
 impl<'a, K: Ord, V, W, A: AllocHandle> FusedIterator for Beside<'a, K, V, W, A> {}
 
-/// A lemma: merging two lists of entries keeps the keys in order, and pairs each key with its value in either
+/// A law: merging two lists of entries keeps the keys in order, and pairs each key with its value in either
 /// list. It does nothing at run time.
 pub fn entries_stand_beside<K: Ord, V, W>()
     ensures ordered { (first : List (K × V)) (second : List (K × W)) → IsOrdered K.cmp first →

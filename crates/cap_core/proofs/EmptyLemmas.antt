@@ -21,7 +21,7 @@ use Rattle.cap_core.specs.declared.reply.Reply.TheVariants.{Flag}
 use Rattle.cap_core.specs.Answer.{answer, refusal, session_answer, session_reply, state_after}
 use Rattle.cap_core.specs.Flags.{live_sessions}
 use Rattle.cap_core.specs.Past.{Past}
-use Rattle.cap_core.specs.Session.{mark, records_of, session_of}
+use Rattle.cap_core.specs.Session.{all_indirect, records_of, session_of}
 use Rattle.cap_core.specs.Touch.{Touch, attach_list, touches, touches_of}
 use Rattle.cap_core.proofs.HistoryLemmas.{is_among, same_bytes, touches-none}
 use Rattle.cap_core.proofs.LawLemmas.{first_image}
@@ -71,7 +71,7 @@ module _ {A : Type 0} where
 
   records-some : (touch : Fields A × Touch A) (touched : List (Fields A × Touch A)) → 1 ≤ length (records_of (touch ∷ touched))
   records-some touch touched =
-      let made : Touch A → Record A = λ found. record { image = found.image; indirect = mark (touch ∷ touched) touch.0 } in
+      let made : Touch A → Record A = λ found. record { image = found.image; indirect = all_indirect (touch ∷ touched) touch.0 } in
       has-one (records_of (touch ∷ touched)) touch.0 (made touch.1)
       (first_image (touch ∷ touched) touch.0
       ∙ ap (λ b. option_map made (cond b (Some touch.1) (get fields_cmp touched touch.0))) (ap is_eq ((fields_cmp-Equal touch.0 touch.0).1 refl)))

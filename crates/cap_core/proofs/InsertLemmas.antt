@@ -37,7 +37,7 @@ use Rattle.cap_core.specs.Insert.{HasChange, IsInsertOfAbsent, changes_by_key, i
 use Rattle.cap_core.specs.Outcome.{Effect, Refused as Why, commit_unless, made, no_effect, outcome}
 use Rattle.cap_txn.specs.Stale.{stale}
 use Rattle.cap_core.specs.Past.{Past, is_accepted}
-use Rattle.cap_core.specs.Session.{mark, records_of, session_of}
+use Rattle.cap_core.specs.Session.{all_indirect, records_of, session_of}
 use Rattle.cap_core.specs.Touch.{Touch, attach_list, touches, touches_of}
 use Rattle.cap_core.proofs.HistoryLemmas.{is_among}
 use Rattle.cap_core.proofs.LawLemmas.{first_image}
@@ -193,9 +193,9 @@ module _ {A : Type 0} where
       → record_after (get fields_cmp (records_of touched) key) image false ≡ record { image = None; indirect = false }
   no_image touched key image none absent =
       ap (λ found. record_after found image false) (first_image touched key)
-      ∙ elim (get fields_cmp touched key) as (λ o. get fields_cmp touched key ≡ o → record_after (option_map (λ touch. record { image = touch.image; indirect = mark touched key }) o) image false ≡ record { image = None; indirect = false }) [
+      ∙ elim (get fields_cmp touched key) as (λ o. get fields_cmp touched key ≡ o → record_after (option_map (λ touch. record { image = touch.image; indirect = all_indirect touched key }) o) image false ≡ record { image = None; indirect = false }) [
         | None ↦ λ _. ap (λ i. record { image = i; indirect = false }) none
-        | Some touch ↦ λ is. ap₂ (λ i b. record { image = i; indirect = b }) (absent touch is) (never (mark touched key))
+        | Some touch ↦ λ is. ap₂ (λ i b. record { image = i; indirect = b }) (absent touch is) (never (all_indirect touched key))
       ] refl
 
   -- ---- the event

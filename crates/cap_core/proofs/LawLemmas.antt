@@ -28,7 +28,7 @@ use Rattle.cap_core.specs.History.{main}
 use Rattle.cap_core.specs.Outcome.{Effect, Refused as Why, outcome}
 use Rattle.cap_core.specs.Past.{Past, is_accepted}
 use Rattle.cap_core.specs.Replies.{replies_after}
-use Rattle.cap_core.specs.Session.{mark, records_of, session_of}
+use Rattle.cap_core.specs.Session.{all_indirect, records_of, session_of}
 use Rattle.cap_core.specs.Touch.{Touch, attach_list, touches, touches_of}
 use Rattle.cap_core.specs.Transition.{after_named, after_session, after_write, next, one_more, session_left}
 use Rattle.cap_core.proofs.NextLemmas.{IsLegal-push, after_refusal, next-is, state-push}
@@ -49,11 +49,11 @@ module _ {A : Type 0} where
   untouched past session none =
       untouched_tables (main past) (λ name. records_of (touches_of name (touches session past))) (λ name. ap (λ found. records_of (touches_of name found)) none ∙ records_of-none) (attach_list session past)
 
-  pub first_image : (touched : List (Fields A × Touch A)) (key : Fields A) → get fields_cmp (records_of touched) key ≡ option_map (λ touch. record { image = touch.image; indirect = mark touched key }) (get fields_cmp touched key)
+  pub first_image : (touched : List (Fields A × Touch A)) (key : Fields A) → get fields_cmp (records_of touched) key ≡ option_map (λ touch. record { image = touch.image; indirect = all_indirect touched key }) (get fields_cmp touched key)
   unfolding touched_at
   first_image touched key =
       get-find fields_cmp (records_of touched) key ∙ find-records_of touched key
-      ∙ ap (option_map (λ touch. record { image = touch.image; indirect = mark touched key })) (sym (get-find fields_cmp touched key))
+      ∙ ap (option_map (λ touch. record { image = touch.image; indirect = all_indirect touched key })) (sym (get-find fields_cmp touched key))
 
   restored_by : (schema : List Bool) (indirect : Bool) (image : Option (Fields A)) → change_of schema indirect image image ≡ None
   restored_by schema indirect None = refl

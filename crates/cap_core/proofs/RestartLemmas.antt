@@ -39,7 +39,7 @@ use Rattle.cap_core.specs.Past.{Past, is_accepted}
 use Rattle.cap_core.specs.Capture.{session_changes}
 use Rattle.cap_core.specs.AppliedCapture.{AppliesWhole, HoldsImages, but_keyed, changes_in}
 use Rattle.cap_core.specs.Restarts.{AppliesEach, HasRowsNow, HoldsFirst, IsSteady, captures, first_touched, touches_over}
-use Rattle.cap_core.specs.Session.{mark, session_of}
+use Rattle.cap_core.specs.Session.{all_indirect, session_of}
 use Rattle.cap_core.specs.Table.{BlobsFitPast}
 use Rattle.cap_core.specs.Touch.{Touch, attach_list, attachings, changes_touch, diff_touches, event_attachings, event_changes, event_diff, event_touches, is_recorded, restarts, touch_of, touches, touches_of}
 use Rattle.cap_core.proofs.DiffedLemmas.{quiet-effect}
@@ -208,7 +208,7 @@ module _ {A : Type 0} where
         | Some records ↦ λ at.
             ap (λ r. image_in (get fields_cmp r key)) (records-named (kept past session) (attach_list session past) name records at)
             ∙ ap image_in (first_image touched key)
-            ∙ kept-image (get fields_cmp touched key) (mark touched key)
+            ∙ kept-image (get fields_cmp touched key) (all_indirect touched key)
         | None ↦ λ none.
             sym (ap (λ pairs. option_map (λ touch. touch.image) (get fields_cmp pairs key)) (touches-none session name past (absent-named (kept past session) (attach_list session past) name none)))
       ] refl

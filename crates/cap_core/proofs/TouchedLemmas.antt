@@ -19,7 +19,7 @@ use Rattle.cap_row.specs.Key.{fields_cmp, fields_cmp_total, fields_cmp-Equal}
 use Rattle.cap_tree.specs.Tree.{IsOrdered, get, put_entry}
 use Rattle.cap_session.specs.declared.record.Record.{Record}
 use Rattle.cap_session.specs.Records.{Touch as RowTouch, record_after, touch as with_touch, with_touches}
-use Rattle.cap_core.specs.Session.{mark, records_of}
+use Rattle.cap_core.specs.Session.{all_indirect, records_of}
 use Rattle.cap_core.specs.Touch.{Touch}
 
 module _ {K X : Type 0} (R : K → K → Ordering) where
@@ -88,7 +88,7 @@ module _ {A : Type 0} where
 
   -- what is kept of a key after these touches
   unfoldable pub touched_at : List (Fields A × Touch A) → Fields A → Option (Record A)
-  touched_at touches key = option_map (λ touch. record { image = touch.image; indirect = mark touches key }) (find fields_cmp key touches)
+  touched_at touches key = option_map (λ touch. record { image = touch.image; indirect = all_indirect touches key }) (find fields_cmp key touches)
 
   first_images : List (Fields A × Touch A) → List (Fields A × Touch A)
   first_images touches = map_of.entries (map_of.from_entries {R = fields_cmp} touches)
@@ -100,27 +100,27 @@ module _ {A : Type 0} where
   pub find-records_of : (touches : List (Fields A × Touch A)) (key : Fields A) → find fields_cmp key (records_of touches) ≡ touched_at touches key
   unfolding records_of touched_at first_images
   find-records_of touches key =
-      find-map fields_cmp (λ k touch. record { image = touch.image; indirect = mark touches k }) fields_same key (first_images touches)
-      ∙ ap (option_map (λ touch. record { image = touch.image; indirect = mark touches key })) (find-first_images touches key)
+      find-map fields_cmp (λ k touch. record { image = touch.image; indirect = all_indirect touches k }) fields_same key (first_images touches)
+      ∙ ap (option_map (λ touch. record { image = touch.image; indirect = all_indirect touches key })) (find-first_images touches key)
 
   pub is_sorted-records_of : (touches : List (Fields A × Touch A)) → T (is_sorted fields_cmp (records_of touches))
   unfolding records_of
   is_sorted-records_of touches =
-      subst T (sym (is_sorted-map fields_cmp (λ k touch. record { image = touch.image; indirect = mark touches k }) (map_of.entries (map_of.from_entries {R = fields_cmp} touches)))) (map_of.entries_sorted (map_of.from_entries {R = fields_cmp} touches))
+      subst T (sym (is_sorted-map fields_cmp (λ k touch. record { image = touch.image; indirect = all_indirect touches k }) (map_of.entries (map_of.from_entries {R = fields_cmp} touches)))) (map_of.entries_sorted (map_of.from_entries {R = fields_cmp} touches))
 
   -- one more touch counts for its own key
   mark-push : (touches : List (Fields A × Touch A)) (key : Fields A) (touch : Touch A) (q : Fields A)
-      → mark (touches ++ (key, touch) ∷ []) q ≡ (mark touches q && cond (eq_by_cmp fields_cmp q key) touch.indirect true)
+      → all_indirect (touches ++ (key, touch) ∷ []) q ≡ (all_indirect touches q && cond (eq_by_cmp fields_cmp q key) touch.indirect true)
   mark-push touches key touch q =
       let last : List (Fields A × Touch A) = (key, touch) ∷ [] in
       let ties : Fields A × Touch A → Bool = λ t. eq_by_cmp fields_cmp q t.0 in
       let marked : Fields A × Touch A → Bool = λ t. t.1.indirect in
       let alone : list_all marked (filter ties last) ≡ cond (eq_by_cmp fields_cmp q key) touch.indirect true =
       elim (eq_by_cmp fields_cmp q key) as (λ b. list_all marked (cond b last []) ≡ cond b touch.indirect true) [ true ↦ and-true touch.indirect | false ↦ refl ] in
-      ap (list_all marked) (filter-append ties touches last) ∙ list_all-append marked (filter ties touches) (filter ties last) ∙ ap (λ b. mark touches q && b) alone
+      ap (list_all marked) (filter-append ties touches last) ∙ list_all-append marked (filter ties touches) (filter ties last) ∙ ap (λ b. all_indirect touches q && b) alone
 
   -- a key without a touch counts as indirect
-  mark-none : (touches : List (Fields A × Touch A)) (q : Fields A) → find fields_cmp q touches ≡ None → mark touches q ≡ true
+  mark-none : (touches : List (Fields A × Touch A)) (q : Fields A) → find fields_cmp q touches ≡ None → all_indirect touches q ≡ true
   mark-none [] q none = refl
   mark-none (t ∷ touches) q none =
       elim (eq_by_cmp fields_cmp q t.0) as (λ b. cond b (Some t.1) (find fields_cmp q touches) ≡ None → list_all (λ t. t.1.indirect) (cond b (t ∷ filter (λ t. eq_by_cmp fields_cmp q t.0) touches) (filter (λ t. eq_by_cmp fields_cmp q t.0) touches)) ≡ true) [
@@ -147,13 +147,13 @@ module _ {A : Type 0} where
   unfolding touched_at touched_by
   touched_at-push touches key touch q =
       ap₂ touched_by (find-push fields_cmp q key touch touches) (mark-push touches key touch q)
-      ∙ elim (eq_by_cmp fields_cmp q key) as (λ b. eq_by_cmp fields_cmp q key ≡ b → touched_by (cond (is_some (find fields_cmp q touches)) (find fields_cmp q touches) (cond b (Some touch) None)) (mark touches q && cond b touch.indirect true)
-      ≡ cond b (Some (record_after (touched_by (find fields_cmp key touches) (mark touches key)) touch.image touch.indirect)) (touched_by (find fields_cmp q touches) (mark touches q))) [
+      ∙ elim (eq_by_cmp fields_cmp q key) as (λ b. eq_by_cmp fields_cmp q key ≡ b → touched_by (cond (is_some (find fields_cmp q touches)) (find fields_cmp q touches) (cond b (Some touch) None)) (all_indirect touches q && cond b touch.indirect true)
+      ≡ cond b (Some (record_after (touched_by (find fields_cmp key touches) (all_indirect touches key)) touch.image touch.indirect)) (touched_by (find fields_cmp q touches) (all_indirect touches q))) [
         | true ↦ λ t.
-            subst (λ k. touched_by (cond (is_some (find fields_cmp q touches)) (find fields_cmp q touches) (Some touch)) (mark touches q && touch.indirect) ≡ Some (record_after (touched_by (find fields_cmp k touches) (mark touches k)) touch.image touch.indirect))
+            subst (λ k. touched_by (cond (is_some (find fields_cmp q touches)) (find fields_cmp q touches) (Some touch)) (all_indirect touches q && touch.indirect) ≡ Some (record_after (touched_by (find fields_cmp k touches) (all_indirect touches k)) touch.image touch.indirect))
             (tied fields_cmp q key fields_same t)
-            (touched_at-key (find fields_cmp q touches) (mark touches q) touch (mark-none touches q))
-        | false ↦ λ t. touched_at-other (find fields_cmp q touches) (mark touches q)
+            (touched_at-key (find fields_cmp q touches) (all_indirect touches q) touch (mark-none touches q))
+        | false ↦ λ t. touched_at-other (find fields_cmp q touches) (all_indirect touches q)
       ] refl
 
   -- a touch under its key, as a session records it

@@ -15,14 +15,14 @@ use Rattle.cap_core.specs.Touch.{Touch, attach_list, touches, touches_of}
 
 module _ {A : Type 0} where
   -- the indirect flag of a key: each touch of it was indirect
-  abbrev pub mark : List (Fields A × Touch A) → Fields A → Bool
-  mark touches key =
+  abbrev pub all_indirect : List (Fields A × Touch A) → Fields A → Bool
+  all_indirect touches key =
       list_all (λ touch. touch.1.indirect) (filter (λ touch. eq_by_cmp fields_cmp key touch.0) touches)
 
   -- the touched keys in their order, each with the image of its first touch and its indirect flag
   unfoldable pub records_of : List (Fields A × Touch A) → Records A
   records_of touches =
-      map (λ first. (first.0, record { image = first.1.image; indirect = mark touches first.0 }))
+      map (λ first. (first.0, record { image = first.1.image; indirect = all_indirect touches first.0 }))
       (map_of.entries (map_of.from_entries {R = fields_cmp} touches))
 
   -- what a session has

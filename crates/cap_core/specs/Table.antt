@@ -27,7 +27,8 @@ module _ {A : Type 0} where
     pub first : All (λ row. 1 ≤ row.0) table.loose
     pub given : All (λ row. row.0 < table.next_id) table.loose
 
-  -- the blob that the command applies, if any, fits its tables, as every blob that a program can make
+  -- the changes of the blob that the command applies, if any, fit the columns of their groups, as those of
+  -- every blob that a program can make
   abbrev pub BlobFits : Command A → Type 0
   BlobFits (Apply blob policy) = FitsItsTables blob
   BlobFits _ = Unit {0}

@@ -27,7 +27,8 @@ pub record Attaching : Type 0 where
   pub event : ℕ
   pub change : ℕ
 
--- A touch of a key: its indices, the row before the event or its absence, and the indirect flag.
+-- A touch of a key: its indices, the row before the event or its absence, of a diff that of the saved table,
+-- and the indirect flag.
 pub record Touch (A : Type 0) : Type 0 where
   pub event : ℕ
   pub change : ℕ

@@ -82,7 +82,7 @@ impl<A: AllocHandle> Capture<A> {
         write_patches_with(alloc, key_flags, &patches)
     }
 
-    /// A lemma: the changes can be written as a changeset, and their patches as a patchset. At run time it
+    /// A law: the changes can be written as a changeset, and their patches as a patchset. At run time it
     /// only visits each value.
     pub fn is_writable(&self)
         ensures changeset { IsWritable (contents.Changes self.now) }

@@ -7,29 +7,31 @@ use cap_row::Schema;
 use cap_txn::Batch;
 use cap_value::{AllocHandle, Name};
 
-/// A command to the server.
+/// A command to the server. Where a variant names no other, the reply is `Done`. A command with the number of
+/// a session is refused with `NoSession` where no session has it, before anything else.
 #[derive(Drop)]
 pub enum Command<A: AllocHandle> {
-    /// Creates an empty table. Refused with `TableExists`, or with `TooMany` where the database has 64
-    /// tables.
+    /// Creates an empty table. The reply is `Written`. Refused with `TableExists`, or with `TooMany` where
+    /// the database has 64 tables.
     CreateTable {
         /// The table's name.
         table: Name<A>,
         /// Its columns.
         schema: Schema<A>,
     },
-    /// Commits a transaction: all of its operations, or none. Refused with `Stale` where something that the
-    /// transaction looked at has changed, or, in a batch whose base is a number alone, where it is not the
-    /// present version; and otherwise as its first refused operation.
+    /// Commits a transaction: all of its operations, or none. The reply is `Written`. Refused with `Stale`
+    /// where something that the transaction looked at has changed, or, in a batch whose base is a number
+    /// alone, where it is not the present version; and otherwise as its first refused operation.
     Commit(Batch<A>),
-    /// Applies a changeset or patchset (sqlite3changeset_apply). Refused with `Aborted` or `Misuse`.
+    /// Applies a changeset or patchset (sqlite3changeset_apply). The reply is `Applied`. Refused with
+    /// `Aborted` where the policy aborts, or with `Misuse` where it replaces a row that is not there.
     Apply {
         /// The changeset or patchset.
         blob: Contents<A>,
         /// How conflicts are resolved.
         policy: Policy,
     },
-    /// Takes a snapshot of the tables.
+    /// Takes a snapshot of the tables. The reply is `Snapshot`.
     Read,
     /// Saves the tables under a name, and replaces what was saved under it. Refused with `TooMany` where 16
     /// databases are saved under other names.
@@ -37,8 +39,8 @@ pub enum Command<A: AllocHandle> {
         /// The name.
         database: Name<A>,
     },
-    /// Creates a session, which records changes to its attached tables (sqlite3session_create). Refused with
-    /// `TooMany` where 64 sessions are live.
+    /// Creates a session, which records changes to its attached tables (sqlite3session_create). The reply is
+    /// `Session`. Refused with `TooMany` where 64 sessions are live.
     NewSession,
     /// Deletes a session (sqlite3session_delete). Its number is never reused.
     DropSession {
@@ -66,28 +68,34 @@ pub enum Command<A: AllocHandle> {
         /// The filter.
         filter: TableFilter<A>,
     },
-    /// Sets or queries whether a session is enabled (sqlite3session_enable).
+    /// Sets or queries whether a session is enabled (sqlite3session_enable). The reply is `Flag`, after the
+    /// change.
     Enable {
         /// The session's number.
         session: u64,
         /// The new value, or none to query.
         enabled: Option<bool>,
     },
-    /// Sets or queries the indirect flag of a session (sqlite3session_indirect).
+    /// Sets or queries the indirect flag of a session (sqlite3session_indirect). The reply is `Flag`, after
+    /// the change.
     Indirect {
         /// The session's number.
         session: u64,
         /// The new value, or none to query.
         indirect: Option<bool>,
     },
-    /// Queries whether a session has recorded no row (sqlite3session_isempty).
+    /// Queries whether a session has recorded no row (sqlite3session_isempty). The reply is `Flag`. A
+    /// recorded row may be as it was: then the session is not empty, and a capture may have no change.
     IsEmpty {
         /// The session's number.
         session: u64,
     },
     /// Records how a table differs from the table of the same name in a saved database (sqlite3session_diff).
-    /// Does nothing where the table does not exist or has no key columns. Otherwise refused with
-    /// `NoDatabase`, or with `Incompatible` where the saved database lacks the table or its columns differ.
+    /// It attaches the table, whatever the filter says, and records also where the session is disabled. Its
+    /// touches are indirect where the session's indirect flag is set, and first images are kept. Does nothing
+    /// where the table does not exist or has no key columns. Otherwise refused with `NoDatabase`, or with
+    /// `Incompatible` where the saved database lacks the table. Tables of one name keep their columns, so
+    /// these never differ on a server.
     Diff {
         /// The session's number.
         session: u64,
@@ -96,13 +104,14 @@ pub enum Command<A: AllocHandle> {
         /// The table's name.
         table: Name<A>,
     },
-    /// Captures a session's changes (sqlite3session_changeset, sqlite3session_patchset).
+    /// Captures a session's changes (sqlite3session_changeset, sqlite3session_patchset). The reply is
+    /// `Capture`.
     Capture {
         /// The session's number.
         session: u64,
     },
-    /// Captures a session's changes, and then deletes its records. Its flags, filter and attached tables
-    /// stay.
+    /// Captures a session's changes, and then deletes its records. The reply is `Capture`. Its flags, filter
+    /// and attached tables stay.
     Restart {
         /// The session's number.
         session: u64,
@@ -112,7 +121,8 @@ pub enum Command<A: AllocHandle> {
 impl<A: AllocHandle> Command<A> {
     ghost use Rattle.cap_core.specs.Table.{BlobFits};
 
-    /// A lemma: the blob that a command applies fits its tables. At run time it only visits each group.
+    /// A law: the changes of the blob that a command applies fit the columns of their groups. At run time it
+    /// only visits each group.
     pub fn blob_fits(&self)
         ensures { BlobFits self.now }
     {

@@ -11,7 +11,8 @@ use cap_tree::Hook;
 use cap_value::{AllocHandle, Fault};
 
 /// A commit hook (sqlite3_commit_hook): asked before a command takes effect, when its reply is computed and
-/// all memory is reserved. Where it refuses, nothing changes.
+/// all memory is reserved. Where it refuses, nothing changes. Unlike SQLite's it is asked about every
+/// command, also one that only reads or is refused, since each is an event of the history.
 pub trait CommitHook<A: AllocHandle> {
     /// Why it refuses.
     type Refusal: Drop;

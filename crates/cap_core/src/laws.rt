@@ -44,7 +44,7 @@ ghost use Rattle.cap_core.specs.Past.{Past, is_accepted};
 ghost use Rattle.cap_core.specs.Replies.{replies_after};
 ghost use Rattle.cap_core.specs.Restarts.{AppliesAll, AppliesAllPatches, HasRowsNow, HoldsFirst, IsSteady};
 ghost use Rattle.cap_core.specs.Restarts.{captures};
-ghost use Rattle.cap_core.specs.Session.{mark, records_of, session_of};
+ghost use Rattle.cap_core.specs.Session.{all_indirect, records_of, session_of};
 ghost use Rattle.cap_core.specs.Table.{BlobFits, BlobsFit, BlobsFitPast, IsKeyed, IsLoose};
 ghost use Rattle.cap_core.specs.Touch.{Touch, restarts, touches, touches_of};
 ghost use Rattle.cap_core.specs.Transition.{next};
@@ -124,7 +124,7 @@ pub fn one_record_a_key<A: AllocHandle>()
         → IsTrue (is_sorted fields_cmp (records_of touched)) }
     ensures first { (touched : List (Fields A × Touch A)) (key : Fields A) →
         get fields_cmp (records_of touched) key
-        ≡ option_map (λ touch. record { image = touch.image; indirect = mark touched key })
+        ≡ option_map (λ touch. record { image = touch.image; indirect = all_indirect touched key })
         (get fields_cmp touched key) }
 {}
 
@@ -141,8 +141,8 @@ pub fn refusal_changes_no_reply<A: AllocHandle>()
         ≡ replies_after past commands }
 {}
 
-/// In every database names, keys and ids rise, ids are at least 1 and at most 2^63, and each row is stored
-/// under its own primary key, or under an id where it has none. The call does nothing.
+/// In every database names, keys and ids rise, ids are at least 1 and at most 2^63 - 1, and each row is
+/// stored under its own primary key, or under an id where it has none. The call does nothing.
 pub fn database_rises<A: AllocHandle>(database: &Database<A>)
     ensures { AreRising database.now }
 {

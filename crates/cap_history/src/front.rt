@@ -23,7 +23,7 @@ pub struct Front<J: Naming, A: AllocHandle> {
 }
 
 impl<J: Naming, A: AllocHandle> Front<J, A> {
-    /// Lets the seat see the whole history, and gives the number of its events. It is wait-free.
+    /// Lets the seat see the whole history, and gives the number of its events. It takes no lock.
     pub fn look(&self, seat: &mut Seat<J, A>) -> u64
         ensures seen { SeesMore seat.old seat.new }
         ensures front { result ≡ length seat.new.seen }
@@ -32,7 +32,7 @@ impl<J: Naming, A: AllocHandle> Front<J, A> {
         seat.seen.len()
     }
 
-    /// Lets the second seat see what the first has seen. It is wait-free.
+    /// Lets the second seat see what the first has seen. It takes no lock.
     pub fn meet(&self, first: &Seat<J, A>, second: &mut Seat<J, A>)
         ensures seen { SeesMore second.old second.new }
         ensures both { second.new.seen ≡ longer second.old.seen first.now.seen }
@@ -42,7 +42,7 @@ impl<J: Naming, A: AllocHandle> Front<J, A> {
     }
 
     /// Appends the seat's call with its reply to a list, where that is the whole history. Otherwise the
-    /// history is longer, and the seat sees it. It is one compare-and-swap of the word, and wait-free.
+    /// history is longer, and the seat sees it. It is one compare-and-swap of the word, and takes no lock.
     pub fn append(
         &self,
         seat: &mut Seat<J, A>,

@@ -21,6 +21,7 @@ pub struct Opened<A: AllocHandle> {
 }
 
 impl<A: AllocHandle> Opened<A> {
+    /// An empty history. It takes no memory.
     pub fn new() -> Self {
         legal_histories_grow::<A>();
         fitting_histories_grow::<A>();

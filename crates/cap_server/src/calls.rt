@@ -1,4 +1,5 @@
-//! One method for each command. Each is `Server::call` with that command.
+//! One method for each command. Each is `Server::call` with that command: `cap_core::Command` says which
+//! reply it has, and with what it is refused.
 ghost use Rattle.std.specs.Prelude.{◌≡◌, IfOk, IfErr};
 ghost use Rattle.cap_core.specs.declared.command.Command.TheVariants.{CreateTable, Commit, Apply, Read};
 ghost use Rattle.cap_core.specs.declared.command.Command.TheVariants.{SaveAs, NewSession, DropSession};
@@ -38,9 +39,10 @@ impl<J: Naming, A: AllocHandle> Server<J, A> {
         self.call(rt, seat, &Command::CreateTable { table, schema })
     }
 
-    /// Commits a transaction. Its batch is accepted exactly where nothing that the transaction looked at has
-    /// changed since it began. Then its calls, made whole at their place in the history, are answered as they
-    /// were.
+    /// Commits a batch. One that a transaction made is accepted exactly where nothing that the transaction
+    /// looked at has changed since it began. Then its calls, made whole at their place in the history, are
+    /// answered as they were. A batch whose base is a number alone is accepted on that version only, one
+    /// without a base on any, unless an operation is refused.
     pub fn commit<R: Wait>(
         &self,
         rt: &R,

@@ -9,7 +9,7 @@ pub enum CallFault {
     #[error("refused for memory")]
     OutOfMemory,
     /// S1: the history is longer than the one under the lock, or the seat has made other calls than the
-    /// server has counted. It does not occur with the server's own seats.
+    /// server has counted.
     #[error("overtaken, front {front}")]
     Overtaken {
         /// The number of events of the history.

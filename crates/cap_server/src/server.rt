@@ -24,7 +24,7 @@ pub struct Server<J: Naming, A: AllocHandle> {
 }
 
 impl<J: Naming, A: AllocHandle> Server<J, A> {
-    /// Opens an empty server with this number of seats, numbered from 0.
+    /// Opens an empty server with this number of seats, 1 to 64, numbered from 0.
     pub fn open(
         opened: Opened<A>,
         alloc: A,
@@ -68,7 +68,7 @@ impl<J: Naming, A: AllocHandle> Server<J, A> {
         self.locked.lock(rt)
     }
 
-    /// Lets the seat see the whole history, and gives the number of its events. It is wait-free.
+    /// Lets the seat see the whole history, and gives the number of its events. It takes no lock.
     pub fn front(&self, seat: &mut Seat<J, A>) -> u64
         ensures seen { SeesMore seat.old seat.new }
         ensures front { result ≡ length seat.new.seen }
@@ -76,7 +76,7 @@ impl<J: Naming, A: AllocHandle> Server<J, A> {
         self.front.look(seat)
     }
 
-    /// Lets the second seat see what the first has seen. It is wait-free.
+    /// Lets the second seat see what the first has seen. It takes no lock.
     pub fn meet(&self, first: &Seat<J, A>, second: &mut Seat<J, A>)
         ensures seen { SeesMore second.old second.new }
         ensures both { second.new.seen ≡ longer second.old.seen first.now.seen }
@@ -85,8 +85,8 @@ impl<J: Naming, A: AllocHandle> Server<J, A> {
         self.front.meet(first, second);
     }
 
-    /// Takes all seats back, and gives the sequential server after the history of all calls. It does not
-    /// block.
+    /// Takes all seats back, and gives the sequential server after the history of all calls. It takes no
+    /// lock.
     pub fn close(
         self,
         seats: Vec<Seat<J, A>, A>,

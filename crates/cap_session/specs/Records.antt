@@ -10,7 +10,8 @@ use Rattle.cap_session.specs.declared.record.Record.{Record}
 abbrev pub Records : Type 0 → Type 0
 Records A = List (Fields A × Record A)
 
--- A touch of a key: the row under the key before the commit, if any, and whether the touch is indirect.
+-- A touch of a key: the row under the key before the commit, or in the saved table of a diff, if any, and
+-- whether the touch is indirect.
 pub record Touch (A : Type 0) : Type 0 where
   pub key : Fields A
   pub image : Option (Fields A)

@@ -30,7 +30,7 @@ pub fn touches_make_these_records<A: AllocHandle>()
 {}
 
 /// A record is direct from the first direct touch of its key on, whatever touches follow.
-pub fn marks_stay_direct<A: AllocHandle>()
+pub fn records_stay_direct<A: AllocHandle>()
     ensures { (before : Records A) (t : Touch A) (more : List (Touch A)) (r : Record A) → t.indirect ≡ false
         → get fields_cmp (with_touches before (t ∷ more)) t.key ≡ Some r → r.indirect ≡ false }
 {}

@@ -20,7 +20,7 @@ mod touch;
 pub use attached::Attached;
 pub use laws::{
     changes_of_a_key_are_one_touch, commits_touch_attached_tables, disabled_session_gains_nothing,
-    filter_decides, images_are_the_rows_before, marks_stay_direct, rule_attaches_changed_tables,
+    filter_decides, images_are_the_rows_before, records_stay_direct, rule_attaches_changed_tables,
     touches_make_these_records,
 };
 pub use record::Record;

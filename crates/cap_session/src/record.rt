@@ -6,8 +6,8 @@ use cap_value::{AllocHandle, Exact, OutOfMemory};
 /// The record of a touched row.
 #[derive(Drop)]
 pub struct Record<A: AllocHandle> {
-    /// The first image: the row under the key before the commit that touched it first, `None` where there was
-    /// none.
+    /// The first image: the row under the key before the commit that touched it first, or, where a diff
+    /// touched it first, the row of the saved table. `None` where there was none.
     pub image: Option<Row<A>>,
     /// The indirect flag: whether every touch of the key was indirect.
     pub indirect: bool,

@@ -74,7 +74,7 @@ impl<A: AllocHandle> Records<A> {
         }
     }
 
-    // A lemma: the keys are in order. It does nothing at run time.
+    // A law: the keys are in order. It does nothing at run time.
     #[inline]
     pub(crate) fn in_order(&self)
         ensures { IsOrdered fields_cmp self.now }

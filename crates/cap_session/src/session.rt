@@ -21,9 +21,8 @@ use cap_row::Key;
 use cap_value::{AllocHandle, Name, OutOfMemory};
 use std::marker::Model;
 
-/// A session. It records, for each attached table, the keys that changes touched, each with the row before
-/// the commit that touched it first, and whether every touch was indirect (The Session Extension, "Recording
-/// Changes").
+/// A session. It records, for each attached table, the keys that changes and diffs touched, each with its
+/// first image and whether every touch was indirect (The Session Extension, "Recording Changes").
 ///
 /// A change that takes memory is staged first, and then published, which takes none. Each call here leaves
 /// nothing staged. Copies share the records. On an error the session is unchanged.
@@ -78,6 +77,7 @@ impl<A: AllocHandle> Session<A> {
         }
     }
 
+    /// Whether it records what commits change (sqlite3session_enable).
     pub fn is_enabled(&self) -> bool
         ensures { result ≡ self.now.live.enabled }
     {

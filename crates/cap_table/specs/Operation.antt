@@ -54,6 +54,7 @@ module _ {A : Type 0} where
   placed table row (Some key) = under_key (is_some (get fields_cmp table.keyed key)) table key row
   placed table row None = under_next_id table row
 
+  -- an INSERT: refused for its width, and then for its key or for want of an id
   abbrev pub insert_row : TableState A → Fields A → Result (TableState A) Refusal
   insert_row table row =
       if length row == length table.schema then placed table row (key_of table.schema row) else Err WrongWidth
@@ -73,17 +74,20 @@ module _ {A : Type 0} where
       under_key (is_some (get fields_cmp table.keyed new)) (without table (Loose id)) new row
   moved table (Loose id) row None = Ok (with_id table id row)
 
+  -- an UPDATE of the row under this name, if there is one
   abbrev pub updated : TableState A → RowRef A → List (ℕ × Value A) → Option (Fields A)
       → Result (TableState A) Refusal
   updated table name changes None = Err NoRow
   updated table name changes (Some row) =
       moved table name (row_with changes row) (key_of table.schema (row_with changes row))
 
+  -- an UPDATE: refused for a column, then for the row, and then for the key or for want of an id
   abbrev pub update_row : TableState A → RowRef A → List (ℕ × Value A) → Result (TableState A) Refusal
   update_row table name changes =
       if are_columns (length table.schema) (columns_of changes)
       then updated table name changes (row_of table name) else Err BadColumn
 
+  -- a DELETE: refused for the row
   abbrev pub delete_row : TableState A → RowRef A → Result (TableState A) Refusal
   delete_row table name = if is_some (row_of table name) then Ok (without table name) else Err NoRow
 
