@@ -26,7 +26,7 @@ use Rattle.cap_codec.specs.declared.read.Contents.{Contents}
 use Rattle.cap_codec.specs.declared.read.Contents.TheVariants.{Changes, Patches}
 use Rattle.cap_apply.specs.Captured.{AllBefore, AllDiffer, TableRows, changes_of}
 use Rattle.cap_apply.specs.Difference.{Difference, IsUnder, StandBefore}
-use Rattle.cap_apply.specs.Fitting.{FitsItsTables}
+use Rattle.cap_apply.specs.Fitting.{FitsItsColumns}
 
 -- what each entry says that bytes spell
 each-spelled : {X : Type 0} (fits : List Bool → X → Bool) (schema : List Bool) (one : X → List ℕ → Type 0) → ((x : X) (bytes : List ℕ) → one x bytes → fits schema x ≡ true) → (xs : List X) (bytes : List ℕ)
@@ -110,10 +110,10 @@ module _ {A : Type 0} where
     patch-list-fits list fit.1,
   )
 
-  pub changeset-fits : (ts : List (TableRows A)) (database : Tables A) → AllBefore ts database → AllDiffer ts → FitsItsTables (Changes (map changes_of ts))
+  pub changeset-fits : (ts : List (TableRows A)) (database : Tables A) → AllBefore ts database → AllDiffer ts → FitsItsColumns (Changes (map changes_of ts))
   changeset-fits ts database before differ = All-from_recursion (IsFitting change_fits) (map changes_of ts) (tables-fit ts database before differ)
 
-  pub patchset-fits : (ts : List (TableRows A)) (database : Tables A) → AllBefore ts database → AllDiffer ts → FitsItsTables (Patches (patch_list_of (map changes_of ts)))
+  pub patchset-fits : (ts : List (TableRows A)) (database : Tables A) → AllBefore ts database → AllDiffer ts → FitsItsColumns (Patches (patch_list_of (map changes_of ts)))
   patchset-fits ts database before differ =
       All-from_recursion (IsFitting patch_fits) (patch_list_of (map changes_of ts)) (patch-list-fits (map changes_of ts) (tables-fit ts database before differ))
 
@@ -141,6 +141,6 @@ module _ {A : Type 0} where
     patches-spelled groups rest later,
   )
 
-  pub spelled-fits : (blob : Contents A) (bytes : List ℕ) → Spells blob bytes → FitsItsTables blob
+  pub spelled-fits : (blob : Contents A) (bytes : List ℕ) → Spells blob bytes → FitsItsColumns blob
   spelled-fits (Changes groups) bytes spelled = All-from_recursion (IsFitting change_fits) groups (changes-spelled groups bytes spelled)
   spelled-fits (Patches groups) bytes spelled = All-from_recursion (IsFitting patch_fits) groups (patches-spelled groups bytes spelled.0)

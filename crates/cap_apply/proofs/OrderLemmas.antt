@@ -38,7 +38,7 @@ use Rattle.cap_codec.specs.declared.read.Contents.TheVariants.{Changes, Patches}
 use Rattle.cap_apply.specs.Applied.{AppliedState}
 use Rattle.cap_apply.specs.Apply.{and_then, apply, change_applied, change_in, changes_applied, concluded, counted, group_applied, groups_applied, left_out, noted, nothing_applied, skipped_unless, with_row_in}
 use Rattle.cap_apply.specs.Requested.{Requested, requested_by_change, requested_by_patch, requested_in, requested_of}
-use Rattle.cap_apply.specs.Fitting.{FitsItsTables}
+use Rattle.cap_apply.specs.Fitting.{FitsItsColumns}
 use Rattle.cap_apply.specs.Operated.{operated, operated_by}
 use Rattle.cap_apply.specs.Operations.{directly}
 use Rattle.cap_apply.specs.Policy.{is_made}
@@ -146,7 +146,7 @@ module _ {A : Type 0} where
     patch_groups-keyed groups all.1,
   )
 
-  pub blob-keyed : (blob : Contents A) → FitsItsTables blob → AllByRecursion IsKeyedGroup (requested_of blob)
+  pub blob-keyed : (blob : Contents A) → FitsItsColumns blob → AllByRecursion IsKeyedGroup (requested_of blob)
   blob-keyed (Changes groups) all = change_groups-keyed groups (recursion_from_All (IsFitting change_fits) groups all)
   blob-keyed (Patches groups) all = patch_groups-keyed groups (recursion_from_All (IsFitting patch_fits) groups all)
 
@@ -261,5 +261,5 @@ module _ {A : Type 0} where
         (skipped-rises (is_some (target state.database group.table group.schema)) place state rise))
         (λ next more. groups-rise policy groups (place + 1) (number + length group.changes) next all.1 more)
 
-    pub apply-rises : (tables : Tables A) (blob : Contents A) (policy : Policy) → AreRising tables → FitsItsTables blob → IfOk (apply tables blob policy) (λ left. AreRising left.database)
+    pub apply-rises : (tables : Tables A) (blob : Contents A) (policy : Policy) → AreRising tables → FitsItsColumns blob → IfOk (apply tables blob policy) (λ left. AreRising left.database)
     apply-rises tables blob policy rise fits = groups-rise policy (requested_of blob) 0 0 (nothing_applied tables) (blob-keyed blob fits) rise

@@ -16,7 +16,7 @@ use Rattle.cap_changes.specs.Entries.{TableEntries}
 use Rattle.cap_codec.specs.declared.read.Contents.{Contents}
 use Rattle.cap_apply.specs.Applied.{AppliedState}
 use Rattle.cap_apply.specs.Apply.{and_then, apply, change_applied, change_in, changes_applied, group_applied, groups_applied, nothing_applied, skipped_unless}
-use Rattle.cap_apply.specs.Fitting.{FitsItsTables}
+use Rattle.cap_apply.specs.Fitting.{FitsItsColumns}
 use Rattle.cap_apply.specs.Operated.{operated_by}
 use Rattle.cap_apply.specs.Operations.{AreRun, IsMadeOrOmitted, operations_of_patch}
 use Rattle.cap_apply.specs.Requested.{Requested, requested_of}
@@ -120,7 +120,7 @@ module _ {A : Type 0} where
         (λ next more. groups-reached groups (place + 1) (number + length group.changes) next all.1 more)
 
   pub apply-runs : ((tables : Tables A) (ops : List (Op A)) → AreRising tables → IfOk (run tables ops) (λ left. AreRising left.database)) → (tables : Tables A) (blob : Contents A) (policy : Policy)
-      → AreRising tables → FitsItsTables blob
+      → AreRising tables → FitsItsColumns blob
       → IfOk (apply tables blob policy) (λ left. (ops : List (Op A)) × (run tables ops ≡ Ok (record { database = left.database; changes = left.changes })))
   apply-runs runs tables blob policy rise fits =
       told (apply tables blob policy)

@@ -7,6 +7,6 @@ use Rattle.cap_codec.specs.declared.read.Contents.TheVariants.{Changes, Patches}
 
 module _ {A : Type 0} where
   -- each group has a key column, and its changes fit its columns
-  abbrev pub FitsItsTables : Contents A → Type 0
-  FitsItsTables (Changes list) = AreFitting change_fits list
-  FitsItsTables (Patches list) = AreFitting patch_fits list
+  abbrev pub FitsItsColumns : Contents A → Type 0
+  FitsItsColumns (Changes list) = AreFitting change_fits list
+  FitsItsColumns (Patches list) = AreFitting patch_fits list

@@ -1,13 +1,13 @@
 //! What every blob keeps.
-ghost use Rattle.cap_apply.specs.Fitting.{FitsItsTables};
+ghost use Rattle.cap_apply.specs.Fitting.{FitsItsColumns};
 
 use cap_codec::Contents;
 use cap_value::AllocHandle;
 
 /// A law: each group of a blob has a key column, and its changes fit its columns. At run time it only visits
 /// each group.
-pub fn blob_fits_its_tables<A: AllocHandle>(blob: &Contents<A>)
-    ensures { FitsItsTables blob.now }
+pub fn blob_fits_its_columns<A: AllocHandle>(blob: &Contents<A>)
+    ensures { FitsItsColumns blob.now }
 {
     match blob {
         Contents::Changes(list) => list.groups_fit(),

@@ -18,7 +18,7 @@ ghost use Rattle.cap_apply.specs.Counted.{AreReportedOnce, change_count, changes
 ghost use Rattle.cap_apply.specs.Difference as rows;
 ghost use Rattle.cap_apply.specs.Difference.{AllApplied, Difference, GivesRowsNow, OtherTables, RowsAfter};
 ghost use Rattle.cap_apply.specs.Difference.{RowsBefore, turned};
-ghost use Rattle.cap_apply.specs.Fitting.{FitsItsTables};
+ghost use Rattle.cap_apply.specs.Fitting.{FitsItsColumns};
 ghost use Rattle.cap_apply.specs.Operations.{IsMadeOrOmitted, operations_of_change, operations_of_patch};
 ghost use Rattle.cap_apply.specs.Requested.{requested_by_change, requested_by_patch};
 ghost use Rattle.cap_apply.specs.Target.{target};
@@ -58,16 +58,16 @@ pub fn a_patchset_gives_the_rows_now<A: AllocHandle>()
 
 /// The changes of a captured changeset of several tables that each have a difference fit the columns of their
 /// groups, and so do those of its patchset.
-pub fn captures_fit_their_tables<A: AllocHandle>()
+pub fn captures_fit_their_columns<A: AllocHandle>()
     ensures changeset { (ts : List (TableRows A)) (database : Tables A) → AllBefore ts database → AllDiffer ts
-        → FitsItsTables (Changes (map changes_of ts)) }
+        → FitsItsColumns (Changes (map changes_of ts)) }
     ensures patchset { (ts : List (TableRows A)) (database : Tables A) → AllBefore ts database → AllDiffer ts
-        → FitsItsTables (Patches (patch_list_of (map changes_of ts))) }
+        → FitsItsColumns (Patches (patch_list_of (map changes_of ts))) }
 {}
 
 /// The changes that bytes spell fit the columns of their groups.
-pub fn spelled_blobs_fit_their_tables<A: AllocHandle>()
-    ensures { (blob : Contents A) (bytes : List ℕ) → Spells blob bytes → FitsItsTables blob }
+pub fn spelled_blobs_fit_their_columns<A: AllocHandle>()
+    ensures { (blob : Contents A) (bytes : List ℕ) → Spells blob bytes → FitsItsColumns blob }
 {}
 
 /// A captured changeset, applied where each key has its first image, and then its inverse give the first rows
@@ -112,7 +112,7 @@ pub fn changes_are_made_by_operations<A: AllocHandle>()
         → IfOk (change_applied policy number name flags (requested_by_patch flags patch) state)
         (IsMadeOrOmitted number (operations_of_patch name flags table patch) state) }
     ensures blob { (tables : Tables A) (blob : Contents A) (policy : Policy) → AreRising tables
-        → FitsItsTables blob → IfOk (apply tables blob policy) (λ left. (ops : List (Op A))
+        → FitsItsColumns blob → IfOk (apply tables blob policy) (λ left. (ops : List (Op A))
         × (run tables ops ≡ Ok (record { database = left.database; changes = left.changes }))) }
 {
     tables_keep_order::<A>();
@@ -128,7 +128,7 @@ pub fn applied_blobs_keep_columns<A: AllocHandle>()
 /// after a blob whose changes fit the columns of their groups is applied.
 pub fn applied_blobs_keep_order<A: AllocHandle>()
     ensures { (tables : Tables A) (blob : Contents A) (policy : Policy) → AreRising tables
-        → FitsItsTables blob → IfOk (apply tables blob policy) (λ left. AreRising left.database) }
+        → FitsItsColumns blob → IfOk (apply tables blob policy) (λ left. AreRising left.database) }
 {
     tables_keep_order::<A>();
 }

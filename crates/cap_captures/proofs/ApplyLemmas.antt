@@ -26,7 +26,7 @@ use Rattle.cap_apply.specs.Applied.{AppliedState}
 use Rattle.cap_apply.specs.Apply.{apply}
 use Rattle.cap_apply.specs.Captured.{AllAfter, AllBefore, AllDiffer, AreOthers, GivesAllRowsNow, TableRows, changes_of as group_of_rows}
 use Rattle.cap_apply.specs.Difference.{AreApart, Difference, RowsAfter, StandAfter, StandBefore}
-use Rattle.cap_apply.specs.Fitting.{FitsItsTables}
+use Rattle.cap_apply.specs.Fitting.{FitsItsColumns}
 use Rattle.cap_apply.specs.declared.policy.Policy.{Policy}
 use Rattle.cap_group.specs.ChangeKey.{change_key}
 use Rattle.cap_group.specs.Rows.{changes_of_row}
@@ -236,9 +236,9 @@ module _ {A : Type 0} (database main : Tables A) (rise : AreRising database) (ma
 
   -- the changeset fits its tables
   pub turned-fits : (groups : List (TableChanges A)) → AllByRecursion Turns groups → NoneTwice groups → AllByRecursion (λ group. has_some group.changes ≡ true) groups
-      → ((ts : List (TableRows A)) (tables : Tables A) → AllBefore ts tables → AllDiffer ts → FitsItsTables (Changes (map group_of_rows ts)))
-      → FitsItsTables (Changes groups)
-  turned-fits groups all names some law = subst (λ l. FitsItsTables (Changes l)) (plan-is groups all) (law (plan groups all) database (before-of groups all names) (differ-of groups all some))
+      → ((ts : List (TableRows A)) (tables : Tables A) → AllBefore ts tables → AllDiffer ts → FitsItsColumns (Changes (map group_of_rows ts)))
+      → FitsItsColumns (Changes groups)
+  turned-fits groups all names some law = subst (λ l. FitsItsColumns (Changes l)) (plan-is groups all) (law (plan groups all) database (before-of groups all names) (differ-of groups all some))
 
 -- ---- tables with the same rows
 

@@ -15,7 +15,7 @@ use Rattle.cap_codec.specs.declared.read.Contents.TheVariants.{Changes}
 use Rattle.cap_apply.specs.Applied.{AppliedState}
 use Rattle.cap_apply.specs.Apply.{apply}
 use Rattle.cap_apply.specs.Captured.{AllBefore, AllDiffer, GivesAllRowsNow, TableRows, changes_of as group_of_rows}
-use Rattle.cap_apply.specs.Fitting.{FitsItsTables}
+use Rattle.cap_apply.specs.Fitting.{FitsItsColumns}
 use Rattle.cap_apply.specs.declared.policy.Policy.{Policy}
 use Rattle.cap_session.specs.declared.record.Record.{Record}
 use Rattle.cap_session.specs.Session.{AttachedTables, record_of}
@@ -54,12 +54,12 @@ module _ {A : Type 0} where
       (creates_keep : (tables : Tables A) (other : List ℕ) (schema : List Bool) → IfOk (create tables other schema) (λ after. (table : List ℕ) (columns : List Bool) → schema_of tables table ≡ Some columns → schema_of after table ≡ Some columns))
       (rises : (past : Past A) → BlobsFitPast past → AreRising (main past))
       (session : ℕ) (start : Past A) (fresh : touches session start ≡ [])
-      (applies : (tables : Tables A) (blob : Contents A) (policy : Policy) → AreRising tables → FitsItsTables blob → IfOk (apply tables blob policy) (λ left. AreRising left.database))
+      (applies : (tables : Tables A) (blob : Contents A) (policy : Policy) → AreRising tables → FitsItsColumns blob → IfOk (apply tables blob policy) (λ left. AreRising left.database))
       (gives : (policy : Policy) (ts : List (TableRows A)) (tables : Tables A) → AllBefore ts tables → GivesAllRowsNow policy ts (Changes (map group_of_rows ts)) tables)
-      (fit : (ts : List (TableRows A)) (tables : Tables A) → AllBefore ts tables → AllDiffer ts → FitsItsTables (Changes (map group_of_rows ts)))
+      (fit : (ts : List (TableRows A)) (tables : Tables A) → AllBefore ts tables → AllDiffer ts → FitsItsColumns (Changes (map group_of_rows ts)))
       (blob_of : List (TableChanges A) → Contents A)
       (gives_each : (policy : Policy) (ts : List (TableRows A)) (tables : Tables A) → AllBefore ts tables → GivesAllRowsNow policy ts (blob_of (map group_of_rows ts)) tables)
-      (fit_each : (ts : List (TableRows A)) (tables : Tables A) → AllBefore ts tables → AllDiffer ts → FitsItsTables (blob_of (map group_of_rows ts)))
+      (fit_each : (ts : List (TableRows A)) (tables : Tables A) → AllBefore ts tables → AllDiffer ts → FitsItsColumns (blob_of (map group_of_rows ts)))
       (policy : Policy) (database : Tables A) (rise : AreRising database) where
     abbrev Over : List (Event A) → List ℕ → Fields A → Option (Option (Fields A))
     Over later name key = first_touched (touches_over session later start) name key
@@ -200,7 +200,7 @@ module _ {A : Type 0} where
         whole : AppliesWhole policy (blob_of list) (changes_in list) before.left (main (later ++ start)) tables_now
         whole = changes_apply (later ++ start) session before.left before.rising main_now images-now blob_of gives_each policy list refl
 
-        list-fits : FitsItsTables (blob_of list)
+        list-fits : FitsItsColumns (blob_of list)
         list-fits = capture_fits (later ++ start) session before.left before.rising main_now images-now blob_of fit_each
 
         restart-left : Left (event ∷ later)

@@ -45,7 +45,7 @@ use Rattle.cap_captures.proofs.CaptureLemmas.{AreKnown, captured-row, groups-kno
 use Rattle.cap_apply.specs.Apply.{apply}
 use Rattle.cap_apply.specs.Applied.{AppliedState}
 use Rattle.cap_apply.specs.Captured.{AllBefore, AllDiffer, GivesAllRowsNow, TableRows, changes_of as group_of_rows}
-use Rattle.cap_apply.specs.Fitting.{FitsItsTables}
+use Rattle.cap_apply.specs.Fitting.{FitsItsColumns}
 use Rattle.cap_apply.specs.declared.policy.Policy.{Policy}
 use Rattle.cap_codec.specs.Writable.{has_some}
 use Rattle.cap_group.specs.ChangeKey.{change_key}
@@ -628,7 +628,7 @@ module _ {A : Type 0} where
           pub untouched : (name : List ℕ) (key : Fields A) → Over all name key ≡ None → row_at left.database name key ≡ row_at database name key
           pub others : (name : List ℕ) → option_map but_keyed (table_of left.database name) ≡ option_map but_keyed (table_of database name)
           pub over-rows : GivesRows database (main (all ++ start)) left.database (session_over session all start).tables
-          pub fitting : ((ts : List (TableRows A)) (tables : Tables A) → AllBefore ts tables → AllDiffer ts → FitsItsTables (Changes (map group_of_rows ts))) → FitsItsTables (Changes groups)
+          pub fitting : ((ts : List (TableRows A)) (tables : Tables A) → AllBefore ts tables → AllDiffer ts → FitsItsColumns (Changes (map group_of_rows ts))) → FitsItsColumns (Changes groups)
 
         pub applied-once : IsOnce
         applied-once = record {

@@ -25,7 +25,7 @@ ghost use Rattle.cap_captures.specs.Rows.{AreInARow, HasTogether, row_changes};
 
 use cap_apply::{
     a_changeset_gives_the_rows_now, a_patchset_gives_the_rows_now, applied_blobs_keep_order,
-    captures_fit_their_tables,
+    captures_fit_their_columns,
 };
 use cap_database::{tables_keep_columns, tables_keep_order};
 use cap_value::AllocHandle;
@@ -116,7 +116,7 @@ pub fn the_concatenation_applies_as_its_captures<A: AllocHandle>()
     a_changeset_gives_the_rows_now::<A>();
     a_patchset_gives_the_rows_now::<A>();
     applied_blobs_keep_order::<A>();
-    captures_fit_their_tables::<A>();
+    captures_fit_their_columns::<A>();
     tables_keep_columns::<A>();
     tables_keep_order::<A>();
 }

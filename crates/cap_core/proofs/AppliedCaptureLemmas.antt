@@ -29,7 +29,7 @@ use Rattle.cap_codec.specs.declared.read.Contents.{Contents}
 use Rattle.cap_codec.specs.declared.read.Contents.TheVariants.{Changes, Patches}
 use Rattle.cap_apply.specs.Captured.{AllAfter, AllBefore, AllDiffer, AreOthers, GivesAllRowsNow, TableRows, changes_of as group_of_rows, total}
 use Rattle.cap_apply.specs.declared.policy.Policy.{Policy}
-use Rattle.cap_apply.specs.Fitting.{FitsItsTables}
+use Rattle.cap_apply.specs.Fitting.{FitsItsColumns}
 use Rattle.cap_apply.specs.Difference.{AreApart, Difference, IsUnder, StandAfter, StandBefore}
 use Rattle.cap_session.specs.declared.record.Record.{Record}
 use Rattle.cap_session.specs.Records.{Records}
@@ -557,10 +557,10 @@ module _ {A : Type 0} where
 
     -- and they fit the tables
     pub capture_fits : (blob_of : List (TableChanges A) → Contents A)
-        → ((ts : List (TableRows A)) (tables : Tables A) → AllBefore ts tables → AllDiffer ts → FitsItsTables (blob_of (map group_of_rows ts)))
-        → FitsItsTables (blob_of (session_changes (main past) (session_of past number)))
+        → ((ts : List (TableRows A)) (tables : Tables A) → AllBefore ts tables → AllDiffer ts → FitsItsColumns (blob_of (map group_of_rows ts)))
+        → FitsItsColumns (blob_of (session_changes (main past) (session_of past number)))
     capture_fits blob_of law =
-        subst (λ l. FitsItsTables (blob_of l)) planned_capture.is (law planned_capture.plan database planned_capture.before planned_capture.differ)
+        subst (λ l. FitsItsColumns (blob_of l)) planned_capture.is (law planned_capture.plan database planned_capture.before planned_capture.differ)
 
     pub changeset_applies : ((policy : Policy) (ts : List (TableRows A)) (tables : Tables A) → AllBefore ts tables → GivesAllRowsNow policy ts (Changes (map group_of_rows ts)) tables)
         → (policy : Policy) (list : List (TableChanges A)) → answer (state_after past) (command.Capture number) ≡ Captured list

@@ -24,7 +24,7 @@ use Rattle.cap_database.specs.declared.op.Op.{Op}
 use Rattle.cap_database.specs.declared.refused_at.RefusedAt.{RefusedAt}
 use Rattle.cap_apply.specs.Applied.{AppliedState}
 use Rattle.cap_apply.specs.Apply.{apply}
-use Rattle.cap_apply.specs.Fitting.{FitsItsTables}
+use Rattle.cap_apply.specs.Fitting.{FitsItsColumns}
 use Rattle.cap_apply.specs.declared.policy.Policy.{Policy}
 use Rattle.cap_codec.specs.declared.read.Contents.{Contents}
 use Rattle.cap_core.specs.declared.command.Command.{Command}
@@ -141,7 +141,7 @@ module _ {A : Type 0} where
   module _ (empty : AreRising {A = A} [])
       (runs : (tables : Tables A) (ops : List (Op A)) → AreRising tables → LeavesRising (run tables ops))
       (creates : (tables : Tables A) (name : List ℕ) (schema : List Bool) → AreRising tables → IfOk (create tables name schema) AreRising)
-      (applies : (tables : Tables A) (blob : Contents A) (policy : Policy) → AreRising tables → FitsItsTables blob → IfOk (apply tables blob policy) (λ left. AreRising left.database)) where
+      (applies : (tables : Tables A) (blob : Contents A) (policy : Policy) → AreRising tables → FitsItsColumns blob → IfOk (apply tables blob policy) (λ left. AreRising left.database)) where
     commit-rises : (why : Option Refusal) (tables : Tables A) (ops : List (Op A)) → AreRising tables → HasRising (commit_unless why tables ops)
     commit-rises (Some why) tables ops all = tt
     commit-rises None tables ops all = made-rises (run tables ops) (runs tables ops all)

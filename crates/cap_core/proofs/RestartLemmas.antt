@@ -20,7 +20,7 @@ use Rattle.cap_changes.specs.Group.{TableChanges}
 use Rattle.cap_codec.specs.declared.read.Contents.{Contents}
 use Rattle.cap_apply.specs.Applied.{AppliedState}
 use Rattle.cap_apply.specs.Apply.{apply}
-use Rattle.cap_apply.specs.Fitting.{FitsItsTables}
+use Rattle.cap_apply.specs.Fitting.{FitsItsColumns}
 use Rattle.cap_apply.specs.Captured.{AllBefore, AllDiffer, GivesAllRowsNow, TableRows, changes_of as group_of_rows}
 use Rattle.cap_apply.specs.declared.policy.Policy.{Policy}
 use Rattle.cap_database.specs.Tables.{AreRising, Tables, create, schema_of, table_of}
@@ -242,10 +242,10 @@ module _ {A : Type 0} where
   module _ (runs_keep : (tables : Tables A) (ops : List (Op A)) → IfOk (run tables ops) (λ left. (other : List ℕ) → schema_of left.database other ≡ schema_of tables other))
       (creates_keep : (tables : Tables A) (other : List ℕ) (schema : List Bool) → IfOk (create tables other schema) (λ after. (table : List ℕ) (columns : List Bool) → schema_of tables table ≡ Some columns → schema_of after table ≡ Some columns))
       (rises : (past : Past A) → BlobsFitPast past → AreRising (main past))
-      (applies : (tables : Tables A) (blob : Contents A) (policy : Policy) → AreRising tables → FitsItsTables blob → IfOk (apply tables blob policy) (λ left. AreRising left.database))
+      (applies : (tables : Tables A) (blob : Contents A) (policy : Policy) → AreRising tables → FitsItsColumns blob → IfOk (apply tables blob policy) (λ left. AreRising left.database))
       (blob_of : List (TableChanges A) → Contents A)
       (gives : (policy : Policy) (ts : List (TableRows A)) (tables : Tables A) → AllBefore ts tables → GivesAllRowsNow policy ts (blob_of (map group_of_rows ts)) tables)
-      (fit : (ts : List (TableRows A)) (tables : Tables A) → AllBefore ts tables → AllDiffer ts → FitsItsTables (blob_of (map group_of_rows ts)))
+      (fit : (ts : List (TableRows A)) (tables : Tables A) → AllBefore ts tables → AllDiffer ts → FitsItsColumns (blob_of (map group_of_rows ts)))
       (policy : Policy) (session : ℕ) (start : Past A) (fresh : touches session start ≡ []) (database : Tables A) (rise : AreRising database) where
     abbrev Over : List (Event A) → List ℕ → Fields A → Option (Option (Fields A))
     Over later name key = first_touched (touches_over session later start) name key
@@ -443,7 +443,7 @@ module _ {A : Type 0} where
         whole : AppliesWhole policy (blob_of list) (changes_in list) before.left (main (later ++ start)) tables_now
         whole = changes_apply (later ++ start) session before.left before.rising main_rise images-now blob_of gives policy list refl
 
-        list-fits : FitsItsTables (blob_of list)
+        list-fits : FitsItsColumns (blob_of list)
         list-fits = capture_fits (later ++ start) session before.left before.rising main_rise images-now blob_of fit
 
         restart-left : Left (event ∷ later)

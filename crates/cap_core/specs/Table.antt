@@ -5,7 +5,7 @@ use Rattle.std.specs.Ordering.{nat_cmp}
 use Rattle.cap_row.specs.Key.{fields_cmp, key_of}
 use Rattle.cap_table.specs.Table.{TableState}
 use Rattle.cap_tree.specs.Tree.{IsOrdered}
-use Rattle.cap_apply.specs.Fitting.{FitsItsTables}
+use Rattle.cap_apply.specs.Fitting.{FitsItsColumns}
 use Rattle.cap_core.specs.declared.command.Command.{Command}
 use Rattle.cap_core.specs.declared.command.Command.TheVariants.{Apply}
 use Rattle.cap_core.specs.declared.event.Event.{Event}
@@ -30,7 +30,7 @@ module _ {A : Type 0} where
   -- the changes of the blob that the command applies, if any, fit the columns of their groups, as those of
   -- every blob that a program can make
   abbrev pub BlobFits : Command A → Type 0
-  BlobFits (Apply blob policy) = FitsItsTables blob
+  BlobFits (Apply blob policy) = FitsItsColumns blob
   BlobFits _ = Unit {0}
 
   -- so does each blob that was applied

@@ -1,6 +1,6 @@
 //! The commands of the server.
 
-use cap_apply::{Policy, blob_fits_its_tables};
+use cap_apply::{Policy, blob_fits_its_columns};
 use cap_codec::Contents;
 use cap_filter::TableFilter;
 use cap_row::Schema;
@@ -127,7 +127,7 @@ impl<A: AllocHandle> Command<A> {
         ensures { BlobFits self.now }
     {
         if let Command::Apply { blob, .. } = self {
-            blob_fits_its_tables(blob);
+            blob_fits_its_columns(blob);
         }
     }
 }

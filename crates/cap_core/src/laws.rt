@@ -51,7 +51,7 @@ ghost use Rattle.cap_core.specs.Transition.{next};
 
 use cap_apply::{
     a_changeset_gives_the_rows_now, a_patchset_gives_the_rows_now, applied_blobs_keep_order,
-    captures_fit_their_tables,
+    captures_fit_their_columns,
 };
 use cap_codec::key_flags_read_alike;
 use cap_compare::differences_are_just_those;
@@ -227,7 +227,7 @@ pub fn captures_in_a_row_give_the_rows_now<A: AllocHandle>()
     a_changeset_gives_the_rows_now::<A>();
     a_patchset_gives_the_rows_now::<A>();
     applied_blobs_keep_order::<A>();
-    captures_fit_their_tables::<A>();
+    captures_fit_their_columns::<A>();
     tables_keep_columns::<A>();
     tables_keep_order::<A>();
 }

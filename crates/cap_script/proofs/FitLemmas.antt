@@ -5,7 +5,7 @@ use Rattle.std.specs.List.{AllByRecursion}
 use Rattle.std.proofs.lemmas.List.Elements.{All-from_recursion}
 use Rattle.cap_codec.specs.Spelling.{Spells}
 use Rattle.cap_codec.specs.declared.read.Contents.{Contents}
-use Rattle.cap_apply.specs.Fitting.{FitsItsTables}
+use Rattle.cap_apply.specs.Fitting.{FitsItsColumns}
 use Rattle.cap_core.specs.declared.command.Command.{Command}
 use Rattle.cap_core.specs.declared.command.Command.TheVariants as command
 use Rattle.cap_core.specs.Table.{BlobFits}
@@ -14,7 +14,7 @@ use Rattle.cap_script.specs.Script.{SpellsLine, SpellsLines, SpellsScript}
 use Rattle.cap_script.specs.declared.line.Line.{Line}
 use Rattle.cap_script.specs.declared.line.Show.{Show}
 
-module _ {A : Type 0} (fit : (blob : Contents A) (bytes : List ℕ) → Spells blob bytes → FitsItsTables blob) where
+module _ {A : Type 0} (fit : (blob : Contents A) (bytes : List ℕ) → Spells blob bytes → FitsItsColumns blob) where
   command-fits : (c : Command A) (show : Show A) (line rest : List ℕ) → SpelledCommand c show line rest → BlobFits c
   command-fits (command.Apply contents policy) show line rest spelled = fit contents spelled.2.1.0 spelled.2.1.2
   command-fits _ show line rest spelled = tt

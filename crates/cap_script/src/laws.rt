@@ -7,7 +7,7 @@ ghost use Rattle.cap_script.specs.LineLimits.{LineWithin};
 ghost use Rattle.cap_script.specs.Script.{SpellsLine, SpellsScript};
 ghost use Rattle.cap_script.specs.declared.line.Line.{Line};
 
-use cap_apply::spelled_blobs_fit_their_tables;
+use cap_apply::spelled_blobs_fit_their_columns;
 use cap_codec::no_bytes_spell_two;
 use cap_filter::{one_filter, spelled_is_read};
 use cap_value::AllocHandle;
@@ -25,7 +25,7 @@ pub fn spelled_commands_fit<A: AllocHandle>()
     ensures { (text : List ℕ) (lines : List (Line A)) → SpellsScript lines text
         → All (λ line. BlobFits line.command) lines }
 {
-    spelled_blobs_fit_their_tables::<A>();
+    spelled_blobs_fit_their_columns::<A>();
 }
 
 /// A line has no fault exactly where it spells a command within the limits.

@@ -11,7 +11,7 @@ returns g c =
     let rises = main-rises order.empty order.run order.create applies in
     let keep = c.tables_keep_columns.ensures in
     let gives = c.a_changeset_gives_the_rows_now.ensures in
-    let fit = c.captures_fit_their_tables.ensures in
+    let fit = c.captures_fit_their_columns.ensures in
     record {
       changesets = λ policy session start later event database blob fresh restarted steady fits rise holds is.
           as-one keep.run keep.create rises session start fresh applies gives fit.changeset Changes gives fit.changeset policy database rise event later restarted steady fits holds blob is;

@@ -10,7 +10,7 @@ returns g c =
     let applies = c.applied_blobs_keep_order.ensures in
     let rises = main-rises order.empty order.run order.create applies in
     let keep = c.tables_keep_columns.ensures in
-    let fit = c.captures_fit_their_tables.ensures in
+    let fit = c.captures_fit_their_columns.ensures in
     record {
       changesets = λ policy session start later event database fresh restarted steady holds rise fits.
           in_a_row keep.run keep.create rises applies Changes c.a_changeset_gives_the_rows_now.ensures fit.changeset policy session start fresh database rise event later restarted steady holds fits;

@@ -1,5 +1,5 @@
 use Rattle.cap_apply.proofs.FittingLemmas.{spelled-fits}
-use Rattle.cap_apply.proofs.laws.spelled_blobs_fit_their_tables.Goals as goal
+use Rattle.cap_apply.proofs.laws.spelled_blobs_fit_their_columns.Goals as goal
 
 pub returns : goal.returns
 returns g c = spelled-fits

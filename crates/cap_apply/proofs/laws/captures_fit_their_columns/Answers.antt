@@ -1,5 +1,5 @@
 use Rattle.cap_apply.proofs.FittingLemmas.{changeset-fits, patchset-fits}
-use Rattle.cap_apply.proofs.laws.captures_fit_their_tables.Goals as goal
+use Rattle.cap_apply.proofs.laws.captures_fit_their_columns.Goals as goal
 
 pub returns : goal.returns
 returns g c = record { changeset = changeset-fits; patchset = patchset-fits }
