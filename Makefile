@@ -15,8 +15,8 @@ DESTDIR =
 
 .PHONY: run build test format clean conformance bench lib install uninstall test-bindings
 
-# The replies to the first example, by the optimised program where `make build` or `make test` left one. Else the sources
-# run before any proof, with checks in place of the proofs, and what `rt try` says of that is shown where it fails.
+# The replies to the first example, by the optimised program where `make build` or `make test` left one. Else the
+# sources run before any proof, with checks in place of the proofs, and what `rt try` reports is shown where it fails.
 run:
 	@if [ -x $(PROGRAM) ]; then \
 	    if [ -n "$$(find $(SOURCES) -newer $(PROGRAM) -print -quit)" ]; then \
@@ -24,8 +24,9 @@ run:
 	    fi; \
 	    $(PROGRAM) run < examples/first.workload; \
 	else \
-	    said=$$(mktemp) && trap 'rm -f "$$said"' EXIT && cd crates/changecap && \
-	    { rt try -- run < ../../examples/first.workload 2> "$$said" || { status=$$?; cat "$$said" >&2; exit $$status; }; }; \
+	    log=$$(mktemp) && trap 'rm -f "$$log"' EXIT && cd crates/changecap && \
+	    { rt try -- run < ../../examples/first.workload 2> "$$log" || \
+	        { status=$$?; cat "$$log" >&2; exit $$status; }; }; \
 	fi
 
 # Proves every crate that the program stands on, makes the optimised program and runs it once.

@@ -1,23 +1,26 @@
-"""Workloads that are timed through the program, with reading their text and printing the replies."""
+"""Workloads and blobs that are timed through the program, with reading them and printing the replies."""
 
 COUNT = 100_000
 BEGIN = ["create t kv", "session", "attach 1 t"]
 
 
 def integer(number):
+    """The field of an INTEGER."""
     return b"\x01" + number.to_bytes(8, "big", signed=True)
 
 
-def blob_of(records):
+def blob_of(changes):
     """The changeset of the table t with these changes."""
-    return b"\x54\x02\x01\x00t\x00" + b"".join(records)
+    return b"\x54\x02\x01\x00t\x00" + b"".join(changes)
 
 
 def inserted():
+    """The changeset of an INSERT for each key."""
     return blob_of(b"\x12\x00" + integer(key) + b"\x03\x01x" for key in range(COUNT))
 
 
 def updated():
+    """The changeset of an UPDATE of each of these rows."""
     return blob_of(b"\x17\x00" + integer(key) + b"\x03\x01x\x00\x03\x01y" for key in range(COUNT))
 
 
@@ -41,14 +44,17 @@ def blobs_of(load):
 
 
 def apply_line(content):
+    """The command that applies a blob."""
     return f"apply x'{content.hex()}' abort abort abort"
 
 
 def inserts(keys):
+    """A commit of a row for each key."""
     return [f"commit insert t ({key},'x')" for key in keys]
 
 
 def updates(rows):
+    """The workload of commits that each update one of so many rows, in turn."""
     lines = BEGIN[:1] + inserts(range(rows)) + BEGIN[1:]
     return lines + [f"commit update t key({number % rows}) set 1 = {number}" for number in range(COUNT)]
 
@@ -77,4 +83,5 @@ def lines_of(load):
 
 
 def text_of(load):
+    """The workload of a load."""
     return "\n".join(lines_of(load)) + "\n"

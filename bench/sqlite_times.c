@@ -3,7 +3,8 @@
 ** there.
 **
 ** Use: sqlite_times LOAD ..
-** Each load prints lines 'NAME NANOSECONDS', those of one commit, change, row or transaction. */
+** Each load prints lines 'NAME NANOSECONDS', those of one commit, change, row or transaction. The load `version` prints
+** SQLite's version. */
 #define SQLITE_ENABLE_SESSION
 #define SQLITE_ENABLE_PREUPDATE_HOOK
 #include <sqlite3.h>

@@ -48,7 +48,7 @@ def order(value):
 
 
 class Reader:
-    """Bytes that are read from a place on."""
+    """Bytes that are read from a place on. ValueError where they end or have what no blob has; not all is checked."""
 
     def __init__(self, content):
         self.content, self.at = content, 0
@@ -89,11 +89,12 @@ class Reader:
         raise ValueError(f"no value of type {kind} at {self.at - 1}")
 
     def record(self, flags):
+        """A record that has the fields with a flag."""
         return [self.value() if flag else UNDEFINED for flag in flags]
 
     def change(self, group):
         operation, indirect = self.byte(), self.byte()
-        every = bytes(b"\1" * len(group.flags))
+        every = b"\1" * len(group.flags)
         if operation == INSERT:
             return Change(operation, indirect, new=self.record(every))
         if operation == DELETE:
@@ -189,10 +190,9 @@ def is_in_key_order(content):
 
 
 def patches(groups):
-    """The patchset of a changeset."""
+    """The groups of the patchset of a changeset."""
     for group in groups:
-        changes = [patch(group, change) for change in group.changes]
-        yield replace(group, kind=PATCHSET, changes=changes)
+        yield replace(group, kind=PATCHSET, changes=[patch(group, change) for change in group.changes])
 
 
 def patch(group, change):

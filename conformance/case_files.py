@@ -3,14 +3,16 @@
 A file of tests has a case after each line '== NAME': its source, and its target, if it has one, after a line
 '-- target'. What stands before the first case says what the file is about.
 """
-import importlib.machinery
-import importlib.util
 import os
+import sys
 
 from comparison import Case
 
+sys.path.append(os.path.join(os.path.dirname(os.path.abspath(__file__)), "..", "examples"))
+from example_files import FAULT, contents, expanded, lines_of  # noqa: E402
+
 TARGET = "-- target"
-# Examples that SQLite can't run, or where it differs by design: DIFFERENCES.md says why.
+# Examples that SQLite cannot run, or where it differs by design: DIFFERENCES.md says why.
 LEFT_OUT = {
     "apply/update-that-changes-nothing": "an update without a modified field",
     "tables/names-are-compared-by-bytes": "names that differ in case only",
@@ -20,19 +22,15 @@ LEFT_OUT = {
 }
 
 
-def contents(path):
-    with open(path, encoding="utf-8") as file:
-        return file.read()
-
-
 def tests(folder):
     """The cases of all files of tests."""
     for name in sorted(os.listdir(folder)):
         if name.endswith(".cases"):
-            yield from cases_of(contents(f"{folder}/{name}"), f"tests/{name}")
+            yield from cases_of(contents(f"{folder}/{name}").decode(), f"tests/{name}")
 
 
 def cases_of(text, label):
+    """The cases of a file of tests."""
     for part in ("\n" + text).split("\n== ")[1:]:
         name, _, body = part.partition("\n")
         source, _, target = body.partition(f"{TARGET}\n")
@@ -47,9 +45,6 @@ def text_of(case):
 
 def examples(folder):
     """The example workloads whose replies are all on standard output. Those with repeated text are expanded."""
-    loader = importlib.machinery.SourceFileLoader("check", f"{folder}/check")
-    check = importlib.util.module_from_spec(importlib.util.spec_from_loader("check", loader))
-    loader.exec_module(check)
     for path, _, names in sorted(os.walk(folder)):
         for name in sorted(names):
             start, ending = os.path.splitext(f"{path}/{name}")
@@ -57,10 +52,10 @@ def examples(folder):
             if label in LEFT_OUT or os.path.exists(f"{start}.err") or os.path.exists(f"{start}.any-order"):
                 continue
             if ending == ".workload":
-                yield Case(f"examples/{label}", contents(f"{path}/{name}"))
+                yield Case(f"examples/{label}", contents(f"{path}/{name}").decode())
             elif ending == ".long":
-                yield Case(f"examples/{label}", check.expanded(check.contents(f"{path}/{name}")).decode())
+                yield Case(f"examples/{label}", expanded(contents(f"{path}/{name}")).decode())
             elif ending == ".workloads":
-                for number, given, printed in check.lines_of(f"{path}/{name}"):
-                    if not check.FAULT.match(printed):
+                for number, given, printed in lines_of(f"{path}/{name}"):
+                    if not FAULT.match(printed):
                         yield Case(f"examples/{label}, line {number}", given.decode())

@@ -4,6 +4,7 @@ A case has a source, a workload that both run. Its captures are blobs. It may ha
 {1}, {2} .. stand for these blobs in their order: both run it with the program's blobs and with SQLite's.
 """
 import re
+from contextlib import closing
 from dataclasses import dataclass
 
 import blob
@@ -84,27 +85,26 @@ class Comparison:
             ours = split(self.program.run(text), commands)
         except Fault as fault:
             ours = [[str(fault)]]
-        server = SqliteServer()
-        try:
-            theirs = split([part for reply in server.run(commands) for line in reply for part in line.split("\n")],
-                           commands)
-        finally:
-            server.close()
+        with closing(SqliteServer()) as server:
+            lines = [part for reply in server.run(commands) for line in reply for part in line.split("\n")]
+        theirs = split(lines, commands)
         self.compare(commands, ours, theirs, label)
         return ours, theirs
 
     def compare(self, commands, ours, theirs, label):
+        """Notes the first reply that differs, or the blobs whose keys do not ascend."""
         for at in range(max(len(ours), len(theirs))):
             one, other = (replies[at] if at < len(replies) else ["no reply"] for replies in (ours, theirs))
             if comparable(one) != comparable(other):
                 line = commands[at].line if at < len(commands) else "the end"
-                return self.problem(f"{label}, {line}\n  changecap: {text_of(one)}\n  SQLite:    {text_of(other)}")
+                self.problem(f"{label}, {line}\n  changecap: {text_of(one)}\n  SQLite:    {text_of(other)}")
+                return
         for content in blobs_of(ours):
             if not blob.is_in_key_order(content):
                 self.problem(f"{label}: keys do not ascend in {content.hex()}")
 
     def run(self):
-        """Compares all of the case, and answers the blobs of its source, the program's and SQLite's."""
+        """Compares all of the case, and returns the blobs of its source, the program's and SQLite's."""
         ours, theirs = self.run_both(self.case.source, "source" if self.case.target else "workload")
         blobs = blobs_of(ours), blobs_of(theirs)
         if self.case.target and not self.problems:
@@ -117,4 +117,5 @@ class Comparison:
 
 
 def text_of(reply):
+    """A reply as reports have it."""
     return "\n             ".join(reply)

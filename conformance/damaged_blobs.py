@@ -47,6 +47,7 @@ def is_applied_alike(groups, tables):
 
 
 def is_whole(change):
+    """Whether the change is not an update without a modified field."""
     return change.operation != blob.UPDATE or any(value is not blob.UNDEFINED for value in change.new)
 
 
@@ -69,11 +70,12 @@ class Damage:
             yield from self.differences(damaged(content, maker.random), before, names)
 
     def differences(self, content, before, names):
+        """A text for each difference in a damaged blob, which is applied after the workload `before`."""
         self.tried += 1
         try:
             found = self.program.show(content)
         except Fault as fault:
-            if "status 1 fault D" not in str(fault):
+            if fault.status != 1 or not fault.error.startswith("fault D"):
                 yield f"show {content.hex()}: {fault}"
             return
         self.read += 1

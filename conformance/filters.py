@@ -31,6 +31,7 @@ def tokens_of(text):
 
 
 def node(tokens):
+    """The filter that the tokens begin with, which are taken."""
     word = tokens.pop()[0]
     if word in ("all", "nothing"):
         return lambda name: word == "all"
@@ -61,5 +62,6 @@ def parts_of(tokens):
 
 
 def take_sign(tokens, sign):
+    """Takes a parenthesis or a comma."""
     if tokens.pop()[2] != sign:
         raise ValueError(f"no {sign} in a filter")

@@ -11,7 +11,11 @@ def lines_of(text):
 
 
 class Fault(Exception):
-    """The program ended otherwise than by printing the replies."""
+    """The program ended otherwise than with status 0: its status, or None after too long, and its standard error."""
+
+    def __init__(self, words, status, error):
+        super().__init__(f"{' '.join(words)}: {error if status is None else f'status {status} {error}'}")
+        self.status, self.error = status, error
 
 
 class Program:
@@ -25,14 +29,14 @@ class Program:
         try:
             ran = subprocess.run([self.path, *words], input=given, capture_output=True, timeout=SECONDS, check=False)
         except subprocess.TimeoutExpired:
-            raise Fault(f"{' '.join(words)}: no end after {SECONDS} seconds") from None
+            raise Fault(words, None, f"no end after {SECONDS} seconds") from None
         return ran.returncode, ran.stdout.decode(), ran.stderr.decode(errors="replace").strip()
 
     def lines(self, words, given):
         """The lines that it prints where it succeeds."""
         status, out, error = self.call(words, given)
         if status != 0:
-            raise Fault(f"{' '.join(words)}: status {status} {error}")
+            raise Fault(words, status, error)
         return lines_of(out)
 
     def run(self, text, *words):

@@ -3,7 +3,7 @@ import random
 
 import blob
 import workload
-from comparison import CAPTURE, Case
+from comparison import Case, blobs_of
 from sqlite_server import SqliteServer
 from workload import row_text, value_text
 
@@ -33,9 +33,10 @@ class Maker:
         return "".join(f"{line}\n" for line in self.lines)
 
     def add(self, line):
+        """Adds a line, and keeps the blob that it prints, if any, where its key flags are positions."""
         reply = self.server.answer(workload.command_of(line))
         self.lines.append(line)
-        content = bytes.fromhex(found[2]) if (found := CAPTURE.match(reply[0])) and found[2] != "-" else b""
+        (content,) = blobs_of([reply]) or [b""]
         if content and all(group.has_positions() for group in blob.read(content)):
             self.blobs.append(content)
 
@@ -53,6 +54,7 @@ class Maker:
         return self.pick(there) if there and self.chance(0.97) else self.pick(TABLES)
 
     def session(self):
+        """The number of a session, mostly of one that is there."""
         live = sorted(self.server.sessions)
         return self.pick(live) if live and self.chance(0.96) else self.random.randint(1, 9)
 
@@ -65,7 +67,7 @@ class Maker:
         width = table.width if table else 2
         key = table.key if table else [0]
         row = [self.key_value() if column in key else self.pick(VALUES) for column in range(width)]
-        return row[:-1] or [1, 2] if self.chance(0.02) else row
+        return (row[:-1] or [1, 2]) if self.chance(0.02) else row
 
     def row_name(self, name):
         """The name of a row, mostly of one that is there."""
@@ -156,6 +158,7 @@ class Maker:
         return blob.write(groups)
 
     def policy(self):
+        """The answers to the three kinds of conflict."""
         return " ".join(self.pick(ANSWERS[:self.pick((1, 2, 3))]) for _ in range(3))
 
     def apply(self):
@@ -269,8 +272,8 @@ def target_of(maker, first, parts):
     maker.begin()
     for line in first:
         if line.startswith("create ") and maker.chance(0.06):
-            line = maker.pick(("# no table", f"{line}v"))
-        if line != "# no table":
+            line = maker.pick((None, f"{line}v"))
+        if line:
             maker.add(line)
     for _ in range(maker.pick((0, 3, 6, 12))):
         if maker.server.tables:

@@ -3,7 +3,7 @@ from dataclasses import replace
 
 
 def shortened(case, fails):
-    """The case without lines that it does not need. `fails` tells of a case whether it does."""
+    """The case without lines that it does not need. `fails` is whether a case fails."""
     for part in ("target", "source"):
         case = without_lines(case, part, fails)
     return case
@@ -25,7 +25,7 @@ def without_lines(case, part, fails):
 
 
 def still_fails(case, fails):
-    """A case that can't be run any more, since a blob that its target asks for is not there, does not count."""
+    """Whether the case fails. One that cannot be run, since a blob of its target is not there, does not."""
     try:
         return fails(case)
     except IndexError:

@@ -5,11 +5,13 @@ The library is the system's libsqlite3, or the one that the environment variable
 """
 import ctypes
 import ctypes.util
+import functools
 import os
 from ctypes import CFUNCTYPE, POINTER, byref, c_char_p, c_int, c_int64, c_ubyte, c_void_p
 from dataclasses import dataclass
 
-OK, ERROR, ROW, DONE = 0, 1, 100, 101
+OK, ERROR, ABORT, CORRUPT, SCHEMA, MISUSE, RANGE, ROW, DONE = 0, 1, 4, 11, 17, 21, 25, 100, 101
+CONSTRAINT_PRIMARYKEY, CONSTRAINT_UNIQUE = 1555, 2067
 INTEGER, FLOAT, TEXT, BLOB, NULL = 1, 2, 3, 4, 5
 TRANSIENT = c_void_p(-1)
 CONFIG_LOG = 16
@@ -50,7 +52,7 @@ class Change:
 
 
 class Library:
-    """The loaded library. Its log is a list of (code, message), which grows."""
+    """The loaded library. Its log is a list of (code, message), which grows. `log_hook` keeps the callback alive."""
 
     def __init__(self):
         name = os.environ.get("SQLITE_LIBRARY") or ctypes.util.find_library("sqlite3") or "libsqlite3.so.0"
@@ -63,16 +65,16 @@ class Library:
             raise Missing(f"the session extension in {name}: it is built without SQLITE_ENABLE_SESSION") from None
         self.declare()
         self.log = []
-        self.kept = XLog(lambda _, code, text: self.log.append((code, text.decode(errors="replace"))))
-        self.calls.sqlite3_config(CONFIG_LOG, self.kept, None)
+        self.log_hook = XLog(lambda _, code, text: self.log.append((code, text.decode(errors="replace"))))
+        self.calls.sqlite3_config(CONFIG_LOG, self.log_hook, None)
 
     def declare(self):
         """The types of what is not an int."""
-        for name in ("errmsg", "libversion", "column_text", "value_text"):
+        for name in ("errmsg", "libversion"):
             getattr(self.calls, f"sqlite3_{name}").restype = c_char_p
         for name in ("column_blob", "value_blob"):
             getattr(self.calls, f"sqlite3_{name}").restype = c_void_p
-        for name in ("column_int64", "value_int64", "last_insert_rowid"):
+        for name in ("column_int64", "value_int64"):
             getattr(self.calls, f"sqlite3_{name}").restype = c_int64
         self.calls.sqlite3_free.argtypes = [c_void_p]
         self.calls.sqlite3_bind_int64.argtypes = [c_void_p, c_int, c_int64]
@@ -81,15 +83,10 @@ class Library:
         return self.calls.sqlite3_libversion().decode()
 
 
-LIBRARY = None
-
-
+@functools.cache
 def library():
     """The library, loaded once."""
-    global LIBRARY
-    if LIBRARY is None:
-        LIBRARY = Library()
-    return LIBRARY
+    return Library()
 
 
 def value_of(value):
@@ -115,25 +112,25 @@ class Connection:
         self.check(self.calls.sqlite3_open(b":memory:", byref(self.at)))
         self.calls.sqlite3_extended_result_codes(self.at, 1)
         self.sessions = []
-        self.hook = None
 
     def check(self, code):
+        """The result code, where it is no error."""
         if code not in (OK, ROW, DONE):
             raise SqliteError(code, self.calls.sqlite3_errmsg(self.at).decode(errors="replace"))
         return code
 
     def prepare(self, sql):
-        """The statement, or what SQLite refuses of it."""
+        """The statement. SqliteError where SQLite refuses it."""
         statement, text = c_void_p(), sql.encode()
         self.check(self.calls.sqlite3_prepare_v2(self.at, text, len(text), byref(statement), None))
         return statement
 
     def try_statement(self, sql):
-        """Raises what SQLite refuses of a statement before it runs: a table or a column that is not there."""
+        """SqliteError where SQLite refuses a statement before it runs: a table or a column is not there."""
         self.calls.sqlite3_finalize(self.prepare(sql))
 
     def execute(self, sql, values=()):
-        """Runs one statement, and gives the rows that it answers."""
+        """Runs one statement, and returns its rows."""
         statement = self.prepare(sql)
         try:
             for place, value in enumerate(values, 1):
@@ -176,23 +173,22 @@ class Connection:
 
     def apply(self, blob, policy):
         """Applies a changeset or a patchset by `sqlite3changeset_apply`. The policy is a function from the kind of a
-        conflict to an answer. Answers what SQLite tells of it, and raises what it refuses."""
-        told = Applied(policy)
-        update = XUpdate(lambda _, operation, database, table, row: told.note_row(table.decode()))
-        conflict = XConflict(lambda _, kind, at: told.note_conflict(CONFLICTS[kind]))
+        conflict to an answer; what it raises is raised again. The result code is in what is returned."""
+        applied = Applied(policy)
+        update = XUpdate(lambda _, operation, database, table, row: applied.note_row(table.decode()))
+        conflict = XConflict(lambda _, kind, at: applied.note_conflict(CONFLICTS[kind]))
         before = len(library().log)
         self.calls.sqlite3_update_hook(self.at, update, None)
         try:
-            code = self.calls.sqlite3changeset_apply(self.at, len(blob), blob, None, conflict, None)
+            applied.code = self.calls.sqlite3changeset_apply(self.at, len(blob), blob, None, conflict, None)
         finally:
             self.calls.sqlite3_update_hook(self.at, XUpdate(0), None)
         for _, text in library().log[before:]:
             if text.startswith("sqlite3changeset_apply(): "):
-                told.warnings.append(text.partition(": ")[2])
-        told.code = code
-        if told.error:
-            raise told.error
-        return told
+                applied.warnings.append(text.partition(": ")[2])
+        if applied.error:
+            raise applied.error
+        return applied
 
     def close(self):
         for session in list(self.sessions):
@@ -202,8 +198,8 @@ class Connection:
 
 class Applied:
     """What is seen of an application: how many changes were made and omitted, the table of each row that was changed,
-    conflicts with their answers, warnings, and the result code. Each conflict has with it how many changes were made
-    and omitted before."""
+    conflicts, warnings, and the result code. A conflict is (kind, answer, made, omitted), with how many changes were
+    made and omitted before it. `error` is what the policy raised."""
 
     def __init__(self, policy):
         self.policy, self.tables, self.conflicts, self.warnings = policy, [], [], []
@@ -283,22 +279,23 @@ def taken(calls, length, content):
     return found
 
 
+def made_by(name, *arguments):
+    """The blob that the call of this name makes of its arguments."""
+    calls, length, content = library().calls, c_int(), c_void_p()
+    code = getattr(calls, name)(*arguments, byref(length), byref(content))
+    if code != OK:
+        raise SqliteError(code, name)
+    return taken(calls, length, content)
+
+
 def invert(blob):
     """The inverse by `sqlite3changeset_invert`."""
-    calls, length, content = library().calls, c_int(), c_void_p()
-    code = calls.sqlite3changeset_invert(len(blob), blob, byref(length), byref(content))
-    if code != OK:
-        raise SqliteError(code, "sqlite3changeset_invert")
-    return taken(calls, length, content)
+    return made_by("sqlite3changeset_invert", len(blob), blob)
 
 
 def concat(first, second):
     """Both as one by `sqlite3changeset_concat`."""
-    calls, length, content = library().calls, c_int(), c_void_p()
-    code = calls.sqlite3changeset_concat(len(first), first, len(second), second, byref(length), byref(content))
-    if code != OK:
-        raise SqliteError(code, "sqlite3changeset_concat")
-    return taken(calls, length, content)
+    return made_by("sqlite3changeset_concat", len(first), first, len(second), second)
 
 
 def iterate(blob):

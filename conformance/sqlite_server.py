@@ -18,16 +18,14 @@ import sqlite
 from filters import filter_of
 from workload import row_text, value_text
 
-# What SQLite's messages say, and its result codes.
+# Parts of SQLite's messages.
 TABLE_EXISTS, NO_TABLE, NO_COLUMN, OTHER_WIDTH = "already exists", "no such table", "no such column", "were supplied"
-CONSTRAINT_UNIQUE, CONSTRAINT_PRIMARYKEY = 2067, 1555
-SCHEMA, MISUSE, ABORT = 17, 21, 4
 CASCADES = "changecap_cascade"
 FLAGS = {"on": True, "off": False, "ask": None}
 
 
 class Refusal(Exception):
-    """A refused command: the program's number and name for it, and the place of the operation or the change."""
+    """A refused command: the program's number and name of the refusal, and the place of the operation or the change."""
 
     def __init__(self, name, at=None, more=""):
         super().__init__(name)
@@ -48,6 +46,7 @@ class Table:
         self.loose, self.next_id = {}, 1
 
     def sql(self, database="main"):
+        """The statement that creates the table."""
         key = f", PRIMARY KEY({', '.join(self.columns[column] for column in self.key)})" if self.key else ""
         return f"CREATE TABLE {quoted(database)}.{quoted(self.name)}({', '.join(self.columns)}{key})"
 
@@ -59,6 +58,7 @@ class Table:
         return dict(self.loose), self.next_id
 
     def take_back(self, ids):
+        """The ids are again as they were."""
         self.loose, self.next_id = ids
 
     def where(self, row):
@@ -137,6 +137,7 @@ class SqliteServer:
         return [self.answer(command) for command in commands]
 
     def answer(self, command):
+        """The lines that are printed for the command."""
         try:
             answered = getattr(self, f"do_{command.word}")(*command.arguments)
         except Refusal as refusal:
@@ -146,6 +147,7 @@ class SqliteServer:
         return answered if isinstance(answered, list) else [answered]
 
     def written(self, more=""):
+        """The reply to a command that makes a new version."""
         self.version += 1
         return f"ok version {self.version}{more}"
 
@@ -208,6 +210,7 @@ class SqliteServer:
             self.connection.execute("RELEASE here")
 
     def carry_out_one(self, op, at):
+        """One operation. Where it is refused, the refusal has its place."""
         try:
             changed = getattr(self, f"make_{op.action}")(op)
         except sqlite.SqliteError as error:
@@ -226,20 +229,20 @@ class SqliteServer:
         return changed
 
     def make_update(self, op):
-        table, where, values = self.target(op)
+        table, where, key = self.target(op)
         columns = [column for column, _ in op.assigned]
         marks = ", ".join(f"{quoted(f'c{column}')} = ?" for column in columns)
-        sql, values = f"UPDATE {quoted(op.table)} SET {marks} WHERE {where}", [it for _, it in op.assigned] + values
+        sql = f"UPDATE {quoted(op.table)} SET {marks} WHERE {where}"
         self.connection.try_statement(sql)
         if len(set(columns)) < len(columns):
             raise Refusal("E4 BadColumn")
-        found = self.connection.execute(f"SELECT rowid FROM {quoted(op.table)} WHERE {where}", values[len(columns):])
-        changed = self.execute(op, sql, values)
+        found = self.connection.execute(f"SELECT rowid FROM {quoted(op.table)} WHERE {where}", key)
+        changed = self.execute(op, sql, [value for _, value in op.assigned] + key)
         for rowid, in found:
-            self.rename(table, rowid)
+            self.update_id(table, rowid)
         return changed
 
-    def rename(self, table, rowid):
+    def update_id(self, table, rowid):
         """Gives an id to a row that has lost its key, and takes that of a row that has got one."""
         (row,) = self.connection.execute(f"SELECT * FROM {quoted(table.name)} WHERE rowid = ?", [rowid])
         number = table.id_of(rowid)
@@ -249,19 +252,20 @@ class SqliteServer:
             table.give_id(rowid)
 
     def make_delete(self, op):
-        table, where, values = self.target(op)
-        changed = self.execute(op, f"DELETE FROM {quoted(op.table)} WHERE {where}", values)
+        table, where, key = self.target(op)
+        changed = self.execute(op, f"DELETE FROM {quoted(op.table)} WHERE {where}", key)
         if changed and op.row[0] == "loose":
             del table.loose[op.row[1]]
         return changed
 
     def target(self, op):
-        """The table of an update or a delete, and the condition on its row. SQLite refuses one that is not there."""
+        """The table of an update or a delete, the condition on its row, and the values of that. Where there is no such
+        table SQLite refuses the statement."""
         table = self.tables.get(op.table)
         return table, *(table.where(op.row) if table else ("0", []))
 
     def execute(self, op, sql, values):
-        """Runs the statement of an operation, and answers how many rows it changed. That of a cascade is run by a
+        """Runs the statement of an operation, and returns how many rows it changed. That of a cascade is run by a
         trigger, whose body has the values in its text."""
         before = self.connection.total_changes()
         if not op.is_cascade:
@@ -284,6 +288,7 @@ class SqliteServer:
     # Reads
 
     def table(self, name):
+        """The table of this name. The command is refused where there is none."""
         if name not in self.tables:
             raise Refusal("E8 NoTable")
         return self.tables[name]
@@ -329,6 +334,7 @@ class SqliteServer:
         return f"session {number}"
 
     def state(self, number):
+        """The session of this number. The command is refused where there is none."""
         if number not in self.sessions:
             raise Refusal("E18 NoSession")
         return self.sessions[number]
@@ -367,7 +373,7 @@ class SqliteServer:
             trial.attach(name)
             trial.diff(f"saved_{database}", name)
         except sqlite.SqliteError as error:
-            raise Refusal("E14 Incompatible" if error.code == SCHEMA else "E19 NoDatabase") from None
+            raise Refusal("E14 Incompatible" if error.code == sqlite.SCHEMA else "E19 NoDatabase") from None
         finally:
             trial.delete()
         if name in self.tables and self.tables[name].key:
@@ -395,23 +401,23 @@ class SqliteServer:
     def do_apply(self, content, on_data, on_notfound, on_conflict, has_report):
         answers = {"data": on_data, "notfound": on_notfound, "conflict": on_conflict}
         self.rehearse(lambda: self.apply(content, answers))
-        told, skipped = self.apply(content, answers)
+        applied, skipped = self.apply(content, answers)
         for state in self.sessions.values():
-            state.note(told.tables)
-        counts = self.written(f", applied {told.made}, omitted {told.omitted}, skipped {len(skipped)}")
-        return [counts, *report_lines(content, told.conflicts, skipped)] if has_report else counts
+            state.note(applied.tables)
+        counts = self.written(f", applied {applied.made}, omitted {applied.omitted}, skipped {len(skipped)}")
+        return [counts, *report_lines(content, applied.conflicts, skipped)] if has_report else counts
 
     def apply(self, content, answers):
-        """Applies the blob, and answers what SQLite told of it and the numbers of the groups that it passed over."""
-        told = self.connection.apply(content, answers.__getitem__)
+        """Applies the blob, and returns what is seen of that and the numbers of the groups that SQLite skipped."""
+        applied = self.connection.apply(content, answers.__getitem__)
         skipped = [number for number, group in enumerate(blob.read(content))
-                   if group.changes and is_skipped(group, told.warnings)]
-        if told.code in (ABORT, MISUSE):
-            at = change_of(content, skipped, told.conflicts[-1])
-            raise Refusal("E16 Misuse" if told.code == MISUSE else "E15 Aborted", at)
-        if told.code != sqlite.OK:
-            raise sqlite.SqliteError(told.code, "sqlite3changeset_apply")
-        return told, skipped
+                   if group.changes and is_skipped(group, applied.warnings)]
+        if applied.code in (sqlite.ABORT, sqlite.MISUSE):
+            at = change_of(content, skipped, applied.conflicts[-1])
+            raise Refusal("E16 Misuse" if applied.code == sqlite.MISUSE else "E15 Aborted", at)
+        if applied.code != sqlite.OK:
+            raise sqlite.SqliteError(applied.code, "sqlite3changeset_apply")
+        return applied, skipped
 
 
 def is_skipped(group, warnings):
@@ -423,34 +429,34 @@ def is_skipped(group, warnings):
 
 def report_lines(content, conflicts, skipped):
     """What `apply .. report` prints behind the counts."""
-    told = [(change_of(content, skipped, conflict), *conflict[:2]) for conflict in conflicts]
-    return [*(f"conflict {change} {kind} {answer}" for change, kind, answer in told),
-            *(f"omitted {change}" for change, _, answer in told if answer == "omit"),
+    numbered = [(change_of(content, skipped, conflict), *conflict[:2]) for conflict in conflicts]
+    return [*(f"conflict {change} {kind} {answer}" for change, kind, answer in numbered),
+            *(f"omitted {change}" for change, _, answer in numbered if answer == "omit"),
             *(f"skipped {number}" for number in skipped)]
 
 
 def change_of(content, skipped, conflict):
     """The number of the change that had the conflict."""
     *_, made, omitted = conflict
-    return made + omitted + changes_passed_over(content, skipped, made + omitted)
+    return made + omitted + changes_skipped(content, skipped, made + omitted)
 
 
-def changes_passed_over(content, skipped, considered):
-    """How many changes are in groups that were passed over, before the change behind so many considered ones."""
-    passed = 0
+def changes_skipped(content, skipped, considered):
+    """How many changes are in groups that were skipped, before the change behind so many considered ones."""
+    found = 0
     for number, group in enumerate(blob.read(content)):
         if number in skipped:
-            passed += len(group.changes)
+            found += len(group.changes)
         elif considered < len(group.changes):
             break
         else:
             considered -= len(group.changes)
-    return passed
+    return found
 
 
 def refusal_name(error):
     """The program's name for an error of a statement."""
-    if error.code in (CONSTRAINT_UNIQUE, CONSTRAINT_PRIMARYKEY):
+    if error.code in (sqlite.CONSTRAINT_UNIQUE, sqlite.CONSTRAINT_PRIMARYKEY):
         return "E5 Duplicate"
     if NO_TABLE in error.message:
         return "E8 NoTable"

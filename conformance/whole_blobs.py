@@ -30,6 +30,7 @@ def shown(content):
 
 
 def shown_change(change, is_patchset):
+    """The line of a change."""
     mark = "indirect" if change.indirect else "direct"
     old, new = (workload.fields_text(fields, change.width) for fields in (change.old, change.new))
     if change.operation == "insert":
@@ -55,7 +56,7 @@ class Commands:
         for content in dict.fromkeys(blobs):
             if "show" not in self.missing:
                 yield from self.differences("show", content.hex(), shown(content), self.shown, content)
-        changesets = [content for content in blobs if content[:1] != b"P"]
+        changesets = [content for content in blobs if content[:1] != bytes([blob.PATCHSET])]
         for content in dict.fromkeys(changesets):
             if "invert" not in self.missing:
                 yield from self.differences("invert", content.hex(), sqlite.invert(content), self.made_with_its_flags,
@@ -70,11 +71,12 @@ class Commands:
                                             self.made_in_order, first, second)
 
     def differences(self, word, label, wanted, call, *blobs):
+        """A text where the command makes something else of the blobs than what is wanted."""
         self.compared[word] += 1
         try:
             found = call(word, *blobs)
         except Fault as fault:
-            found = REFUSED if "status 1 " in str(fault) else str(fault)
+            found = REFUSED if fault.status == 1 else str(fault)
         if found != wanted:
             yield f"{word} {label}\n  changecap: {text_of(found)}\n  SQLite:    {text_of(wanted)}"
 
@@ -82,7 +84,7 @@ class Commands:
         return self.program.show(content)
 
     def made_with_its_flags(self, word, content):
-        """What the command makes of a changeset with the form of key flags that this has: SQLite leaves it as it is."""
+        """What the command makes of a changeset with the form of key flags that it has: SQLite leaves that as it is."""
         return self.program.on_blobs(word, content, options=options_of(content))
 
     def made_in_order(self, word, *blobs):
@@ -110,6 +112,7 @@ def joined(first, second):
 
 
 def text_of(value):
+    """What a command made, as reports have it: a blob, a refusal, or lines."""
     if isinstance(value, bytes):
         return value.hex()
     return value if isinstance(value, str) else "\n             ".join(value)

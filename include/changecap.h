@@ -1,13 +1,13 @@
 /*
  * changecap.h - changesets and patchsets of SQLite's session extension, from verified code.
  *
- * The calls of the static library libchangecap.a. Each is proved to do what is said of it here, as far as docs/PROOFS.md
- * of the sources says; what a caller has to see to, nothing checks.
+ * The calls of the static library libchangecap.a. Each is proved to do what is said of it here, as far as
+ * docs/PROOFS.md of the sources says; what a caller has to see to, nothing checks.
  *
  * Every call
  *   - answers a status: CHANGECAP_OK, or why it did nothing;
  *   - keeps nothing of the caller's, and reads and writes it only until it returns;
- *   - may answer CHANGECAP_NOMEM, has then changed nothing but where it is said, and may be made again.
+ *   - may answer CHANGECAP_NOMEM: then it has changed nothing, unless said otherwise, and may be made again.
  *
  * A caller sees to it that
  *   - no pointer is NULL, also where a length is 0: changecap_bytes() gives a pointer that is not;
@@ -94,8 +94,8 @@ static inline const uint8_t *changecap_bytes(const void *bytes){
  *   OK, MALFORMED (*fault), NOMEM. */
 uint32_t changecap_check(const uint8_t *blob, size_t n, changecap_fault *fault);
 
-/* The inverse of a changeset, as sqlite3changeset_invert. Writes it to the beginning of out, which has room for that many
- * bytes, and its length to *len. It is no longer than the changeset.
+/* The inverse of a changeset, as sqlite3changeset_invert. Writes it to the beginning of out, which has room for that
+ * many bytes, and its length to *len. It is no longer than the changeset.
  *   OK (*len), MALFORMED (*fault), ROOM (*len), NOMEM, PATCHSET, MISUSE (no such key_flags).
  * Unless the status is OK, out is as it was. */
 uint32_t changecap_invert(const uint8_t *blob, size_t n, uint32_t key_flags, uint8_t *out, size_t room, size_t *len,
@@ -106,18 +106,21 @@ uint32_t changecap_invert(const uint8_t *blob, size_t n, uint32_t key_flags, uin
 uint32_t changecap_patchset(const uint8_t *blob, size_t n, uint32_t key_flags, uint8_t *out, size_t room, size_t *len,
                             changecap_fault *fault);
 
-/* The concatenation of two changesets or of two patchsets, as sqlite3changeset_concat: one change for each row that both
- * have changed, the tables in the order of their first change, the changes of a table in that of their keys. A blob without
- * changes is of either kind. *blob is the number of the blob that is refused: 0 of the first, 1 of the second.
- *   OK (*len), MALFORMED (*fault, *blob), ROOM (*len), NOMEM, MISUSE (no such key_flags), KIND (*blob), COLUMNS (*blob).
+/* The concatenation of two changesets or of two patchsets, as sqlite3changeset_concat: one change for each row that
+ * both have changed, the tables in the order of their first change, the changes of a table in that of their keys. A
+ * blob without changes is of either kind. *blob is the number of the blob that is refused: 0 of the first, 1 of the
+ * second.
+ *   OK (*len), MALFORMED (*fault, *blob), ROOM (*len), NOMEM, MISUSE (no such key_flags), KIND (*blob),
+ *   COLUMNS (*blob).
  * Unless the status is OK, out is as it was. */
-uint32_t changecap_concat(const uint8_t *first, size_t n, const uint8_t *second, size_t m, uint32_t key_flags, uint8_t *out,
-                          size_t room, size_t *len, changecap_fault *fault, size_t *blob);
+uint32_t changecap_concat(const uint8_t *first, size_t n, const uint8_t *second, size_t m, uint32_t key_flags,
+                          uint8_t *out, size_t room, size_t *len, changecap_fault *fault, size_t *blob);
 
-/* A changeset or a patchset as JSON: an array with an object for each change, and a line feed, in UTF-8 without a zero byte
- * at its end. An object has the "table", the "op" ("insert", "update" or "delete"), whether it is "indirect", the names
- * of the "key" columns, and its "old" and "new" values by column. Columns are "c0", "c1" and so on. A value is null, a
- * number, a string, or an object whose "blob" has hex digits. An update of a patchset has its key in "new" too.
+/* A changeset or a patchset as JSON: an array with an object for each change, and a line feed, in UTF-8 without a
+ * zero byte at its end. An object has the "table", the "op" ("insert", "update" or "delete"), whether it is
+ * "indirect", the names of the "key" columns, and its "old" and "new" values by column. Columns are "c0", "c1" and so
+ * on. A value is null, a number, a string, or an object whose "blob" has hex digits. An update of a patchset has its
+ * key in "new" too.
  *   OK (*len), MALFORMED (*fault), ROOM (*len), NOMEM.
  * Unless the status is OK, out is as it was. */
 uint32_t changecap_json(const uint8_t *blob, size_t n, uint8_t *out, size_t room, size_t *len, changecap_fault *fault);
@@ -178,7 +181,7 @@ uint32_t changecap_iter_open(const uint8_t *blob, size_t n, changecap_iter *it, 
  *   ROW, or DONE behind the last change, and from then on. */
 uint32_t changecap_iter_next(changecap_iter *it);
 
-/* Tells what the change is.
+/* Reports what the change is.
  *   OK, MISUSE (there is no change: before the first, behind the last). */
 uint32_t changecap_iter_op(changecap_iter *it, changecap_change *change);
 
@@ -186,12 +189,12 @@ uint32_t changecap_iter_op(changecap_iter *it, changecap_change *change);
  *   OK (*len), ROOM (*len), MISUSE. */
 uint32_t changecap_iter_table(changecap_iter *it, uint8_t *out, size_t room, size_t *len);
 
-/* Tells whether a column, from 0 on, is in the key of the change's table: 0 or 1.
+/* Reports whether a column, from 0 on, is in the key of the change's table: 0 or 1.
  *   OK, MISUSE (there is no change, or no such column). */
 uint32_t changecap_iter_key(changecap_iter *it, size_t column, uint32_t *is_key);
 
-/* Tells the value of a column before or after the change, as sqlite3changeset_old and sqlite3changeset_new. In a patchset
- * an UPDATE has its key columns before, and its modified columns after.
+/* Reports the value of a column before or after the change, as sqlite3changeset_old and sqlite3changeset_new. In a
+ * patchset an UPDATE has its key columns before, and its modified columns after.
  *   OK, MISUSE. */
 uint32_t changecap_iter_old(changecap_iter *it, size_t column, changecap_value *value);
 uint32_t changecap_iter_new(changecap_iter *it, size_t column, changecap_value *value);
@@ -206,8 +209,8 @@ void changecap_iter_close(changecap_iter *it);
 
 /* ---- A blob in pieces ---- */
 
-/* A decoder that gets a blob in pieces of any lengths, as it comes from a file or a socket. It keeps a copy of the bytes,
- * and tells a fault with the piece that shows it.
+/* A decoder that gets a blob in pieces of any lengths, as it comes from a file or a socket. It keeps a copy of the
+ * bytes, and reports a fault with the piece that shows it.
  *
  *     changecap_decoder decoder = CHANGECAP_CLOSED;
  *     changecap_iter it = CHANGECAP_CLOSED;
@@ -265,9 +268,9 @@ uint32_t changecap_server_open(changecap_server *server);
 /* Carries out the one command that the n bytes are, in the language of docs/FORMAT.md ("Workload text"), and keeps the
  * text of its reply until the next call. The rest takes an open server too.
  *   OK, REFUSED (the reply says why), COMMAND (*fault), NOMEM, FULL.
- * Of a fault, kind is 1 where a token does not fit, 2 where a limit is passed, 3 where the bytes to apply are no blob, and
- * 0 where the text is not UTF-8 or not just one command; at is the offset in the line, or in the bytes to apply.
- * Unless the status is OK or REFUSED, the server is as it was. */
+ * Of a fault, kind is 1 where a token does not fit, 2 where a limit is passed, 3 where the bytes to apply are no
+ * blob, and 0 where the text is not UTF-8 or not just one command; at is the offset in the line, or in the bytes to
+ * apply. Unless the status is OK or REFUSED, the server is as it was. */
 uint32_t changecap_server_call(changecap_server *server, const uint8_t *text, size_t n, changecap_fault *fault);
 
 /* Writes the text of the last reply, as docs/FORMAT.md has it, without a line feed at its end.
@@ -276,13 +279,13 @@ uint32_t changecap_server_reply(changecap_server *server, uint8_t *out, size_t r
 
 /* ---- Commands by words and numbers ---- */
 
-/* Each is a command of docs/FORMAT.md that needs no text, and leaves the text of the last reply as it is. Where the status
- * is REFUSED, fault->kind is the number of the refusal, 1 to 20 as in E1 to E20 of docs/BEHAVIOUR.md, and fault->at is the
- * number of the refused change of a blob, from 0, and elsewhere 0. Unless the status is OK or REFUSED, the server is as it
- * was. A name is 1 to 255 bytes of UTF-8 without a zero byte. */
+/* Each is a command of docs/FORMAT.md that needs no text, and leaves the text of the last reply as it is. Where the
+ * status is REFUSED, fault->kind is the number of the refusal, 1 to 20 as in E1 to E20 of docs/BEHAVIOUR.md, and
+ * fault->at is the number of the refused change of a blob, from 0, and 0 of any other command. Unless the status is
+ * OK or REFUSED, the server is as it was. A name is 1 to 255 bytes of UTF-8 without a zero byte. */
 
-/* Creates a table. Each of the bytes at key is a column, and is in the primary key unless the byte is 0. The columns are 1
- * to 2,000.
+/* Creates a table. Each of the bytes at key is a column, and is in the primary key unless the byte is 0. The columns
+ * are 1 to 2,000.
  *   OK (*version is the new version), REFUSED, MISUSE (no such name, or number of columns), NOMEM, FULL. */
 uint32_t changecap_create(changecap_server *server, const uint8_t *table, size_t n, const uint8_t *key, size_t columns,
                           uint64_t *version, changecap_fault *fault);
@@ -303,9 +306,9 @@ typedef struct changecap_report {
   uint64_t skipped;   /* groups that were skipped: there is no such table */
 } changecap_report;
 
-/* Applies a changeset or a patchset, as sqlite3changeset_apply: data is the answer where a row has other values than those
- * before the change, notfound where there is no row, conflict where the key of an inserted row is in use. A blob that is
- * refused changes no table.
+/* Applies a changeset or a patchset, as sqlite3changeset_apply: data is the answer where a row has other values than
+ * those before the change, notfound where there is no row, conflict where the key of an inserted row is in use. A
+ * blob that is refused changes no table.
  *   OK (*report), REFUSED, MALFORMED (*fault), MISUSE (no such answer), NOMEM, FULL. */
 uint32_t changecap_apply(changecap_server *server, const uint8_t *blob, size_t n, uint32_t data, uint32_t notfound,
                          uint32_t conflict, changecap_report *report, changecap_fault *fault);
@@ -331,8 +334,8 @@ uint32_t changecap_session_attach_all(changecap_server *server, uint64_t session
  * sqlite3session_table_filter. The filter's text is that of docs/FORMAT.md ("Filter text"), as in
  * and(starts 'a',not is 'ab').
  *   OK, REFUSED, FILTER (*fault), MISUSE (the text is not UTF-8), NOMEM, FULL.
- * Of a text that is no filter fault->kind is 12, and fault->at is where the first token does not fit; or 13 where it has
- * more than 32 levels or 1,000 filters, and 0. */
+ * Of a text that is no filter fault->kind is 12, and fault->at is where the first token does not fit; or 13 where it
+ * has more than 32 levels or 1,000 filters, and 0. */
 uint32_t changecap_session_filter(changecap_server *server, uint64_t session, const uint8_t *text, size_t n,
                                   changecap_fault *fault);
 
@@ -371,8 +374,9 @@ uint32_t changecap_session_restart(changecap_server *server, uint64_t session, u
 
 /* ---- Batches ---- */
 
-/* A server has one batch that is put together: operations that are made together or not at all. Each operation is made of
- * the values that were bound before it, in the manner of sqlite3_bind_int64 and its like, and nothing is bound after it.
+/* A server has one batch that is put together: operations that are made together or not at all. Each operation is
+ * made of the values that were bound before it, in the manner of sqlite3_bind_int64 and its like, and nothing is
+ * bound after it.
  *
  *     uint64_t version;
  *     changecap_begin(&server);
@@ -387,8 +391,8 @@ uint32_t changecap_session_restart(changecap_server *server, uint64_t session, u
  *       fprintf(stderr, "E%u at operation %zu\n", fault.kind, fault.at);
  */
 
-/* Begins a batch without operations, in place of the one before it, and drops what is bound. A server begins with one. The
- * second takes the version on which alone the batch may be committed: on any other it is refused with 11. */
+/* Begins a batch without operations, in place of the one before it, and drops what is bound. A server begins with
+ * one. The second takes the version on which alone the batch may be committed: on any other it is refused with 11. */
 void changecap_begin(changecap_server *server);
 void changecap_begin_at(changecap_server *server, uint64_t version);
 
@@ -409,12 +413,14 @@ void changecap_clear_bindings(changecap_server *server);
 #define CHANGECAP_DIRECT  0 /* the operation itself: a session marks its touch by the session's flag */
 #define CHANGECAP_CASCADE 1 /* what a trigger or a foreign key action did: its touch is indirect */
 
-/* Put an operation last in the batch, and drop what is bound. An insert takes the row that is bound, a value a column. An
- * update and a delete take the key that is bound, a value for each column of the primary key; or a row that has no key by
- * its id, where that is not 0. Whether there is such a table, row or column is looked at when the batch is committed.
+/* Put an operation last in the batch, and drop what is bound. An insert takes the row that is bound, a value a
+ * column. An update and a delete take the key that is bound, a value for each column of the primary key; or a row
+ * that has no key by its id, where that is not 0. Whether there is such a table, row or column is looked at when the
+ * batch is committed.
  *   OK, REFUSED (*fault: 10, the batch has 10,000 operations), NOMEM,
  *   MISUSE (no such name or cause; the id is 0, and nothing or NULL is bound for the key). */
-uint32_t changecap_insert(changecap_server *server, const uint8_t *table, size_t n, uint32_t cause, changecap_fault *fault);
+uint32_t changecap_insert(changecap_server *server, const uint8_t *table, size_t n, uint32_t cause,
+                          changecap_fault *fault);
 uint32_t changecap_update(changecap_server *server, const uint8_t *table, size_t n, uint64_t id, uint32_t cause,
                           changecap_fault *fault);
 uint32_t changecap_delete(changecap_server *server, const uint8_t *table, size_t n, uint64_t id, uint32_t cause,
@@ -427,8 +433,8 @@ uint32_t changecap_commit(changecap_server *server, uint64_t *version, changecap
 
 /* ---- Rows ---- */
 
-/* Rows are read in the manner of sqlite3_step and sqlite3_column_int64 and its like. A query keeps what it read until the
- * next one, whatever is committed meanwhile.
+/* Rows are read in the manner of sqlite3_step and sqlite3_column_int64 and its like. A query keeps what it read until
+ * the next one, whatever is committed meanwhile.
  *
  *     changecap_scan(&server, (const uint8_t *)"t", 1, &fault);
  *     while( changecap_step(&server) == CHANGECAP_ROW ){
@@ -437,9 +443,9 @@ uint32_t changecap_commit(changecap_server *server, uint64_t *version, changecap
  *     }
  */
 
-/* Read a row by the key that is bound, or one that has no key by its id, where that is not 0; and all rows, those with a
- * key in the order of their keys, and then the others by their ids. Nothing is bound after that. Each is a command, as any
- * other.
+/* Read a row by the key that is bound, or one that has no key by its id, where that is not 0; and all rows, those
+ * with a key in the order of their keys, and then the others by their ids. Nothing is bound after that. Each is a
+ * command, as any other.
  *   OK, REFUSED (*fault: 8, there is no such table), NOMEM, FULL,
  *   MISUSE (no such name; the id is 0, and nothing or NULL is bound for the key). */
 uint32_t changecap_get(changecap_server *server, const uint8_t *table, size_t n, uint64_t id, changecap_fault *fault);
@@ -449,12 +455,12 @@ uint32_t changecap_scan(changecap_server *server, const uint8_t *table, size_t n
  *   ROW, or DONE behind the last row, and from then on. */
 uint32_t changecap_step(changecap_server *server);
 
-/* Tell the id of the row, or 0 where it has a key, and how many columns it has.
+/* Report the id of the row, or 0 where it has a key, and how many columns it has.
  *   OK, MISUSE (there is no row: before the first, behind the last). */
 uint32_t changecap_row_id(changecap_server *server, uint64_t *id);
 uint32_t changecap_columns(changecap_server *server, size_t *columns);
 
-/* Tells the value of a column, from 0 on, and writes the bytes of a TEXT or a BLOB; any other value has none.
+/* Reports the value of a column, from 0 on, and writes the bytes of a TEXT or a BLOB; any other value has none.
  *   OK (*len), ROOM (*len), MISUSE (there is no row, or no such column). */
 uint32_t changecap_column(changecap_server *server, size_t column, changecap_value *value);
 uint32_t changecap_column_bytes(changecap_server *server, size_t column, uint8_t *out, size_t room, size_t *len);

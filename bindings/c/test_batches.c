@@ -76,7 +76,7 @@ static uint32_t scanned(changecap_server *server, const char *name, changecap_fa
   return status;
 }
 
-/* The next row, if any, as text: its id, or a dash where it has a key, and its values. */
+/* Whether the next row, if any, has this text: its id, or a dash where it has a key, and its values. */
 static int next_is(changecap_server *server, const char *wanted){
   char text[256] = "";
   size_t n = 0, columns = 77, len = 99;
@@ -128,7 +128,8 @@ static void worked_batches(void){
   CHECK(changecap_commit(&server, &version, &fault) == CHANGECAP_OK && version == 3 && fault.kind == 77);
   CHECK(next_is(&server, ""));
   CHECK(scanned(&server, "t", &fault) == CHANGECAP_OK);
-  CHECK(all_bound(&server, "i", 1) == CHANGECAP_OK && put(changecap_delete, &server, "t", 0, 0, &fault) == CHANGECAP_OK);
+  CHECK(all_bound(&server, "i", 1) == CHANGECAP_OK
+        && put(changecap_delete, &server, "t", 0, 0, &fault) == CHANGECAP_OK);
   CHECK(changecap_commit(&server, &version, &fault) == CHANGECAP_OK && version == 4);
   CHECK(next_is(&server, "- 1 'x'") && next_is(&server, "- 2 x00ff") && next_is(&server, "") && next_is(&server, ""));
   CHECK(scanned(&server, "u", &fault) == CHANGECAP_OK && next_is(&server, "- 'x' 1 2"));
@@ -178,7 +179,8 @@ static void misused_batches(void){
   for(int i = 0; i < 10000; i++)
     if( all_bound(&server, "ii", i, i) != CHANGECAP_OK || inserted(&server, "t", 0, &fault) != CHANGECAP_OK ) CHECK(0);
   CHECK(all_bound(&server, "ii", -1, 0) == CHANGECAP_OK && inserted(&server, "t", 0, &fault) == CHANGECAP_REFUSED);
-  CHECK(fault.kind == 10 && fault.at == 0 && changecap_commit(&server, &version, &fault) == CHANGECAP_OK && version == 3);
+  CHECK(fault.kind == 10 && fault.at == 0
+        && changecap_commit(&server, &version, &fault) == CHANGECAP_OK && version == 3);
   CHECK(changecap_set(&server, 0) == CHANGECAP_OK && scanned(&server, "t", &fault) == CHANGECAP_OK);
   size_t rows = 0;
   while( changecap_step(&server) == CHANGECAP_ROW ) rows++;
@@ -213,36 +215,35 @@ static void refused_batches(void){
     uint32_t status;
     CHECK(changecap_server_open(&server) == CHANGECAP_OK);
     CHECK(made_table(&server, "t", "11000") == CHANGECAP_OK);
-    refused_at = at;
+    refuse_behind(at);
     granted = 1;
-#define AGAIN(call) while( (status = (call)) == CHANGECAP_NOMEM ) granted = 0; CHECK(status == CHANGECAP_OK)
-    AGAIN(changecap_bind_int(&server, 1));
-    AGAIN(text_bound(&server, "key"));
-    AGAIN(blob_bound(&server, "00ff"));
-    AGAIN(changecap_bind_null(&server));
-    AGAIN(changecap_bind_int(&server, -5));
-    AGAIN(inserted(&server, "t", 0, &fault));
-    AGAIN(changecap_bind_int(&server, 1));
-    AGAIN(text_bound(&server, "key"));
-    AGAIN(text_bound(&server, "new"));
-    AGAIN(changecap_set(&server, 3));
-    AGAIN(put(changecap_update, &server, "t", 0, 0, &fault));
-    AGAIN(changecap_commit(&server, &version, &fault));
+#define SUCCEEDS(call) AGAIN(call); CHECK(status == CHANGECAP_OK)
+    SUCCEEDS(changecap_bind_int(&server, 1));
+    SUCCEEDS(text_bound(&server, "key"));
+    SUCCEEDS(blob_bound(&server, "00ff"));
+    SUCCEEDS(changecap_bind_null(&server));
+    SUCCEEDS(changecap_bind_int(&server, -5));
+    SUCCEEDS(inserted(&server, "t", 0, &fault));
+    SUCCEEDS(changecap_bind_int(&server, 1));
+    SUCCEEDS(text_bound(&server, "key"));
+    SUCCEEDS(text_bound(&server, "new"));
+    SUCCEEDS(changecap_set(&server, 3));
+    SUCCEEDS(put(changecap_update, &server, "t", 0, 0, &fault));
+    SUCCEEDS(changecap_commit(&server, &version, &fault));
     CHECK(version == 2);
-    AGAIN(changecap_bind_int(&server, 1));
-    AGAIN(text_bound(&server, "key"));
-    AGAIN(got(&server, "t", 0, &fault));
+    SUCCEEDS(changecap_bind_int(&server, 1));
+    SUCCEEDS(text_bound(&server, "key"));
+    SUCCEEDS(got(&server, "t", 0, &fault));
     CHECK(next_is(&server, "- 1 'key' x00ff 'new' -5") && next_is(&server, ""));
-    AGAIN(scanned(&server, "t", &fault));
+    SUCCEEDS(scanned(&server, "t", &fault));
     CHECK(next_is(&server, "- 1 'key' x00ff 'new' -5") && next_is(&server, ""));
-    AGAIN(changecap_bind_int(&server, 1));
-    AGAIN(text_bound(&server, "key"));
-    AGAIN(put(changecap_delete, &server, "t", 0, 0, &fault));
-    AGAIN(changecap_commit(&server, &version, &fault));
+    SUCCEEDS(changecap_bind_int(&server, 1));
+    SUCCEEDS(text_bound(&server, "key"));
+    SUCCEEDS(put(changecap_delete, &server, "t", 0, 0, &fault));
+    SUCCEEDS(changecap_commit(&server, &version, &fault));
     CHECK(version == 3);
-#undef AGAIN
-    granted = granted && refused_at >= 0;
-    refused_at = -1;
+#undef SUCCEEDS
+    granted = none_refused() && granted;
     changecap_server_close(&server);
   }
 }

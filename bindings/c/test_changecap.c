@@ -2,8 +2,8 @@
  * Tests of the calls of changecap.h: test_changecap BLOBS COUNT
  *
  * Each line of the file BLOBS is 'HEX KIND AT', the bytes of a blob and its fault, or 'HEX 0 0' where it has none. Then
- * COUNT damaged blobs are made of those, always the same ones. Each call gets buffers that are exactly as long as it is
- * told, so that a sanitizer sees what goes beyond. The last line is 'N passed, M failed'.
+ * COUNT damaged blobs are made of those, always the same ones. Each call gets buffers that are exactly as long as the
+ * lengths that it is given, so that a sanitizer sees what goes beyond. The last line is 'N passed, M failed'.
  *
  * It is linked with -Wl,--wrap=malloc,--wrap=realloc, to refuse memory.
  */
@@ -11,10 +11,21 @@
 
 /* ---- Memory that can be refused ---- */
 
-long refused_at = -1;
+/* How many requests are granted before one is refused. None is refused while it is negative. */
+static long granted_before = -1;
 
 static int is_refused(void){
-  return refused_at >= 0 && refused_at-- == 0;
+  return granted_before >= 0 && granted_before-- == 0;
+}
+
+void refuse_behind(long requests){
+  granted_before = requests;
+}
+
+int none_refused(void){
+  int granted = granted_before >= 0;
+  granted_before = -1;
+  return granted;
 }
 
 void *__wrap_malloc(size_t n){
@@ -67,7 +78,7 @@ int is_hex(bytes is, const char *hex){
 
 typedef uint32_t (*convert)(const uint8_t *, size_t, uint32_t, uint8_t *, size_t, size_t *, changecap_fault *);
 
-/* What a call makes of a blob: first it is told the length, then it gets a buffer that is just as long. */
+/* What a call makes of a blob: first it reports the length, then it gets a buffer that is just as long. */
 static uint32_t made_by(convert call, bytes blob, uint32_t key_flags, bytes *made, changecap_fault *fault){
   size_t len = 12345;
   uint8_t none = 0xaa;
@@ -86,16 +97,13 @@ static uint32_t made_by(convert call, bytes blob, uint32_t key_flags, bytes *mad
 }
 
 static void worked_values(void){
-  const char *insert = "5402010074001200010000000000000001030178";
-  const char *delete = "5402010074000900010000000000000001030178";
-  const char *two_keys = "540300010174001200030178010000000000000002010000000000000001";
-  bytes blob = of_hex(insert, strlen(insert)), made;
+  bytes blob = of_hex(INSERT, strlen(INSERT)), made;
   changecap_fault fault = { 77, 77 };
   CHECK(changecap_check(blob.at, blob.n, &fault) == CHANGECAP_OK && fault.kind == 77 && fault.at == 77);
-  CHECK(made_by(changecap_invert, blob, CHANGECAP_KEYS_ONES, &made, &fault) == CHANGECAP_OK && is_hex(made, delete));
+  CHECK(made_by(changecap_invert, blob, CHANGECAP_KEYS_ONES, &made, &fault) == CHANGECAP_OK && is_hex(made, DELETE));
   free(made.at);
   CHECK(made_by(changecap_patchset, blob, CHANGECAP_KEYS_ONES, &made, &fault) == CHANGECAP_OK);
-  CHECK(is_hex(made, "5002010074001200010000000000000001030178"));
+  CHECK(is_hex(made, PATCH));
   CHECK(fault.kind == 77 && fault.at == 77);
   blob.at[0] = 0x50;
   size_t len = 99;
@@ -103,10 +111,10 @@ static void worked_values(void){
   CHECK(changecap_patchset(blob.at, blob.n, 0, made.at, made.n, &len, &fault) == CHANGECAP_PATCHSET && len == 99);
   CHECK(changecap_invert(blob.at, blob.n, 2, made.at, made.n, &len, &fault) == CHANGECAP_MISUSE);
   CHECK(changecap_patchset(blob.at, blob.n, 9, made.at, made.n, &len, &fault) == CHANGECAP_MISUSE);
-  CHECK(is_hex(made, "5002010074001200010000000000000001030178"));
+  CHECK(is_hex(made, PATCH));
   free(made.at);
   free(blob.at);
-  blob = of_hex(two_keys, strlen(two_keys));
+  blob = of_hex(TWO_KEYS, strlen(TWO_KEYS));
   CHECK(made_by(changecap_invert, blob, CHANGECAP_KEYS_PLACES, &made, &fault) == CHANGECAP_OK);
   CHECK(is_hex(made, "540300010274000900030178010000000000000002010000000000000001"));
   free(made.at);
@@ -169,7 +177,7 @@ static void concat_is(const char *first, const char *second, uint32_t key_flags,
   free(made.at);
 }
 
-/* They have none, for this reason, by the blob of this number. Nothing else is told. */
+/* They have none, for this reason, by the blob of this number. Nothing else is written. */
 static void concat_is_refused(const char *first, const char *second, uint32_t wanted, size_t by, changecap_fault of){
   bytes one = of_hex(first, strlen(first)), two = of_hex(second, strlen(second));
   changecap_fault fault = { 77, 77 };
@@ -182,30 +190,23 @@ static void concat_is_refused(const char *first, const char *second, uint32_t wa
 }
 
 static void worked_concatenations(void){
-  const char *insert = "5402010074001200010000000000000001030178";
-  const char *update = "540201007400170001000000000000000103017800030179";
-  const char *delete = "5402010074000900010000000000000001030178";
-  const char *patch = "5002010074001200010000000000000001030178";
   const char *patched = "5002010074001700010000000000000001030179";
-  const char *two_keys = "540300010174001200030178010000000000000002010000000000000001";
-  const char *other_table = "540201007500120001000000000000000205";
-  const char *two_tables = "5402010074001200010000000000000001030178" "540201007500120001000000000000000205";
   changecap_fault none = { 77, 77 };
-  concat_is(insert, update, CHANGECAP_KEYS_ONES, "5402010074001200010000000000000001030179");
-  concat_is(update, "5402010074000900010000000000000001030179", CHANGECAP_KEYS_PLACES, delete);
-  concat_is(insert, delete, CHANGECAP_KEYS_PLACES, "");
-  concat_is(insert, other_table, CHANGECAP_KEYS_PLACES, two_tables);
-  concat_is(patch, patched, CHANGECAP_KEYS_ONES, "5002010074001200010000000000000001030179");
-  concat_is("", two_keys, CHANGECAP_KEYS_ONES, two_keys);
-  concat_is(two_keys, "", CHANGECAP_KEYS_PLACES, "540300010274001200030178010000000000000002010000000000000001");
+  concat_is(INSERT, UPDATE, CHANGECAP_KEYS_ONES, "5402010074001200010000000000000001030179");
+  concat_is(UPDATE, "5402010074000900010000000000000001030179", CHANGECAP_KEYS_PLACES, DELETE);
+  concat_is(INSERT, DELETE, CHANGECAP_KEYS_PLACES, "");
+  concat_is(INSERT, OTHER_TABLE, CHANGECAP_KEYS_PLACES, INSERT OTHER_TABLE);
+  concat_is(PATCH, patched, CHANGECAP_KEYS_ONES, "5002010074001200010000000000000001030179");
+  concat_is("", TWO_KEYS, CHANGECAP_KEYS_ONES, TWO_KEYS);
+  concat_is(TWO_KEYS, "", CHANGECAP_KEYS_PLACES, "540300010274001200030178010000000000000002010000000000000001");
   concat_is("", "", CHANGECAP_KEYS_ONES, "");
-  concat_is("", patch, CHANGECAP_KEYS_ONES, patch);
-  concat_is_refused(insert, patch, CHANGECAP_KIND, 1, none);
-  concat_is_refused(patch, insert, CHANGECAP_KIND, 1, none);
-  concat_is_refused(insert, two_keys, CHANGECAP_COLUMNS, 1, none);
-  concat_is_refused("5480", insert, CHANGECAP_MALFORMED, 0, (changecap_fault){ CHANGECAP_BAD_VARINT, 1 });
-  concat_is_refused(insert, "5480", CHANGECAP_MALFORMED, 1, (changecap_fault){ CHANGECAP_BAD_VARINT, 1 });
-  bytes blob = of_hex(insert, strlen(insert));
+  concat_is("", PATCH, CHANGECAP_KEYS_ONES, PATCH);
+  concat_is_refused(INSERT, PATCH, CHANGECAP_KIND, 1, none);
+  concat_is_refused(PATCH, INSERT, CHANGECAP_KIND, 1, none);
+  concat_is_refused(INSERT, TWO_KEYS, CHANGECAP_COLUMNS, 1, none);
+  concat_is_refused("5480", INSERT, CHANGECAP_MALFORMED, 0, (changecap_fault){ CHANGECAP_BAD_VARINT, 1 });
+  concat_is_refused(INSERT, "5480", CHANGECAP_MALFORMED, 1, (changecap_fault){ CHANGECAP_BAD_VARINT, 1 });
+  bytes blob = of_hex(INSERT, strlen(INSERT));
   changecap_fault fault = { 77, 77 };
   size_t len = 99, by = 77;
   uint8_t out[64];
@@ -224,7 +225,7 @@ static void json_is(const char *hex, const char *wanted){
 
 static void worked_json(void){
   json_is("", "[]\n");
-  json_is("5402010074001200010000000000000001030178",
+  json_is(INSERT,
           "[{\"table\":\"t\",\"op\":\"insert\",\"indirect\":false,\"key\":[\"c0\"],"
           "\"new\":{\"c0\":1,\"c1\":\"x\"}}]\n");
   json_is("540201007400170101000000000000000103017800030179",
@@ -240,7 +241,7 @@ static void worked_json(void){
   free(made.at);
 }
 
-/* Each request for memory is refused in turn. The call says so and changes nothing, or it did without that request. */
+/* Each request for memory is refused in turn. The call reports it and changes nothing, or did without that request. */
 static void refused_memory(bytes blob, convert call){
   bytes out = copy_of(blob.at, blob.n), before = copy_of(blob.at, blob.n), made;
   changecap_fault none = { 0, 0 };
@@ -248,10 +249,9 @@ static void refused_memory(bytes blob, convert call){
   for(long at = 0, granted = 0; !granted; at++){
     size_t len = 99;
     changecap_fault fault = { 77, 77 };
-    refused_at = at;
+    refuse_behind(at);
     uint32_t status = call(blob.at, blob.n, 1, out.at, out.n, &len, &fault);
-    granted = refused_at >= 0;
-    refused_at = -1;
+    granted = none_refused();
     CHECK(fault.kind == 77 && fault.at == 77);
     if( status == CHANGECAP_NOMEM ){
       CHECK(!granted && len == 99 && !memcmp(out.at, before.at, out.n));
@@ -278,10 +278,9 @@ static void refused_concat(bytes first, bytes second){
   for(long at = 0, granted = 0; !granted; at++){
     size_t len = 99;
     memset(out.at, 0xaa, out.n + 1);
-    refused_at = at;
+    refuse_behind(at);
     uint32_t status = changecap_concat(first.at, first.n, second.at, second.n, 1, out.at, out.n, &len, &fault, &blob);
-    granted = refused_at >= 0;
-    refused_at = -1;
+    granted = none_refused();
     CHECK(fault.kind == 77 && fault.at == 77 && blob == 77 && out.at[out.n] == 0xaa);
     if( status == CHANGECAP_NOMEM ) CHECK(!granted && len == 99 && out.at[0] == 0xaa);
     else CHECK(status == CHANGECAP_OK && len == made.n && !memcmp(out.at, made.at, made.n));
@@ -298,10 +297,9 @@ static void refused_json(bytes blob){
   for(long at = 0, granted = 0; !granted; at++){
     size_t len = 99;
     memset(out.at, 0xaa, out.n);
-    refused_at = at;
+    refuse_behind(at);
     uint32_t status = changecap_json(blob.at, blob.n, out.at, out.n, &len, &fault);
-    granted = refused_at >= 0;
-    refused_at = -1;
+    granted = none_refused();
     CHECK(fault.kind == 77 && fault.at == 77);
     if( status == CHANGECAP_NOMEM ) CHECK(!granted && len == 99 && out.at[0] == 0xaa);
     else CHECK(status == CHANGECAP_OK && len == made.n && !memcmp(out.at, made.at, made.n));
@@ -313,10 +311,9 @@ static void refused_json(bytes blob){
 static void refused_check(bytes blob){
   for(long at = 0, granted = 0; !granted; at++){
     changecap_fault fault = { 77, 77 };
-    refused_at = at;
+    refuse_behind(at);
     uint32_t status = changecap_check(blob.at, blob.n, &fault);
-    granted = refused_at >= 0;
-    refused_at = -1;
+    granted = none_refused();
     CHECK(status == CHANGECAP_OK || (status == CHANGECAP_NOMEM && !granted));
     CHECK(fault.kind == 77 && fault.at == 77);
   }
@@ -378,7 +375,7 @@ void read_change(changecap_iter *it){
   CHECK(changecap_iter_new_bytes(it, change.columns, name, sizeof name, &len) == CHANGECAP_MISUSE);
 }
 
-/* Where there is no change, nothing is told. */
+/* Where there is no change, nothing is written. */
 static void reads_nothing(changecap_iter *it){
   changecap_change change = { 77, 77, 77, 77 };
   changecap_value value = { 77, 77, 77 };
@@ -456,10 +453,9 @@ static void refused_iterator(bytes blob){
   for(long at = 0, granted = 0; !granted; at++){
     changecap_iter it = CHANGECAP_CLOSED;
     changecap_fault fault;
-    refused_at = at;
+    refuse_behind(at);
     uint32_t status = changecap_iter_open(blob.at, blob.n, &it, &fault);
-    granted = refused_at >= 0;
-    refused_at = -1;
+    granted = none_refused();
     CHECK(status == CHANGECAP_OK ? it.at != NULL : status == CHANGECAP_NOMEM && it.at == NULL && !granted);
     if( status == CHANGECAP_OK ) changecap_iter_close(&it);
   }
@@ -467,8 +463,8 @@ static void refused_iterator(bytes blob){
 
 /* ---- The calls on a decoder ---- */
 
-/* The status of the pieces of a blob, of these lengths, each in a buffer that is just as long. Their fault is that of the
- * whole blob, told with a piece or at the end. */
+/* The status of the pieces of a blob, of this length each, in buffers that are just as long. Their fault is that of the
+ * whole blob, reported with a piece or at the end. */
 static uint32_t decoded(bytes blob, size_t len, changecap_fault *fault, size_t *changes){
   changecap_decoder decoder = CHANGECAP_CLOSED;
   changecap_iter it = CHANGECAP_CLOSED;
@@ -497,8 +493,7 @@ static uint32_t decoded(bytes blob, size_t len, changecap_fault *fault, size_t *
 }
 
 static void worked_pieces(void){
-  const char *hex = "5402010074001200010000000000000001030178";
-  bytes blob = of_hex(hex, strlen(hex));
+  bytes blob = of_hex(INSERT, strlen(INSERT));
   changecap_fault fault = { 77, 77 };
   size_t changes;
   for(size_t len = 1; len <= blob.n; len++)
@@ -518,17 +513,16 @@ static void refused_pieces(bytes blob){
     changecap_iter it = CHANGECAP_CLOSED;
     changecap_fault fault = { 77, 77 };
     uint32_t status;
-    refused_at = at;
+    refuse_behind(at);
     granted = 1;
-    while( changecap_decoder_open(&decoder) == CHANGECAP_NOMEM ) granted = 0;
+    AGAIN(changecap_decoder_open(&decoder));
     for(size_t from = 0; from < blob.n; from += 9){
       size_t n = blob.n - from < 9 ? blob.n - from : 9;
-      while( (status = changecap_decoder_feed(&decoder, blob.at + from, n, &fault)) == CHANGECAP_NOMEM ) granted = 0;
+      AGAIN(changecap_decoder_feed(&decoder, blob.at + from, n, &fault));
       CHECK(status == CHANGECAP_OK);
     }
     status = changecap_decoder_finish(&decoder, &it, &fault);
-    granted = granted && refused_at >= 0;
-    refused_at = -1;
+    granted = none_refused() && granted;
     CHECK(decoder.at == NULL && fault.kind == 77);
     CHECK(status == CHANGECAP_OK ? it.at != NULL : status == CHANGECAP_NOMEM && it.at == NULL && !granted);
     if( status == CHANGECAP_OK ) changecap_iter_close(&it);

@@ -12,6 +12,7 @@ static uint32_t called(changecap_server *server, const char *text, changecap_fau
   return status;
 }
 
+/* Whether the last reply is this text. */
 static int replies(changecap_server *server, const char *text){
   size_t n = strlen(text), len = 99;
   bytes made = { __real_malloc(n + 1), n };
@@ -36,7 +37,8 @@ static void worked_server(void){
   CHECK(fault.kind == 77 && fault.at == 77);
   CHECK(called(&server, "frob", &fault) == CHANGECAP_COMMAND && fault.kind == 1 && fault.at == 0);
   CHECK(called(&server, "attach 1 ;", &fault) == CHANGECAP_COMMAND && fault.kind == 1 && fault.at == 9);
-  CHECK(called(&server, "apply x'5480' omit omit omit", &fault) == CHANGECAP_COMMAND && fault.kind == 3 && fault.at == 1);
+  CHECK(called(&server, "apply x'5480' omit omit omit", &fault) == CHANGECAP_COMMAND && fault.kind == 3
+        && fault.at == 1);
   CHECK(called(&server, "", &fault) == CHANGECAP_COMMAND && fault.kind == 0);
   CHECK(called(&server, "session\nsession", &fault) == CHANGECAP_COMMAND && fault.kind == 0);
   CHECK(called(&server, "create \xff k", &fault) == CHANGECAP_COMMAND && fault.kind == 0);
@@ -60,16 +62,15 @@ static void refused_server(void){
   for(long at = 0, granted = 0; !granted; at++){
     changecap_server server = CHANGECAP_CLOSED;
     changecap_fault fault;
-    refused_at = at;
+    uint32_t status;
+    refuse_behind(at);
     granted = 1;
-    while( changecap_server_open(&server) == CHANGECAP_NOMEM ) granted = 0;
+    AGAIN(changecap_server_open(&server));
     for(size_t i = 0; i < sizeof command / sizeof *command; i++){
-      uint32_t status;
-      while( (status = called(&server, command[i], &fault)) == CHANGECAP_NOMEM ) granted = 0;
+      AGAIN(called(&server, command[i], &fault));
       CHECK(status == CHANGECAP_OK && replies(&server, reply[i]));
     }
-    granted = granted && refused_at >= 0;
-    refused_at = -1;
+    granted = none_refused() && granted;
     changecap_server_close(&server);
   }
 }
@@ -85,7 +86,8 @@ static uint32_t attached(changecap_server *server, uint64_t session, const char 
   return status;
 }
 
-static uint32_t created(changecap_server *server, const char *name, const char *key, uint64_t *version, changecap_fault *fault){
+static uint32_t created(changecap_server *server, const char *name, const char *key, uint64_t *version,
+                        changecap_fault *fault){
   bytes table = copy_of((const uint8_t *)name, strlen(name)), columns = copy_of((const uint8_t *)key, strlen(key));
   for(size_t i = 0; i < columns.n; i++) columns.at[i] = (uint8_t)(columns.at[i] - '0');
   uint32_t status = changecap_create(server, table.at, table.n, columns.at, columns.n, version, fault);
@@ -94,7 +96,7 @@ static uint32_t created(changecap_server *server, const char *name, const char *
   return status;
 }
 
-/* What a session has captured: first it is told the length, then it gets a buffer that is just as long. */
+/* What a session has captured: first the call reports the length, then it gets a buffer that is just as long. */
 static uint32_t captured_by(capture call, changecap_server *server, uint64_t session, uint32_t key_flags, bytes *made,
                             changecap_fault *fault){
   size_t len = 12345;
@@ -115,6 +117,7 @@ static uint32_t captured_by(capture call, changecap_server *server, uint64_t ses
   return status;
 }
 
+/* Whether session 1 has captured this blob. */
 static int captures(capture call, changecap_server *server, uint32_t key_flags, const char *hex){
   changecap_fault fault;
   bytes made;
@@ -123,20 +126,28 @@ static int captures(capture call, changecap_server *server, uint32_t key_flags, 
   return same;
 }
 
+/* The tables t and u, and some that are not made. */
+static void worked_tables(changecap_server *server){
+  changecap_fault fault = { 77, 77 };
+  uint64_t version = 77;
+  CHECK(created(server, "t", "10", &version, &fault) == CHANGECAP_OK && version == 1 && replies(server, ""));
+  CHECK(created(server, "u", "901", &version, &fault) == CHANGECAP_OK && version == 2 && fault.kind == 77);
+  CHECK(created(server, "", "10", &version, &fault) == CHANGECAP_MISUSE && fault.kind == 77 && version == 2);
+  CHECK(created(server, "v", "", &version, &fault) == CHANGECAP_MISUSE);
+  CHECK(created(server, "\xff", "1", &version, &fault) == CHANGECAP_MISUSE);
+  CHECK(created(server, "t", "1", &version, &fault) == CHANGECAP_REFUSED && fault.kind == 9 && fault.at == 0
+        && version == 2);
+}
+
 static void worked_sessions(void){
   changecap_server server = CHANGECAP_CLOSED;
   changecap_fault fault = { 77, 77 };
-  uint64_t version = 77, session = 77;
+  uint64_t session = 77;
   uint32_t flag = 77;
   bytes made;
   CHECK(changecap_server_open(&server) == CHANGECAP_OK);
-  CHECK(created(&server, "t", "10", &version, &fault) == CHANGECAP_OK && version == 1 && replies(&server, ""));
-  CHECK(created(&server, "u", "901", &version, &fault) == CHANGECAP_OK && version == 2 && fault.kind == 77);
-  CHECK(created(&server, "", "10", &version, &fault) == CHANGECAP_MISUSE && fault.kind == 77 && version == 2);
-  CHECK(created(&server, "v", "", &version, &fault) == CHANGECAP_MISUSE);
-  CHECK(created(&server, "\xff", "1", &version, &fault) == CHANGECAP_MISUSE);
-  CHECK(created(&server, "t", "1", &version, &fault) == CHANGECAP_REFUSED && fault.kind == 9 && fault.at == 0);
-  CHECK(changecap_session_new(&server, &session, &fault) == CHANGECAP_OK && session == 1 && version == 2);
+  worked_tables(&server);
+  CHECK(changecap_session_new(&server, &session, &fault) == CHANGECAP_OK && session == 1);
   CHECK(attached(&server, 1, "t", &fault) == CHANGECAP_OK);
   CHECK(attached(&server, 2, "t", &fault) == CHANGECAP_REFUSED && fault.kind == 18 && fault.at == 0);
   CHECK(attached(&server, 1, "", &fault) == CHANGECAP_MISUSE);
@@ -146,15 +157,15 @@ static void worked_sessions(void){
   CHECK(changecap_session_indirect(&server, 1, 3, &flag, &fault) == CHANGECAP_MISUSE && flag == 0);
   CHECK(called(&server, "commit insert t (1,'x') ; insert u (1,2,3)", &fault) == CHANGECAP_OK);
   CHECK(changecap_session_isempty(&server, 1, &flag, &fault) == CHANGECAP_OK && flag == 0);
-  CHECK(captures(changecap_session_changeset, &server, CHANGECAP_KEYS_ONES, "5402010074001200010000000000000001030178"));
-  CHECK(captures(changecap_session_patchset, &server, CHANGECAP_KEYS_PLACES, "5002010074001200010000000000000001030178"));
+  CHECK(captures(changecap_session_changeset, &server, CHANGECAP_KEYS_ONES, INSERT));
+  CHECK(captures(changecap_session_patchset, &server, CHANGECAP_KEYS_PLACES, PATCH));
   CHECK(captured_by(changecap_session_changeset, &server, 1, 2, &made, &fault) == CHANGECAP_MISUSE);
   free(made.at);
   CHECK(captured_by(changecap_session_restart, &server, 9, 0, &made, &fault) == CHANGECAP_REFUSED && fault.kind == 18);
   free(made.at);
   CHECK(changecap_session_enable(&server, 1, CHANGECAP_OFF, &flag, &fault) == CHANGECAP_OK && flag == 0);
   CHECK(called(&server, "commit insert t (2,null)", &fault) == CHANGECAP_OK);
-  CHECK(captures(changecap_session_restart, &server, CHANGECAP_KEYS_ONES, "5402010074001200010000000000000001030178"));
+  CHECK(captures(changecap_session_restart, &server, CHANGECAP_KEYS_ONES, INSERT));
   CHECK(captures(changecap_session_restart, &server, CHANGECAP_KEYS_ONES, ""));
   CHECK(changecap_session_enable(&server, 1, CHANGECAP_ON, &flag, &fault) == CHANGECAP_OK && flag == 1);
   CHECK(changecap_session_indirect(&server, 1, CHANGECAP_ON, &flag, &fault) == CHANGECAP_OK && flag == 1);
@@ -184,10 +195,7 @@ static int is_report(changecap_report is, uint64_t version, uint64_t done, uint6
 }
 
 static void worked_applications(void){
-  const char *insert = "5402010074001200010000000000000001030178";
-  const char *update = "540201007400170001000000000000000103017800030179";
   const char *two = "5402010074001200010000000000000002030178" "1200010000000000000001030178";
-  const char *other_table = "540201007500120001000000000000000205";
   const uint32_t omit[3] = { 0, 0, 0 }, abort[3] = { 2, 2, 2 }, replace[3] = { 1, 1, 1 }, other[3] = { 0, 0, 3 };
   changecap_server server = CHANGECAP_CLOSED;
   changecap_fault fault = { 77, 77 };
@@ -195,18 +203,18 @@ static void worked_applications(void){
   uint64_t version;
   CHECK(changecap_server_open(&server) == CHANGECAP_OK);
   CHECK(created(&server, "t", "10", &version, &fault) == CHANGECAP_OK);
-  CHECK(applied(&server, insert, other, &report, &fault) == CHANGECAP_MISUSE && is_report(report, 77, 77, 77, 77, 77));
-  CHECK(applied(&server, insert, abort, &report, &fault) == CHANGECAP_OK && is_report(report, 2, 1, 0, 0, 0));
-  CHECK(applied(&server, insert, omit, &report, &fault) == CHANGECAP_OK && is_report(report, 3, 0, 1, 1, 0));
-  CHECK(applied(&server, update, abort, &report, &fault) == CHANGECAP_OK && is_report(report, 4, 1, 0, 0, 0));
-  CHECK(applied(&server, insert, replace, &report, &fault) == CHANGECAP_OK && is_report(report, 5, 1, 1, 0, 0));
-  CHECK(applied(&server, other_table, abort, &report, &fault) == CHANGECAP_OK && is_report(report, 6, 0, 0, 0, 1));
+  CHECK(applied(&server, INSERT, other, &report, &fault) == CHANGECAP_MISUSE && is_report(report, 77, 77, 77, 77, 77));
+  CHECK(applied(&server, INSERT, abort, &report, &fault) == CHANGECAP_OK && is_report(report, 2, 1, 0, 0, 0));
+  CHECK(applied(&server, INSERT, omit, &report, &fault) == CHANGECAP_OK && is_report(report, 3, 0, 1, 1, 0));
+  CHECK(applied(&server, UPDATE, abort, &report, &fault) == CHANGECAP_OK && is_report(report, 4, 1, 0, 0, 0));
+  CHECK(applied(&server, INSERT, replace, &report, &fault) == CHANGECAP_OK && is_report(report, 5, 1, 1, 0, 0));
+  CHECK(applied(&server, OTHER_TABLE, abort, &report, &fault) == CHANGECAP_OK && is_report(report, 6, 0, 0, 0, 1));
   CHECK(fault.kind == 77 && fault.at == 77 && replies(&server, ""));
   CHECK(applied(&server, two, abort, &report, &fault) == CHANGECAP_REFUSED && fault.kind == 15 && fault.at == 1);
   CHECK(is_report(report, 6, 0, 0, 0, 1));
   CHECK(applied(&server, "5480", omit, &report, &fault) == CHANGECAP_MALFORMED && fault.kind == 3 && fault.at == 1);
   CHECK(called(&server, "commit delete t key(1)", &fault) == CHANGECAP_OK);
-  CHECK(applied(&server, update, replace, &report, &fault) == CHANGECAP_REFUSED && fault.kind == 16 && fault.at == 0);
+  CHECK(applied(&server, UPDATE, replace, &report, &fault) == CHANGECAP_REFUSED && fault.kind == 16 && fault.at == 0);
   CHECK(called(&server, "scan t", &fault) == CHANGECAP_OK && replies(&server, "rows 0"));
   changecap_server_close(&server);
 }
@@ -245,8 +253,9 @@ static void worked_differences(void){
   CHECK(filtered(&server, 1, "not is 'a'", &fault) == CHANGECAP_OK && fault.kind == 77);
   CHECK(filtered(&server, 1, "not is", &fault) == CHANGECAP_FILTER && fault.kind == 12 && fault.at == 6);
   CHECK(filtered(&server, 1, "not is (", &fault) == CHANGECAP_FILTER && fault.kind == 12 && fault.at == 7);
-  CHECK(filtered(&server, 1, "not not not not not not not not not not not not not not not not not not not not not not not "
-                 "not not not not not not not not not all", &fault) == CHANGECAP_FILTER && fault.kind == 13 && fault.at == 0);
+  CHECK(filtered(&server, 1, "not not not not not not not not not not not not not not not not not not not not not not "
+                 "not not not not not not not not not not all", &fault) == CHANGECAP_FILTER
+        && fault.kind == 13 && fault.at == 0);
   CHECK(filtered(&server, 1, "is '\xff'", &fault) == CHANGECAP_MISUSE && fault.kind == 13);
   CHECK(filtered(&server, 2, "all", &fault) == CHANGECAP_REFUSED && fault.kind == 18);
   CHECK(saved(&server, "before", &fault) == CHANGECAP_OK && saved(&server, "", &fault) == CHANGECAP_MISUSE);
@@ -263,6 +272,21 @@ static void worked_differences(void){
   changecap_server_close(&server);
 }
 
+/* Asks for what session 1 has captured, which is this blob, until there is memory. Whether there was at once. */
+static int captures_again(capture call, changecap_server *server, const char *hex){
+  changecap_fault fault;
+  bytes made;
+  uint32_t status;
+  int granted = 1;
+  while( (status = captured_by(call, server, 1, CHANGECAP_KEYS_ONES, &made, &fault)) == CHANGECAP_NOMEM ){
+    granted = 0;
+    free(made.at);
+  }
+  CHECK(status == CHANGECAP_OK && is_hex(made, hex));
+  free(made.at);
+  return granted;
+}
+
 /* Each request for memory is refused in turn: a call that was not carried out is carried out when it comes again. */
 static void refused_sessions(void){
   for(long at = 0, granted = 0; !granted; at++){
@@ -271,11 +295,9 @@ static void refused_sessions(void){
     changecap_report report;
     uint64_t version = 0, session = 0;
     uint32_t flag, status;
-    bytes made;
     CHECK(changecap_server_open(&server) == CHANGECAP_OK);
-    refused_at = at;
+    refuse_behind(at);
     granted = 1;
-#define AGAIN(call) while( (status = (call)) == CHANGECAP_NOMEM ) granted = 0
     AGAIN(created(&server, "t", "10", &version, &fault));
     CHECK(status == CHANGECAP_OK && version == 1);
     AGAIN(changecap_session_new(&server, &session, &fault));
@@ -286,31 +308,19 @@ static void refused_sessions(void){
     CHECK(status == CHANGECAP_OK);
     AGAIN(changecap_session_isempty(&server, 1, &flag, &fault));
     CHECK(status == CHANGECAP_OK && flag == 0);
-    while( (status = captured_by(changecap_session_restart, &server, 1, 0, &made, &fault)) == CHANGECAP_NOMEM ){
-      granted = 0;
-      free(made.at);
-    }
-    CHECK(status == CHANGECAP_OK && is_hex(made, "5402010074001200010000000000000001030178"));
-    free(made.at);
+    granted = captures_again(changecap_session_restart, &server, INSERT) && granted;
     AGAIN(saved(&server, "before", &fault));
     CHECK(status == CHANGECAP_OK);
     AGAIN(filtered(&server, 1, "or(is 'u',starts v)", &fault));
     CHECK(status == CHANGECAP_OK);
-    AGAIN(applied(&server, "5402010074000900010000000000000001030178", (const uint32_t[3]){ 2, 2, 2 }, &report, &fault));
+    AGAIN(applied(&server, DELETE, (const uint32_t[3]){ 2, 2, 2 }, &report, &fault));
     CHECK(status == CHANGECAP_OK && is_report(report, 3, 1, 0, 0, 0));
     AGAIN(compared(&server, 1, "before", "t", &fault));
     CHECK(status == CHANGECAP_OK);
-    while( (status = captured_by(changecap_session_changeset, &server, 1, 0, &made, &fault)) == CHANGECAP_NOMEM ){
-      granted = 0;
-      free(made.at);
-    }
-    CHECK(status == CHANGECAP_OK && is_hex(made, "5402010074000900010000000000000001030178"));
-    free(made.at);
+    granted = captures_again(changecap_session_changeset, &server, DELETE) && granted;
     AGAIN(changecap_session_drop(&server, 1, &fault));
     CHECK(status == CHANGECAP_OK);
-#undef AGAIN
-    granted = granted && refused_at >= 0;
-    refused_at = -1;
+    granted = none_refused() && granted;
     changecap_server_close(&server);
   }
 }

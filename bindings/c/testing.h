@@ -15,8 +15,14 @@
 void *__real_malloc(size_t n);
 void *__real_realloc(void *at, size_t n);
 
-/* how many requests are still granted; none is refused while it is negative */
-extern long refused_at;
+/* Refuses the request for memory that comes behind so many others. */
+void refuse_behind(long requests);
+
+/* Whether that request has not come. From now on none is refused. */
+int none_refused(void);
+
+/* Makes a call until it is not out of memory. `granted` is whether it was so at once. */
+#define AGAIN(call) while( (status = (call)) == CHANGECAP_NOMEM ) granted = 0
 
 /* ---- Counting ---- */
 
@@ -36,6 +42,15 @@ typedef struct bytes {
 bytes copy_of(const uint8_t *at, size_t n);
 bytes of_hex(const char *hex, size_t digits);
 int is_hex(bytes is, const char *hex);
+
+/* Changesets as digits: of the row (1,'x') of the table t, which is inserted, updated to (1,'y') or deleted, of a table
+ * with a key of two columns, and of the table u. PATCH is the patchset of INSERT. */
+#define INSERT "5402010074001200010000000000000001030178"
+#define UPDATE "540201007400170001000000000000000103017800030179"
+#define DELETE "5402010074000900010000000000000001030178"
+#define PATCH "5002010074001200010000000000000001030178"
+#define TWO_KEYS "540300010174001200030178010000000000000002010000000000000001"
+#define OTHER_TABLE "540201007500120001000000000000000205"
 
 /* ---- The parts ---- */
 

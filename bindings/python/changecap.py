@@ -67,7 +67,8 @@ class NoFilter(Error):
 
 
 class Refused(Error):
-    """A command that the server refuses. The text is its reply. A call that has no text tells the number, as in E18."""
+    """A command that the server refuses. The text is its reply, or has the number alone, as in E18, where the call has
+    no reply."""
 
     def __init__(self, reply):
         super().__init__(REFUSED, reply)
@@ -178,8 +179,8 @@ _CALLS = {
     "column": [POINTER(_Handle), _LEN, POINTER(_Field)],
     "column_bytes": [POINTER(_Handle), _LEN, _OUT, _LEN, POINTER(c_size_t)],
 }
-# calls that answer nothing
-_SILENT = {"begin", "begin_at", "clear_bindings"}
+# Calls without a status.
+_SILENT = {"begin", "begin_at", "clear_bindings", "iter_close", "decoder_close", "server_close"}
 
 
 class _Library:
@@ -187,19 +188,19 @@ class _Library:
 
     def __init__(self):
         here = os.path.join(os.path.dirname(os.path.abspath(__file__)), "..", "out", "libchangecap.so")
-        name = os.environ.get("CHANGECAP_LIBRARY") or (here if os.path.exists(here) else ctypes.util.find_library("changecap"))
+        name = os.environ.get("CHANGECAP_LIBRARY") or (os.path.exists(here) and here)
+        name = name or ctypes.util.find_library("changecap")
         if not name:
             raise ImportError("libchangecap.so is not there: make lib, or set CHANGECAP_LIBRARY")
         calls = ctypes.CDLL(name)
         for call, types in _CALLS.items():
             made = getattr(calls, f"changecap_{call}")
             made.argtypes = types
-            made.restype = None if call.endswith("_close") or call in _SILENT else c_uint32
+            made.restype = None if call in _SILENT else c_uint32
             setattr(self, call, made)
 
 
 _library = _Library()
-
 
 _MESSAGES = {
     PATCHSET: "a patchset, where only a changeset serves",
@@ -211,6 +212,7 @@ _MESSAGES = {
 
 
 def _check(status, fault=None):
+    """Raises what a status other than OK stands for."""
     if status == MALFORMED:
         raise Malformed(fault)
     if status == COMMAND:
@@ -237,11 +239,9 @@ def _taken(call, room=256, fault=None):
 
 
 def _converted(call, blob, key_flags):
-    fault = _Fault()
-    out, length = ctypes.create_string_buffer(len(blob) or 1), c_size_t()
-    status = call(bytes(blob), len(blob), key_flags, out, len(blob), byref(length), byref(fault))
-    _check(status, fault)
-    return out.raw[:length.value]
+    """What a call makes of a changeset, which is no longer."""
+    blob, fault = bytes(blob), _Fault()
+    return _taken(lambda *out: call(blob, len(blob), key_flags, *out, byref(fault)), len(blob), fault)
 
 
 def check(blob):
@@ -261,7 +261,8 @@ def patchset(changeset, key_flags=KEYS_PLACES):
 
 
 def concat(first, second, key_flags=KEYS_PLACES):
-    """The concatenation of two changesets or of two patchsets. Of an error, `blob` is 0 or 1: the one that is refused."""
+    """The concatenation of two changesets or of two patchsets. Of an error, `blob` is 0 or 1: the one that is
+    refused."""
     first, second, fault, blob = bytes(first), bytes(second), _Fault(), c_size_t()
 
     def call(*out):
@@ -282,6 +283,7 @@ def json(blob):
 
 
 def _value(handle, column, field_of, bytes_of):
+    """Whether a column has a value, and the value, by the call of it and that of its bytes."""
     field = _Field()
     _check(field_of(byref(handle), column, byref(field)))
     if field.kind in (TEXT, BLOB):
@@ -291,11 +293,13 @@ def _value(handle, column, field_of, bytes_of):
 
 
 def _fields(handle, columns, field_of, bytes_of):
+    """The values that are defined, by their columns."""
     values = (_value(handle, column, field_of, bytes_of) for column in range(columns))
     return {column: value for column, (is_defined, value) in enumerate(values) if is_defined}
 
 
 def _change(handle):
+    """The change that an iterator is at."""
     info, flag = _Change(), c_uint32()
     _check(_library.iter_op(byref(handle), byref(info)))
     key = []
@@ -314,6 +318,7 @@ def _change(handle):
 
 
 def _changes(handle):
+    """The changes of an open iterator, which is closed in the end."""
     try:
         while _library.iter_next(byref(handle)) == ROW:
             yield _change(handle)
@@ -352,6 +357,7 @@ class Row:
 
 
 def _bind(handle, value):
+    """Binds a value behind those that are bound."""
     if value is None:
         _check(_library.bind_null(handle))
     elif isinstance(value, int):
@@ -359,9 +365,9 @@ def _bind(handle, value):
             raise OverflowError("an integer has 64 bits")
         _check(_library.bind_int(handle, value))
     else:
-        text = isinstance(value, str)
-        content = value.encode() if text else bytes(value)
-        _check((_library.bind_text if text else _library.bind_blob)(handle, content, len(content)))
+        is_text = isinstance(value, str)
+        content = value.encode() if is_text else bytes(value)
+        _check((_library.bind_text if is_text else _library.bind_blob)(handle, content, len(content)))
 
 
 def _insert(handle, table, values, cause=DIRECT):
@@ -394,10 +400,11 @@ def _delete(handle, table, row, cause=DIRECT):
     _check(_library.delete(handle, name, len(name), number, cause, byref(fault)), fault)
 
 
-_OPERATIONS = {"insert": _insert, "update": _update, "delete": _delete}
+_PUT = {"insert": _insert, "update": _update, "delete": _delete}
 
 
 def _rows(handle):
+    """The rows that were read last."""
     number, columns = c_uint64(), c_size_t()
     while _library.step(byref(handle)) == ROW:
         _check(_library.row_id(byref(handle), byref(number)))
@@ -415,31 +422,29 @@ class Server:
 
     def call(self, command):
         """The text of the reply to one command of the workload language (docs/FORMAT.md)."""
-        text, fault = command.encode(), _Fault()
-        with self._lock:
-            if not self._handle.at:
-                raise ValueError("the server is closed")
-            status = _library.server_call(byref(self._handle), text, len(text), byref(fault))
+        text = command.encode()
+
+        def replied(handle, fault):
+            status = _library.server_call(handle, text, len(text), byref(fault))
             if status not in (OK, REFUSED):
                 _check(status, fault)
-            reply = _taken(lambda *out: _library.server_reply(byref(self._handle), *out)).decode()
-        if status == REFUSED:
-            raise Refused(reply)
-        return reply
+            reply = _taken(lambda *out: _library.server_reply(handle, *out)).decode()
+            if status == REFUSED:
+                raise Refused(reply)
+            return reply
 
-    def _made(self, call, *words):
-        """What a call does with the open handle, the words and a fault."""
-        fault = _Fault()
+        return self._made(replied)
+
+    def _made(self, work):
+        """What a function makes of the open handle and a fault, while no other thread has the handle."""
         with self._lock:
             if not self._handle.at:
                 raise ValueError("the server is closed")
-            return call(byref(self._handle), *words, fault)
+            return work(byref(self._handle), _Fault())
 
     def _done(self, call, *words):
-        def status(handle, *rest):
-            _check(call(handle, *rest[:-1], byref(rest[-1])), rest[-1])
-
-        self._made(status, *words)
+        """Makes a call with the handle, the words and a fault."""
+        self._made(lambda handle, fault: _check(call(handle, *words, byref(fault)), fault))
 
     def create_table(self, table, key):
         """Creates a table with these columns, each of them in the primary key or not, and answers the new version."""
@@ -459,7 +464,7 @@ class Server:
             else:
                 _library.begin_at(handle, base)
             for word, *rest in operations:
-                _OPERATIONS[word](handle, *rest)
+                _PUT[word](handle, *rest)
             version = c_uint64()
             try:
                 _check(_library.commit(handle, byref(version), byref(fault)), fault)
@@ -471,6 +476,7 @@ class Server:
         return self._made(committed)
 
     def _read(self, call, table, *words):
+        """The rows that a call reads, while this thread has the handle."""
         fault, name = _Fault(), table.encode()
         _check(call(byref(self._handle), name, len(name), *words, byref(fault)), fault)
         return list(_rows(self._handle))
@@ -550,6 +556,7 @@ class Session:
         self._server._done(_library.session_diff, self.number, database, len(database), table, len(table))
 
     def _flag(self, call, *words):
+        """The flag that a call writes."""
         flag = c_uint32()
         self._server._done(call, self.number, *words, byref(flag))
         return bool(flag.value)
@@ -567,6 +574,8 @@ class Session:
         return self._flag(_library.session_isempty)
 
     def _captured(self, call, key_flags):
+        """The blob that a call writes."""
+
         def taken(handle, fault):
             return _taken(lambda *out: call(handle, self.number, key_flags, *out, byref(fault)), fault=fault)
 

@@ -19,6 +19,8 @@ except Exception:  # noqa: BLE001 - no SQLite with the session extension, whatev
 
 INSERT = bytes.fromhex("5402010074001200010000000000000001030178")
 DELETE = bytes.fromhex("5402010074000900010000000000000001030178")
+TWO_KEYS = bytes.fromhex("540300010174001200030178010000000000000002010000000000000001")
+TWO_TABLES = bytes.fromhex("540201007500170101000000000000000703012d0003022b2b540301000062001200040200ff05030161")
 
 
 class Blobs(unittest.TestCase):
@@ -26,9 +28,8 @@ class Blobs(unittest.TestCase):
         self.assertEqual(changecap.invert(INSERT), DELETE)
         self.assertEqual(changecap.patchset(INSERT), b"P" + INSERT[1:])
         self.assertEqual(changecap.invert(b""), b"")
-        two_keys = bytes.fromhex("540300010174001200030178010000000000000002010000000000000001")
-        self.assertEqual(changecap.patchset(two_keys, changecap.KEYS_ONES), b"P" + two_keys[1:])
-        self.assertEqual(changecap.invert(two_keys)[:6].hex(), "540300010274")
+        self.assertEqual(changecap.patchset(TWO_KEYS, changecap.KEYS_ONES), b"P" + TWO_KEYS[1:])
+        self.assertEqual(changecap.invert(TWO_KEYS)[:6].hex(), "540300010274")
         for call in changecap.invert, changecap.patchset:
             with self.assertRaises(changecap.Error) as raised:
                 call(b"P" + INSERT[1:])
@@ -46,11 +47,10 @@ class Blobs(unittest.TestCase):
         self.assertEqual(changecap.concat(INSERT, update), both)
         self.assertEqual(changecap.concat(INSERT, DELETE), b"")
         self.assertEqual(changecap.concat(*map(changecap.patchset, (INSERT, update))), changecap.patchset(both))
-        two_keys = bytes.fromhex("540300010174001200030178010000000000000002010000000000000001")
-        self.assertEqual(changecap.concat(b"", two_keys, changecap.KEYS_ONES), two_keys)
-        self.assertEqual(changecap.concat(two_keys, b"")[:6].hex(), "540300010274")
+        self.assertEqual(changecap.concat(b"", TWO_KEYS, changecap.KEYS_ONES), TWO_KEYS)
+        self.assertEqual(changecap.concat(TWO_KEYS, b"")[:6].hex(), "540300010274")
         for first, second, status, blob in ((INSERT, b"P" + INSERT[1:], changecap.KIND, 1),
-                                            (INSERT, two_keys, changecap.COLUMNS, 1),
+                                            (INSERT, TWO_KEYS, changecap.COLUMNS, 1),
                                             (b"T\x80", INSERT, changecap.MALFORMED, 0),
                                             (INSERT, b"T\x80", changecap.MALFORMED, 1)):
             with self.assertRaises(changecap.Error) as raised:
@@ -65,9 +65,9 @@ class Blobs(unittest.TestCase):
         self.assertEqual(changecap.json(INSERT), text)
         self.assertEqual(changecap.json(b"P" + INSERT[1:]), text)
         self.assertEqual(changecap.json(b""), "[]\n")
-        blob = bytes.fromhex("540201007500170101000000000000000703012d0003022b2b540301000062001200040200ff05030161")
-        self.assertEqual(json.loads(changecap.json(blob)), [
-            {"table": "u", "op": "update", "indirect": True, "key": ["c0"], "old": {"c0": 7, "c1": "-"}, "new": {"c1": "++"}},
+        self.assertEqual(json.loads(changecap.json(TWO_TABLES)), [
+            {"table": "u", "op": "update", "indirect": True, "key": ["c0"],
+             "old": {"c0": 7, "c1": "-"}, "new": {"c1": "++"}},
             {"table": "b", "op": "insert", "indirect": False, "key": ["c0"],
              "new": {"c0": {"blob": "00ff"}, "c1": None, "c2": "a"}},
         ])
@@ -75,9 +75,9 @@ class Blobs(unittest.TestCase):
             changecap.json(b"T")
 
     def test_changes(self):
-        blob = bytes.fromhex("540201007500170101000000000000000703012d0003022b2b540301000062001200040200ff05030161")
-        update, insert = changecap.iterate(blob)
-        self.assertEqual((update.table, update.key, update.operation, update.indirect), ("u", [True, False], "update", True))
+        update, insert = changecap.iterate(TWO_TABLES)
+        self.assertEqual((update.table, update.key), ("u", [True, False]))
+        self.assertEqual((update.operation, update.indirect), ("update", True))
         self.assertEqual((update.old, update.new), ({0: 7, 1: "-"}, {1: "++"}))
         self.assertEqual((insert.operation, insert.new), ("insert", {0: b"\0\xff", 1: None, 2: "a"}))
         self.assertEqual(list(changecap.iterate(b"")), [])
@@ -85,10 +85,9 @@ class Blobs(unittest.TestCase):
             next(changecap.iterate(b"T"))
 
     def test_pieces(self):
-        blob = bytes.fromhex("540201007500170101000000000000000703012d0003022b2b540301000062001200040200ff05030161")
         for length in 1, 3, 100:
-            pieces = [blob[at:at + length] for at in range(0, len(blob), length)]
-            self.assertEqual(list(changecap.iterate_pieces(pieces)), list(changecap.iterate(blob)))
+            pieces = [TWO_TABLES[at:at + length] for at in range(0, len(TWO_TABLES), length)]
+            self.assertEqual(list(changecap.iterate_pieces(pieces)), list(changecap.iterate(TWO_TABLES)))
         self.assertEqual(list(changecap.iterate_pieces([])), [])
         for pieces, wanted in (([b"T", b"\x80", b"\0"], (3, 1)), ([b"T"], (1, 1))):
             with self.assertRaises(changecap.Malformed) as raised:
@@ -142,6 +141,7 @@ def captured(chance):
     values = [None, 0, 1, -5, 2**62, "", "x", "it's", b"", b"\0\xff", "y" * 300]
 
     def change():
+        """One statement for each table."""
         a, b, c = chance.choice(values[1:]), chance.choice(values[1:]), chance.choice(values)
         word = chance.choice(("insert", "update", "delete"))
         if word == "insert":
@@ -238,14 +238,16 @@ class Servers(unittest.TestCase):
             server.create_table("u", [False, True, True])
             session = server.session()
             session.attach()
-            self.assertEqual(server.commit(("insert", "t", (1, "x")), ("insert", "t", (2, b"\0\xff"), changecap.CASCADE),
-                                           ("insert", "u", ("x", 1, 2)), ("insert", "u", ("x", None, 1))), 3)
+            version = server.commit(("insert", "t", (1, "x")), ("insert", "t", (2, b"\0\xff"), changecap.CASCADE),
+                                    ("insert", "u", ("x", 1, 2)), ("insert", "u", ("x", None, 1)))
+            self.assertEqual(version, 3)
             self.assertEqual([(it.table, it.indirect) for it in changecap.iterate(session.changeset())],
                              [("t", False), ("t", True), ("u", False)])
             self.assertEqual(server.get("t", (2,)), changecap.Row(None, (2, b"\0\xff")))
             self.assertEqual(server.get("u", 1), changecap.Row(1, ("x", None, 1)))
             self.assertIsNone(server.get("t", (3,)))
-            server.commit(("update", "u", (1, 2), {0: None}), ("update", "u", 1, {1: 1, 0: 2}), ("delete", "t", (2,)), base=3)
+            server.commit(("update", "u", (1, 2), {0: None}), ("update", "u", 1, {1: 1, 0: 2}),
+                          ("delete", "t", (2,)), base=3)
             self.assertEqual([it.values for it in server.scan("u")], [(2, 1, 1), (None, 1, 2)])
             self.assertEqual(server.scan("t"), [changecap.Row(None, (1, "x"))])
             for call, wanted in ((lambda: server.scan("v"), "refused: E8"), (lambda: server.get("t", ()), "misuse"),
@@ -282,7 +284,7 @@ class Servers(unittest.TestCase):
     @unittest.skipUnless(sqlite, "no SQLite with the session extension")
     def test_sessions_beside_sqlite(self):
         for number in range(40):
-            self.beside_sqlite(random.Random(number))
+            self.recorded_beside_sqlite(random.Random(number))
 
     @unittest.skipUnless(sqlite, "no SQLite with the session extension")
     def test_applications_beside_sqlite(self):
@@ -315,19 +317,20 @@ class Servers(unittest.TestCase):
         blob = chance.choice((session.changeset, session.patchset))()
         policy = {kind: chance.choice(("omit", "replace", "abort") if kind != "notfound" else ("omit", "abort"))
                   for kind in ("data", "notfound", "conflict")}
-        told = other.apply(blob, lambda kind: policy[kind])
+        applied = other.apply(blob, lambda kind: policy[kind])
         numbers = [("omit", "replace", "abort").index(policy[kind]) for kind in ("data", "notfound", "conflict")]
         try:
             report = target.apply(blob, *numbers)
-            self.assertEqual((report.conflicts, report.omitted), (len(told.conflicts), told.omitted))
-            self.assertEqual(told.code, 0)
+            self.assertEqual((report.conflicts, report.omitted), (len(applied.conflicts), applied.omitted))
+            self.assertEqual(applied.code, sqlite.OK)
         except changecap.Refused as refused:
-            self.assertEqual((str(refused), told.code), ("refused: E15", 4))
+            self.assertEqual((str(refused), applied.code), ("refused: E15", sqlite.ABORT))
         self.assertEqual([it.values for it in target.scan("t")], other.execute("SELECT * FROM t ORDER BY a, b"))
         for it in source, target, other:
             it.close()
 
-    def beside_sqlite(self, chance):
+    def recorded_beside_sqlite(self, chance):
+        """A session that records random commits, while its flags are set at random."""
         connection = sqlite.Connection()
         with changecap.Server() as server:
             connection.execute("CREATE TABLE t(a INTEGER, b INTEGER, c TEXT, PRIMARY KEY(a, b))")

@@ -1,58 +1,43 @@
 //! Whole blobs.
+use crate::call::{done, taken, text_of};
 use crate::ffi;
 use crate::{ChangesetIter, Error, Result};
 use std::io::{Read, Write};
 
-/// What is written at each key column: `01`, as SQLite's documentation says, or the place within the key, as its code
-/// writes and its applier wants.
+/// What is written at each key column: `01`, as SQLite's documentation says, or the place within the key, as
+/// its code writes and its applier wants.
 #[derive(Clone, Copy, Debug, PartialEq, Eq)]
 pub enum KeyFlags {
+    /// `01` at each.
     Ones,
+    /// `01`, `02` and so on.
     Places,
 }
 
 impl KeyFlags {
     pub(crate) fn number(self) -> u32 {
         match self {
-            KeyFlags::Ones => 0,
-            KeyFlags::Places => 1,
+            KeyFlags::Ones => ffi::KEYS_ONES,
+            KeyFlags::Places => ffi::KEYS_PLACES,
         }
     }
 }
 
 /// Whether the bytes are a changeset or a patchset.
 pub fn check(blob: &[u8]) -> Result<()> {
-    let mut fault = ffi::Fault::default();
     // SAFETY: a pointer and a length of one slice, and a place of the caller's. So in each call of this file.
-    match unsafe { ffi::changecap_check(blob.as_ptr(), blob.len(), &mut fault) } {
-        ffi::OK => Ok(()),
-        status => Err(Error::of(status, fault)),
-    }
+    done(|fault| unsafe { ffi::changecap_check(blob.as_ptr(), blob.len(), fault) })
 }
 
-/// What a call writes, which gets a buffer of this length first.
-pub(crate) fn taken(room: usize, call: impl Fn(&mut [u8], &mut usize, &mut ffi::Fault) -> u32) -> Result<Vec<u8>> {
-    let mut out = vec![0; room];
-    let (mut len, mut fault) = (0, ffi::Fault::default());
-    loop {
-        match call(&mut out, &mut len, &mut fault) {
-            ffi::OK => {
-                out.truncate(len);
-                return Ok(out);
-            }
-            ffi::ROOM => out.resize(len, 0),
-            status => return Err(Error::of(status, fault)),
-        }
-    }
-}
-
-fn converted(call: ffi::Convert, blob: &[u8], key_flags: KeyFlags) -> Result<Vec<u8>> {
+/// What a call makes of a changeset.
+fn converted(call: ffi::ConvertCall, blob: &[u8], key_flags: KeyFlags) -> Result<Vec<u8>> {
     // What is made is no longer than the changeset.
     taken(blob.len(), |out, len, fault| unsafe {
         call(blob.as_ptr(), blob.len(), key_flags.number(), out.as_mut_ptr(), out.len(), len, fault)
     })
 }
 
+/// Both blobs as one, by `changecap_concat`.
 fn joined(first: &[u8], second: &[u8], key_flags: KeyFlags) -> Result<Vec<u8>> {
     taken(first.len() + second.len(), |out, len, fault| unsafe {
         ffi::changecap_concat(
@@ -70,11 +55,11 @@ fn joined(first: &[u8], second: &[u8], key_flags: KeyFlags) -> Result<Vec<u8>> {
     })
 }
 
-fn text(blob: &[u8]) -> Result<String> {
-    let text = taken(4 * blob.len(), |out, len, fault| unsafe {
+fn json_of(blob: &[u8]) -> Result<String> {
+    taken(4 * blob.len(), |out, len, fault| unsafe {
         ffi::changecap_json(blob.as_ptr(), blob.len(), out.as_mut_ptr(), out.len(), len, fault)
-    })?;
-    Ok(String::from_utf8(text).expect("texts are UTF-8"))
+    })
+    .and_then(text_of)
 }
 
 /// The bytes of a changeset.
@@ -95,14 +80,17 @@ impl Changeset {
         Ok(Changeset(bytes.to_vec()))
     }
 
+    /// Its bytes.
     pub fn as_bytes(&self) -> &[u8] {
         &self.0
     }
 
+    /// The inverse: it undoes the changes.
     pub fn invert(&self, key_flags: KeyFlags) -> Result<Changeset> {
         Ok(Changeset(converted(ffi::changecap_invert, &self.0, key_flags)?))
     }
 
+    /// The patchset, as a session would have written it.
     pub fn patchset(&self, key_flags: KeyFlags) -> Result<Patchset> {
         Ok(Patchset(converted(ffi::changecap_patchset, &self.0, key_flags)?))
     }
@@ -114,9 +102,10 @@ impl Changeset {
 
     /// An array with an object for each change, and a line feed. `changecap.h` says what is in an object.
     pub fn json(&self) -> Result<String> {
-        text(&self.0)
+        json_of(&self.0)
     }
 
+    /// An iterator before the first change.
     pub fn iter(&self) -> Result<ChangesetIter> {
         ChangesetIter::start(&self.0)
     }
@@ -132,6 +121,7 @@ impl Patchset {
         Ok(Patchset(bytes.to_vec()))
     }
 
+    /// Its bytes.
     pub fn as_bytes(&self) -> &[u8] {
         &self.0
     }
@@ -143,9 +133,10 @@ impl Patchset {
 
     /// An array with an object for each change, and a line feed. `changecap.h` says what is in an object.
     pub fn json(&self) -> Result<String> {
-        text(&self.0)
+        json_of(&self.0)
     }
 
+    /// An iterator before the first change.
     pub fn iter(&self) -> Result<ChangesetIter> {
         ChangesetIter::start(&self.0)
     }

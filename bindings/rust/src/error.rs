@@ -2,13 +2,16 @@
 use crate::ffi;
 use std::{fmt, io};
 
-/// The first fault of bytes that are no blob: its number, as in `D1`, and its offset.
+/// The first fault of bytes that are no blob, or of a text: its number, as in `D1`, and its offset.
 #[derive(Clone, Copy, Debug, PartialEq, Eq)]
 pub struct Fault {
+    /// Its number.
     pub kind: u32,
+    /// Its offset, from 0.
     pub at: usize,
 }
 
+/// Why a call did nothing.
 #[derive(Debug)]
 #[non_exhaustive]
 pub enum Error {
@@ -20,10 +23,12 @@ pub enum Error {
     OtherKind,
     /// A table that had other columns, or another key, before.
     OtherColumns,
+    /// There is no memory for the call, which may be made again.
     OutOfMemory,
-    /// There is no such column, or no change.
+    /// An argument that the call has no meaning for: there is no such column, change or name.
     Misuse,
-    /// The server refuses the command: its reply, as in `refused: E18 NoSession`, or its number alone, `refused: E18`.
+    /// The server refuses the command: its reply, as in `refused: E18 NoSession`, or its number alone, as in
+    /// `refused: E18`.
     Refused(String),
     /// The text is not one command: the number of the fault, as in `G1`, or 0, and its offset.
     Command(Fault),
@@ -31,9 +36,11 @@ pub enum Error {
     Filter(Fault),
     /// The server has answered as many commands as it can.
     HistoryFull,
+    /// A stream could not be read or written.
     Io(io::Error),
 }
 
+/// What a call answers, or why it did nothing.
 pub type Result<T> = std::result::Result<T, Error>;
 
 impl Error {

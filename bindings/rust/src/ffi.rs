@@ -1,5 +1,5 @@
-//! The calls of changecap.h.
-#![allow(dead_code)]
+//! The numbers, the structures and the calls of changecap.h.
+#![allow(dead_code)] // The numbers are here as the header has them, also one that is not asked for.
 
 pub const OK: u32 = 0;
 pub const MALFORMED: u32 = 1;
@@ -14,6 +14,28 @@ pub const KIND: u32 = 9;
 pub const COLUMNS: u32 = 10;
 pub const FILTER: u32 = 11;
 pub const ROW: u32 = 100;
+
+pub const KEYS_ONES: u32 = 0;
+pub const KEYS_PLACES: u32 = 1;
+
+pub const DELETE: u32 = 9;
+pub const INSERT: u32 = 18;
+pub const UPDATE: u32 = 23;
+
+pub const UNDEFINED: u32 = 0;
+pub const INTEGER: u32 = 1;
+pub const TEXT: u32 = 3;
+pub const BLOB: u32 = 4;
+pub const NULL: u32 = 5;
+
+pub const OMIT: u32 = 0;
+pub const REPLACE: u32 = 1;
+pub const ABORT: u32 = 2;
+
+pub const ASK: u32 = 2;
+
+pub const DIRECT: u32 = 0;
+pub const CASCADE: u32 = 1;
 
 #[repr(C)]
 #[derive(Default, Clone, Copy)]
@@ -31,6 +53,7 @@ pub struct Change {
     pub columns: usize,
 }
 
+/// A `changecap_value`.
 #[repr(C)]
 #[derive(Default, Clone, Copy)]
 pub struct Field {
@@ -49,7 +72,7 @@ pub struct Report {
     pub skipped: u64,
 }
 
-/// A handle: null while it is closed.
+/// A `changecap_iter`, a `changecap_decoder` or a `changecap_server`: null while it is closed.
 #[repr(C)]
 pub struct Handle {
     pub at: *mut u8,
@@ -60,15 +83,53 @@ impl Handle {
 }
 
 pub type FlagCall = unsafe extern "C" fn(*mut Handle, u64, u32, *mut u32, *mut Fault) -> u32;
-pub type Capture = unsafe extern "C" fn(*mut Handle, u64, u32, *mut u8, usize, *mut usize, *mut Fault) -> u32;
-pub type Convert = unsafe extern "C" fn(*const u8, usize, u32, *mut u8, usize, *mut usize, *mut Fault) -> u32;
+pub type CaptureCall =
+    unsafe extern "C" fn(*mut Handle, u64, u32, *mut u8, usize, *mut usize, *mut Fault) -> u32;
+pub type ConvertCall =
+    unsafe extern "C" fn(*const u8, usize, u32, *mut u8, usize, *mut usize, *mut Fault) -> u32;
+pub type FieldCall = unsafe extern "C" fn(*mut Handle, usize, *mut Field) -> u32;
+pub type BytesCall = unsafe extern "C" fn(*mut Handle, usize, *mut u8, usize, *mut usize) -> u32;
 
 unsafe extern "C" {
     pub fn changecap_check(blob: *const u8, n: usize, fault: *mut Fault) -> u32;
-    pub fn changecap_invert(blob: *const u8, n: usize, key_flags: u32, out: *mut u8, room: usize, len: *mut usize, fault: *mut Fault) -> u32;
-    pub fn changecap_patchset(blob: *const u8, n: usize, key_flags: u32, out: *mut u8, room: usize, len: *mut usize, fault: *mut Fault) -> u32;
-    pub fn changecap_concat(first: *const u8, n: usize, second: *const u8, m: usize, key_flags: u32, out: *mut u8, room: usize, len: *mut usize, fault: *mut Fault, blob: *mut usize) -> u32;
-    pub fn changecap_json(blob: *const u8, n: usize, out: *mut u8, room: usize, len: *mut usize, fault: *mut Fault) -> u32;
+    pub fn changecap_invert(
+        blob: *const u8,
+        n: usize,
+        key_flags: u32,
+        out: *mut u8,
+        room: usize,
+        len: *mut usize,
+        fault: *mut Fault,
+    ) -> u32;
+    pub fn changecap_patchset(
+        blob: *const u8,
+        n: usize,
+        key_flags: u32,
+        out: *mut u8,
+        room: usize,
+        len: *mut usize,
+        fault: *mut Fault,
+    ) -> u32;
+    pub fn changecap_concat(
+        first: *const u8,
+        n: usize,
+        second: *const u8,
+        m: usize,
+        key_flags: u32,
+        out: *mut u8,
+        room: usize,
+        len: *mut usize,
+        fault: *mut Fault,
+        blob: *mut usize,
+    ) -> u32;
+    pub fn changecap_json(
+        blob: *const u8,
+        n: usize,
+        out: *mut u8,
+        room: usize,
+        len: *mut usize,
+        fault: *mut Fault,
+    ) -> u32;
 
     pub fn changecap_iter_open(blob: *const u8, n: usize, iter: *mut Handle, fault: *mut Fault) -> u32;
     pub fn changecap_iter_next(iter: *mut Handle) -> u32;
@@ -77,12 +138,25 @@ unsafe extern "C" {
     pub fn changecap_iter_key(iter: *mut Handle, column: usize, key: *mut u32) -> u32;
     pub fn changecap_iter_old(iter: *mut Handle, column: usize, field: *mut Field) -> u32;
     pub fn changecap_iter_new(iter: *mut Handle, column: usize, field: *mut Field) -> u32;
-    pub fn changecap_iter_old_bytes(iter: *mut Handle, column: usize, out: *mut u8, room: usize, len: *mut usize) -> u32;
-    pub fn changecap_iter_new_bytes(iter: *mut Handle, column: usize, out: *mut u8, room: usize, len: *mut usize) -> u32;
+    pub fn changecap_iter_old_bytes(
+        iter: *mut Handle,
+        column: usize,
+        out: *mut u8,
+        room: usize,
+        len: *mut usize,
+    ) -> u32;
+    pub fn changecap_iter_new_bytes(
+        iter: *mut Handle,
+        column: usize,
+        out: *mut u8,
+        room: usize,
+        len: *mut usize,
+    ) -> u32;
     pub fn changecap_iter_close(iter: *mut Handle);
 
     pub fn changecap_decoder_open(decoder: *mut Handle) -> u32;
-    pub fn changecap_decoder_feed(decoder: *mut Handle, piece: *const u8, n: usize, fault: *mut Fault) -> u32;
+    pub fn changecap_decoder_feed(decoder: *mut Handle, piece: *const u8, n: usize, fault: *mut Fault)
+        -> u32;
     pub fn changecap_decoder_finish(decoder: *mut Handle, iter: *mut Handle, fault: *mut Fault) -> u32;
     pub fn changecap_decoder_close(decoder: *mut Handle);
 
@@ -91,21 +165,99 @@ unsafe extern "C" {
     pub fn changecap_server_reply(server: *mut Handle, out: *mut u8, room: usize, len: *mut usize) -> u32;
     pub fn changecap_server_close(server: *mut Handle);
 
-    pub fn changecap_create(server: *mut Handle, table: *const u8, n: usize, key: *const u8, columns: usize, version: *mut u64, fault: *mut Fault) -> u32;
+    pub fn changecap_create(
+        server: *mut Handle,
+        table: *const u8,
+        n: usize,
+        key: *const u8,
+        columns: usize,
+        version: *mut u64,
+        fault: *mut Fault,
+    ) -> u32;
     pub fn changecap_save(server: *mut Handle, database: *const u8, n: usize, fault: *mut Fault) -> u32;
-    pub fn changecap_apply(server: *mut Handle, blob: *const u8, n: usize, data: u32, notfound: u32, conflict: u32, report: *mut Report, fault: *mut Fault) -> u32;
+    pub fn changecap_apply(
+        server: *mut Handle,
+        blob: *const u8,
+        n: usize,
+        data: u32,
+        notfound: u32,
+        conflict: u32,
+        report: *mut Report,
+        fault: *mut Fault,
+    ) -> u32;
     pub fn changecap_session_new(server: *mut Handle, session: *mut u64, fault: *mut Fault) -> u32;
     pub fn changecap_session_drop(server: *mut Handle, session: u64, fault: *mut Fault) -> u32;
-    pub fn changecap_session_attach(server: *mut Handle, session: u64, table: *const u8, n: usize, fault: *mut Fault) -> u32;
+    pub fn changecap_session_attach(
+        server: *mut Handle,
+        session: u64,
+        table: *const u8,
+        n: usize,
+        fault: *mut Fault,
+    ) -> u32;
     pub fn changecap_session_attach_all(server: *mut Handle, session: u64, fault: *mut Fault) -> u32;
-    pub fn changecap_session_filter(server: *mut Handle, session: u64, text: *const u8, n: usize, fault: *mut Fault) -> u32;
-    pub fn changecap_session_diff(server: *mut Handle, session: u64, from: *const u8, n: usize, table: *const u8, m: usize, fault: *mut Fault) -> u32;
-    pub fn changecap_session_enable(server: *mut Handle, session: u64, set: u32, flag: *mut u32, fault: *mut Fault) -> u32;
-    pub fn changecap_session_indirect(server: *mut Handle, session: u64, set: u32, flag: *mut u32, fault: *mut Fault) -> u32;
-    pub fn changecap_session_isempty(server: *mut Handle, session: u64, flag: *mut u32, fault: *mut Fault) -> u32;
-    pub fn changecap_session_changeset(server: *mut Handle, session: u64, key_flags: u32, out: *mut u8, room: usize, len: *mut usize, fault: *mut Fault) -> u32;
-    pub fn changecap_session_patchset(server: *mut Handle, session: u64, key_flags: u32, out: *mut u8, room: usize, len: *mut usize, fault: *mut Fault) -> u32;
-    pub fn changecap_session_restart(server: *mut Handle, session: u64, key_flags: u32, out: *mut u8, room: usize, len: *mut usize, fault: *mut Fault) -> u32;
+    pub fn changecap_session_filter(
+        server: *mut Handle,
+        session: u64,
+        text: *const u8,
+        n: usize,
+        fault: *mut Fault,
+    ) -> u32;
+    pub fn changecap_session_diff(
+        server: *mut Handle,
+        session: u64,
+        from: *const u8,
+        n: usize,
+        table: *const u8,
+        m: usize,
+        fault: *mut Fault,
+    ) -> u32;
+    pub fn changecap_session_enable(
+        server: *mut Handle,
+        session: u64,
+        set: u32,
+        flag: *mut u32,
+        fault: *mut Fault,
+    ) -> u32;
+    pub fn changecap_session_indirect(
+        server: *mut Handle,
+        session: u64,
+        set: u32,
+        flag: *mut u32,
+        fault: *mut Fault,
+    ) -> u32;
+    pub fn changecap_session_isempty(
+        server: *mut Handle,
+        session: u64,
+        flag: *mut u32,
+        fault: *mut Fault,
+    ) -> u32;
+    pub fn changecap_session_changeset(
+        server: *mut Handle,
+        session: u64,
+        key_flags: u32,
+        out: *mut u8,
+        room: usize,
+        len: *mut usize,
+        fault: *mut Fault,
+    ) -> u32;
+    pub fn changecap_session_patchset(
+        server: *mut Handle,
+        session: u64,
+        key_flags: u32,
+        out: *mut u8,
+        room: usize,
+        len: *mut usize,
+        fault: *mut Fault,
+    ) -> u32;
+    pub fn changecap_session_restart(
+        server: *mut Handle,
+        session: u64,
+        key_flags: u32,
+        out: *mut u8,
+        room: usize,
+        len: *mut usize,
+        fault: *mut Fault,
+    ) -> u32;
 
     pub fn changecap_begin(server: *mut Handle);
     pub fn changecap_begin_at(server: *mut Handle, version: u64);
@@ -115,9 +267,29 @@ unsafe extern "C" {
     pub fn changecap_bind_text(server: *mut Handle, text: *const u8, n: usize) -> u32;
     pub fn changecap_bind_blob(server: *mut Handle, blob: *const u8, n: usize) -> u32;
     pub fn changecap_set(server: *mut Handle, column: usize) -> u32;
-    pub fn changecap_insert(server: *mut Handle, table: *const u8, n: usize, cause: u32, fault: *mut Fault) -> u32;
-    pub fn changecap_update(server: *mut Handle, table: *const u8, n: usize, id: u64, cause: u32, fault: *mut Fault) -> u32;
-    pub fn changecap_delete(server: *mut Handle, table: *const u8, n: usize, id: u64, cause: u32, fault: *mut Fault) -> u32;
+    pub fn changecap_insert(
+        server: *mut Handle,
+        table: *const u8,
+        n: usize,
+        cause: u32,
+        fault: *mut Fault,
+    ) -> u32;
+    pub fn changecap_update(
+        server: *mut Handle,
+        table: *const u8,
+        n: usize,
+        id: u64,
+        cause: u32,
+        fault: *mut Fault,
+    ) -> u32;
+    pub fn changecap_delete(
+        server: *mut Handle,
+        table: *const u8,
+        n: usize,
+        id: u64,
+        cause: u32,
+        fault: *mut Fault,
+    ) -> u32;
     pub fn changecap_commit(server: *mut Handle, version: *mut u64, fault: *mut Fault) -> u32;
 
     pub fn changecap_get(server: *mut Handle, table: *const u8, n: usize, id: u64, fault: *mut Fault) -> u32;
@@ -126,5 +298,11 @@ unsafe extern "C" {
     pub fn changecap_row_id(server: *mut Handle, id: *mut u64) -> u32;
     pub fn changecap_columns(server: *mut Handle, columns: *mut usize) -> u32;
     pub fn changecap_column(server: *mut Handle, column: usize, field: *mut Field) -> u32;
-    pub fn changecap_column_bytes(server: *mut Handle, column: usize, out: *mut u8, room: usize, len: *mut usize) -> u32;
+    pub fn changecap_column_bytes(
+        server: *mut Handle,
+        column: usize,
+        out: *mut u8,
+        room: usize,
+        len: *mut usize,
+    ) -> u32;
 }

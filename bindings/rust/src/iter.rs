@@ -1,6 +1,7 @@
 //! An iterator over the changes of a blob.
+use crate::call::{done, taken, text_of};
 use crate::ffi;
-use crate::{Error, Result};
+use crate::Result;
 use std::cell::UnsafeCell;
 use std::io::{ErrorKind, Read};
 
@@ -8,17 +9,24 @@ use std::io::{ErrorKind, Read};
 #[derive(Clone, Copy, Debug, PartialEq, Eq)]
 #[non_exhaustive]
 pub enum Action {
+    /// It is inserted.
     Insert,
+    /// Columns outside its key get new values.
     Update,
+    /// It is deleted.
     Delete,
 }
 
 /// A value of a row.
 #[derive(Clone, Debug, PartialEq, Eq)]
 pub enum Value {
+    /// NULL.
     Null,
+    /// An INTEGER.
     Integer(i64),
+    /// A TEXT.
     Text(String),
+    /// A BLOB.
     Blob(Vec<u8>),
 }
 
@@ -32,18 +40,22 @@ pub struct Operation {
 }
 
 impl Operation {
+    /// The name of the change's table.
     pub fn table_name(&self) -> &str {
         &self.table
     }
 
+    /// How many columns the table has.
     pub fn number_of_columns(&self) -> usize {
         self.columns
     }
 
+    /// What the change does.
     pub fn code(&self) -> Action {
         self.action
     }
 
+    /// Whether the change is marked as indirect.
     pub fn indirect(&self) -> bool {
         self.indirect
     }
@@ -61,15 +73,14 @@ unsafe impl Send for ChangesetIter {}
 impl ChangesetIter {
     /// Before the first change of a blob.
     pub fn start(blob: &[u8]) -> Result<ChangesetIter> {
-        let (mut handle, mut fault) = (ffi::Handle::CLOSED, ffi::Fault::default());
+        let mut handle = ffi::Handle::CLOSED;
         // SAFETY: the handle is closed.
-        match unsafe { ffi::changecap_iter_open(blob.as_ptr(), blob.len(), &mut handle, &mut fault) } {
-            ffi::OK => Ok(ChangesetIter { handle: handle.into() }),
-            status => Err(Error::of(status, fault)),
-        }
+        done(|fault| unsafe { ffi::changecap_iter_open(blob.as_ptr(), blob.len(), &mut handle, fault) })?;
+        Ok(ChangesetIter { handle: handle.into() })
     }
 
-    /// The same of all bytes that the reader gives, which is read to its end or to the piece that shows a fault.
+    /// The same of all bytes that the reader gives, which is read to its end or to the piece that shows a
+    /// fault.
     pub fn start_strm(input: &mut dyn Read) -> Result<ChangesetIter> {
         let mut decoder = Decoder::new()?;
         let mut piece = [0; 4096];
@@ -109,34 +120,29 @@ pub struct Decoder {
 unsafe impl Send for Decoder {}
 
 impl Decoder {
+    /// A decoder without bytes.
     pub fn new() -> Result<Decoder> {
         let mut decoder = Decoder { handle: ffi::Handle::CLOSED };
         // SAFETY: the handle is closed.
-        match unsafe { ffi::changecap_decoder_open(&mut decoder.handle) } {
-            ffi::OK => Ok(decoder),
-            status => Err(Error::of(status, ffi::Fault::default())),
-        }
+        done(|_| unsafe { ffi::changecap_decoder_open(&mut decoder.handle) })?;
+        Ok(decoder)
     }
 
-    /// Takes the next piece. A fault that no further bytes can mend is told with the piece that shows it, and again
-    /// whatever follows.
+    /// Takes the next piece. A fault that no further bytes can mend is reported with the piece that shows it,
+    /// and again whatever follows.
     pub fn feed(&mut self, piece: &[u8]) -> Result<()> {
-        let mut fault = ffi::Fault::default();
         // SAFETY: the handle is open until `finish`, which takes the decoder.
-        match unsafe { ffi::changecap_decoder_feed(&mut self.handle, piece.as_ptr(), piece.len(), &mut fault) } {
-            ffi::OK => Ok(()),
-            status => Err(Error::of(status, fault)),
-        }
+        done(|fault| unsafe {
+            ffi::changecap_decoder_feed(&mut self.handle, piece.as_ptr(), piece.len(), fault)
+        })
     }
 
     /// An iterator before the first change of all the pieces.
     pub fn finish(mut self) -> Result<ChangesetIter> {
-        let (mut handle, mut fault) = (ffi::Handle::CLOSED, ffi::Fault::default());
+        let mut handle = ffi::Handle::CLOSED;
         // SAFETY: the decoder is open, and the iterator closed.
-        match unsafe { ffi::changecap_decoder_finish(&mut self.handle, &mut handle, &mut fault) } {
-            ffi::OK => Ok(ChangesetIter { handle: handle.into() }),
-            status => Err(Error::of(status, fault)),
-        }
+        done(|fault| unsafe { ffi::changecap_decoder_finish(&mut self.handle, &mut handle, fault) })?;
+        Ok(ChangesetIter { handle: handle.into() })
     }
 }
 
@@ -154,28 +160,29 @@ pub struct ChangesetItem<'it> {
     iter: &'it ChangesetIter,
 }
 
-type FieldCall = unsafe extern "C" fn(*mut ffi::Handle, usize, *mut ffi::Field) -> u32;
-type BytesCall = unsafe extern "C" fn(*mut ffi::Handle, usize, *mut u8, usize, *mut usize) -> u32;
-
 impl ChangesetItem<'_> {
     fn at(&self) -> *mut ffi::Handle {
         self.iter.handle.get()
     }
 
+    /// What the change is.
     pub fn op(&self) -> Result<Operation> {
         let mut change = ffi::Change::default();
-        let status = unsafe { ffi::changecap_iter_op(self.at(), &mut change) };
-        if status != ffi::OK {
-            return Err(Error::of(status, ffi::Fault::default()));
-        }
+        done(|_| unsafe { ffi::changecap_iter_op(self.at(), &mut change) })?;
         let action = match change.op {
-            18 => Action::Insert,
-            23 => Action::Update,
+            ffi::INSERT => Action::Insert,
+            ffi::UPDATE => Action::Update,
             _ => Action::Delete,
         };
-        let table = bytes(|out, room, len| unsafe { ffi::changecap_iter_table(self.at(), out, room, len) }, 64)?;
-        let table = String::from_utf8(table).map_err(|_| Error::Misuse)?;
-        Ok(Operation { table, columns: change.columns, action, indirect: change.indirect != 0 })
+        let table = taken(64, |out, len, _| unsafe {
+            ffi::changecap_iter_table(self.at(), out.as_mut_ptr(), out.len(), len)
+        })?;
+        Ok(Operation {
+            table: text_of(table)?,
+            columns: change.columns,
+            action,
+            indirect: change.indirect != 0,
+        })
     }
 
     /// For each column whether it is in the table's key.
@@ -183,10 +190,8 @@ impl ChangesetItem<'_> {
         let mut flags = Vec::new();
         for column in 0..self.op()?.columns {
             let mut key = 0;
-            match unsafe { ffi::changecap_iter_key(self.at(), column, &mut key) } {
-                ffi::OK => flags.push(key != 0),
-                status => return Err(Error::of(status, ffi::Fault::default())),
-            }
+            done(|_| unsafe { ffi::changecap_iter_key(self.at(), column, &mut key) })?;
+            flags.push(key != 0);
         }
         Ok(flags)
     }
@@ -201,39 +206,36 @@ impl ChangesetItem<'_> {
         self.value(column, ffi::changecap_iter_new, ffi::changecap_iter_new_bytes)
     }
 
-    fn value(&self, column: usize, field_of: FieldCall, bytes_of: BytesCall) -> Result<Option<Value>> {
-        let mut field = ffi::Field::default();
-        let status = unsafe { field_of(self.at(), column, &mut field) };
-        if status != ffi::OK {
-            return Err(Error::of(status, ffi::Fault::default()));
-        }
-        value_of(field, || bytes(|out, room, len| unsafe { bytes_of(self.at(), column, out, room, len) }, field.len))
+    fn value(
+        &self,
+        column: usize,
+        field_of: ffi::FieldCall,
+        bytes_of: ffi::BytesCall,
+    ) -> Result<Option<Value>> {
+        unsafe { value_of(self.at(), column, field_of, bytes_of) }
     }
 }
 
-/// The value that a call tells of, whose bytes are taken where it has any; none where it is undefined.
-pub(crate) fn value_of(field: ffi::Field, taken: impl Fn() -> Result<Vec<u8>>) -> Result<Option<Value>> {
+/// The value of a column by two calls, that of the value and that of its bytes; none where it is undefined.
+///
+/// # Safety
+///
+/// The handle is an open one, of the kind that the calls take.
+pub(crate) unsafe fn value_of(
+    at: *mut ffi::Handle,
+    column: usize,
+    field_of: ffi::FieldCall,
+    bytes_of: ffi::BytesCall,
+) -> Result<Option<Value>> {
+    let mut field = ffi::Field::default();
+    done(|_| unsafe { field_of(at, column, &mut field) })?;
+    let bytes =
+        || taken(field.len, |out, len, _| unsafe { bytes_of(at, column, out.as_mut_ptr(), out.len(), len) });
     Ok(match field.kind {
-        0 => None,
-        1 => Some(Value::Integer(field.number)),
-        3 => Some(Value::Text(String::from_utf8(taken()?).map_err(|_| Error::Misuse)?)),
-        4 => Some(Value::Blob(taken()?)),
+        ffi::UNDEFINED => None,
+        ffi::INTEGER => Some(Value::Integer(field.number)),
+        ffi::TEXT => Some(Value::Text(text_of(bytes()?)?)),
+        ffi::BLOB => Some(Value::Blob(bytes()?)),
         _ => Some(Value::Null),
     })
-}
-
-/// The bytes that a call writes, which gets a buffer of this length first.
-pub(crate) fn bytes(mut call: impl FnMut(*mut u8, usize, *mut usize) -> u32, room: usize) -> Result<Vec<u8>> {
-    let mut out = vec![0; room];
-    loop {
-        let mut len = 0;
-        match call(out.as_mut_ptr(), out.len(), &mut len) {
-            ffi::OK => {
-                out.truncate(len);
-                return Ok(out);
-            }
-            ffi::ROOM => out.resize(len, 0),
-            status => return Err(Error::of(status, ffi::Fault::default())),
-        }
-    }
 }

@@ -1,5 +1,5 @@
-//! Changesets and patchsets of SQLite's session extension, and a table server that captures them: the calls of
-//! `changecap.h` under the names of rusqlite's session module.
+//! Changesets and patchsets of SQLite's session extension, and a table server that captures them: the calls
+//! of `changecap.h` under the names of rusqlite's session module.
 //!
 //! ```
 //! use changecap::{invert_strm, Changeset, KeyFlags};
@@ -12,6 +12,7 @@
 //! ```
 
 mod blob;
+mod call;
 mod error;
 mod ffi;
 mod iter;

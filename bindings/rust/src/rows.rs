@@ -1,43 +1,55 @@
 //! Batches of operations, and the rows of a server.
+use crate::call::done;
 use crate::ffi;
-use crate::iter::{bytes, value_of};
-use crate::server::done;
+use crate::iter::value_of;
 use crate::{Connection, Error, Result, Value};
 
-/// What causes an operation: itself, or a trigger or a foreign key action of which it is what it did.
+/// What causes an operation, by which a session marks its touch.
 #[derive(Clone, Copy, Debug, PartialEq, Eq)]
 pub enum Cause {
+    /// The operation itself: the touch is marked by the session's flag.
     Direct,
+    /// A trigger or a foreign key action: the touch is indirect.
     Cascade,
 }
 
 impl Cause {
     fn number(self) -> u32 {
         match self {
-            Cause::Direct => 0,
-            Cause::Cascade => 1,
+            Cause::Direct => ffi::DIRECT,
+            Cause::Cascade => ffi::CASCADE,
         }
     }
 }
 
-/// The name of a row: its primary key, a value a column, or where it has none its id, from 1 on.
+/// The name of a row.
 #[derive(Clone, Copy, Debug, PartialEq, Eq)]
 pub enum RowRef<'a> {
+    /// Its primary key: a value for each column of it.
     Key(&'a [Value]),
+    /// The id of a row that has no key, from 1 on.
     Id(u64),
 }
 
-/// A row, with its id where it has no key.
+/// A row.
 #[derive(Clone, Debug, PartialEq, Eq)]
 pub struct Row {
+    /// Its id, where it has no key.
     pub id: Option<u64>,
+    /// A value for each column.
     pub values: Vec<Value>,
 }
+
+/// The number of the refusal of a batch that may be committed on another version alone, E11 Stale. It has no
+/// operation.
+const STALE: u32 = 11;
 
 /// A connection has one batch that is put together: operations that are made together or not at all.
 impl Connection {
     /// Begins a batch in place of the one before it.
     pub fn begin(&self) {
+        // SAFETY: the handle is open as long as the connection is there, and no other call runs: the
+        // connection is not `Sync`. So in each call of this file.
         unsafe { ffi::changecap_begin(self.at()) }
     }
 
@@ -76,6 +88,7 @@ impl Connection {
         made
     }
 
+    /// Puts an operation last in the batch that inserts a row.
     pub fn insert(&self, table: &str, row: &[Value], cause: Cause) -> Result<()> {
         self.bound(|| {
             self.bind(row)?;
@@ -85,7 +98,7 @@ impl Connection {
         })
     }
 
-    /// Sets columns, from 0 on, of a row.
+    /// The same of one that sets columns, from 0 on, of a row.
     pub fn update(&self, table: &str, row: RowRef, set: &[(usize, Value)], cause: Cause) -> Result<()> {
         self.bound(|| {
             let id = self.bind_name(row)?;
@@ -99,6 +112,7 @@ impl Connection {
         })
     }
 
+    /// The same of one that deletes a row.
     pub fn delete(&self, table: &str, row: RowRef, cause: Cause) -> Result<()> {
         self.bound(|| {
             let id = self.bind_name(row)?;
@@ -108,12 +122,12 @@ impl Connection {
         })
     }
 
-    /// Commits the batch, and answers the new version. A refusal tells the number of the operation, from 0.
+    /// Commits the batch, and answers the new version. A refusal has the number of the operation, from 0.
     pub fn commit(&self) -> Result<u64> {
         let (mut version, mut fault) = (0, ffi::Fault::default());
         match unsafe { ffi::changecap_commit(self.at(), &mut version, &mut fault) } {
             ffi::OK => Ok(version),
-            ffi::REFUSED if fault.kind != 11 => {
+            ffi::REFUSED if fault.kind != STALE => {
                 Err(Error::Refused(format!("refused at {}: E{}", fault.at, fault.kind)))
             }
             status => Err(Error::of(status, fault)),
@@ -121,14 +135,12 @@ impl Connection {
     }
 
     fn column(&self, column: usize) -> Result<Value> {
-        let mut field = ffi::Field::default();
-        done(|_| unsafe { ffi::changecap_column(self.at(), column, &mut field) })?;
-        let value = value_of(field, || {
-            bytes(|out, room, len| unsafe { ffi::changecap_column_bytes(self.at(), column, out, room, len) }, field.len)
-        })?;
+        let value =
+            unsafe { value_of(self.at(), column, ffi::changecap_column, ffi::changecap_column_bytes) }?;
         value.ok_or(Error::Misuse)
     }
 
+    /// The rows that were read last.
     fn rows(&self) -> Result<Vec<Row>> {
         let mut rows = Vec::new();
         while unsafe { ffi::changecap_step(self.at()) } == ffi::ROW {

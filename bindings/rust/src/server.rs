@@ -1,7 +1,6 @@
 //! A table server in memory, and its sessions.
-use crate::blob::taken;
+use crate::call::{done, taken, text_of};
 use crate::ffi;
-use crate::iter::bytes;
 use crate::{Changeset, Error, KeyFlags, Patchset, Result};
 use std::cell::UnsafeCell;
 use std::io::Write;
@@ -9,17 +8,20 @@ use std::io::Write;
 /// What an application does at a conflict.
 #[derive(Clone, Copy, Debug, PartialEq, Eq)]
 pub enum ConflictAction {
+    /// The change is omitted.
     Omit,
+    /// It is applied all the same; where there is no row, the blob is refused.
     Replace,
+    /// The blob is refused.
     Abort,
 }
 
 impl ConflictAction {
     fn number(self) -> u32 {
         match self {
-            ConflictAction::Omit => 0,
-            ConflictAction::Replace => 1,
-            ConflictAction::Abort => 2,
+            ConflictAction::Omit => ffi::OMIT,
+            ConflictAction::Replace => ffi::REPLACE,
+            ConflictAction::Abort => ffi::ABORT,
         }
     }
 }
@@ -52,43 +54,49 @@ impl Connection {
         self.handle.get()
     }
 
+    /// A new server, which is empty.
     pub fn open_in_memory() -> Result<Connection> {
         let mut handle = ffi::Handle::CLOSED;
         // SAFETY: the handle is closed.
-        match unsafe { ffi::changecap_server_open(&mut handle) } {
-            ffi::OK => Ok(Connection { handle: handle.into() }),
-            status => Err(Error::of(status, ffi::Fault::default())),
-        }
+        done(|_| unsafe { ffi::changecap_server_open(&mut handle) })?;
+        Ok(Connection { handle: handle.into() })
     }
 
     /// Carries out one command of the workload language (docs/FORMAT.md), and answers the text of its reply.
     pub fn execute(&self, command: &str) -> Result<String> {
         let mut fault = ffi::Fault::default();
-        // SAFETY: the handle is open as long as the connection is there, and no other call runs: the connection is not
-        // `Sync`. So in each call of this file.
+        // SAFETY: the handle is open as long as the connection is there, and no other call runs: the
+        // connection is not `Sync`. So in each call of this file.
         let status =
-            unsafe { ffi::changecap_server_call(self.handle.get(), command.as_ptr(), command.len(), &mut fault) };
+            unsafe { ffi::changecap_server_call(self.at(), command.as_ptr(), command.len(), &mut fault) };
         if status != ffi::OK && status != ffi::REFUSED {
             return Err(Error::of(status, fault));
         }
-        let reply = bytes(|out, room, len| unsafe { ffi::changecap_server_reply(self.handle.get(), out, room, len) }, 64)?;
-        let reply = String::from_utf8(reply).map_err(|_| Error::Misuse)?;
-        if status == ffi::REFUSED { Err(Error::Refused(reply)) } else { Ok(reply) }
+        let reply = taken(64, |out, len, _| unsafe {
+            ffi::changecap_server_reply(self.at(), out.as_mut_ptr(), out.len(), len)
+        })
+        .and_then(text_of)?;
+        if status == ffi::REFUSED {
+            Err(Error::Refused(reply))
+        } else {
+            Ok(reply)
+        }
     }
 
-    /// Creates a table with these columns, each of them in the primary key or not, and answers the new version.
+    /// Creates a table with these columns, each of them in the primary key or not, and answers the new
+    /// version.
     pub fn create_table(&self, table: &str, key: &[bool]) -> Result<u64> {
         let key: Vec<u8> = key.iter().map(|flag| u8::from(*flag)).collect();
         let mut version = 0;
         done(|fault| unsafe {
             let (n, columns) = (table.len(), key.len());
-            ffi::changecap_create(self.handle.get(), table.as_ptr(), n, key.as_ptr(), columns, &mut version, fault)
+            ffi::changecap_create(self.at(), table.as_ptr(), n, key.as_ptr(), columns, &mut version, fault)
         })?;
         Ok(version)
     }
 
-    /// Applies a changeset or a patchset: what is done where a row differs, where it is missing, and where its key is in
-    /// use.
+    /// Applies a changeset or a patchset: what is done where a row differs, where it is missing, and where
+    /// its key is in use.
     pub fn apply(
         &self,
         blob: &[u8],
@@ -99,8 +107,16 @@ impl Connection {
         let mut report = ffi::Report::default();
         done(|fault| unsafe {
             let (data, not_found, conflict) = (data.number(), not_found.number(), conflict.number());
-            let at = self.handle.get();
-            ffi::changecap_apply(at, blob.as_ptr(), blob.len(), data, not_found, conflict, &mut report, fault)
+            ffi::changecap_apply(
+                self.at(),
+                blob.as_ptr(),
+                blob.len(),
+                data,
+                not_found,
+                conflict,
+                &mut report,
+                fault,
+            )
         })?;
         let ffi::Report { version, applied, conflicts, omitted, skipped } = report;
         Ok(Report { version, applied, conflicts, omitted, skipped })
@@ -108,13 +124,13 @@ impl Connection {
 
     /// Saves the tables under a name, for `Session::diff`.
     pub fn save(&self, database: &str) -> Result<()> {
-        done(|fault| unsafe { ffi::changecap_save(self.handle.get(), database.as_ptr(), database.len(), fault) })
+        done(|fault| unsafe { ffi::changecap_save(self.at(), database.as_ptr(), database.len(), fault) })
     }
 }
 
 impl Drop for Connection {
     fn drop(&mut self) {
-        unsafe { ffi::changecap_server_close(self.handle.get()) }
+        unsafe { ffi::changecap_server_close(self.at()) }
     }
 }
 
@@ -124,27 +140,19 @@ pub struct Session<'c> {
     number: u64,
 }
 
-/// What a call answers by its status and its fault.
-pub(crate) fn done(call: impl FnOnce(&mut ffi::Fault) -> u32) -> Result<()> {
-    let mut fault = ffi::Fault::default();
-    match call(&mut fault) {
-        ffi::OK => Ok(()),
-        status => Err(Error::of(status, fault)),
-    }
-}
-
 impl<'c> Session<'c> {
+    /// Makes a session, which is enabled and direct.
     pub fn new(connection: &'c Connection) -> Result<Session<'c>> {
         let mut number = 0;
-        done(|fault| unsafe { ffi::changecap_session_new(connection.handle.get(), &mut number, fault) })?;
+        done(|fault| unsafe { ffi::changecap_session_new(connection.at(), &mut number, fault) })?;
         Ok(Session { connection, number })
     }
 
     fn at(&self) -> *mut ffi::Handle {
-        self.connection.handle.get()
+        self.connection.at()
     }
 
-    /// Attaches a table, or all tables.
+    /// Attaches a table, or from now on each table of which a row changes.
     pub fn attach(&mut self, table: Option<&str>) -> Result<()> {
         done(|fault| match table {
             Some(table) => unsafe {
@@ -170,6 +178,7 @@ impl<'c> Session<'c> {
         })
     }
 
+    /// Whether the session has no records.
     pub fn is_empty(&self) -> Result<bool> {
         let mut flag = 0;
         done(|fault| unsafe { ffi::changecap_session_isempty(self.at(), self.number, &mut flag, fault) })?;
@@ -179,37 +188,43 @@ impl<'c> Session<'c> {
     /// The value of a flag, which is set first where one is given.
     fn flag(&self, call: ffi::FlagCall, set: Option<bool>) -> Result<bool> {
         let mut flag = 0;
-        let set = set.map_or(2, u32::from);
+        let set = set.map_or(ffi::ASK, u32::from);
         done(|fault| unsafe { call(self.at(), self.number, set, &mut flag, fault) })?;
         Ok(flag != 0)
     }
 
+    /// Whether the session records touches.
     pub fn is_enabled(&self) -> Result<bool> {
         self.flag(ffi::changecap_session_enable, None)
     }
 
+    /// Enables or disables the session.
     pub fn set_enabled(&mut self, enabled: bool) -> Result<()> {
         self.flag(ffi::changecap_session_enable, Some(enabled)).map(drop)
     }
 
+    /// Whether the session's touches are indirect.
     pub fn is_indirect(&self) -> Result<bool> {
         self.flag(ffi::changecap_session_indirect, None)
     }
 
+    /// Makes the session's touches indirect or direct.
     pub fn set_indirect(&mut self, indirect: bool) -> Result<()> {
         self.flag(ffi::changecap_session_indirect, Some(indirect)).map(drop)
     }
 
-    fn captured(&self, call: ffi::Capture, key_flags: KeyFlags) -> Result<Vec<u8>> {
+    fn captured(&self, call: ffi::CaptureCall, key_flags: KeyFlags) -> Result<Vec<u8>> {
         taken(256, |out, len, fault| unsafe {
             call(self.at(), self.number, key_flags.number(), out.as_mut_ptr(), out.len(), len, fault)
         })
     }
 
+    /// The changeset of what the session has captured.
     pub fn changeset(&self, key_flags: KeyFlags) -> Result<Changeset> {
         Changeset::from_bytes(&self.captured(ffi::changecap_session_changeset, key_flags)?)
     }
 
+    /// The patchset of what the session has captured.
     pub fn patchset(&self, key_flags: KeyFlags) -> Result<Patchset> {
         Patchset::from_bytes(&self.captured(ffi::changecap_session_patchset, key_flags)?)
     }
@@ -219,11 +234,13 @@ impl<'c> Session<'c> {
         Changeset::from_bytes(&self.captured(ffi::changecap_session_restart, key_flags)?)
     }
 
+    /// Writes the changeset, with key flags as SQLite's code writes them.
     pub fn changeset_strm(&self, output: &mut dyn Write) -> Result<()> {
         output.write_all(&self.captured(ffi::changecap_session_changeset, KeyFlags::Places)?)?;
         Ok(())
     }
 
+    /// Writes the patchset, with key flags as SQLite's code writes them.
     pub fn patchset_strm(&self, output: &mut dyn Write) -> Result<()> {
         output.write_all(&self.captured(ffi::changecap_session_patchset, KeyFlags::Places)?)?;
         Ok(())

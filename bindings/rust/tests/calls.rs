@@ -7,6 +7,10 @@ fn of_hex(hex: &str) -> Vec<u8> {
 
 const INSERT: &str = "5402010074001200010000000000000001030178";
 const DELETE: &str = "5402010074000900010000000000000001030178";
+const TWO_KEYS: &str = "540300010174001200030178010000000000000002010000000000000001";
+const OTHER_TABLE: &str = "540201007500120001000000000000000205";
+const TWO_TABLES: &str =
+    "540201007500170101000000000000000703012d0003022b2b540301000062001200040200ff05030161";
 
 #[test]
 fn whole_blobs() {
@@ -18,7 +22,7 @@ fn whole_blobs() {
     assert_eq!(Patchset::from_bytes(patchset.as_bytes()).unwrap(), patchset);
     assert!(matches!(check(&of_hex("5480")), Err(Error::Malformed(Fault { kind: 3, at: 1 }))));
     assert!(check(&[]).is_ok());
-    let two_keys = Changeset::from_bytes(&of_hex("540300010174001200030178010000000000000002010000000000000001")).unwrap();
+    let two_keys = Changeset::from_bytes(&of_hex(TWO_KEYS)).unwrap();
     assert_eq!(
         two_keys.patchset(KeyFlags::Places).unwrap().as_bytes(),
         of_hex("500300010274001200030178010000000000000002010000000000000001")
@@ -26,7 +30,10 @@ fn whole_blobs() {
     let mut inverse = Vec::new();
     invert_strm(&mut &of_hex(INSERT)[..], &mut inverse).unwrap();
     assert_eq!(inverse, of_hex(DELETE));
-    assert!(matches!(invert_strm(&mut &b"P"[..], &mut inverse), Err(Error::Malformed(Fault { kind: 1, at: 1 }))));
+    assert!(matches!(
+        invert_strm(&mut &b"P"[..], &mut inverse),
+        Err(Error::Malformed(Fault { kind: 1, at: 1 }))
+    ));
     assert!(matches!(invert_strm(&mut patchset.as_bytes(), &mut inverse), Err(Error::Patchset)));
 }
 
@@ -36,12 +43,14 @@ fn concatenations() {
     let update = Changeset::from_bytes(&of_hex("540201007400170001000000000000000103017800030179")).unwrap();
     let both = Changeset::concat(&insert, &update, KeyFlags::Ones).unwrap();
     assert_eq!(both.as_bytes(), of_hex("5402010074001200010000000000000001030179"));
-    let nothing = Changeset::concat(&insert, &Changeset::from_bytes(&of_hex(DELETE)).unwrap(), KeyFlags::Places).unwrap();
+    let nothing =
+        Changeset::concat(&insert, &Changeset::from_bytes(&of_hex(DELETE)).unwrap(), KeyFlags::Places)
+            .unwrap();
     assert!(nothing.as_bytes().is_empty());
     let patches = (insert.patchset(KeyFlags::Places).unwrap(), update.patchset(KeyFlags::Places).unwrap());
     let patched = Patchset::concat(&patches.0, &patches.1, KeyFlags::Places).unwrap();
     assert_eq!(patched, both.patchset(KeyFlags::Places).unwrap());
-    let two_keys = Changeset::from_bytes(&of_hex("540300010174001200030178010000000000000002010000000000000001")).unwrap();
+    let two_keys = Changeset::from_bytes(&of_hex(TWO_KEYS)).unwrap();
     assert!(matches!(Changeset::concat(&insert, &two_keys, KeyFlags::Ones), Err(Error::OtherColumns)));
     assert!(Changeset::concat(&nothing, &two_keys, KeyFlags::Ones).unwrap() == two_keys);
 }
@@ -57,9 +66,8 @@ fn json() {
 
 #[test]
 fn changes_of_a_blob() {
-    let hex = "540201000175001701010000000000000007030130003";
-    assert!(ChangesetIter::start(&of_hex(hex)).is_err());
-    let blob = of_hex("540201007500170101000000000000000703012d0003022b2b540301000062001200040200ff05030161");
+    assert!(ChangesetIter::start(&of_hex("54020100017500170101000000000000000703013000")).is_err());
+    let blob = of_hex(TWO_TABLES);
     let mut changes = ChangesetIter::start_strm(&mut &blob[..]).unwrap();
     {
         let change = changes.next().unwrap().unwrap();
@@ -83,7 +91,7 @@ fn changes_of_a_blob() {
 
 #[test]
 fn pieces_of_a_blob() {
-    let blob = of_hex("540201007500170101000000000000000703012d0003022b2b540301000062001200040200ff05030161");
+    let blob = of_hex(TWO_TABLES);
     for len in [1, 2, 7, 64] {
         let mut decoder = Decoder::new().unwrap();
         for piece in blob.chunks(len) {
@@ -132,14 +140,19 @@ fn a_server_and_its_sessions() {
     session.set_indirect(true).unwrap();
     session.set_enabled(false).unwrap();
     drop(session);
-    assert!(matches!(source.execute("isempty 1"), Err(Error::Refused(reply)) if reply == "refused: E18 NoSession"));
+    assert!(
+        matches!(source.execute("isempty 1"), Err(Error::Refused(reply)) if reply == "refused: E18 NoSession")
+    );
     assert!(matches!(source.execute("frob"), Err(Error::Command(Fault { kind: 1, at: 0 }))));
     let target = Connection::open_in_memory().unwrap();
     target.execute("create t kv").unwrap();
     let policy = (ConflictAction::Omit, ConflictAction::Abort, ConflictAction::Replace);
     let report = target.apply(changeset.as_bytes(), policy.0, policy.1, policy.2).unwrap();
     assert_eq!(report, Report { version: 2, applied: 1, conflicts: 0, omitted: 0, skipped: 0 });
-    assert_eq!(std::thread::spawn(move || target.execute("scan t").unwrap()).join().unwrap(), "rows 1\n(1,'x')");
+    assert_eq!(
+        std::thread::spawn(move || target.execute("scan t").unwrap()).join().unwrap(),
+        "rows 1\n(1,'x')"
+    );
 }
 
 #[test]
@@ -171,11 +184,17 @@ fn sessions_by_numbers() {
     assert_eq!(bytes, indirect.patchset(KeyFlags::Places).unwrap().as_bytes());
 }
 
-#[test]
-fn batches_and_rows() {
+/// A server with the table t, whose key is its first column, and the table u, whose key is its last two.
+fn with_tables() -> Connection {
     let source = Connection::open_in_memory().unwrap();
     source.create_table("t", &[true, false]).unwrap();
     source.create_table("u", &[false, true, true]).unwrap();
+    source
+}
+
+#[test]
+fn batches_and_rows() {
+    let source = with_tables();
     let mut session = Session::new(&source).unwrap();
     session.attach(None).unwrap();
     let (one, two, x) = (Value::Integer(1), Value::Integer(2), Value::Text("x".into()));
@@ -194,22 +213,27 @@ fn batches_and_rows() {
     source.delete("t", RowRef::Key(&key), Cause::Direct).unwrap();
     assert_eq!(source.commit().unwrap(), 4);
     let rows: Vec<_> = source.scan("u").unwrap().into_iter().map(|row| row.values).collect();
-    assert_eq!(rows, [vec![two.clone(), one.clone(), one.clone()], vec![Value::Null, one.clone(), two.clone()]]);
+    assert_eq!(rows, [vec![two.clone(), one.clone(), one.clone()], vec![Value::Null, one, two]]);
     assert_eq!(source.get("t", RowRef::Key(&key)).unwrap(), None);
+    assert!(source.execute("changeset 1").unwrap().starts_with("changeset 54020100"));
+}
+
+#[test]
+fn refused_batches_and_rows() {
+    let source = with_tables();
+    let (one, key) = (Value::Integer(1), [Value::Integer(2)]);
     assert!(matches!(source.scan("v"), Err(Error::Refused(why)) if why == "refused: E8"));
     assert!(matches!(source.get("t", RowRef::Key(&[])), Err(Error::Misuse)));
     assert!(matches!(source.get("t", RowRef::Id(0)), Err(Error::Misuse)));
     assert!(matches!(source.delete("t", RowRef::Key(&[Value::Null]), Cause::Direct), Err(Error::Misuse)));
     assert!(matches!(source.insert("", &key, Cause::Direct), Err(Error::Misuse)));
-    source.insert("u", &[x, Value::Null, one.clone()], Cause::Direct).unwrap();
+    source.insert("u", &[Value::Null, Value::Null, one.clone()], Cause::Direct).unwrap();
     source.delete("t", RowRef::Key(&key), Cause::Direct).unwrap();
     assert!(matches!(source.commit(), Err(Error::Refused(why)) if why == "refused at 1: E6"));
-    source.begin_at(3);
+    source.begin_at(1);
     source.delete("t", RowRef::Key(&[one]), Cause::Direct).unwrap();
     assert!(matches!(source.commit(), Err(Error::Refused(why)) if why == "refused: E11"));
-    assert_eq!(source.commit().unwrap(), 5);
-    let changes = source.execute(&format!("changeset {}", 1)).unwrap();
-    assert!(changes.starts_with("changeset 54020100"));
+    assert_eq!(source.commit().unwrap(), 3);
 }
 
 #[test]
@@ -225,11 +249,15 @@ fn applications() {
     let replaced = Report { version: 4, applied: 1, conflicts: 1, omitted: 0, skipped: 0 };
     assert_eq!(by(ConflictAction::Replace).unwrap(), replaced);
     assert_eq!(target.execute("scan t").unwrap(), "rows 1\n(1,'x')");
-    let other = of_hex("540201007500120001000000000000000205");
-    let skipped = target.apply(&other, ConflictAction::Omit, ConflictAction::Omit, ConflictAction::Omit).unwrap();
+    let other = of_hex(OTHER_TABLE);
+    let skipped =
+        target.apply(&other, ConflictAction::Omit, ConflictAction::Omit, ConflictAction::Omit).unwrap();
     assert_eq!(skipped, Report { version: 5, applied: 0, conflicts: 0, omitted: 0, skipped: 1 });
     let omit = ConflictAction::Omit;
-    assert!(matches!(target.apply(b"T\x80", omit, omit, omit), Err(Error::Malformed(Fault { kind: 3, at: 1 }))));
+    assert!(matches!(
+        target.apply(b"T\x80", omit, omit, omit),
+        Err(Error::Malformed(Fault { kind: 3, at: 1 }))
+    ));
 }
 
 #[test]

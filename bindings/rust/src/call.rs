@@ -1,0 +1,36 @@
+//! What a call answers, by its status and what it writes.
+use crate::ffi;
+use crate::{Error, Result};
+
+/// Makes a call that has a fault.
+pub(crate) fn done(call: impl FnOnce(&mut ffi::Fault) -> u32) -> Result<()> {
+    let mut fault = ffi::Fault::default();
+    match call(&mut fault) {
+        ffi::OK => Ok(()),
+        status => Err(Error::of(status, fault)),
+    }
+}
+
+/// The bytes that a call writes, which gets a buffer of this length first.
+pub(crate) fn taken(
+    room: usize,
+    call: impl Fn(&mut [u8], &mut usize, &mut ffi::Fault) -> u32,
+) -> Result<Vec<u8>> {
+    let mut out = vec![0; room];
+    let (mut len, mut fault) = (0, ffi::Fault::default());
+    loop {
+        match call(&mut out, &mut len, &mut fault) {
+            ffi::OK => {
+                out.truncate(len);
+                return Ok(out);
+            }
+            ffi::ROOM => out.resize(len, 0),
+            status => return Err(Error::of(status, fault)),
+        }
+    }
+}
+
+/// The text of bytes that a call writes as UTF-8.
+pub(crate) fn text_of(bytes: Vec<u8>) -> Result<String> {
+    String::from_utf8(bytes).map_err(|_| Error::Misuse)
+}
