@@ -22,7 +22,7 @@ pub(crate) fn add_blobs<A: AllocHandle>(
 ) -> Result<(), Fault<RunFault>>
     ensures content { LeavesUnlessMemory result
         (all_added encoding 1 group.old (texts_in encoding given.now)) group.new }
-    ensures read { IfErr result (λ fault. is_read (input_fault fault) ≡ false) }
+    ensures no_failed_read { IfErr result (λ fault. is_read (input_fault fault) ≡ false) }
     ensures early { IfErr result (λ fault. RunsNothing (input_fault fault)) }
 {
     let mut rest = given;
@@ -46,7 +46,7 @@ fn add_numbered<A: AllocHandle>(
 ) -> Result<(), Fault<RunFault>>
     ensures content { LeavesUnlessMemory result
         (added_at encoding number group.old (option_map (λ t. t.now) text.entry)) group.new }
-    ensures read { IfErr result (λ fault. is_read (input_fault fault) ≡ false) }
+    ensures no_failed_read { IfErr result (λ fault. is_read (input_fault fault) ≡ false) }
     ensures early { IfErr result (λ fault. RunsNothing (input_fault fault)) }
 {
     match add_text(alloc, encoding, group, text) {

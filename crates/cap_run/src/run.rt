@@ -42,9 +42,9 @@ pub fn run_core<A: AllocHandle, R: Source, W: RunOutput>(
     writer: &mut W,
 ) -> Result<(), RunFault>
     // Exactly the input that is not UTF-8 is refused as such, where it is known what the reader gives.
-    ensures no_text { IfSome (R.remaining reader.old) (λ given. ¬ (IsUtf8 given)
+    ensures not_utf8 { IfSome (R.remaining reader.old) (λ given. ¬ (IsUtf8 given)
         → IsErrAnd result (λ fault. (fault ≡ RunFault.NotUtf8) ⊎ IsUnread fault)) }
-    ensures text { IfSome (R.remaining reader.old) (λ given.
+    ensures only_not_utf8 { IfSome (R.remaining reader.old) (λ given.
         result ≡ Err RunFault.NotUtf8 → ¬ (IsUtf8 given)) }
 
     // A text that is refused is refused at its first line that spells no command within the limits, and no
@@ -52,13 +52,13 @@ pub fn run_core<A: AllocHandle, R: Source, W: RunOutput>(
     // memory.
     ensures refused { IfSome (R.remaining reader.old)
         (λ given. IfErr result (λ fault. IsOfText A fault given)) }
-    ensures read { IfSome (R.remaining reader.old) (λ given. SpellsWithin A given
+    ensures accepted { IfSome (R.remaining reader.old) (λ given. SpellsWithin A given
         → IfErr result (λ fault. is_script fault ≡ false)) }
     ensures no_lines { IfSome (R.remaining reader.old) (λ given. ¬ (SpellsWithin A given)
         → IsErrAnd result IsNoWorkload) }
 
     // When a failed read is reported, as far as the outcomes of the reads are known.
-    ensures reported { EndsReads R.gave R.failed result reader.old reader.new }
+    ensures read_reported { EndsReads R.gave R.failed result reader.old reader.new }
 
     // When a failed write is reported, as far as the outcomes of the writes are known.
     ensures write_reported { EndsWrites W.went W.failed result writer.old writer.new }
@@ -83,10 +83,10 @@ pub(crate) fn read_text<A: AllocHandle, R: Source>(
 ) -> Result<String<A>, RunFault>
     ensures whole { IfOk result (λ text.
         IfSome (R.remaining reader.old) (λ given. string_bytes text ≡ given)) }
-    ensures text { IfSome (R.remaining reader.old) (λ given.
+    ensures only_not_utf8 { IfSome (R.remaining reader.old) (λ given.
         result ≡ Err RunFault.NotUtf8 → ¬ (IsUtf8 given)) }
     ensures unread { IfErr result (λ fault. (fault ≡ RunFault.NotUtf8) ⊎ IsUnread fault) }
-    ensures reported { EndsReads R.gave R.failed result reader.old reader.new }
+    ensures read_reported { EndsReads R.gave R.failed result reader.old reader.new }
 {
     text_of(read_whole(alloc, reader)?)
 }
@@ -94,7 +94,7 @@ pub(crate) fn read_text<A: AllocHandle, R: Source>(
 // The text with these bytes, or that they are not UTF-8.
 fn text_of<A: AllocHandle>(bytes: Vec<u8, A>) -> Result<String<A>, RunFault>
     ensures text { IfOk result (λ text. string_bytes text ≡ bytes.items) }
-    ensures no_text { IfErr result (λ fault. (fault ≡ RunFault.NotUtf8) × (¬ (IsUtf8 bytes.items))) }
+    ensures only_not_utf8 { IfErr result (λ fault. (fault ≡ RunFault.NotUtf8) × (¬ (IsUtf8 bytes.items))) }
 {
     String::from_utf8(bytes).map_err(|_| RunFault::NotUtf8)
 }
@@ -106,7 +106,7 @@ pub(crate) fn lines_of<A: AllocHandle>(alloc: A, text: &str) -> Result<Lines<'_,
     ensures within { IfOk result (λ lines. SpellsWithin A text.now) }
     ensures early { IfErr result IsUnspelled }
     ensures refused { IfErr result (λ fault. IsOfText A fault text.now) }
-    ensures read { IfErr result (λ fault. SpellsWithin A text.now → is_script fault ≡ false) }
+    ensures accepted { IfErr result (λ fault. SpellsWithin A text.now → is_script fault ≡ false) }
 {
     match Lines::new(alloc, text) {
         Ok(lines) => Ok(lines),
@@ -124,7 +124,7 @@ fn run_lines<A: AllocHandle, W: RunOutput>(
     ensures writes { (spelled : List (Line A)) → SpellsScript spelled lines.old
         → Writes spelled result (W.contents writer.old) (W.contents writer.new) }
     ensures status { IfErr result (λ fault. exit_status fault ≡ 3) }
-    ensures read { IfErr result (λ fault. is_read fault ≡ false) }
+    ensures no_failed_read { IfErr result (λ fault. is_read fault ≡ false) }
     ensures write_reported { EndsWrites W.went W.failed result writer.old writer.new }
 {
     let mut pending = String::new(alloc);
@@ -138,7 +138,7 @@ fn run_lines<A: AllocHandle, W: RunOutput>(
 pub(crate) fn run_outcome(outcome: Result<(), CallFault>) -> Result<(), RunFault>
     ensures same { result ≡ run_outcome outcome }
     ensures status { IfErr result (λ fault. exit_status fault ≡ 3) }
-    ensures read { IfErr result (λ fault. is_read fault ≡ false) }
+    ensures no_failed_read { IfErr result (λ fault. is_read fault ≡ false) }
 {
     outcome.map_err(RunFault::Call)
 }

@@ -39,7 +39,7 @@ pub fn run_shell<A: AllocHandle, R: Source, W: RunOutput, E: RunOutput>(
     // The shell does not end at a line that is refused.
     ensures status { IfErr result (λ fault. exit_status fault ≡ 3) }
     // When a failed read is reported, as far as the outcomes of the reads are known.
-    ensures reported { EndsReads R.gave R.failed result reader.old reader.new }
+    ensures read_reported { EndsReads R.gave R.failed result reader.old reader.new }
     // When a failed write is reported, as far as the outcomes of the writes are known.
     ensures write_reported { EndsBoth W.went W.failed E.went E.failed result
         replies.old replies.new faults.old faults.new }
@@ -92,7 +92,7 @@ fn write_printed<A: AllocHandle, W: RunOutput, E: RunOutput>(
     ensures err { IfErr result (λ fault. (fault ≡ RunFault.Write)
         × AppendsFront (W.contents replies.old) (W.contents replies.new) (string_bytes printed.now.reply)
         × AppendsFront (E.contents faults.old) (E.contents faults.new) (string_bytes printed.now.fault)) }
-    ensures reported { EndsBoth W.went W.failed E.went E.failed result
+    ensures write_reported { EndsBoth W.went W.failed E.went E.failed result
         replies.old replies.new faults.old faults.new }
 {
     if let Err(fault) = write_output(replies, printed.reply.as_str().as_bytes()) {
@@ -108,8 +108,8 @@ fn end<W: RunOutput>(replies: &mut W, fault: CallFault) -> Result<(), RunFault>
         (λ f. (f ≡ fault) × Appends (W.contents replies.old) (W.contents replies.new) (ending (Err fault)))
         (AppendsFront (W.contents replies.old) (W.contents replies.new) (ending (Err fault)))) }
     ensures status { IfErr result (λ why. exit_status why ≡ 3) }
-    ensures read { IfErr result (λ why. is_read why ≡ false) }
-    ensures reported { EndsWrites W.went W.failed result replies.old replies.new }
+    ensures no_failed_read { IfErr result (λ why. is_read why ≡ false) }
+    ensures write_reported { EndsWrites W.went W.failed result replies.old replies.new }
 {
     match write_ending(Err(fault), replies) {
         Ok(()) => Err(RunFault::Call(fault)),

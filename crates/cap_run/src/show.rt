@@ -55,7 +55,7 @@ pub fn show_blob<A: AllocHandle, R: Source, W: RunOutput>(
         IfOk (contents_at A encoding given) (λ contents. WritesOutput (shown_text form contents) result
         (W.contents writer.old) (W.contents writer.new))) }
     // When a failed read is reported, as far as the outcomes of the reads are known.
-    ensures reported { EndsReads R.gave R.failed result reader.old reader.new }
+    ensures read_reported { EndsReads R.gave R.failed result reader.old reader.new }
     // When a failed write is reported, as far as the outcomes of the writes are known.
     ensures write_reported { EndsWrites W.went W.failed result writer.old writer.new }
     // Nothing is written where the input is refused, or out of memory.
@@ -74,7 +74,7 @@ fn read_contents<A: AllocHandle, R: Source>(
 ) -> Result<Contents<A>, RunFault>
     ensures contents { IfSome (R.remaining reader.old) (λ given.
         ShowsUnlessUnread (λ contents. contents) result (contents_at A encoding given)) }
-    ensures reported { EndsReads R.gave R.failed result reader.old reader.new }
+    ensures read_reported { EndsReads R.gave R.failed result reader.old reader.new }
     ensures early { IfErr result RunsNothing }
 {
     let bytes = read_bytes(alloc, encoding, reader)?;
@@ -84,7 +84,7 @@ fn read_contents<A: AllocHandle, R: Source>(
 // The content of the blob with these bytes.
 fn contents<A: AllocHandle>(alloc: A, bytes: &[u8]) -> Result<Contents<A>, Fault<RunFault>>
     ensures contents { ShowsUnlessMemory (λ contents. contents) result (contents_of A bytes.now) }
-    ensures read { IfErr result (λ fault. is_read (input_fault fault) ≡ false) }
+    ensures no_failed_read { IfErr result (λ fault. is_read (input_fault fault) ≡ false) }
     ensures early { IfErr result (λ fault. RunsNothing (input_fault fault)) }
 {
     read_blob(alloc, bytes).map_err(|fault| match fault {
@@ -103,7 +103,7 @@ fn write_blob<A: AllocHandle, W: RunOutput>(
     ensures shown { WritesOutput (shown_text form blob.now) result
         (W.contents writer.old) (W.contents writer.new) }
     ensures status { IfErr result (λ fault. exit_status fault ≡ 3) }
-    ensures read { IfErr result (λ fault. is_read fault ≡ false) }
+    ensures no_failed_read { IfErr result (λ fault. is_read fault ≡ false) }
     ensures write_reported { EndsWrites W.went W.failed result writer.old writer.new }
     ensures memory { result ≡ Err RunFault.Memory → writer.new ≡ writer.old }
 {

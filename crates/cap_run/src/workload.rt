@@ -59,9 +59,9 @@ pub fn run_workload<
     requires threads { IsThreadCount threads }
     requires frees { Frees A.Allocator A.dealloc_token }
     // Exactly the input that is not UTF-8 is refused as such, where it is known what the reader gives.
-    ensures no_text { IfSome (R.remaining reader.old) (λ given. ¬ (IsUtf8 given)
+    ensures not_utf8 { IfSome (R.remaining reader.old) (λ given. ¬ (IsUtf8 given)
         → IsErrAnd result (λ fault. (fault ≡ RunFault.NotUtf8) ⊎ IsUnread fault)) }
-    ensures text { IfSome (R.remaining reader.old) (λ given.
+    ensures only_not_utf8 { IfSome (R.remaining reader.old) (λ given.
         result ≡ Err RunFault.NotUtf8 → ¬ (IsUtf8 given)) }
 
     // A text that is refused is refused at its first line that spells no command within the limits, and no
@@ -69,13 +69,13 @@ pub fn run_workload<
     // memory.
     ensures refused { IfSome (R.remaining reader.old)
         (λ given. IfErr result (λ fault. IsOfText A fault given)) }
-    ensures read { IfSome (R.remaining reader.old) (λ given. SpellsWithin A given
+    ensures accepted { IfSome (R.remaining reader.old) (λ given. SpellsWithin A given
         → IfErr result (λ fault. is_script fault ≡ false)) }
     ensures no_lines { IfSome (R.remaining reader.old) (λ given. ¬ (SpellsWithin A given)
         → IsErrAnd result IsNoWorkload) }
 
     // When a failed read is reported, as far as the outcomes of the reads are known.
-    ensures reported { EndsReads R.gave R.failed result reader.old reader.new }
+    ensures read_reported { EndsReads R.gave R.failed result reader.old reader.new }
 
     // When a failed write is reported, as far as the outcomes of the writes are known.
     ensures write_reported { EndsWrites W.went W.failed result writer.old writer.new }
@@ -120,7 +120,7 @@ fn serve_lines<
     requires seats { threads + 1 ≡ J.seats }
     requires spelled { (spelled : List (Line A)) × SpellsScript spelled lines.old }
     ensures status { IfErr result (λ fault. exit_status fault ≡ 3) }
-    ensures read { IfErr result (λ fault. is_read fault ≡ false) }
+    ensures no_failed_read { IfErr result (λ fault. is_read fault ≡ false) }
     ensures write_reported { EndsWrites W.went W.failed result writer.old writer.new }
     ensures written { (input : Known) → (spelled : List (Line A)) → IsSpelled input spelled
         → SpellsScript spelled lines.old
@@ -156,7 +156,7 @@ fn outcome_unclosed(outcome: Result<(), RunFault>) -> Result<(), RunFault>
     ensures same { result ≡ unclosed_outcome outcome }
     ensures status { IfErr outcome (λ fault. exit_status fault ≡ 3)
         → IfErr result (λ fault. exit_status fault ≡ 3) }
-    ensures read { IfErr outcome (λ fault. is_read fault ≡ false)
+    ensures no_failed_read { IfErr outcome (λ fault. is_read fault ≡ false)
         → IfErr result (λ fault. is_read fault ≡ false) }
 {
     match outcome {
@@ -221,7 +221,7 @@ fn run_lines<
     requires seats { AreSeats shared.now.threads (map (λ w. w.seat) workers.items) }
     requires spelled { (spelled : List (Line A)) × SpellsScript spelled lines.old }
     ensures status { IfErr result.1 (λ fault. exit_status fault ≡ 3) }
-    ensures read { IfErr result.1 (λ fault. is_read fault ≡ false) }
+    ensures no_failed_read { IfErr result.1 (λ fault. is_read fault ≡ false) }
     ensures write_reported { EndsWrites W.went W.failed result.1 writer.old writer.new }
     ensures len { vec_len result.0 ≡ vec_len workers }
     ensures runs { (spelled : List (Line A)) → SpellsScript spelled lines.old
@@ -245,7 +245,7 @@ fn write_rest<A: AllocHandle, W: RunOutput>(
     outcome: Result<(), CallFault>,
 ) -> Result<(), RunFault>
     ensures status { IfErr result (λ fault. exit_status fault ≡ 3) }
-    ensures read { IfErr result (λ fault. is_read fault ≡ false) }
+    ensures no_failed_read { IfErr result (λ fault. is_read fault ≡ false) }
     ensures write_reported { EndsWrites W.went W.failed result writer.old writer.new }
     ensures runs { (threads : ℕ) → (lines : List (Line A)) → (a : List (SeatState A))
         → (b : List (SeatState A)) → (known : Known)
