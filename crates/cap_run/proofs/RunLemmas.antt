@@ -14,7 +14,7 @@ use Rattle.cap_core.specs.Transition.{next}
 use Rattle.cap_script.specs.declared.line.Line.{Line}
 use Rattle.cap_script.specs.Script.{SpellsScript, TakesFirst}
 use Rattle.cap_run.specs.declared.fault.RunFault.{RunFault}
-use Rattle.cap_run.specs.declared.fault.RunFault.TheVariants.{Concat, Script, NotUtf8, NotHex, Blob, Patchset, Call, Read, Write, Memory, Close}
+use Rattle.cap_run.specs.declared.fault.RunFault.TheVariants.{Concat, Script, NotUtf8, NotHex, Blob, Patchset, Call, Read, Write, OutOfMemory, Close}
 use Rattle.cap_script.specs.ReplyText.{reply_text}
 use Rattle.cap_run.specs.Run.{AppendsFront, BeginsRun, Ended, EndsAt, IsRun, IsSpelled, MatchFault, Writes, WritesInput, WritesRun, commands_of, ending, events_max, on_a_line, reply_lines, run_outcome}
 use Rattle.cap_run.specs.RunFault.{RunsNothing}
@@ -75,7 +75,7 @@ writes_nothing A input (Concat fault) a early = Keeps-refl a
 writes_nothing A input (Call fault) a early = absurd early
 writes_nothing A input Read a early = Keeps-refl a
 writes_nothing A input Write a early = absurd early
-writes_nothing A input Memory a early = Keeps-refl a
+writes_nothing A input OutOfMemory a early = Keeps-refl a
 writes_nothing A input Close a early = absurd early
 
 module _ {A : Type 0} where
@@ -214,7 +214,7 @@ module _ {A : Type 0} where
   writes_input input lines (Err (Call fault)) a b spelled wrote = (lines, spelled, wrote)
   writes_input input lines (Err Read) a b spelled wrote = wrote
   writes_input input lines (Err Write) a b spelled wrote = (lines, spelled, wrote)
-  writes_input input lines (Err Memory) a b spelled wrote = wrote
+  writes_input input lines (Err OutOfMemory) a b spelled wrote = wrote
   writes_input input lines (Err Close) a b spelled wrote = wrote
 
   -- a beginning, where the last replies were not all written

@@ -247,7 +247,7 @@ pub fn options(alloc: Global, words: &[String]) -> Result<Options, OptionsFault>
     // The number of threads is in range.
     ensures range { IfOk result IsInRange }
 {
-    let command = command_line(alloc).map_err(|_| OptionsFault::Memory)?;
+    let command = command_line(alloc).map_err(|_| OptionsFault::OutOfMemory)?;
     match command.try_get_matches_from(words) {
         Ok(matches) => Ok(asked_for(&matches)),
         Err(error) => Err(fault_of(alloc, &error)),
@@ -321,11 +321,11 @@ fn encoding(matches: &ArgMatches) -> Encoding {
 // The fault that the parser reports.
 fn fault_of(alloc: Global, error: &Error) -> OptionsFault {
     if error.kind() == ErrorKind::OutOfMemory {
-        return OptionsFault::Memory;
+        return OptionsFault::OutOfMemory;
     }
     match format!(in alloc; "{error}") {
         Ok(text) if error.use_stderr() => OptionsFault::Refused(text),
         Ok(text) => OptionsFault::Help(text),
-        Err(_) => OptionsFault::Memory,
+        Err(_) => OptionsFault::OutOfMemory,
     }
 }

@@ -39,7 +39,7 @@ pub fn convert_blob<A: AllocHandle, R: Source, W: RunOutput>(
     ensures write_reported { EndsWrites W.went W.failed result writer.old writer.new }
     // Nothing is written where the input is refused, or out of memory.
     ensures silent { IfErr result (λ fault. exit_status fault ≡ 1 → writer.new ≡ writer.old) }
-    ensures memory { result ≡ Err RunFault.Memory → writer.new ≡ writer.old }
+    ensures memory { result ≡ Err RunFault.OutOfMemory → writer.new ≡ writer.old }
 {
     let output = read_output(alloc, conversion, reader)?;
     write_output(writer, output.as_slice())

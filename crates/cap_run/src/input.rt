@@ -34,7 +34,7 @@ pub fn read_whole<A: AllocHandle, R: Source>(
     ensures read_reported { EndsReads R.gave R.failed result reader.old reader.new }
 {
     let pieces = read_pieces(alloc, reader)?;
-    pieces.join(alloc).map_err(|_| RunFault::Memory)
+    pieces.join(alloc).map_err(|_| RunFault::OutOfMemory)
 }
 
 // Reads to the end of the reader, in pieces. An interrupted read is made again.
@@ -57,7 +57,7 @@ fn read_pieces<A: AllocHandle, R: Source>(alloc: A, reader: &mut R) -> Result<Pi
         }
         pieces
             .push(alloc, &bytes[..count])
-            .map_err(|_| RunFault::Memory)?;
+            .map_err(|_| RunFault::OutOfMemory)?;
     }
     Err(RunFault::Read)
 }

@@ -111,7 +111,7 @@ pub(crate) fn lines_of<A: AllocHandle>(alloc: A, text: &str) -> Result<Lines<'_,
     match Lines::new(alloc, text) {
         Ok(lines) => Ok(lines),
         Err(Fault::Refused(fault)) => Err(RunFault::Script(fault)),
-        Err(Fault::OutOfMemory) => Err(RunFault::Memory),
+        Err(Fault::OutOfMemory) => Err(RunFault::OutOfMemory),
     }
 }
 

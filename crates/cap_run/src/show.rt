@@ -60,7 +60,7 @@ pub fn show_blob<A: AllocHandle, R: Source, W: RunOutput>(
     ensures write_reported { EndsWrites W.went W.failed result writer.old writer.new }
     // Nothing is written where the input is refused, or out of memory.
     ensures silent { IfErr result (λ fault. exit_status fault ≡ 1 → writer.new ≡ writer.old) }
-    ensures memory { result ≡ Err RunFault.Memory → writer.new ≡ writer.old }
+    ensures memory { result ≡ Err RunFault.OutOfMemory → writer.new ≡ writer.old }
 {
     let blob = read_contents(alloc, encoding, reader)?;
     write_blob(alloc, form, &blob, writer)
@@ -105,9 +105,9 @@ fn write_blob<A: AllocHandle, W: RunOutput>(
     ensures status { IfErr result (λ fault. exit_status fault ≡ 3) }
     ensures no_failed_read { IfErr result (λ fault. is_read fault ≡ false) }
     ensures write_reported { EndsWrites W.went W.failed result writer.old writer.new }
-    ensures memory { result ≡ Err RunFault.Memory → writer.new ≡ writer.old }
+    ensures memory { result ≡ Err RunFault.OutOfMemory → writer.new ≡ writer.old }
 {
-    let text = shown(alloc, form, blob).map_err(|_| RunFault::Memory)?;
+    let text = shown(alloc, form, blob).map_err(|_| RunFault::OutOfMemory)?;
     write_output(writer, text.as_slice())
 }
 

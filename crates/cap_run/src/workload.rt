@@ -127,13 +127,13 @@ fn serve_lines<
         → WritesWorkload A threads input result (W.contents writer.old) (W.contents writer.new) }
 {
     let Ok((server, seats)) = Server::<J, A>::open(opened, alloc, threads + 1) else {
-        return Err(RunFault::Memory);
+        return Err(RunFault::OutOfMemory);
     };
     let Ok(mut back) = Vec::with_capacity(alloc, seats.len()) else {
-        return Err(RunFault::Memory);
+        return Err(RunFault::OutOfMemory);
     };
     let Ok(workers) = employ(alloc, seats) else {
-        return Err(RunFault::Memory);
+        return Err(RunFault::OutOfMemory);
     };
     let shared = Shared {
         rt,
