@@ -5,6 +5,7 @@ use Rattle.std.proofs.KnownBytes.{Appends-nil, Appends-trans, Keeps-refl}
 use Rattle.std.proofs.lemmas.List.{reverse-append, length-reverse}
 use Rattle.cap_core.specs.declared.command.Command.{Command}
 use Rattle.cap_core.specs.declared.event.Event.{Event}
+use Rattle.cap_server.specs.Fault.{MatchCallFault}
 use Rattle.cap_server.specs.declared.fault.CallFault.{CallFault}
 use Rattle.cap_server.specs.declared.fault.CallFault.TheVariants as call
 use Rattle.cap_core.specs.declared.reply.Reply.{Reply}
@@ -16,7 +17,7 @@ use Rattle.cap_script.specs.Script.{SpellsScript, TakesFirst}
 use Rattle.cap_run.specs.declared.fault.RunFault.{RunFault}
 use Rattle.cap_run.specs.declared.fault.RunFault.TheVariants.{Concat, Script, NotUtf8, NotHex, Blob, Patchset, Call, Read, Write, OutOfMemory, Close}
 use Rattle.cap_script.specs.ReplyText.{reply_text}
-use Rattle.cap_run.specs.Run.{AppendsFront, BeginsRun, Ended, EndsAt, IsRun, IsSpelled, MatchFault, Writes, WritesInput, WritesRun, commands_of, ending, events_max, on_a_line, reply_lines, run_outcome}
+use Rattle.cap_run.specs.Run.{AppendsFront, BeginsRun, Ended, EndsAt, IsRun, IsSpelled, Writes, WritesInput, WritesRun, commands_of, ending, events_max, on_a_line, reply_lines, run_outcome}
 use Rattle.cap_run.specs.RunFault.{RunsNothing}
 
 -- ---- what of the bytes was written
@@ -41,7 +42,7 @@ front_sooner a b bytes after (front, rest, parts, wrote) =
     (front, rest ++ after, ap (λ (r : List ℕ). r ++ after) parts ∙ append_assoc front rest after, wrote)
 
 -- the line that has no reply
-pub ends_at : (fault : CallFault) (lines count events : ℕ) → events ≡ count → count < lines → count ≤ events_max → MatchFault fault (events < events_max) (events_max ≤ events)
+pub ends_at : (fault : CallFault) (lines count events : ℕ) → events ≡ count → count < lines → count ≤ events_max → MatchCallFault fault (events < events_max) (λ front. ⊥) (events_max ≤ events)
     → EndsAt (Err fault) lines count
 ends_at call.OutOfMemory lines count events same less few met = (less, omega arith)
 ends_at (call.Overtaken front) lines count events same less few met = absurd met
@@ -312,7 +313,7 @@ module _ {A : Type 0} where
 
   -- at a line that has no reply
   pub at_fault : (lines : List (Line A)) (rest : List ℕ) (core : State A) (pending left : List ℕ) (a b : Option (List ℕ)) (fault : CallFault) (so : IsAt lines rest core pending a b) → 0 < length so.others
-      → MatchFault fault (core.events < events_max) (events_max ≤ core.events) → left ≡ pending → EndsSo lines (Err fault) left a b
+      → MatchCallFault fault (core.events < events_max) (λ front. ⊥) (events_max ≤ core.events) → left ≡ pending → EndsSo lines (Err fault) left a b
   at_fault lines rest core pending left a b fault so more met same =
       let less : length so.done < length lines = omega (arith, at_within lines so.done so.others so.parts, more) in (
         length so.done,

@@ -5,7 +5,7 @@ ghost use Rattle.std.specs.Io.KnownBytes.{Appends};
 ghost use Rattle.cap_core.specs.Answer.{IsLegal, answer, event_by, reply_of, state};
 ghost use Rattle.cap_core.specs.Transition.{next};
 ghost use Rattle.cap_core.specs.declared.event.Event.{Event};
-ghost use Rattle.cap_run.specs.Run.{AppendsFront, BeginsRun, EndsAt, IsRun, MatchFault, Writes, WritesInput};
+ghost use Rattle.cap_run.specs.Run.{AppendsFront, BeginsRun, EndsAt, IsRun, Writes, WritesInput};
 ghost use Rattle.cap_run.specs.Run.{ending, events_max, on_a_line, run_outcome};
 ghost use Rattle.cap_run.specs.Reads.{EndsReads};
 ghost use Rattle.cap_run.specs.RunFault.{exit_status, is_read, is_script, IsNoWorkload, IsOfText, IsUnread};
@@ -15,6 +15,7 @@ ghost use Rattle.cap_script.specs.FirstRefused.{SpellsWithin};
 ghost use Rattle.cap_script.specs.ReplyText.{reply_text};
 ghost use Rattle.cap_script.specs.Script.{SpellsScript};
 ghost use Rattle.cap_script.specs.declared.line.Line.{Line};
+ghost use Rattle.cap_server.specs.Fault.{MatchCallFault};
 
 use crate::input::read_whole;
 use crate::output::{write_ending, write_long, write_pending};
@@ -178,9 +179,9 @@ fn write_replies<A: AllocHandle, W: RunOutput>(
     }
 }
 
-// The fault of a line that is out of memory. A full history comes first.
+// The fault of a line that is out of memory. A full history comes first, and no call is overtaken.
 fn line_fault<A: AllocHandle>(core: &Core<A>) -> CallFault
-    ensures { MatchFault result (core.now.events < events_max) (events_max ≤ core.now.events) }
+    ensures { MatchCallFault result (core.now.events < events_max) (λ _. ⊥) (events_max ≤ core.now.events) }
 {
     if core.events() >= EVENTS_MAX {
         CallFault::HistoryFull
@@ -202,7 +203,7 @@ pub(crate) fn run_line<A: AllocHandle>(
         ≡ string_bytes pending.old ++ on_a_line (reply_text line.now (reply_of h line.now.command)))) }
     ensures room { OnOk result (core.old.events < events_max) }
     ensures full { IfErr result (λ fault.
-        MatchFault fault (core.old.events < events_max) (events_max ≤ core.old.events)) }
+        MatchCallFault fault (core.old.events < events_max) (λ _. ⊥) (events_max ≤ core.old.events)) }
     ensures same { OnErr result (string_bytes pending.new ≡ string_bytes pending.old) }
 {
     legal_histories_grow::<A>();
