@@ -15,7 +15,7 @@ use Rattle.cap_history.specs.Own.{own-append}
 use Rattle.cap_history.specs.Seat.{SeatState, calls, newcomer}
 use Rattle.cap_run.proofs.OrderLemmas.{order_alone, order_longer, order_more, order_none}
 use Rattle.cap_run.specs.Run.{Ended, events_max, on_a_line, reply_lines}
-use Rattle.cap_run.specs.Code.Calls.{AreNumbered, AreSeats, HasAnswered, HasCalledOwn, HasSeen, HaveCalled, KeepsCalls, lines_of, reply_texts, texts_of}
+use Rattle.cap_run.specs.Code.Calls.{AreNumbered, AreSeats, HasAnswered, HasCalledOwn, HasSeen, HaveCalled, KeepsCalls, reply_texts, seat_lines, texts_of}
 use Rattle.cap_run.specs.Workload.{AreCalls, HasCount, ReportsEvents, calls_of, seat_of}
 use Rattle.cap_script.specs.ReplyText.{reply_text}
 use Rattle.cap_script.specs.declared.line.Line.{Line}
@@ -71,10 +71,10 @@ module _ {A : Type 0} where
   abbrev pub is_of : ℕ → ℕ → Line A → Bool
   is_of threads number line = nat_eq (seat_of threads line.worker) number
 
-  pub lines-own : (threads number : ℕ) (line : Line A) (lines : List (Line A)) → is_of threads number line ≡ true → lines_of threads number (line ∷ lines) ≡ line ∷ lines_of threads number lines
+  pub lines-own : (threads number : ℕ) (line : Line A) (lines : List (Line A)) → is_of threads number line ≡ true → seat_lines threads number (line ∷ lines) ≡ line ∷ seat_lines threads number lines
   lines-own threads number line lines is = rw is
 
-  pub lines-other : (threads number : ℕ) (line : Line A) (lines : List (Line A)) → is_of threads number line ≡ false → lines_of threads number (line ∷ lines) ≡ lines_of threads number lines
+  pub lines-other : (threads number : ℕ) (line : Line A) (lines : List (Line A)) → is_of threads number line ≡ false → seat_lines threads number (line ∷ lines) ≡ seat_lines threads number lines
   lines-other threads number line lines is = rw is
 
   pub texts-own : (threads number : ℕ) (line : Line A) (lines : List (Line A)) (text : List ℕ) (texts : List (List ℕ)) → is_of threads number line ≡ true

@@ -73,7 +73,7 @@ pub fn run_core<A: AllocHandle, R: Source, W: RunOutput>(
         (W.contents writer.old) (W.contents writer.new) }
 {
     let text = read_text(alloc, reader)?;
-    let mut lines = lines_of(alloc, text.as_str())?;
+    let mut lines = parse_lines(alloc, text.as_str())?;
     run_lines(alloc, &mut lines, writer)
 }
 
@@ -101,7 +101,7 @@ fn text_of<A: AllocHandle>(bytes: Vec<u8, A>) -> Result<String<A>, RunFault>
 }
 
 // The lines of a workload's text, after all of it is parsed once.
-pub(crate) fn lines_of<A: AllocHandle>(alloc: A, text: &str) -> Result<Lines<'_, A>, RunFault>
+pub(crate) fn parse_lines<A: AllocHandle>(alloc: A, text: &str) -> Result<Lines<'_, A>, RunFault>
     ensures whole { IfOk result (λ lines. lines ≡ text.now) }
     ensures spelled { IfOk result (λ lines. (spelled : List (Line A)) × SpellsScript spelled text.now) }
     ensures within { IfOk result (λ lines. SpellsWithin A text.now) }

@@ -120,13 +120,13 @@ fn shown<A: AllocHandle>(
     ensures { IfOk result (λ text. text.items ≡ shown_text form blob.now) }
 {
     match form {
-        Form::Text => lines_of(alloc, blob),
-        Form::Sql => sql_of(alloc, blob),
-        Form::Json => json_of(alloc, blob),
+        Form::Text => lines_text(alloc, blob),
+        Form::Sql => sql_text(alloc, blob),
+        Form::Json => json_text(alloc, blob),
     }
 }
 
-fn json_of<A: AllocHandle>(alloc: A, blob: &Contents<A>) -> Result<Vec<u8, A>, OutOfMemory>
+fn json_text<A: AllocHandle>(alloc: A, blob: &Contents<A>) -> Result<Vec<u8, A>, OutOfMemory>
     ensures { IfOk result (λ text. text.items ≡ json_text blob.now) }
 {
     match blob {
@@ -135,7 +135,7 @@ fn json_of<A: AllocHandle>(alloc: A, blob: &Contents<A>) -> Result<Vec<u8, A>, O
     }
 }
 
-fn lines_of<A: AllocHandle>(alloc: A, blob: &Contents<A>) -> Result<Vec<u8, A>, OutOfMemory>
+fn lines_text<A: AllocHandle>(alloc: A, blob: &Contents<A>) -> Result<Vec<u8, A>, OutOfMemory>
     ensures { IfOk result (λ text. text.items ≡ lines_text blob.now) }
 {
     let mut text = Vec::new(alloc);
@@ -155,7 +155,7 @@ fn write_lines<A: AllocHandle, W: Write>(blob: &Contents<A>, output: &mut W) -> 
     }
 }
 
-fn sql_of<A: AllocHandle>(alloc: A, blob: &Contents<A>) -> Result<Vec<u8, A>, OutOfMemory>
+fn sql_text<A: AllocHandle>(alloc: A, blob: &Contents<A>) -> Result<Vec<u8, A>, OutOfMemory>
     ensures { IfOk result (λ text. text.items ≡ sql_text blob.now) }
 {
     let mut text = Vec::new(alloc);

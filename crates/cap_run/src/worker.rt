@@ -1,7 +1,7 @@
 //! A worker of a workload, and its calls.
 ghost use Rattle.std.specs.Prelude.{◌≡◌, ◌++◌, ◌∷◌, ◌<◌, ◌≤◌, [], IfOk, MatchBool, OnOk, OnErr, List, ℕ};
 ghost use Rattle.std.specs.Prelude.{Err, IfErr, length, map, string_bytes};
-ghost use Rattle.cap_run.specs.Code.Calls.{HasAnswered, HasCalledLines, HasSeen, KeepsCalls, lines_of};
+ghost use Rattle.cap_run.specs.Code.Calls.{HasAnswered, HasCalledLines, HasSeen, KeepsCalls, seat_lines};
 ghost use Rattle.cap_run.specs.Options.{IsThreadCount};
 ghost use Rattle.cap_run.specs.Run.{on_a_line};
 ghost use Rattle.cap_run.specs.Workload.{seat_of};
@@ -64,8 +64,8 @@ pub(crate) fn seat_of(threads: u64, worker: Option<u64>) -> u64
 // Whether a line of the block is called from the seat.
 pub(crate) fn is_given<A: AllocHandle>(threads: u64, seat: u64, block: &[Line<A>]) -> bool
     requires { IsThreadCount threads }
-    ensures { MatchBool result (0 < length (lines_of threads seat block.now))
-        (lines_of threads seat block.now ≡ []) }
+    ensures { MatchBool result (0 < length (seat_lines threads seat block.now))
+        (seat_lines threads seat block.now ≡ []) }
 {
     for line in block {
         if seat_of(threads, line.worker) == seat {
@@ -85,7 +85,7 @@ pub(crate) fn answer_lines<J: Naming, A: AllocHandle, T: Wait, G: Gate>(
     requires threads { IsThreadCount shared.now.threads }
     requires none { worker.old.texts.items ≡ [] }
     ensures called { HasCalledLines shared.now.threads
-        (lines_of shared.now.threads worker.old.seat.number block.now)
+        (seat_lines shared.now.threads worker.old.seat.number block.now)
         result (map string_bytes worker.new.texts.items) worker.old.seat worker.new.seat }
 {
     let number = worker.seat.number();

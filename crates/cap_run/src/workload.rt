@@ -21,7 +21,7 @@ ghost use Rattle.cap_script.specs.declared.line.Line.{Line};
 use crate::block::run_block;
 use crate::meeting::{each_meets_first, first_meets_each};
 use crate::output::{write_ending, write_long, write_pending};
-use crate::run::{lines_of, read_text, run_outcome};
+use crate::run::{parse_lines, read_text, run_outcome};
 use crate::worker::{Shared, Worker, answer_line, seat_of};
 use crate::{Gate, RunFault, RunOutput};
 use cap_codec::Source;
@@ -93,7 +93,7 @@ pub fn run_workload<
         (W.contents writer.old) (W.contents writer.new) }
 {
     let text = read_text(alloc, reader)?;
-    let mut lines = lines_of(alloc, text.as_str())?;
+    let mut lines = parse_lines(alloc, text.as_str())?;
     let opened = Opened::new();
     serve_lines::<Brand, A, T, G, W>(rt, alloc, gate, threads, opened, &mut lines, writer)
 }
