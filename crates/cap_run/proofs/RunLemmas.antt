@@ -295,13 +295,13 @@ module _ {A : Type 0} where
       reached-events lines core (length so.done) (so.written ++ pending) so.reached within
 
   -- how a run of the lines ended, and what of its text was written
-  abbrev pub EndsSo : List (Line A) → Ended → List ℕ → Option (List ℕ) → Option (List ℕ) → Type 0
-  EndsSo lines ended pending old new =
+  abbrev pub HasEnded : List (Line A) → Ended → List ℕ → Option (List ℕ) → Option (List ℕ) → Type 0
+  HasEnded lines ended pending old new =
       (count : ℕ) × (written : List ℕ) × EndsAt ended (length lines) count × IsRun lines count (Ok tt) (written ++ pending) × Appends old new written
 
   -- behind the last line
   pub at_end : (lines : List (Line A)) (rest left : List ℕ) (core : State A) (pending : List ℕ) (a b : Option (List ℕ)) → IsAt lines rest core pending a b
-      → ((others : List (Line A)) → SpellsScript others rest → TakesFirst None others left) → EndsSo lines (Ok tt) pending a b
+      → ((others : List (Line A)) → SpellsScript others rest → TakesFirst None others left) → HasEnded lines (Ok tt) pending a b
   at_end lines rest left core pending a b so last =
       let none : length so.others ≡ 0 = ap length (last so.others so.spelled) in (
         length so.done,
@@ -313,7 +313,7 @@ module _ {A : Type 0} where
 
   -- at a line that has no reply
   pub at_fault : (lines : List (Line A)) (rest : List ℕ) (core : State A) (pending left : List ℕ) (a b : Option (List ℕ)) (fault : CallFault) (so : IsAt lines rest core pending a b) → 0 < length so.others
-      → MatchCallFault fault (core.events < events_max) (λ front. ⊥) (events_max ≤ core.events) → left ≡ pending → EndsSo lines (Err fault) left a b
+      → MatchCallFault fault (core.events < events_max) (λ front. ⊥) (events_max ≤ core.events) → left ≡ pending → HasEnded lines (Err fault) left a b
   at_fault lines rest core pending left a b fault so more met same =
       let less : length so.done < length lines = omega (arith, at_within lines so.done so.others so.parts, more) in (
         length so.done,

@@ -13,7 +13,7 @@ use Rattle.cap_history.specs.Seat.{HasCalled, SeatState, SeesMore, calls}
 use Rattle.cap_run.proofs.OrderLemmas.{goes_called, goes_later, goes_same, goes_seen}
 use Rattle.cap_run.proofs.SeatLemmas.{calls-begin, calls_of-append, calls_of-longer, calls_of-none, is_of, lines-own, nat_eq-other, nat_eq-same, reply_texts-none}
 use Rattle.cap_run.specs.Run.{Ended, on_a_line}
-use Rattle.cap_run.specs.Code.Calls.{HasAnswered, HasCalledLines, HasSeen, HasWorked, KeepsCalls, Work, reply_texts, seat_lines, work}
+use Rattle.cap_run.specs.Code.Calls.{HasCalledLine, HasCalledLines, HasSeen, HasWorked, KeepsCalls, Work, reply_texts, seat_lines, work}
 use Rattle.cap_run.specs.Workload.{calls_of, seat_of}
 use Rattle.cap_script.specs.ReplyText.{reply_text}
 use Rattle.cap_script.specs.declared.line.Line.{Line}
@@ -55,7 +55,7 @@ module _ {A : Type 0} where
 
   -- one more of a worker's lines has its reply
   pub lines_more : (threads : ℕ) (lines : List (Line A)) (line : Line A) (texts more : List (List ℕ)) (text : List ℕ) (a b c : SeatState A) → HasCalledLines threads lines (Ok tt) texts a b
-      → b.number ≡ seat_of threads line.worker → HasAnswered line text b c → more ≡ texts ++ text ∷ [] → HasCalledLines threads (lines ++ line ∷ []) (Ok tt) more a c
+      → b.number ≡ seat_of threads line.worker → HasCalledLine line text b c → more ≡ texts ++ text ∷ [] → HasCalledLines threads (lines ++ line ∷ []) (Ok tt) more a c
   lines_more threads lines line texts more text a b c so at answered is =
       let event = event_by (seat_of threads line.worker) line.command answered.reply in
       let made : event_by b.number line.command answered.reply ≡ event = ap (λ (n : ℕ). event_by n line.command answered.reply) at in
@@ -136,7 +136,7 @@ module _ {A : Type 0} where
 
   -- it has its reply
   pub lines_next : (threads number index : ℕ) (block : List (Line A)) (line : Line A) (texts more : List (List ℕ)) (text : List ℕ) (a b c : SeatState A) → index < length block → line ≡ get_or block index line
-      → seat_of threads line.worker ≡ number → a.number ≡ number → HasCalledLines threads (seat_lines threads number (take index block)) (Ok tt) texts a b → HasAnswered line text b c → more ≡ texts ++ text ∷ []
+      → seat_of threads line.worker ≡ number → a.number ≡ number → HasCalledLines threads (seat_lines threads number (take index block)) (Ok tt) texts a b → HasCalledLine line text b c → more ≡ texts ++ text ∷ []
       → HasCalledLines threads (seat_lines threads number (take (index + 1) block)) (Ok tt) more a c
   lines_next threads number index block line texts more text a b c within is at its so answered grown =
       subst (λ (l : List (Line A)). HasCalledLines threads l (Ok tt) more a c) (sym (seat_lines-next threads number index block line within is at))
@@ -207,7 +207,7 @@ module _ {A : Type 0} where
   all-seen : (new : SeatState A) → new.answered ≡ new.seen → IsPrefix new.answered new.seen
   all-seen new same = subst (λ (h : List (Event A)). IsPrefix h new.seen) (sym same) (prefix-self new.seen)
 
-  pub answered_of : (line : Line A) (text : List ℕ) (reply : Reply A) (old new : SeatState A) → HasCalled old new line.command reply → text ≡ on_a_line (reply_text line reply) → HasAnswered line text old new
+  pub answered_of : (line : Line A) (text : List ℕ) (reply : Reply A) (old new : SeatState A) → HasCalled old new line.command reply → text ≡ on_a_line (reply_text line reply) → HasCalledLine line text old new
   answered_of line text reply old new so is =
       record { reply = reply; text_is = is; number = so.number; calls_are = all-called old new line.command reply so; seen = all-seen new so.answered; goes_on = goes_called old new line.command reply so }
 

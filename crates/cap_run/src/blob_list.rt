@@ -3,8 +3,8 @@ ghost use Rattle.std.specs.Prelude.{◌≡◌, ◌∷◌, ◌<◌, false, length
 ghost use Rattle.std.specs.Option.{option_map};
 ghost use Rattle.cap_value.specs.Memory.{LeavesUnlessMemory};
 ghost use Rattle.cap_run.specs.BlobList.{frame_at, split_lines, texts_in};
-ghost use Rattle.cap_run.specs.Concatenation.{added_at, all_added, blob_added, line_added, listed_added};
-ghost use Rattle.cap_run.specs.Concatenation.{numbered_fault, text_added};
+ghost use Rattle.cap_run.specs.Concatenation.{added_at, blob_added, line_added, listed_added};
+ghost use Rattle.cap_run.specs.Concatenation.{numbered_fault, text_added, texts_added};
 ghost use Rattle.cap_run.specs.RunFault.{input_fault, is_read, RunsNothing};
 
 use crate::fault::{ConcatFault, ListedFault};
@@ -21,7 +21,7 @@ pub(crate) fn add_blobs<A: AllocHandle>(
     given: &[u8],
 ) -> Result<(), Fault<RunFault>>
     ensures content { LeavesUnlessMemory result
-        (all_added encoding 1 group.old (texts_in encoding given.now)) group.new }
+        (texts_added encoding 1 group.old (texts_in encoding given.now)) group.new }
     ensures no_failed_read { IfErr result (λ fault. is_read (input_fault fault) ≡ false) }
     ensures early { IfErr result (λ fault. RunsNothing (input_fault fault)) }
 {

@@ -5,7 +5,8 @@ ghost use Rattle.cap_value.specs.Memory.{ShowsUnlessMemory};
 ghost use Rattle.cap_run.specs.Conversion.{WritesOutput};
 ghost use Rattle.cap_run.specs.Reads.{EndsReads, ShowsUnlessUnread};
 ghost use Rattle.cap_run.specs.RunFault.{exit_status, input_fault, is_read, IsUnread, RunsNothing};
-ghost use Rattle.cap_run.specs.Show.{contents_at, contents_of, json_text, lines_text, shown_text, sql_text};
+ghost use Rattle.cap_run.specs.Show.{blob_contents, input_contents, json_text, lines_text, shown_text};
+ghost use Rattle.cap_run.specs.Show.{sql_text};
 ghost use Rattle.cap_run.specs.Writes.{EndsWrites};
 
 use crate::encoding::read_bytes;
@@ -45,14 +46,14 @@ pub fn show_blob<A: AllocHandle, R: Source, W: RunOutput>(
 ) -> Result<(), RunFault>
     // Input that is not hex, or not a blob, is refused with its fault, where it is known what the reader
     // gives.
-    ensures refused { IfSome (R.remaining reader.old) (λ given. IfErr (contents_at A encoding given)
+    ensures refused { IfSome (R.remaining reader.old) (λ given. IfErr (input_contents A encoding given)
         (λ fault. IsErrAnd result (λ f. (f ≡ fault) ⊎ IsUnread f))) }
     ensures just { IfSome (R.remaining reader.old) (λ given. IfErr result (λ fault.
-        exit_status fault ≡ 1 → contents_at A encoding given ≡ Err fault)) }
+        exit_status fault ≡ 1 → input_contents A encoding given ≡ Err fault)) }
     // What is written, where it is known what the reader gives: the text of the blob in this form, or a
     // beginning of it where a write failed.
     ensures shown { IfSome (R.remaining reader.old) (λ given.
-        IfOk (contents_at A encoding given) (λ contents. WritesOutput (shown_text form contents) result
+        IfOk (input_contents A encoding given) (λ contents. WritesOutput (shown_text form contents) result
         (W.contents writer.old) (W.contents writer.new))) }
     // When a failed read is reported, as far as the outcomes of the reads are known.
     ensures read_reported { EndsReads R.gave R.failed result reader.old reader.new }
@@ -73,7 +74,7 @@ fn read_contents<A: AllocHandle, R: Source>(
     reader: &mut R,
 ) -> Result<Contents<A>, RunFault>
     ensures contents { IfSome (R.remaining reader.old) (λ given.
-        ShowsUnlessUnread (λ contents. contents) result (contents_at A encoding given)) }
+        ShowsUnlessUnread (λ contents. contents) result (input_contents A encoding given)) }
     ensures read_reported { EndsReads R.gave R.failed result reader.old reader.new }
     ensures early { IfErr result RunsNothing }
 {
@@ -83,7 +84,7 @@ fn read_contents<A: AllocHandle, R: Source>(
 
 // The content of the blob with these bytes.
 fn contents<A: AllocHandle>(alloc: A, bytes: &[u8]) -> Result<Contents<A>, Fault<RunFault>>
-    ensures contents { ShowsUnlessMemory (λ contents. contents) result (contents_of A bytes.now) }
+    ensures contents { ShowsUnlessMemory (λ contents. contents) result (blob_contents A bytes.now) }
     ensures no_failed_read { IfErr result (λ fault. is_read (input_fault fault) ≡ false) }
     ensures early { IfErr result (λ fault. RunsNothing (input_fault fault)) }
 {

@@ -5,9 +5,9 @@ ghost use Rattle.std.specs.Prelude.{false, string_bytes, vec_capacity, vec_len};
 ghost use Rattle.std.specs.List.{AllZip};
 ghost use denote.Param.Send.{Frees};
 ghost use Rattle.cap_history.specs.Seat.{SeatState};
-ghost use Rattle.cap_run.specs.Code.Calls.{AreSeats, EachAt, EndSo, Gathers, HasAnswered, HasSeen, HasWorked};
-ghost use Rattle.cap_run.specs.Code.Calls.{HaveCalled, IsFaultOf, IsNext, IsWholeBlock, KeepsCalls};
-ghost use Rattle.cap_run.specs.Code.Calls.{RunsLines, unclosed_outcome, work};
+ghost use Rattle.cap_run.specs.Code.Calls.{AreSeats, EachAt, Gathers, HasCalledLine, HasSeen, HasWorked};
+ghost use Rattle.cap_run.specs.Code.Calls.{HaveCalled, HaveEnded, IsFaultOf, IsNext, IsWholeBlock};
+ghost use Rattle.cap_run.specs.Code.Calls.{KeepsCalls, RunsLines, unclosed_outcome, work};
 ghost use Rattle.cap_run.specs.Options.{IsThreadCount};
 ghost use Rattle.cap_run.specs.Run.{IsSpelled, Known};
 ghost use Rattle.cap_run.specs.Reads.{EndsReads};
@@ -22,7 +22,7 @@ use crate::block::run_block;
 use crate::meeting::{each_meets_first, first_meets_each};
 use crate::output::{write_ending, write_long, write_pending};
 use crate::run::{parse_lines, read_text, run_outcome};
-use crate::worker::{Shared, Worker, answer_line, seat_of};
+use crate::worker::{Shared, Worker, call_line, seat_of};
 use crate::{Gate, RunFault, RunOutput};
 use cap_codec::Source;
 use cap_history::{Naming, Opened, Seat};
@@ -132,7 +132,7 @@ fn serve_lines<
     let Ok(mut back) = Vec::with_capacity(alloc, seats.len()) else {
         return Err(RunFault::OutOfMemory);
     };
-    let Ok(workers) = employ(alloc, seats) else {
+    let Ok(workers) = workers_of(alloc, seats) else {
         return Err(RunFault::OutOfMemory);
     };
     let shared = Shared {
@@ -142,8 +142,8 @@ fn serve_lines<
         gate,
         threads,
     };
-    let (workers, outcome) = run_lines(&shared, lines, workers, writer);
-    hand_back(workers, &mut back);
+    let (workers, outcome) = run_with_workers(&shared, lines, workers, writer);
+    take_seats(workers, &mut back);
     let closed = server.close(back);
     match closed {
         Ok(_closed) => outcome,
@@ -166,7 +166,7 @@ fn outcome_unclosed(outcome: Result<(), RunFault>) -> Result<(), RunFault>
 }
 
 // A worker for each seat.
-fn employ<J: Naming, A: AllocHandle>(
+fn workers_of<J: Naming, A: AllocHandle>(
     alloc: A,
     seats: Vec<Seat<J, A>, A>,
 ) -> Result<Vec<Worker<J, A>, A>, OutOfMemory>
@@ -185,7 +185,7 @@ fn employ<J: Naming, A: AllocHandle>(
 }
 
 // Takes the seats from the workers.
-fn hand_back<J: Naming, A: AllocHandle>(
+fn take_seats<J: Naming, A: AllocHandle>(
     workers: Vec<Worker<J, A>, A>,
     seats: &mut Vec<Seat<J, A>, A>,
 )
@@ -204,7 +204,7 @@ fn hand_back<J: Naming, A: AllocHandle>(
 }
 
 // Runs the lines, and writes their replies and the fault at which they ended.
-fn run_lines<
+fn run_with_workers<
     J: Naming + Send + Sync,
     A: AllocHandle + Send + Sync,
     T: Threads + Wait + Sync,
@@ -249,7 +249,7 @@ fn write_rest<A: AllocHandle, W: RunOutput>(
     ensures write_reported { EndsWrites W.went W.failed result writer.old writer.new }
     ensures runs { (threads : ℕ) → (lines : List (Line A)) → (a : List (SeatState A))
         → (b : List (SeatState A)) → (known : Known)
-        → EndSo threads lines outcome (string_bytes pending.old) a b known (W.contents writer.old)
+        → HaveEnded threads lines outcome (string_bytes pending.old) a b known (W.contents writer.old)
         → RunsLines threads lines result a b known (W.contents writer.new) }
 {
     write_pending(writer, pending)?;
@@ -284,7 +284,7 @@ fn answer_all<
     ensures status { IfErr result.1 (λ fault. fault ≡ RunFault.Write) }
     ensures write_reported { EndsWrites W.went W.failed result.1 writer.old writer.new }
     ensures called { (spelled : List (Line A)) → SpellsScript spelled lines.old → MatchResult result.1
-        (λ ended. EndSo shared.now.threads spelled ended (string_bytes pending.new)
+        (λ ended. HaveEnded shared.now.threads spelled ended (string_bytes pending.new)
         (map (λ w. w.seat) workers.items)
         (map (λ w. w.seat) result.0.items) (W.contents writer.old) (W.contents writer.new))
         (λ fault. RunsLines shared.now.threads spelled (Err RunFault.Write) (map (λ w. w.seat) workers.items)
@@ -424,12 +424,12 @@ fn answer_here<J: Naming, A: AllocHandle, T: Wait, G: Gate>(
     pending: &mut String<A>,
 ) -> Result<(), CallFault>
     ensures ok { OnOk result ((text : List ℕ) × (string_bytes pending.new ≡ string_bytes pending.old ++ text)
-        × HasAnswered line.now text seat.old seat.new) }
+        × HasCalledLine line.now text seat.old seat.new) }
     ensures err { OnErr result ((string_bytes pending.new ≡ string_bytes pending.old)
         × KeepsCalls seat.old seat.new) }
     ensures fault { HasSeen result seat.new }
 {
-    let text = answer_line(shared.rt, shared.alloc, shared.server, seat, line)?;
+    let text = call_line(shared.rt, shared.alloc, shared.server, seat, line)?;
     match pending.push_str(text.as_str()) {
         Ok(()) => Ok(()),
         Err(_) => Err(CallFault::OutOfMemory),

@@ -62,7 +62,7 @@ module _ {A : Type 0} where
       AllByRecursion (λ seat. IsPrefix seat.answered seat.seen) seats × EachSawIn (first_seen seats) seats
 
   -- the seat has made this line's call, and no other; the text is that of the reply
-  pub record HasAnswered (line : Line A) (text : List ℕ) (old new : SeatState A) : Type 0 where
+  pub record HasCalledLine (line : Line A) (text : List ℕ) (old new : SeatState A) : Type 0 where
     pub reply : Reply A
     pub text_is : text ≡ on_a_line (reply_text line reply)
     pub number : new.number ≡ old.number
@@ -247,7 +247,7 @@ module _ {A : Type 0} where
     pub spelled : OnOk ended (SpellsScript left behind)
 
   -- how all lines ended, and what of the replies was written
-  abbrev pub EndSo : ℕ → List (Line A) → Ended → List ℕ → List (SeatState A) → List (SeatState A) → Known
+  abbrev pub HaveEnded : ℕ → List (Line A) → Ended → List ℕ → List (SeatState A) → List (SeatState A) → Known
       → Known → Type 0
-  EndSo threads lines ended pending a b old new =
+  HaveEnded threads lines ended pending a b old new =
       (written : List ℕ) × HaveCalled threads lines ended (written ++ pending) a b × Appends old new written
