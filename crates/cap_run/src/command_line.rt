@@ -37,7 +37,7 @@ makes one changeset of several. Nothing runs before the end of the input, except
 which runs each line as it is read.
 
 What is refused has a code. G1 Syntax, G2 (a limit, with its E) and G3 (a blob, with its D) are of a line
-of a workload, and tell its number. D1 Truncated, D2 BadHeader, D3 BadVarint, D4 BadName, D5 BadOp, D6
+of a workload, and have its number. D1 Truncated, D2 BadHeader, D3 BadVarint, D4 BadName, D5 BadOp, D6
 BadField, D7 Real, D8 BadText, D9 BadRecord and D10 Mixed are of the bytes of a blob. E1 to E20 are of a
 command, as E5 Duplicate; the refusal is its reply, and the next command runs.
 
@@ -84,7 +84,7 @@ Tables:
   scan T              read all rows: scan t
   save B              save all tables under a name: save old
 Sessions:
-  session             make a session, which records changes; its reply tells its number
+  session             make a session, which records changes; its reply has its number
   drop S              end a session: drop 1
   attach S T          let a session record changes to a table: attach 1 t
   attachall S         let it attach each table that changes: attachall 1

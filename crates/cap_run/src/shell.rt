@@ -130,7 +130,7 @@ fn answer_line<A: AllocHandle>(
 {
     match str::from_utf8(line) {
         Ok(text) => answer_text(alloc, core, number, text),
-        Err(_) => tell_no_text(alloc, number),
+        Err(_) => printed_not_utf8(alloc, number),
     }
 }
 
@@ -190,7 +190,7 @@ fn answer_refused<A: AllocHandle>(
     ensures ended { IfErr result (λ fault. fault ≡ CallFault.OutOfMemory) }
 {
     match fault {
-        Fault::Refused(why) => tell_fault(alloc, why),
+        Fault::Refused(why) => printed_script_fault(alloc, why),
         Fault::OutOfMemory => Err(CallFault::OutOfMemory),
     }
 }
@@ -207,31 +207,34 @@ fn nothing<A: AllocHandle>(alloc: A) -> Printed<A>
 }
 
 // The fault of a line that is not UTF-8.
-fn tell_no_text<A: AllocHandle>(alloc: A, number: u64) -> Result<Printed<A>, CallFault>
+fn printed_not_utf8<A: AllocHandle>(alloc: A, number: u64) -> Result<Printed<A>, CallFault>
     ensures fault { IfOk result (λ printed. (string_bytes printed.reply ≡ []) × (string_bytes printed.fault
         ≡ on_a_line (codes "line " ++ (decimal number ++ codes ": not UTF-8")))) }
     ensures memory { IfErr result (λ fault. fault ≡ CallFault.OutOfMemory) }
 {
     match format!(in alloc; "line {number}: not UTF-8") {
-        Ok(text) => tell(alloc, text),
+        Ok(text) => printed_fault(alloc, text),
         Err(_) => Err(CallFault::OutOfMemory),
     }
 }
 
 // The fault of a line that spells no command within the limits.
-fn tell_fault<A: AllocHandle>(alloc: A, fault: ScriptFault) -> Result<Printed<A>, CallFault>
+fn printed_script_fault<A: AllocHandle>(
+    alloc: A,
+    fault: ScriptFault,
+) -> Result<Printed<A>, CallFault>
     ensures fault { IfOk result (λ printed. (string_bytes printed.reply ≡ [])
         × (string_bytes printed.fault ≡ on_a_line (fault_text fault))) }
     ensures memory { IfErr result (λ fault. fault ≡ CallFault.OutOfMemory) }
 {
     match print_fault(alloc, fault) {
-        Ok(text) => tell(alloc, text),
+        Ok(text) => printed_fault(alloc, text),
         Err(_) => Err(CallFault::OutOfMemory),
     }
 }
 
 // A fault with this text.
-fn tell<A: AllocHandle>(alloc: A, text: String<A>) -> Result<Printed<A>, CallFault>
+fn printed_fault<A: AllocHandle>(alloc: A, text: String<A>) -> Result<Printed<A>, CallFault>
     ensures fault { IfOk result (λ printed. (string_bytes printed.reply ≡ [])
         × (string_bytes printed.fault ≡ on_a_line (string_bytes text))) }
     ensures memory { IfErr result (λ fault. fault ≡ CallFault.OutOfMemory) }
