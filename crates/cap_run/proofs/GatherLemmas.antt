@@ -15,9 +15,9 @@ use Rattle.cap_history.specs.History.{own}
 use Rattle.cap_history.specs.Seat.{SeatState, calls, newcomer}
 use Rattle.cap_run.proofs.OrderLemmas.{each_met_called, order_block}
 use Rattle.cap_run.proofs.SeatLemmas.{calls-begin, count_few, is_of, lines-other, lines-own, nat_eq-other, nat_eq-same, number-at, own-one, own-other, reply_texts-none, reports, same-nat_eq, same_length, seat_of-most, texts-other, texts-own, zip-at}
-use Rattle.cap_run.proofs.WorkerLemmas.{lines_of-parts, lines_of-some}
+use Rattle.cap_run.proofs.WorkerLemmas.{seat_lines-parts, seat_lines-some}
 use Rattle.cap_run.specs.Run.{Ended, on_a_line, reply_lines}
-use Rattle.cap_run.specs.Code.Calls.{AreNumbered, AreSeats, EachAt, EachSawIn, Gathers, GoesOn, HasMet, first_seen, HasCalledLines, HasCalledOwn, HasSeen, HasWorked, HaveCalled, IsFaultOf, OneHasSeen, Work, lines_of, reply_texts, texts_of, work}
+use Rattle.cap_run.specs.Code.Calls.{AreNumbered, AreSeats, EachAt, EachSawIn, Gathers, GoesOn, HasMet, first_seen, HasCalledLines, HasCalledOwn, HasSeen, HasWorked, HaveCalled, IsFaultOf, OneHasSeen, Work, reply_texts, seat_lines, texts_of, work}
 use Rattle.cap_run.specs.Workload.{HasCount, calls_of, seat_of}
 use Rattle.cap_script.specs.ReplyText.{reply_text}
 use Rattle.cap_script.specs.declared.line.Line.{Line}
@@ -48,13 +48,13 @@ module _ {A : Type 0} where
   all_texts works = map (λ work. work.texts) works
 
   pub texts_at : (threads : ℕ) (lines : List (Line A)) (number : ℕ → ℕ) (old : List (SeatState A)) (new : List (Work A)) (each : AllZip (HasWorked threads lines) old new) → AreNumbered number old → (place : ℕ)
-      → get_or (all_texts new) place [] ≡ reply_texts (lines_of threads (number place) lines) (replies_of threads lines old new each place)
+      → get_or (all_texts new) place [] ≡ reply_texts (seat_lines threads (number place) lines) (replies_of threads lines old new each place)
   unfolding replies_of
-  texts_at threads lines number [] [] each so place = sym (reply_texts-none (lines_of threads (number place) lines))
+  texts_at threads lines number [] [] each so place = sym (reply_texts-none (seat_lines threads (number place) lines))
   texts_at threads lines number [] (y ∷ new) each so place = absurd each
   texts_at threads lines number (x ∷ old) [] each so place = absurd each
   texts_at threads lines number (x ∷ old) (y ∷ new) each so zero =
-      each.0.texts_are ∙ ap (λ (n : ℕ). reply_texts (lines_of threads n lines) each.0.replies) so.0
+      each.0.texts_are ∙ ap (λ (n : ℕ). reply_texts (seat_lines threads n lines) each.0.replies) so.0
   texts_at threads lines number (x ∷ old) (y ∷ new) each so (suc place) = texts_at threads lines (λ p. number (suc p)) old new each.1 so.1 place
 
   worked-numbers : (threads : ℕ) (lines : List (Line A)) (number : ℕ → ℕ) (old : List (SeatState A)) (new : List (Work A)) → AllZip (HasWorked threads lines) old new → AreNumbered number old
@@ -93,8 +93,8 @@ module _ {A : Type 0} where
     pub replies : List (Reply A)
     pub counted : length replies ≡ length parts
     pub parts_are : parts ≡ reply_texts lines replies
-    pub begins : (number : ℕ) → IsPrefix (own number (calls_of threads lines replies)) (calls_of threads (lines_of threads number lines) (replies_by number))
-    pub whole : length parts ≡ length lines → (number : ℕ) → own number (calls_of threads lines replies) ≡ calls_of threads (lines_of threads number lines) (replies_by number)
+    pub begins : (number : ℕ) → IsPrefix (own number (calls_of threads lines replies)) (calls_of threads (seat_lines threads number lines) (replies_by number))
+    pub whole : length parts ≡ length lines → (number : ℕ) → own number (calls_of threads lines replies) ≡ calls_of threads (seat_lines threads number lines) (replies_by number)
 
   -- the replies of a seat without its first
   abbrev pub without : ℕ → List (Reply A) → (ℕ → List (Reply A)) → ℕ → List (Reply A)
@@ -108,7 +108,7 @@ module _ {A : Type 0} where
 
   -- what the texts of each seat have to be
   abbrev pub Has : ℕ → List (Line A) → List (List ℕ) → (ℕ → List (Reply A)) → Type 0
-  Has threads lines parts replies_by = (number : ℕ) → IsPrefix (texts_of threads number lines parts) (reply_texts (lines_of threads number lines) (replies_by number))
+  Has threads lines parts replies_by = (number : ℕ) → IsPrefix (texts_of threads number lines parts) (reply_texts (seat_lines threads number lines) (replies_by number))
 
   -- a first text, and the reply of which it is
   pub record First (threads : ℕ) (line : Line A) (lines : List (Line A)) (text : List ℕ) (parts : List (List ℕ)) (replies : List (Reply A)) : Type 0 where
@@ -116,10 +116,10 @@ module _ {A : Type 0} where
     pub rest : List (Reply A)
     pub is : replies ≡ reply ∷ rest
     pub text_is : text ≡ on_a_line (reply_text line reply)
-    pub others : IsPrefix (texts_of threads (seat_of threads line.worker) lines parts) (reply_texts (lines_of threads (seat_of threads line.worker) lines) rest)
+    pub others : IsPrefix (texts_of threads (seat_of threads line.worker) lines parts) (reply_texts (seat_lines threads (seat_of threads line.worker) lines) rest)
 
   pub first_of : (threads : ℕ) (line : Line A) (lines : List (Line A)) (text : List ℕ) (parts : List (List ℕ)) (replies : List (Reply A))
-      → IsPrefix (text ∷ texts_of threads (seat_of threads line.worker) lines parts) (reply_texts (line ∷ lines_of threads (seat_of threads line.worker) lines) replies)
+      → IsPrefix (text ∷ texts_of threads (seat_of threads line.worker) lines parts) (reply_texts (line ∷ seat_lines threads (seat_of threads line.worker) lines) replies)
       → First threads line lines text parts replies
   first_of threads line lines text parts [] begins = absurd (cc (begins.1))
   first_of threads line lines text parts (reply ∷ rest) begins = record {
@@ -137,7 +137,7 @@ module _ {A : Type 0} where
       let same = nat_eq-same seat in
       first_of threads line lines text parts (replies_by seat)
       (subst (λ (l : List (Line A)). IsPrefix (text ∷ texts_of threads seat lines parts) (reply_texts l (replies_by seat))) (lines-own threads seat line lines same)
-      (subst (λ (l : List (List ℕ)). IsPrefix l (reply_texts (lines_of threads seat (line ∷ lines)) (replies_by seat))) (texts-own threads seat line lines text parts same) (has seat)))
+      (subst (λ (l : List (List ℕ)). IsPrefix l (reply_texts (seat_lines threads seat (line ∷ lines)) (replies_by seat))) (texts-own threads seat line lines text parts same) (has seat)))
 
   pub rest-has : (threads : ℕ) (line : Line A) (lines : List (Line A)) (text : List ℕ) (parts : List (List ℕ)) (replies_by : ℕ → List (Reply A)) (has : Has threads (line ∷ lines) (text ∷ parts) replies_by)
       (first : First threads line lines text parts (replies_by (seat_of threads line.worker))) → Has threads lines parts (without (seat_of threads line.worker) first.rest replies_by)
@@ -146,17 +146,17 @@ module _ {A : Type 0} where
       elim (cases_Bool (nat_eq seat number)) [
         | inl same ↦
             let at : seat ≡ number = same-nat_eq seat number same in
-            subst (λ (l : List (Reply A)). IsPrefix (texts_of threads number lines parts) (reply_texts (lines_of threads number lines) l)) (sym (without-own seat number first.rest replies_by same))
-            (subst (λ (n : ℕ). IsPrefix (texts_of threads n lines parts) (reply_texts (lines_of threads n lines) first.rest)) at first.others)
+            subst (λ (l : List (Reply A)). IsPrefix (texts_of threads number lines parts) (reply_texts (seat_lines threads number lines) l)) (sym (without-own seat number first.rest replies_by same))
+            (subst (λ (n : ℕ). IsPrefix (texts_of threads n lines parts) (reply_texts (seat_lines threads n lines) first.rest)) at first.others)
         | inr other ↦
-            subst (λ (l : List (Reply A)). IsPrefix (texts_of threads number lines parts) (reply_texts (lines_of threads number lines) l)) (sym (without-other seat number first.rest replies_by other))
+            subst (λ (l : List (Reply A)). IsPrefix (texts_of threads number lines parts) (reply_texts (seat_lines threads number lines) l)) (sym (without-other seat number first.rest replies_by other))
             (subst (λ (l : List (Line A)). IsPrefix (texts_of threads number lines parts) (reply_texts l (replies_by number))) (lines-other threads number line lines other)
-            (subst (λ (l : List (List ℕ)). IsPrefix l (reply_texts (lines_of threads number (line ∷ lines)) (replies_by number))) (texts-other threads number line lines text parts other) (has number)))
+            (subst (λ (l : List (List ℕ)). IsPrefix l (reply_texts (seat_lines threads number (line ∷ lines)) (replies_by number))) (texts-other threads number line lines text parts other) (has number)))
       ]
 
   -- the first call among those of a seat
   abbrev pub IsCallsOf : (List (Event A) → List (Event A) → Type 0) → ℕ → ℕ → List (Line A) → List (Reply A) → List (Reply A) → Type 0
-  IsCallsOf R threads number lines all replies = R (own number (calls_of threads lines all)) (calls_of threads (lines_of threads number lines) replies)
+  IsCallsOf R threads number lines all replies = R (own number (calls_of threads lines all)) (calls_of threads (seat_lines threads number lines) replies)
 
   pub calls-first : (R : List (Event A) → List (Event A) → Type 0) → ((e : Event A) (xs ys : List (Event A)) → R xs ys → R (e ∷ xs) (e ∷ ys)) → (threads number : ℕ) (line : Line A) (lines : List (Line A))
       (text : List ℕ) (parts : List (List ℕ)) (replies_by : ℕ → List (Reply A)) (first : First threads line lines text parts (replies_by (seat_of threads line.worker))) (all : List (Reply A))
@@ -170,14 +170,14 @@ module _ {A : Type 0} where
             let at : seat ≡ number = same-nat_eq seat number same in
             let replies_are : replies_by number ≡ first.reply ∷ first.rest = ap replies_by (sym at) ∙ first.is in
             let rest : IsCallsOf R threads number lines all first.rest = subst (λ (l : List (Reply A)). IsCallsOf R threads number lines all l) (without-own seat number first.rest replies_by same) so in
-            let pushed = push event (own number (calls_of threads lines all)) (calls_of threads (lines_of threads number lines) first.rest) rest in
+            let pushed = push event (own number (calls_of threads lines all)) (calls_of threads (seat_lines threads number lines) first.rest) rest in
             subst (λ (l : List (Reply A)). IsCallsOf R threads number (line ∷ lines) (first.reply ∷ all) l) (sym replies_are)
             (subst (λ (l : List (Line A)). R (own number (calls_of threads (line ∷ lines) (first.reply ∷ all))) (calls_of threads l (first.reply ∷ first.rest))) (sym (lines-own threads number line lines same))
-            (subst (λ (l : List (Event A)). R l (calls_of threads (line ∷ lines_of threads number lines) (first.reply ∷ first.rest))) (sym (own-one number seat event (calls_of threads lines all) refl same)) pushed))
+            (subst (λ (l : List (Event A)). R l (calls_of threads (line ∷ seat_lines threads number lines) (first.reply ∷ first.rest))) (sym (own-one number seat event (calls_of threads lines all) refl same)) pushed))
         | inr other ↦
             let rest : IsCallsOf R threads number lines all (replies_by number) = subst (λ (l : List (Reply A)). IsCallsOf R threads number lines all l) (without-other seat number first.rest replies_by other) so in
             subst (λ (l : List (Line A)). R (own number (calls_of threads (line ∷ lines) (first.reply ∷ all))) (calls_of threads l (replies_by number))) (sym (lines-other threads number line lines other))
-            (subst (λ (l : List (Event A)). R l (calls_of threads (lines_of threads number lines) (replies_by number))) (sym (own-other number seat event (calls_of threads lines all) refl other)) rest)
+            (subst (λ (l : List (Event A)). R l (calls_of threads (seat_lines threads number lines) (replies_by number))) (sym (own-other number seat event (calls_of threads lines all) refl other)) rest)
       ]
 
   pub push-prefix : (e : Event A) (xs ys : List (Event A)) → IsPrefix xs ys → IsPrefix (e ∷ xs) (e ∷ ys)
@@ -190,7 +190,7 @@ module _ {A : Type 0} where
     replies = [];
     counted = refl;
     parts_are = refl;
-    begins = λ number. prefix-of-none (calls_of threads (lines_of threads number (line ∷ lines)) (replies_by number));
+    begins = λ number. prefix-of-none (calls_of threads (seat_lines threads number (line ∷ lines)) (replies_by number));
     whole = λ all number. absurd (omega (arith, all));
   }
   merged threads (line ∷ lines) (text ∷ parts) replies_by few has =
@@ -218,7 +218,7 @@ module _ {A : Type 0} where
   length-texts (line ∷ lines) (reply ∷ replies) few = ap suc (length-texts lines replies (omega (arith, few)))
 
   -- where each line has a text each line of a seat has one
-  pub length-texts_of : (threads number : ℕ) (lines : List (Line A)) (parts : List (List ℕ)) → length parts ≡ length lines → length (texts_of threads number lines parts) ≡ length (lines_of threads number lines)
+  pub length-texts_of : (threads number : ℕ) (lines : List (Line A)) (parts : List (List ℕ)) → length parts ≡ length lines → length (texts_of threads number lines parts) ≡ length (seat_lines threads number lines)
   length-texts_of threads number [] parts all = refl
   length-texts_of threads number (line ∷ lines) [] all = absurd (omega (arith, all))
   length-texts_of threads number (line ∷ lines) (text ∷ parts) all =
@@ -250,12 +250,12 @@ module _ {A : Type 0} where
   prefix-behind xs ys zs so = (so.0, append_assoc xs ys so.0 ∙ ap (λ (l : List (Event A)). xs ++ l) so.1)
 
   pub worker-all : (threads : ℕ) (lines : List (Line A)) (made : List (Event A)) (number : ℕ) (old : SeatState A) (new : Work A) (so : HasWorked threads lines old new) → old.number ≡ number
-      → length (lines_of threads number lines) ≤ length new.texts → own number made ≡ calls_of threads (lines_of threads number lines) so.replies → HasCalledOwn (Ok tt) made old new.seat
+      → length (seat_lines threads number lines) ≤ length new.texts → own number made ≡ calls_of threads (seat_lines threads number lines) so.replies → HasCalledOwn (Ok tt) made old new.seat
   worker-all threads lines made number old new so is all whole =
-      let mine = lines_of threads old.number lines in
-      let few : length mine ≤ length new.texts = subst (λ (n : ℕ). length (lines_of threads n lines) ≤ length new.texts) (sym is) all in
+      let mine = seat_lines threads old.number lines in
+      let few : length mine ≤ length new.texts = subst (λ (n : ℕ). length (seat_lines threads n lines) ≤ length new.texts) (sym is) all in
       let same : own old.number made ≡ calls_of threads mine so.replies =
-      subst (λ (n : ℕ). own n made ≡ calls_of threads (lines_of threads n lines) so.replies) (sym is) whole in
+      subst (λ (n : ℕ). own n made ≡ calls_of threads (seat_lines threads n lines) so.replies) (sym is) whole in
       record {
         number = so.number;
         calls_are = calls-all threads mine new.ended new.texts old new.seat so few ∙ ap (λ (l : List (Event A)). calls old ++ l) (sym same);
@@ -263,11 +263,11 @@ module _ {A : Type 0} where
       }
 
   pub worker-some : (threads : ℕ) (fault : CallFault) (lines : List (Line A)) (made : List (Event A)) (number : ℕ) (old : SeatState A) (new : Work A) (so : HasWorked threads lines old new) → old.number ≡ number
-      → IsPrefix (own number made) (calls_of threads (lines_of threads number lines) so.replies) → HasCalledOwn (Err fault) made old new.seat
+      → IsPrefix (own number made) (calls_of threads (seat_lines threads number lines) so.replies) → HasCalledOwn (Err fault) made old new.seat
   worker-some threads fault lines made number old new so is begins =
-      let mine = lines_of threads old.number lines in
+      let mine = seat_lines threads old.number lines in
       let some : IsPrefix (own old.number made) (calls_of threads mine so.replies) =
-      subst (λ (n : ℕ). IsPrefix (own n made) (calls_of threads (lines_of threads n lines) so.replies)) (sym is) begins in
+      subst (λ (n : ℕ). IsPrefix (own n made) (calls_of threads (seat_lines threads n lines) so.replies)) (sym is) begins in
       let made_all = calls old ++ calls_of threads mine so.replies in
       record {
         number = so.number;
@@ -277,8 +277,8 @@ module _ {A : Type 0} where
       }
 
   pub each-all : (threads : ℕ) (lines : List (Line A)) (made : List (Event A)) (number : ℕ → ℕ) (old : List (SeatState A)) (new : List (Work A)) (each : AllZip (HasWorked threads lines) old new) → AreNumbered number old
-      → ((place : ℕ) → length (lines_of threads (number place) lines) ≤ length (get_or (all_texts new) place []))
-      → ((place : ℕ) → own (number place) made ≡ calls_of threads (lines_of threads (number place) lines) (replies_of threads lines old new each place))
+      → ((place : ℕ) → length (seat_lines threads (number place) lines) ≤ length (get_or (all_texts new) place []))
+      → ((place : ℕ) → own (number place) made ≡ calls_of threads (seat_lines threads (number place) lines) (replies_of threads lines old new each place))
       → AllZip (HasCalledOwn (Ok tt) made) old (seats_of new)
   unfolding replies_of
   each-all threads lines made number [] [] each so all whole = tt
@@ -291,7 +291,7 @@ module _ {A : Type 0} where
 
   pub each-some : (threads : ℕ) (fault : CallFault) (lines : List (Line A)) (made : List (Event A)) (number : ℕ → ℕ) (old : List (SeatState A)) (new : List (Work A)) (each : AllZip (HasWorked threads lines) old new)
       → AreNumbered number old
-      → ((place : ℕ) → IsPrefix (own (number place) made) (calls_of threads (lines_of threads (number place) lines) (replies_of threads lines old new each place)))
+      → ((place : ℕ) → IsPrefix (own (number place) made) (calls_of threads (seat_lines threads (number place) lines) (replies_of threads lines old new each place)))
       → AllZip (HasCalledOwn (Err fault) made) old (seats_of new)
   unfolding replies_of
   each-some threads fault lines made number [] [] each so begins = tt
@@ -304,7 +304,7 @@ module _ {A : Type 0} where
 
   -- each of the lines has a text, so each of a seat's lines has one
   pub texts-all : (threads : ℕ) (lines : List (Line A)) (parts texts : List (List ℕ)) (number : ℕ) → length parts ≡ length lines → IsPrefix (texts_of threads number lines parts) texts
-      → length (lines_of threads number lines) ≤ length texts
+      → length (seat_lines threads number lines) ≤ length texts
   texts-all threads lines parts texts number all begins =
       omega (arith, prefix-length (texts_of threads number lines parts) texts begins, length-texts_of threads number lines parts all)
 
@@ -410,15 +410,15 @@ module _ {A : Type 0} where
 
     -- a worker without a text for one of its lines has ended at a fault
     pub worked_fault : (threads place : ℕ) (block : List (Line A)) (seats : List (SeatState A)) (workers : List W) (worker : W) → AllZip (HasWorked threads block) seats (map made_of workers) → AreSeats threads seats
-        → place < length workers → worker ≡ get_or workers place worker → length (texts worker) < length (lines_of threads place block) → (fault : CallFault) × (ended worker ≡ Err fault)
+        → place < length workers → worker ≡ get_or workers place worker → length (texts worker) < length (seat_lines threads place block) → (fault : CallFault) × (ended worker ≡ Err fault)
     worked_fault threads place block seats workers worker each numbered within is few =
         let d : SeatState A = newcomer 0 in
         let there : place < length seats = omega (arith, same_length (HasWorked threads block) seats (map made_of workers) each, length-map workers made_of, within) in
         let made : get_or (map made_of workers) place (made_of worker) ≡ made_of worker = get_or-map made_of workers place worker (made_of worker) within ∙ ap made_of (sym is) in
         let its : HasWorked threads block (get_or seats place d) (made_of worker) =
         subst (λ (w : Work A). HasWorked threads block (get_or seats place d) w) made (zip-at (HasWorked threads block) seats (map made_of workers) place d (made_of worker) each there) in
-        ended-fault threads (lines_of threads (get_or seats place d).number block) (ended worker) (texts worker) (get_or seats place d) (seat worker) its
-        (subst (λ (n : ℕ). length (texts worker) < length (lines_of threads n block)) (sym (number-at (λ p. p) seats place d numbered.1 there)) few)
+        ended-fault threads (seat_lines threads (get_or seats place d).number block) (ended worker) (texts worker) (get_or seats place d) (seat worker) its
+        (subst (λ (n : ℕ). length (texts worker) < length (seat_lines threads n block)) (sym (number-at (λ p. p) seats place d numbered.1 there)) few)
 
     -- that fault is a worker's
     pub worked_ended : (place : ℕ) (workers : List W) (worker : W) → place < length workers → worker ≡ get_or workers place worker → IsFaultOf (map made_of workers) (ended worker)
@@ -591,15 +591,15 @@ module _ {A : Type 0} where
   -- all texts of a seat were taken, and it has one more line
   pub gathered-few : (threads index place : ℕ) (block : List (Line A)) (line : Line A) (texts : List (List (List ℕ))) (taken text : List ℕ) → IsGathered threads (take index block) texts taken text
       → index < length block → line ≡ get_or block index line → place ≡ seat_of threads line.worker → place < 64 → length (get_or texts place []) ≤ get_or taken place 0
-      → length (get_or texts place []) < length (lines_of threads place block)
+      → length (get_or texts place []) < length (seat_lines threads place block)
   gathered-few threads index place block line texts taken text so within is at few none =
       omega (
         arith,
         ap length (so.of_seats place few ∙ take_all (get_or taken place 0) (get_or texts place []) none),
         length-texts_of threads place (take index block) so.parts so.counted,
-        ap length (lines_of-parts threads place index block),
-        length-append (lines_of threads place (take index block)) (lines_of threads place (drop index block)),
-        lines_of-some threads place index block line within is (sym at),
+        ap length (seat_lines-parts threads place index block),
+        length-append (seat_lines threads place (take index block)) (seat_lines threads place (drop index block)),
+        seat_lines-some threads place index block line within is (sym at),
       )
 
   -- a line has no text

@@ -22,9 +22,9 @@ use Rattle.cap_run.specs.Code.Calls.{AreSeats, EachSawIn, FirstHasMet, HasCalled
 use Rattle.cap_run.specs.Workload.{AreCalls, AreOfOneHistory, EachBlock, EndsBlock, IsDivided, ReportsEvents, WritesAll, WritesSome, WritesUnclosed, WritesWorkload, calls_of}
 use Rattle.cap_run.specs.RunFault.{RunsNothing}
 use Rattle.cap_run.specs.declared.fault.RunFault.{RunFault}
-use Rattle.cap_run.specs.declared.fault.RunFault.TheVariants.{Concat, Blob, Call, Close, Memory, NotHex, NotUtf8, Patchset, Read, Script, Write}
+use Rattle.cap_run.specs.declared.fault.RunFault.TheVariants.{Concat, Blob, Call, Close, NotHex, NotUtf8, OutOfMemory, Patchset, Read, Script, Write}
 use Rattle.cap_script.specs.declared.line.Line.{Line}
-use Rattle.cap_server.specs.declared.fault.CallFault.TheVariants.{OutOfMemory}
+use Rattle.cap_server.specs.declared.fault.CallFault.TheVariants as call
 use Rattle.cap_server.specs.Close.{FirstHasSeen, HasAll, IsClosed, IsMissing, StandsAt}
 use Rattle.cap_server.specs.Fault.{MatchCloseFault}
 use Rattle.cap_server.specs.declared.fault.CloseFault.{CloseFault}
@@ -185,7 +185,7 @@ module _ {A : Type 0} where
       let begun : IsPrefix (before ++ behind) before = subst (λ (l : List (Event A)). IsPrefix (before ++ behind) l) none (subst (λ (l : List (Event A)). IsPrefix l seat_calls) calls_parts (calls-begin ended all seat_calls are)) in
       subst (λ (l : List (Event A)). IsPrefix l rest) (sym (none-behind before behind begun)) (prefix-of-none rest)
   behind-front ended before behind all front rest history seat_calls calls_parts parts are shown begins (inr few) =
-      (divided (Err OutOfMemory) before behind (before ++ behind) front rest history refl parts
+      (divided (Err call.OutOfMemory) before behind (before ++ behind) front rest history refl parts
       (prefix-trans (before ++ behind) seat_calls history (subst (λ (l : List (Event A)). IsPrefix l seat_calls) calls_parts (calls-begin ended all seat_calls are)) shown) begins few).1
 
   pub seen-blocks : (threads : ℕ) (lines : List (Line A)) (ended : Ended) (text : List ℕ) (seats : List (SeatState A)) (history : List (Event A)) (so : HaveCalled threads lines ended text (opened threads) seats)
@@ -376,7 +376,7 @@ module _ {A : Type 0} where
   writes_closed threads input lines (Err Patchset) seats events core a b some spelled runs closed = absurd runs
   writes_closed threads input lines (Err (Concat fault)) seats events core a b some spelled runs closed = absurd runs
   writes_closed threads input lines (Err Read) seats events core a b some spelled runs closed = absurd runs
-  writes_closed threads input lines (Err Memory) seats events core a b some spelled runs closed = absurd runs
+  writes_closed threads input lines (Err OutOfMemory) seats events core a b some spelled runs closed = absurd runs
 
   pub writes_unclosed : (threads : ℕ) (input : Option (List ℕ)) (lines : List (Line A)) (outcome : Result (Unit {0}) RunFault) (seats left : List (SeatState A)) (least : List (Event A)) (front : ℕ)
       (a b : Option (List ℕ)) → 1 ≤ threads → IsSpelled input lines → RunsLines threads lines outcome (opened threads) seats a b → FirstHasSeen seats left least front
@@ -398,7 +398,7 @@ module _ {A : Type 0} where
   writes_unclosed threads input lines (Err Patchset) seats left least front a b some spelled runs first = absurd runs
   writes_unclosed threads input lines (Err (Concat fault)) seats left least front a b some spelled runs first = absurd runs
   writes_unclosed threads input lines (Err Read) seats left least front a b some spelled runs first = absurd runs
-  writes_unclosed threads input lines (Err Memory) seats left least front a b some spelled runs first = absurd runs
+  writes_unclosed threads input lines (Err OutOfMemory) seats left least front a b some spelled runs first = absurd runs
 
   -- all seats were handed back
   pub none_missing : (threads : ℕ) (lines : List (Line A)) (ended : Ended) (text : List ℕ) (seats : List (SeatState A)) (number : ℕ) → HaveCalled threads lines ended text (opened threads) seats
@@ -420,7 +420,7 @@ module _ {A : Type 0} where
   runs-called threads lines (Err Patchset) a b k l runs = absurd runs
   runs-called threads lines (Err (Concat fault)) a b k l runs = absurd runs
   runs-called threads lines (Err Read) a b k l runs = absurd runs
-  runs-called threads lines (Err Memory) a b k l runs = absurd runs
+  runs-called threads lines (Err OutOfMemory) a b k l runs = absurd runs
 
   -- ---- a run of the seats that a server opened, and that were handed back to it
 
@@ -454,5 +454,5 @@ begins_nothing A threads input (Concat fault) a early = Keeps-refl a
 begins_nothing A threads input (Call fault) a early = absurd early
 begins_nothing A threads input Read a early = Keeps-refl a
 begins_nothing A threads input Write a early = absurd early
-begins_nothing A threads input Memory a early = Keeps-refl a
+begins_nothing A threads input OutOfMemory a early = Keeps-refl a
 begins_nothing A threads input Close a early = absurd early

@@ -6,7 +6,7 @@ use Rattle.cap_codec.specs.StreamCalls.{AllWent, Calls}
 use Rattle.cap_run.specs.Reads.{EndsAtFault, EndsReads}
 use Rattle.cap_run.specs.RunFault.{exit_status, is_read, is_script, IsNoWorkload, IsOfText, IsUnread, IsUnspelled, RunsNothing}
 use Rattle.cap_run.specs.declared.fault.RunFault.{RunFault}
-use Rattle.cap_run.specs.declared.fault.RunFault.TheVariants.{Concat, Blob, Call, Close, Memory, NotHex, NotUtf8, Patchset, Read, Script, Write}
+use Rattle.cap_run.specs.declared.fault.RunFault.TheVariants.{Concat, Blob, Call, Close, NotHex, NotUtf8, OutOfMemory, Patchset, Read, Script, Write}
 use Rattle.cap_script.specs.FirstRefused.{SpellsWithin}
 use Rattle.cap_script.specs.RefusedLines.{NoLines}
 use Rattle.cap_script.specs.Script.{SpellsScript}
@@ -63,7 +63,7 @@ no_script_later (Concat fault) later = refl
 no_script_later (Call fault) later = refl
 no_script_later Read later = refl
 no_script_later Write later = refl
-no_script_later Memory later = refl
+no_script_later OutOfMemory later = refl
 no_script_later Close later = refl
 
 of_no_text : (A : Type 0) (fault : RunFault) (text : List ℕ) → is_script fault ≡ false → IsOfText A fault text
@@ -76,7 +76,7 @@ of_no_text A (Concat fault) text none = tt
 of_no_text A (Call fault) text none = tt
 of_no_text A Read text none = tt
 of_no_text A Write text none = tt
-of_no_text A Memory text none = tt
+of_no_text A OutOfMemory text none = tt
 of_no_text A Close text none = tt
 
 -- no text was read
@@ -90,7 +90,7 @@ unread_of_text A fault text unread = of_no_text A fault text (unread_no_script f
 
 pub unspelled_no_workload : (fault : RunFault) → IsUnspelled fault → IsNoWorkload fault
 unspelled_no_workload (Script fault) unspelled = inl refl
-unspelled_no_workload Memory unspelled = inr (inr (inr refl))
+unspelled_no_workload OutOfMemory unspelled = inr (inr (inr refl))
 unspelled_no_workload NotUtf8 unspelled = absurd unspelled
 unspelled_no_workload NotHex unspelled = absurd unspelled
 unspelled_no_workload (Blob fault) unspelled = absurd unspelled
@@ -103,7 +103,7 @@ unspelled_no_workload Close unspelled = absurd unspelled
 
 pub unspelled_early : (fault : RunFault) → IsUnspelled fault → RunsNothing fault
 unspelled_early (Script fault) unspelled = tt
-unspelled_early Memory unspelled = tt
+unspelled_early OutOfMemory unspelled = tt
 unspelled_early NotUtf8 unspelled = tt
 unspelled_early NotHex unspelled = tt
 unspelled_early (Blob fault) unspelled = tt
@@ -151,7 +151,7 @@ module _ {R : Type 0} (gave failed : R → R → Type 0) where
   reads_before (Call fault) old new later went = went
   reads_before Read old new later went = absurd (cc later)
   reads_before Write old new later went = went
-  reads_before Memory old new later went = went
+  reads_before OutOfMemory old new later went = went
   reads_before Close old new later went = went
 
   -- an outcome of what follows the reads
@@ -160,7 +160,7 @@ module _ {R : Type 0} (gave failed : R → R → Type 0) where
   reads_passed (Err fault) old new later went = reads_before fault old new later went
 
   -- out of memory for what was read
-  pub reads_kept : (fault : RunFault) (old new : R) → fault ≡ Memory → AllWent gave old new → EndsAtFault gave failed fault old new
+  pub reads_kept : (fault : RunFault) (old new : R) → fault ≡ OutOfMemory → AllWent gave old new → EndsAtFault gave failed fault old new
   reads_kept fault old new is went = subst (λ (f : RunFault). EndsAtFault gave failed f old new) (sym is) went
 
   -- the text spells no workload
@@ -174,5 +174,5 @@ module _ {R : Type 0} (gave failed : R → R → Type 0) where
   reads_unspelled (Call fault) old new early went = absurd early
   reads_unspelled Read old new early went = absurd early
   reads_unspelled Write old new early went = absurd early
-  reads_unspelled Memory old new early went = went
+  reads_unspelled OutOfMemory old new early went = went
   reads_unspelled Close old new early went = absurd early

@@ -7,7 +7,7 @@ use Rattle.cap_history.specs.Seat.{SeatState}
 use Rattle.cap_run.proofs.RunLemmas.{front_more, front_sooner}
 use Rattle.cap_run.proofs.SeatLemmas.{called_longer, called_more, called_none, called_refused}
 use Rattle.cap_run.specs.Run.{AppendsFront, Ended, ending, run_outcome}
-use Rattle.cap_run.specs.Code.Calls.{AreUnder, EachAt, EndSo, HaveCalled, IsBlock, IsNext, IsWholeBlock, RunsLines}
+use Rattle.cap_run.specs.Code.Calls.{AreUnder, EachAt, HaveEnded, HaveCalled, IsBlock, IsNext, IsWholeBlock, RunsLines}
 use Rattle.cap_run.specs.declared.fault.RunFault.TheVariants.{Write}
 use Rattle.cap_script.specs.Script.{SpellsScript, TakesFirst, begins_at}
 use Rattle.cap_script.specs.declared.line.Line.{Line}
@@ -68,7 +68,7 @@ module _ {A : Type 0} where
 
   pub under_refused : (threads : ℕ) (fault : CallFault) (lines : List (Line A)) (rest before behind pending more : List ℕ) (line : Line A) (a b c : List (SeatState A)) (old new : Option (List ℕ))
       (ended : Ended) (so : AreUnder threads lines rest pending a b old new) → TakesFirst (Some line) so.others before → ended ≡ Err fault
-      → ((others : List (Line A)) → SpellsScript others before → IsNext threads line others ended behind pending more b c) → EndSo threads lines (Err fault) more a c old new
+      → ((others : List (Line A)) → SpellsScript others before → IsNext threads line others ended behind pending more b c) → HaveEnded threads lines (Err fault) more a c old new
   under_refused threads fault lines rest before behind pending more line a b c old new ended so (others, first, spelled) is step =
       let next = subst (λ (e : Ended). IsNext threads line others e behind pending more b c) is (step others spelled) in
       let parts = next-parts lines so.called so.others line others next.taken next.left so.parts first next.parts in
@@ -80,7 +80,7 @@ module _ {A : Type 0} where
       )
 
   pub under_end : (threads : ℕ) (lines : List (Line A)) (rest left pending : List ℕ) (a b : List (SeatState A)) (old new : Option (List ℕ)) (so : AreUnder threads lines rest pending a b old new)
-      → TakesFirst None so.others left → EndSo threads lines (Ok tt) pending a b old new
+      → TakesFirst None so.others left → HaveEnded threads lines (Ok tt) pending a b old new
   under_end threads lines rest left pending a b old new so none = (
     so.written,
     subst (λ (l : List (Line A)). HaveCalled threads l (Ok tt) (so.written ++ pending) a b)
@@ -90,7 +90,7 @@ module _ {A : Type 0} where
 
   -- out of memory for the next line
   pub under_stuck : (threads : ℕ) (lines : List (Line A)) (rest pending : List ℕ) (a b : List (SeatState A)) (old new : Option (List ℕ)) (so : AreUnder threads lines rest pending a b old new)
-      → 0 < length so.others → EndSo threads lines (Err OutOfMemory) pending a b old new
+      → 0 < length so.others → HaveEnded threads lines (Err OutOfMemory) pending a b old new
   under_stuck threads lines rest pending a b old new so some = (
     so.written,
     subst (λ (l : List (Line A)). HaveCalled threads l (Err OutOfMemory) (so.written ++ pending) a b) (sym so.parts)
@@ -125,7 +125,7 @@ module _ {A : Type 0} where
   )
 
   -- the outcome of a run whose lines ended so
-  pub runs_all : (threads : ℕ) (lines : List (Line A)) (ended : Ended) (pending : List ℕ) (a b : List (SeatState A)) (k l m n : Option (List ℕ)) → EndSo threads lines ended pending a b k l
+  pub runs_all : (threads : ℕ) (lines : List (Line A)) (ended : Ended) (pending : List ℕ) (a b : List (SeatState A)) (k l m n : Option (List ℕ)) → HaveEnded threads lines ended pending a b k l
       → Appends l m pending → Appends m n (ending ended) → RunsLines threads lines (run_outcome ended) a b k n
   runs_all threads lines (Ok done) pending a b k l m n (written, made, wrote) more last =
       let all = Appends-trans k l m written pending wrote more in
@@ -139,14 +139,14 @@ module _ {A : Type 0} where
   runs_front threads lines ended text a b k n made wrote = (lines, [], ended, text, sym (append-nil lines), made, wrote)
 
   -- a write failed at what was pending
-  pub runs_some : (threads : ℕ) (lines : List (Line A)) (ended : Ended) (pending : List ℕ) (a b : List (SeatState A)) (k l m : Option (List ℕ)) → EndSo threads lines ended pending a b k l
+  pub runs_some : (threads : ℕ) (lines : List (Line A)) (ended : Ended) (pending : List ℕ) (a b : List (SeatState A)) (k l m : Option (List ℕ)) → HaveEnded threads lines ended pending a b k l
       → AppendsFront l m pending → RunsLines threads lines (Err Write) a b k m
   runs_some threads lines ended pending a b k l m (written, made, wrote) more =
       runs_front threads lines ended (written ++ pending) a b k m made
       (front_sooner k m (written ++ pending) (ending ended) (front_more k l m written pending wrote more))
 
   -- or at the fault behind it
-  pub runs_most : (threads : ℕ) (lines : List (Line A)) (ended : Ended) (pending : List ℕ) (a b : List (SeatState A)) (k l m n : Option (List ℕ)) → EndSo threads lines ended pending a b k l
+  pub runs_most : (threads : ℕ) (lines : List (Line A)) (ended : Ended) (pending : List ℕ) (a b : List (SeatState A)) (k l m n : Option (List ℕ)) → HaveEnded threads lines ended pending a b k l
       → Appends l m pending → AppendsFront m n (ending ended) → RunsLines threads lines (Err Write) a b k n
   runs_most threads lines ended pending a b k l m n (written, made, wrote) more last =
       runs_front threads lines ended (written ++ pending) a b k n made

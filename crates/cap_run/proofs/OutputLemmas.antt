@@ -8,7 +8,7 @@ use Rattle.cap_run.specs.Code.Calls.{unclosed_outcome}
 use Rattle.cap_run.specs.RunFault.{RunsNothing}
 use Rattle.cap_run.specs.Writes.{EndsAtWriteFault, EndsWrites, ReportsWrite, WriteLimitReached}
 use Rattle.cap_run.specs.declared.fault.RunFault.{RunFault}
-use Rattle.cap_run.specs.declared.fault.RunFault.TheVariants.{Concat, Blob, Call, Close, Memory, NotHex, NotUtf8, Patchset, Read, Script, Write}
+use Rattle.cap_run.specs.declared.fault.RunFault.TheVariants.{Concat, Blob, Call, Close, NotHex, NotUtf8, OutOfMemory, Patchset, Read, Script, Write}
 
 -- all of the bytes was written before the flush failed
 pub flush_failed : {X : Type 0} (result : Result X RunFault) (a b c : Option (List ℕ)) (bytes : List ℕ) → IfErr result (λ fault. fault ≡ Write) → Appends a b bytes → Keeps b c
@@ -59,7 +59,7 @@ module _ {W : Type 0} (went failed : W → W → Type 0) where
   fault_later Read a b c some so = went_on a b c some so
   fault_later Write a b c some (inl last) = inl (failed_later a b c some last)
   fault_later Write a b c some (inr most) = inr (limit_later a b c some most)
-  fault_later Memory a b c some so = went_on a b c some so
+  fault_later OutOfMemory a b c some so = went_on a b c some so
   fault_later Close a b c some so = went_on a b c some so
 
   pub writes_later : {X : Type 0} (result : Result X RunFault) (a b c : W) → AllWent went a b → EndsWrites went failed result b c → EndsWrites went failed result a c
@@ -91,5 +91,5 @@ module _ {W : Type 0} (went failed : W → W → Type 0) where
   none_reported (Call fault) a early = absurd early
   none_reported Read a early = (0, refl)
   none_reported Write a early = absurd early
-  none_reported Memory a early = (0, refl)
+  none_reported OutOfMemory a early = (0, refl)
   none_reported Close a early = absurd early

@@ -5,6 +5,7 @@ use Rattle.std.proofs.KnownBytes.{Appends-nil, Appends-trans, Keeps-refl}
 use Rattle.std.proofs.lemmas.List.{reverse-append, length-reverse}
 use Rattle.cap_core.specs.declared.command.Command.{Command}
 use Rattle.cap_core.specs.declared.event.Event.{Event}
+use Rattle.cap_server.specs.Fault.{MatchCallFault}
 use Rattle.cap_server.specs.declared.fault.CallFault.{CallFault}
 use Rattle.cap_server.specs.declared.fault.CallFault.TheVariants as call
 use Rattle.cap_core.specs.declared.reply.Reply.{Reply}
@@ -14,9 +15,9 @@ use Rattle.cap_core.specs.Transition.{next}
 use Rattle.cap_script.specs.declared.line.Line.{Line}
 use Rattle.cap_script.specs.Script.{SpellsScript, TakesFirst}
 use Rattle.cap_run.specs.declared.fault.RunFault.{RunFault}
-use Rattle.cap_run.specs.declared.fault.RunFault.TheVariants.{Concat, Script, NotUtf8, NotHex, Blob, Patchset, Call, Read, Write, Memory, Close}
+use Rattle.cap_run.specs.declared.fault.RunFault.TheVariants.{Concat, Script, NotUtf8, NotHex, Blob, Patchset, Call, Read, Write, OutOfMemory, Close}
 use Rattle.cap_script.specs.ReplyText.{reply_text}
-use Rattle.cap_run.specs.Run.{AppendsFront, BeginsRun, Ended, EndsAt, IsRun, IsSpelled, MatchFault, Writes, WritesInput, WritesRun, commands_of, ending, events_max, on_a_line, reply_lines, run_outcome}
+use Rattle.cap_run.specs.Run.{AppendsFront, BeginsRun, Ended, EndsAt, IsRun, IsSpelled, Writes, WritesInput, WritesRun, commands_of, ending, events_max, on_a_line, reply_lines, run_outcome}
 use Rattle.cap_run.specs.RunFault.{RunsNothing}
 
 -- ---- what of the bytes was written
@@ -41,7 +42,7 @@ front_sooner a b bytes after (front, rest, parts, wrote) =
     (front, rest ++ after, ap (λ (r : List ℕ). r ++ after) parts ∙ append_assoc front rest after, wrote)
 
 -- the line that has no reply
-pub ends_at : (fault : CallFault) (lines count events : ℕ) → events ≡ count → count < lines → count ≤ events_max → MatchFault fault (events < events_max) (events_max ≤ events)
+pub ends_at : (fault : CallFault) (lines count events : ℕ) → events ≡ count → count < lines → count ≤ events_max → MatchCallFault fault (events < events_max) (λ front. ⊥) (events_max ≤ events)
     → EndsAt (Err fault) lines count
 ends_at call.OutOfMemory lines count events same less few met = (less, omega arith)
 ends_at (call.Overtaken front) lines count events same less few met = absurd met
@@ -75,7 +76,7 @@ writes_nothing A input (Concat fault) a early = Keeps-refl a
 writes_nothing A input (Call fault) a early = absurd early
 writes_nothing A input Read a early = Keeps-refl a
 writes_nothing A input Write a early = absurd early
-writes_nothing A input Memory a early = Keeps-refl a
+writes_nothing A input OutOfMemory a early = Keeps-refl a
 writes_nothing A input Close a early = absurd early
 
 module _ {A : Type 0} where
@@ -214,7 +215,7 @@ module _ {A : Type 0} where
   writes_input input lines (Err (Call fault)) a b spelled wrote = (lines, spelled, wrote)
   writes_input input lines (Err Read) a b spelled wrote = wrote
   writes_input input lines (Err Write) a b spelled wrote = (lines, spelled, wrote)
-  writes_input input lines (Err Memory) a b spelled wrote = wrote
+  writes_input input lines (Err OutOfMemory) a b spelled wrote = wrote
   writes_input input lines (Err Close) a b spelled wrote = wrote
 
   -- a beginning, where the last replies were not all written
@@ -294,13 +295,13 @@ module _ {A : Type 0} where
       reached-events lines core (length so.done) (so.written ++ pending) so.reached within
 
   -- how a run of the lines ended, and what of its text was written
-  abbrev pub EndsSo : List (Line A) → Ended → List ℕ → Option (List ℕ) → Option (List ℕ) → Type 0
-  EndsSo lines ended pending old new =
+  abbrev pub HasEnded : List (Line A) → Ended → List ℕ → Option (List ℕ) → Option (List ℕ) → Type 0
+  HasEnded lines ended pending old new =
       (count : ℕ) × (written : List ℕ) × EndsAt ended (length lines) count × IsRun lines count (Ok tt) (written ++ pending) × Appends old new written
 
   -- behind the last line
   pub at_end : (lines : List (Line A)) (rest left : List ℕ) (core : State A) (pending : List ℕ) (a b : Option (List ℕ)) → IsAt lines rest core pending a b
-      → ((others : List (Line A)) → SpellsScript others rest → TakesFirst None others left) → EndsSo lines (Ok tt) pending a b
+      → ((others : List (Line A)) → SpellsScript others rest → TakesFirst None others left) → HasEnded lines (Ok tt) pending a b
   at_end lines rest left core pending a b so last =
       let none : length so.others ≡ 0 = ap length (last so.others so.spelled) in (
         length so.done,
@@ -312,7 +313,7 @@ module _ {A : Type 0} where
 
   -- at a line that has no reply
   pub at_fault : (lines : List (Line A)) (rest : List ℕ) (core : State A) (pending left : List ℕ) (a b : Option (List ℕ)) (fault : CallFault) (so : IsAt lines rest core pending a b) → 0 < length so.others
-      → MatchFault fault (core.events < events_max) (events_max ≤ core.events) → left ≡ pending → EndsSo lines (Err fault) left a b
+      → MatchCallFault fault (core.events < events_max) (λ front. ⊥) (events_max ≤ core.events) → left ≡ pending → HasEnded lines (Err fault) left a b
   at_fault lines rest core pending left a b fault so more met same =
       let less : length so.done < length lines = omega (arith, at_within lines so.done so.others so.parts, more) in (
         length so.done,

@@ -15,7 +15,7 @@ use Rattle.cap_history.specs.Own.{own-append}
 use Rattle.cap_history.specs.Seat.{SeatState, calls, newcomer}
 use Rattle.cap_run.proofs.OrderLemmas.{order_alone, order_longer, order_more, order_none}
 use Rattle.cap_run.specs.Run.{Ended, events_max, on_a_line, reply_lines}
-use Rattle.cap_run.specs.Code.Calls.{AreNumbered, AreSeats, HasAnswered, HasCalledOwn, HasSeen, HaveCalled, KeepsCalls, lines_of, reply_texts, texts_of}
+use Rattle.cap_run.specs.Code.Calls.{AreNumbered, AreSeats, HasCalledLine, HasCalledOwn, HasSeen, HaveCalled, KeepsCalls, reply_texts, seat_lines, texts_of}
 use Rattle.cap_run.specs.Workload.{AreCalls, HasCount, ReportsEvents, calls_of, seat_of}
 use Rattle.cap_script.specs.ReplyText.{reply_text}
 use Rattle.cap_script.specs.declared.line.Line.{Line}
@@ -71,10 +71,10 @@ module _ {A : Type 0} where
   abbrev pub is_of : ℕ → ℕ → Line A → Bool
   is_of threads number line = nat_eq (seat_of threads line.worker) number
 
-  pub lines-own : (threads number : ℕ) (line : Line A) (lines : List (Line A)) → is_of threads number line ≡ true → lines_of threads number (line ∷ lines) ≡ line ∷ lines_of threads number lines
+  pub lines-own : (threads number : ℕ) (line : Line A) (lines : List (Line A)) → is_of threads number line ≡ true → seat_lines threads number (line ∷ lines) ≡ line ∷ seat_lines threads number lines
   lines-own threads number line lines is = rw is
 
-  pub lines-other : (threads number : ℕ) (line : Line A) (lines : List (Line A)) → is_of threads number line ≡ false → lines_of threads number (line ∷ lines) ≡ lines_of threads number lines
+  pub lines-other : (threads number : ℕ) (line : Line A) (lines : List (Line A)) → is_of threads number line ≡ false → seat_lines threads number (line ∷ lines) ≡ seat_lines threads number lines
   lines-other threads number line lines is = rw is
 
   pub texts-own : (threads number : ℕ) (line : Line A) (lines : List (Line A)) (text : List ℕ) (texts : List (List ℕ)) → is_of threads number line ≡ true
@@ -263,7 +263,7 @@ module _ {A : Type 0} where
 
   -- the first seat's line has its reply
   pub first_called : (threads : ℕ) (line : Line A) (text : List ℕ) (old new : SeatState A) (seats : List (SeatState A)) → line.worker ≡ None → AreNumbered (λ place. place) (old ∷ seats)
-      → HasAnswered line text old new → HaveCalled threads (line ∷ []) (Ok tt) text (old ∷ seats) (new ∷ seats)
+      → HasCalledLine line text old new → HaveCalled threads (line ∷ []) (Ok tt) text (old ∷ seats) (new ∷ seats)
   first_called threads line text old new seats alone so answered =
       let event = event_by 0 line.command answered.reply in
       let its : own old.number (event ∷ []) ≡ event ∷ [] = own-one old.number 0 event [] refl (ap (λ n. nat_eq 0 n) so.0) in
@@ -306,23 +306,23 @@ module _ {A : Type 0} where
 
   module _ {W : Type 0} (seat : W → SeatState A) where
     -- a worker for one seat more
-    pub employed : (workers more : List W) (worker : W) (seats before left : List (SeatState A)) → map seat workers ++ before ≡ seats → before ≡ seat worker ∷ left → more ≡ workers ++ worker ∷ []
+    pub workers_made : (workers more : List W) (worker : W) (seats before left : List (SeatState A)) → map seat workers ++ before ≡ seats → before ≡ seat worker ∷ left → more ≡ workers ++ worker ∷ []
         → map seat more ++ left ≡ seats
-    employed workers more worker seats before left so first is =
+    workers_made workers more worker seats before left so first is =
         ap (λ (l : List W). map seat l ++ left) is ∙ ap (λ (l : List (SeatState A)). l ++ left) (map_push seat workers worker) ∙ append_assoc (map seat workers) (seat worker ∷ []) left
         ∙ sym (ap (λ (l : List (SeatState A)). map seat workers ++ l) first) ∙ so
 
-    -- the seat of one worker more is handed back
-    pub handed_back : (seats more all : List (SeatState A)) (before left : List W) (worker : W) → seats ++ map seat before ≡ all → before ≡ worker ∷ left → more ≡ seats ++ seat worker ∷ []
+    -- the seat of one worker more is taken
+    pub seats_taken : (seats more all : List (SeatState A)) (before left : List W) (worker : W) → seats ++ map seat before ≡ all → before ≡ worker ∷ left → more ≡ seats ++ seat worker ∷ []
         → more ++ map seat left ≡ all
-    handed_back seats more all before left worker so first is =
+    seats_taken seats more all before left worker so first is =
         ap (λ (l : List (SeatState A)). l ++ map seat left) is ∙ append_assoc seats (seat worker ∷ []) (map seat left) ∙ sym (ap (λ (l : List W). seats ++ map seat l) first) ∙ so
 
     alone_called : (threads : ℕ) (line : Line A) (text : List ℕ) (workers : List W) (first new : W) → AreSeats threads (map seat workers) → line.worker ≡ None → first ≡ get_or workers 0 first
-        → HasAnswered line text (seat first) (seat new) → HaveCalled threads (line ∷ []) (Ok tt) text (map seat workers) (map seat (set workers 0 new))
+        → HasCalledLine line text (seat first) (seat new) → HaveCalled threads (line ∷ []) (Ok tt) text (map seat workers) (map seat (set workers 0 new))
     alone_called threads line text [] first new so alone is answered = absurd (omega (arith, so.0))
     alone_called threads line text (x ∷ workers) first new so alone is answered =
-        first_called threads line text (seat x) (seat new) (map seat workers) alone so.1 (subst (λ (w : W). HasAnswered line text (seat w) (seat new)) is answered)
+        first_called threads line text (seat x) (seat new) (map seat workers) alone so.1 (subst (λ (w : W). HasCalledLine line text (seat w) (seat new)) is answered)
 
     alone_refused : (threads : ℕ) (fault : CallFault) (line : Line A) (workers : List W) (first new : W) → AreSeats threads (map seat workers) → first ≡ get_or workers 0 first
         → KeepsCalls (seat first) (seat new) → HasSeen (Err fault) (seat new) → HaveCalled threads (line ∷ []) (Err fault) [] (map seat workers) (map seat (set workers 0 new))
@@ -332,7 +332,7 @@ module _ {A : Type 0} where
 
     -- the first worker called a line
     pub called_alone : (threads : ℕ) (line : Line A) (ended : Ended) (old new : List ℕ) (workers : List W) (first next : W) → AreSeats threads (map seat workers) → line.worker ≡ None → first ≡ get_or workers 0 first
-        → OnOk ended ((text : List ℕ) × (new ≡ old ++ text) × HasAnswered line text (seat first) (seat next)) → OnErr ended ((new ≡ old) × KeepsCalls (seat first) (seat next))
+        → OnOk ended ((text : List ℕ) × (new ≡ old ++ text) × HasCalledLine line text (seat first) (seat next)) → OnErr ended ((new ≡ old) × KeepsCalls (seat first) (seat next))
         → HasSeen ended (seat next) → (text : List ℕ) × (new ≡ old ++ text) × HaveCalled threads (line ∷ []) ended text (map seat workers) (map seat (set workers 0 next))
     called_alone threads line (Ok done) old new workers first next so alone is answered refused events =
         (answered.0, answered.1, alone_called threads line answered.0 workers first next so alone is answered.2)

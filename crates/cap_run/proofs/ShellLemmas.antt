@@ -19,7 +19,7 @@ use Rattle.cap_run.specs.Run.{AppendsFront, Ended, ending, events_max, on_a_line
 use Rattle.cap_run.specs.Shell.{AreReadAs, EndsBefore, HasRun, Ignored, IsReadAs, NoText, Outputs, Prints, PrintsPart, ReadLine, Refused, Spelled, WritesShell, after_line, after_lines, fault_of, faults_of, outputs, replies_to, reply_to}
 use Rattle.cap_run.specs.Writes.{EndsAtWriteFault, EndsBoth, EndsWrites}
 use Rattle.cap_run.specs.declared.fault.RunFault.{RunFault}
-use Rattle.cap_run.specs.declared.fault.RunFault.TheVariants.{Blob, Call, Close, Concat, Memory, NotHex, NotUtf8, Patchset, Read, Script, Write}
+use Rattle.cap_run.specs.declared.fault.RunFault.TheVariants.{Blob, Call, Close, Concat, NotHex, NotUtf8, OutOfMemory, Patchset, Read, Script, Write}
 use Rattle.cap_run.proofs.OutputLemmas.{fault_later, went_on, writes_later}
 use Rattle.cap_run.proofs.RunLemmas.{IsLegal-none, IsLegal-push, events-state, fits-none, fits-push}
 use Rattle.cap_run.proofs.UnreadLemmas.{lines_cut, lines_end, lines_kept, lines_known, lines_one}
@@ -274,7 +274,7 @@ module _ {A : Type 0} where
     has_run input left core number a b so others has,
     (front_of a.replies b.replies after (replies_to [] so.lines) (ending (Err fault)) so.printed wrote, front_all a.faults b.faults (faults_of 1 so.lines) so.reported),
   )
-  at_fault input left known core number a b after fault (Err Memory) so may some fails wrote = absurd wrote
+  at_fault input left known core number a b after fault (Err OutOfMemory) so may some fails wrote = absurd wrote
   at_fault input left known core number a b after fault (Err Close) so may some fails wrote = absurd wrote
 
 -- the line is there

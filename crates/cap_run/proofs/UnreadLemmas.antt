@@ -2,7 +2,7 @@
 use Rattle.std.proofs.Common.{◌≡◌, ◌∙◌, ◌⊎◌, inl, inr, ℕ, zero, suc, ◌+◌, ◌-◌, ◌*◌, ◌<◌, ◌≤◌, Bool, true, false, cond, ◌||◌, ◌==◌, List, [], ◌∷◌, ◌++◌, Option, Some, None, length, length-append, append-nil, append_assoc, get_or, take, drop, drop-cons, take-append-drop, ap, ap₂, sym, refl, subst, arith}
 use Rattle.std.specs.Io.KnownBytes.{Consumes, IsAtEnd, Keeps, prepend_known}
 use Rattle.std.specs.List.{list_any, onto_first}
-use Rattle.cap_run.specs.BlobList.{HasLines, lines_of}
+use Rattle.cap_run.specs.BlobList.{HasLines, split_lines}
 use Rattle.cap_codec.specs.StreamCalls.{AllWent, Calls, LastFailed}
 use Rattle.cap_run.specs.Code.Unread.{Counted, CutsLine, Failed, HasLine, HasPart, IsGiven, IsTaken, MatchRead}
 use Rattle.cap_run.specs.declared.unread.ReadFault.{ReadFault}
@@ -70,7 +70,7 @@ cut_line (Some x) (Some y) line front rest unread kept clear taken =
     let parts : x ≡ (line ++ front) ++ 10 ∷ (rest ++ y) =
     sym kept ∙ append_assoc line unread y ∙ ap (λ (l : List ℕ). line ++ (l ++ y)) taken.0 ∙ ap (λ (l : List ℕ). line ++ l) (append_assoc front (10 ∷ rest) y)
     ∙ sym (append_assoc line front (10 ∷ (rest ++ y))) in
-    ap lines_of parts ∙ line_cut (line ++ front) (rest ++ y) (clear_both line front clear taken.1)
+    ap split_lines parts ∙ line_cut (line ++ front) (rest ++ y) (clear_both line front clear taken.1)
 
 -- the last line has none
 pub last_line : (a b : Option (List ℕ)) (line rest : List ℕ) → Keeps a (prepend_known line b) → IsAtEnd b → rest ≡ [] → has_line_feed line ≡ false → 0 < length line → CutsLine line a (prepend_known rest b)
@@ -79,7 +79,7 @@ last_line (Some x) None line rest kept ended none clear some = absurd kept
 last_line (Some x) (Some y) line rest kept ended none clear some =
     let is : x ≡ line = sym kept ∙ ap (λ (l : List ℕ). line ++ l) ended ∙ append-nil line in
     let left : rest ++ y ≡ [] = ap₂ (λ (k l : List ℕ). k ++ l) none ended in
-    ap lines_of is ∙ line_alone line some clear ∙ ap (λ (l : List ℕ). line ∷ lines_of l) (sym left)
+    ap split_lines is ∙ line_alone line some clear ∙ ap (λ (l : List ℕ). line ∷ split_lines l) (sym left)
 
 -- there is no line
 pub no_line : (a b : Option (List ℕ)) (line : List ℕ) → Keeps a (prepend_known line b) → IsAtEnd b → line ≡ [] → IsAtEnd a
@@ -98,7 +98,7 @@ has_line (Some x) (Some y) line kept some = omega (arith, some, ap (λ (l : List
 -- an input that may not be known has some lines
 pub lines_known : (known : Option (List ℕ)) → (lines : List (List ℕ)) × HasLines known lines
 lines_known None = ([], tt)
-lines_known (Some given) = (lines_of given, refl)
+lines_known (Some given) = (split_lines given, refl)
 
 pub lines_cut : (line : List ℕ) (a b : Option (List ℕ)) (lines : List (List ℕ)) → CutsLine line a b → HasLines b lines → HasLines a (line ∷ lines)
 lines_cut line None b lines cut has = tt
@@ -112,29 +112,29 @@ lines_nil (Some given) lines has = has
 
 pub lines_end : (known : Option (List ℕ)) → IsAtEnd known → HasLines known []
 lines_end None ended = tt
-lines_end (Some x) ended = sym (ap lines_of ended)
+lines_end (Some x) ended = sym (ap split_lines ended)
 
 pub lines_kept : (a b : Option (List ℕ)) (lines : List (List ℕ)) → Keeps a b → HasLines b lines → HasLines a lines
 lines_kept None b lines kept has = tt
 lines_kept (Some x) None lines kept has = absurd kept
-lines_kept (Some x) (Some y) lines kept has = has ∙ ap lines_of kept
+lines_kept (Some x) (Some y) lines kept has = has ∙ ap split_lines kept
 
 onto_some : (byte : ℕ) (lines : List (List ℕ)) → 0 < length (onto_first byte lines)
 onto_some byte [] = omega arith
 onto_some byte (x ∷ lines) = omega arith
 
-lines_some : (given : List ℕ) → 1 ≤ length given → 0 < length (lines_of given)
+lines_some : (given : List ℕ) → 1 ≤ length given → 0 < length (split_lines given)
 lines_some [] some = absurd (omega (arith, some))
 lines_some (b ∷ given) some =
-    elim (b == 10) as (λ is. 0 < length (cond is ([] ∷ lines_of given) (onto_first b (lines_of given)))) [
+    elim (b == 10) as (λ is. 0 < length (cond is ([] ∷ split_lines given) (onto_first b (split_lines given)))) [
       | true ↦ omega arith
-      | false ↦ onto_some b (lines_of given)
+      | false ↦ onto_some b (split_lines given)
     ]
 
 -- an input with bytes has a line
 pub lines_one : (known : Option (List ℕ)) → HasLine known → (lines : List (List ℕ)) × HasLines known lines × (0 < length lines)
 lines_one None has = ([] ∷ [], tt, omega arith)
-lines_one (Some given) has = (lines_of given, refl, lines_some given has)
+lines_one (Some given) has = (split_lines given, refl, lines_some given has)
 
 -- ---- reads
 

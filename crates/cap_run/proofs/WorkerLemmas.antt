@@ -13,7 +13,7 @@ use Rattle.cap_history.specs.Seat.{HasCalled, SeatState, SeesMore, calls}
 use Rattle.cap_run.proofs.OrderLemmas.{goes_called, goes_later, goes_same, goes_seen}
 use Rattle.cap_run.proofs.SeatLemmas.{calls-begin, calls_of-append, calls_of-longer, calls_of-none, is_of, lines-own, nat_eq-other, nat_eq-same, reply_texts-none}
 use Rattle.cap_run.specs.Run.{Ended, on_a_line}
-use Rattle.cap_run.specs.Code.Calls.{HasAnswered, HasCalledLines, HasSeen, HasWorked, KeepsCalls, Work, lines_of, reply_texts, work}
+use Rattle.cap_run.specs.Code.Calls.{HasCalledLine, HasCalledLines, HasSeen, HasWorked, KeepsCalls, Work, reply_texts, seat_lines, work}
 use Rattle.cap_run.specs.Workload.{calls_of, seat_of}
 use Rattle.cap_script.specs.ReplyText.{reply_text}
 use Rattle.cap_script.specs.declared.line.Line.{Line}
@@ -55,7 +55,7 @@ module _ {A : Type 0} where
 
   -- one more of a worker's lines has its reply
   pub lines_more : (threads : ℕ) (lines : List (Line A)) (line : Line A) (texts more : List (List ℕ)) (text : List ℕ) (a b c : SeatState A) → HasCalledLines threads lines (Ok tt) texts a b
-      → b.number ≡ seat_of threads line.worker → HasAnswered line text b c → more ≡ texts ++ text ∷ [] → HasCalledLines threads (lines ++ line ∷ []) (Ok tt) more a c
+      → b.number ≡ seat_of threads line.worker → HasCalledLine line text b c → more ≡ texts ++ text ∷ [] → HasCalledLines threads (lines ++ line ∷ []) (Ok tt) more a c
   lines_more threads lines line texts more text a b c so at answered is =
       let event = event_by (seat_of threads line.worker) line.command answered.reply in
       let made : event_by b.number line.command answered.reply ≡ event = ap (λ (n : ℕ). event_by n line.command answered.reply) at in
@@ -89,90 +89,90 @@ module _ {A : Type 0} where
       }
 
   -- the lines of a seat, one line after the other
-  pub lines_of-next : (threads number index : ℕ) (lines : List (Line A)) (line : Line A) → index < length lines → line ≡ get_or lines index line → seat_of threads line.worker ≡ number
-      → lines_of threads number (take (index + 1) lines) ≡ lines_of threads number (take index lines) ++ line ∷ []
-  lines_of-next threads number index lines line within is at =
+  pub seat_lines-next : (threads number index : ℕ) (lines : List (Line A)) (line : Line A) → index < length lines → line ≡ get_or lines index line → seat_of threads line.worker ≡ number
+      → seat_lines threads number (take (index + 1) lines) ≡ seat_lines threads number (take index lines) ++ line ∷ []
+  seat_lines-next threads number index lines line within is at =
       let its : is_of threads number line ≡ true = ap (λ n. nat_eq n number) at ∙ nat_eq-same number in
-      filter_more (is_of threads number) lines index line within ∙ ap (λ (l : Line A). lines_of threads number (take index lines) ++ cond (is_of threads number l) (l ∷ []) []) (sym is)
-      ∙ ap (λ (b : Bool). lines_of threads number (take index lines) ++ cond b (line ∷ []) []) its
+      filter_more (is_of threads number) lines index line within ∙ ap (λ (l : Line A). seat_lines threads number (take index lines) ++ cond (is_of threads number l) (l ∷ []) []) (sym is)
+      ∙ ap (λ (b : Bool). seat_lines threads number (take index lines) ++ cond b (line ∷ []) []) its
 
-  pub lines_of-passed : (threads number index : ℕ) (lines : List (Line A)) (line : Line A) → index < length lines → line ≡ get_or lines index line → seat_of threads line.worker ≢ number
-      → lines_of threads number (take (index + 1) lines) ≡ lines_of threads number (take index lines)
-  lines_of-passed threads number index lines line within is other =
+  pub seat_lines-passed : (threads number index : ℕ) (lines : List (Line A)) (line : Line A) → index < length lines → line ≡ get_or lines index line → seat_of threads line.worker ≢ number
+      → seat_lines threads number (take (index + 1) lines) ≡ seat_lines threads number (take index lines)
+  seat_lines-passed threads number index lines line within is other =
       let not_its : is_of threads number line ≡ false = nat_eq-other (seat_of threads line.worker) number other in
-      filter_more (is_of threads number) lines index line within ∙ ap (λ (l : Line A). lines_of threads number (take index lines) ++ cond (is_of threads number l) (l ∷ []) []) (sym is)
-      ∙ ap (λ (b : Bool). lines_of threads number (take index lines) ++ cond b (line ∷ []) []) not_its ∙ append-nil (lines_of threads number (take index lines))
+      filter_more (is_of threads number) lines index line within ∙ ap (λ (l : Line A). seat_lines threads number (take index lines) ++ cond (is_of threads number l) (l ∷ []) []) (sym is)
+      ∙ ap (λ (b : Bool). seat_lines threads number (take index lines) ++ cond b (line ∷ []) []) not_its ∙ append-nil (seat_lines threads number (take index lines))
 
   -- the lines of a seat before a place and behind it
-  pub lines_of-parts : (threads number index : ℕ) (lines : List (Line A)) → lines_of threads number lines ≡ lines_of threads number (take index lines) ++ lines_of threads number (drop index lines)
-  lines_of-parts threads number index lines =
-      ap (lines_of threads number) (sym (take-append-drop index lines)) ∙ filter-append (is_of threads number) (take index lines) (drop index lines)
+  pub seat_lines-parts : (threads number index : ℕ) (lines : List (Line A)) → seat_lines threads number lines ≡ seat_lines threads number (take index lines) ++ seat_lines threads number (drop index lines)
+  seat_lines-parts threads number index lines =
+      ap (seat_lines threads number) (sym (take-append-drop index lines)) ∙ filter-append (is_of threads number) (take index lines) (drop index lines)
 
   -- there is one behind it
-  pub lines_of-some : (threads number index : ℕ) (lines : List (Line A)) (line : Line A) → index < length lines → line ≡ get_or lines index line → seat_of threads line.worker ≡ number
-      → 0 < length (lines_of threads number (drop index lines))
-  lines_of-some threads number index lines line within is at =
+  pub seat_lines-some : (threads number index : ℕ) (lines : List (Line A)) (line : Line A) → index < length lines → line ≡ get_or lines index line → seat_of threads line.worker ≡ number
+      → 0 < length (seat_lines threads number (drop index lines))
+  seat_lines-some threads number index lines line within is at =
       let its : is_of threads number line ≡ true = ap (λ n. nat_eq n number) at ∙ nat_eq-same number in
       let parts : drop index lines ≡ line ∷ drop (index + 1) lines = drop_more lines index line within ∙ ap (λ (l : Line A). l ∷ drop (index + 1) lines) (sym is) in
-      omega (arith, ap (λ (l : List (Line A)). length (lines_of threads number l)) parts, ap length (lines-own threads number line (drop (index + 1) lines) its))
+      omega (arith, ap (λ (l : List (Line A)). length (seat_lines threads number l)) parts, ap length (lines-own threads number line (drop (index + 1) lines) its))
 
   -- some line of a block is of the seat
   pub given_some : (threads number index : ℕ) (block : List (Line A)) (line : Line A) → index < length block → line ≡ get_or block index line → seat_of threads line.worker ≡ number
-      → 0 < length (lines_of threads number block)
+      → 0 < length (seat_lines threads number block)
   given_some threads number index block line within is at =
       omega (
         arith,
-        ap length (lines_of-parts threads number index block),
-        length-append (lines_of threads number (take index block)) (lines_of threads number (drop index block)),
-        lines_of-some threads number index block line within is at,
+        ap length (seat_lines-parts threads number index block),
+        length-append (seat_lines threads number (take index block)) (seat_lines threads number (drop index block)),
+        seat_lines-some threads number index block line within is at,
       )
 
   -- a line of a block is passed over, since it is another seat's
   pub lines_passed : (threads number index : ℕ) (block : List (Line A)) (line : Line A) (texts : List (List ℕ)) (a b : SeatState A) → index < length block → line ≡ get_or block index line
-      → seat_of threads line.worker ≢ number → HasCalledLines threads (lines_of threads number (take index block)) (Ok tt) texts a b
-      → HasCalledLines threads (lines_of threads number (take (index + 1) block)) (Ok tt) texts a b
+      → seat_of threads line.worker ≢ number → HasCalledLines threads (seat_lines threads number (take index block)) (Ok tt) texts a b
+      → HasCalledLines threads (seat_lines threads number (take (index + 1) block)) (Ok tt) texts a b
   lines_passed threads number index block line texts a b within is other so =
-      subst (λ (l : List (Line A)). HasCalledLines threads l (Ok tt) texts a b) (sym (lines_of-passed threads number index block line within is other)) so
+      subst (λ (l : List (Line A)). HasCalledLines threads l (Ok tt) texts a b) (sym (seat_lines-passed threads number index block line within is other)) so
 
   -- it has its reply
   pub lines_next : (threads number index : ℕ) (block : List (Line A)) (line : Line A) (texts more : List (List ℕ)) (text : List ℕ) (a b c : SeatState A) → index < length block → line ≡ get_or block index line
-      → seat_of threads line.worker ≡ number → a.number ≡ number → HasCalledLines threads (lines_of threads number (take index block)) (Ok tt) texts a b → HasAnswered line text b c → more ≡ texts ++ text ∷ []
-      → HasCalledLines threads (lines_of threads number (take (index + 1) block)) (Ok tt) more a c
+      → seat_of threads line.worker ≡ number → a.number ≡ number → HasCalledLines threads (seat_lines threads number (take index block)) (Ok tt) texts a b → HasCalledLine line text b c → more ≡ texts ++ text ∷ []
+      → HasCalledLines threads (seat_lines threads number (take (index + 1) block)) (Ok tt) more a c
   lines_next threads number index block line texts more text a b c within is at its so answered grown =
-      subst (λ (l : List (Line A)). HasCalledLines threads l (Ok tt) more a c) (sym (lines_of-next threads number index block line within is at))
-      (lines_more threads (lines_of threads number (take index block)) line texts more text a b c so (so.number ∙ its ∙ sym at) answered grown)
+      subst (λ (l : List (Line A)). HasCalledLines threads l (Ok tt) more a c) (sym (seat_lines-next threads number index block line within is at))
+      (lines_more threads (seat_lines threads number (take index block)) line texts more text a b c so (so.number ∙ its ∙ sym at) answered grown)
 
   -- it has none
   pub lines_stopped : (threads number index : ℕ) (fault : CallFault) (block : List (Line A)) (line : Line A) (texts : List (List ℕ)) (a b c : SeatState A) → index < length block
-      → line ≡ get_or block index line → seat_of threads line.worker ≡ number → HasCalledLines threads (lines_of threads number (take index block)) (Ok tt) texts a b → KeepsCalls b c
-      → HasSeen (Err fault) c → HasCalledLines threads (lines_of threads number block) (Err fault) texts a c
+      → line ≡ get_or block index line → seat_of threads line.worker ≡ number → HasCalledLines threads (seat_lines threads number (take index block)) (Ok tt) texts a b → KeepsCalls b c
+      → HasSeen (Err fault) c → HasCalledLines threads (seat_lines threads number block) (Err fault) texts a c
   lines_stopped threads number index fault block line texts a b c within is at so keeps events =
-      subst (λ (l : List (Line A)). HasCalledLines threads l (Err fault) texts a c) (sym (lines_of-parts threads number index block))
-      (lines_ended threads fault (lines_of threads number (take index block)) (lines_of threads number (drop index block)) texts a b c so keeps events (lines_of-some threads number index block line within is at))
+      subst (λ (l : List (Line A)). HasCalledLines threads l (Err fault) texts a c) (sym (seat_lines-parts threads number index block))
+      (lines_ended threads fault (seat_lines threads number (take index block)) (seat_lines threads number (drop index block)) texts a b c so keeps events (seat_lines-some threads number index block line within is at))
 
   -- all lines of the block were looked at
   pub lines_done : (threads number index : ℕ) (block : List (Line A)) (texts : List (List ℕ)) (a b : SeatState A) → length block ≤ index
-      → HasCalledLines threads (lines_of threads number (take index block)) (Ok tt) texts a b → HasCalledLines threads (lines_of threads number block) (Ok tt) texts a b
+      → HasCalledLines threads (seat_lines threads number (take index block)) (Ok tt) texts a b → HasCalledLines threads (seat_lines threads number block) (Ok tt) texts a b
   lines_done threads number index block texts a b ended so =
-      subst (λ (l : List (Line A)). HasCalledLines threads (lines_of threads number l) (Ok tt) texts a b) (take_all index block ended) so
+      subst (λ (l : List (Line A)). HasCalledLines threads (seat_lines threads number l) (Ok tt) texts a b) (take_all index block ended) so
 
   -- a worker that calls no line of a block
-  pub worked_none : (threads : ℕ) (block : List (Line A)) (seat : SeatState A) (done : Work A) → lines_of threads seat.number block ≡ [] → done ≡ work seat [] (Ok tt) → HasWorked threads block seat done
+  pub worked_none : (threads : ℕ) (block : List (Line A)) (seat : SeatState A) (done : Work A) → seat_lines threads seat.number block ≡ [] → done ≡ work seat [] (Ok tt) → HasWorked threads block seat done
   worked_none threads block seat done none is =
       subst (λ (w : Work A). HasWorked threads block seat w) (sym is)
       (subst (λ (l : List (Line A)). HasCalledLines threads l (Ok tt) [] seat seat) (sym none) (lines_none threads seat))
 
   -- or has no thread for them
-  pub worked_refused : (threads : ℕ) (block : List (Line A)) (seat : SeatState A) (done : Work A) → 0 < length (lines_of threads seat.number block) → done ≡ work seat [] (Err call.OutOfMemory)
+  pub worked_refused : (threads : ℕ) (block : List (Line A)) (seat : SeatState A) (done : Work A) → 0 < length (seat_lines threads seat.number block) → done ≡ work seat [] (Err call.OutOfMemory)
       → HasWorked threads block seat done
   worked_refused threads block seat done some is =
-      subst (λ (w : Work A). HasWorked threads block seat w) (sym is) (lines_refused threads (lines_of threads seat.number block) seat some)
+      subst (λ (w : Work A). HasWorked threads block seat w) (sym is) (lines_refused threads (seat_lines threads seat.number block) seat some)
 
   -- whatever a worker has called, it may be that it ends out of memory at its first line
-  pub worked_stopped : (threads : ℕ) (block : List (Line A)) (seat : SeatState A) (before done : Work A) → 0 < length (lines_of threads seat.number block) → HasWorked threads block seat before
+  pub worked_stopped : (threads : ℕ) (block : List (Line A)) (seat : SeatState A) (before done : Work A) → 0 < length (seat_lines threads seat.number block) → HasWorked threads block seat before
       → done ≡ work before.seat [] (Err call.OutOfMemory) → HasWorked threads block seat done
   worked_stopped threads block seat before done some so is =
-      let lines = lines_of threads seat.number block in
+      let lines = seat_lines threads seat.number block in
       let begins : IsPrefix (calls seat) (calls before.seat) =
       prefix-trans (calls seat) (calls seat ++ calls_of threads lines so.replies) (calls before.seat) (prefix-append (calls seat) (calls_of threads lines so.replies))
       (calls-begin before.ended (calls seat ++ calls_of threads lines so.replies) (calls before.seat) so.calls_are) in
@@ -207,7 +207,7 @@ module _ {A : Type 0} where
   all-seen : (new : SeatState A) → new.answered ≡ new.seen → IsPrefix new.answered new.seen
   all-seen new same = subst (λ (h : List (Event A)). IsPrefix h new.seen) (sym same) (prefix-self new.seen)
 
-  pub answered_of : (line : Line A) (text : List ℕ) (reply : Reply A) (old new : SeatState A) → HasCalled old new line.command reply → text ≡ on_a_line (reply_text line reply) → HasAnswered line text old new
+  pub answered_of : (line : Line A) (text : List ℕ) (reply : Reply A) (old new : SeatState A) → HasCalled old new line.command reply → text ≡ on_a_line (reply_text line reply) → HasCalledLine line text old new
   answered_of line text reply old new so is =
       record { reply = reply; text_is = is; number = so.number; calls_are = all-called old new line.command reply so; seen = all-seen new so.answered; goes_on = goes_called old new line.command reply so }
 

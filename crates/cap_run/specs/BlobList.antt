@@ -8,13 +8,14 @@ use Rattle.cap_run.specs.declared.encoding.Encoding.{Encoding}
 use Rattle.cap_run.specs.declared.encoding.Encoding.TheVariants.{Binary, Hex}
 
 -- the lines of a text, of which the last may lack its line feed
-abbrev pub lines_of : List ℕ → List (List ℕ)
-lines_of [] = []
-lines_of (byte ∷ bytes) = if byte == 10 then [] ∷ lines_of bytes else onto_first byte (lines_of bytes)
+abbrev pub split_lines : List ℕ → List (List ℕ)
+split_lines [] = []
+split_lines (byte ∷ bytes) =
+    if byte == 10 then [] ∷ split_lines bytes else onto_first byte (split_lines bytes)
 
 -- the input has these lines, where it is known
 abbrev pub HasLines : Option (List ℕ) → List (List ℕ) → Type 0
-HasLines input lines = IfSome input (λ given. lines ≡ lines_of given)
+HasLines input lines = IfSome input (λ given. lines ≡ split_lines given)
 
 -- the length of a blob, in eight bytes with the most significant first
 abbrev pub frame_len : List ℕ → ℕ
@@ -36,5 +37,5 @@ frames (suc most) (byte ∷ bytes) =
 
 -- the texts of the blobs in an input: lines of hex digits, or bytes behind their length
 abbrev pub texts_in : Encoding → List ℕ → List (Option (List ℕ))
-texts_in Hex given = map Some (lines_of given)
+texts_in Hex given = map Some (split_lines given)
 texts_in Binary given = frames (length given) given

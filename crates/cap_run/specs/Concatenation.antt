@@ -54,15 +54,16 @@ module _ {A : Type 0} where
       result_map_both (λ more. more) (numbered_fault encoding number) (text_added encoding group text)
 
   -- the changegroup after blobs with these texts, one after the other, from this number on
-  abbrev pub all_added : Encoding → ℕ → GroupContent A → List (Option (List ℕ)) →
+  abbrev pub texts_added : Encoding → ℕ → GroupContent A → List (Option (List ℕ)) →
       Result (GroupContent A) RunFault
-  all_added encoding number group [] = Ok group
-  all_added encoding number group (text ∷ texts) = and_then (added_at encoding number group text)
-      (λ more. all_added encoding (number + 1) more texts)
+  texts_added encoding number group [] = Ok group
+  texts_added encoding number group (text ∷ texts) = and_then (added_at encoding number group text)
+      (λ more. texts_added encoding (number + 1) more texts)
 
 -- the output for the blobs in an input
-abbrev pub concat_at : (A : Type 0) → Concatenation → List ℕ → Result (List ℕ) RunFault
-concat_at A concatenation given =
-    and_then (all_added {A = A} concatenation.encoding 1 empty_group (texts_in concatenation.encoding given))
+abbrev pub concatenated_at : (A : Type 0) → Concatenation → List ℕ → Result (List ℕ) RunFault
+concatenated_at A concatenation given =
+    and_then (texts_added {A = A} concatenation.encoding 1 empty_group
+    (texts_in concatenation.encoding given))
     (λ group. Ok (encoded concatenation.encoding
     (blob_bytes_with concatenation.key_flags (contents_of group))))

@@ -3,13 +3,13 @@ use Rattle.std.specs.Prelude.{ℕ, ◌≤◌}
 use Rattle.cap_run.specs.declared.program_options.Options.{Options}
 use Rattle.cap_run.specs.declared.program_options.Options.TheVariants.{Concat, Convert, Run, Shell, Show}
 use Rattle.cap_run.specs.declared.program_options.OptionsFault.{OptionsFault}
-use Rattle.cap_run.specs.declared.program_options.OptionsFault.TheVariants.{Refused, Help, Memory}
+use Rattle.cap_run.specs.declared.program_options.OptionsFault.TheVariants.{Refused, Help, OutOfMemory}
 
 -- the exit status: 2 where the words are refused, 0 for the help, and 3 out of memory
 abbrev pub options_status : OptionsFault → ℕ
 options_status (Refused text) = 2
 options_status (Help text) = 0
-options_status Memory = 3
+options_status OutOfMemory = 3
 
 -- the lines of a workload can run on 1 to 63 threads
 abbrev pub IsThreadCount : ℕ → Type 0

@@ -58,12 +58,6 @@ EndsAt (Err call.OutOfMemory) lines count = (count < lines) × (count < events_m
 EndsAt (Err (call.Overtaken front)) lines count = ⊥
 EndsAt (Err call.HistoryFull) lines count = (count < lines) × (count ≡ events_max)
 
--- the first where memory ran out, the second where the history is full; on one thread no call is overtaken
-abbrev pub MatchFault : CallFault → Type 0 → Type 0 → Type 0
-MatchFault call.OutOfMemory refused full = refused
-MatchFault (call.Overtaken front) refused full = ⊥
-MatchFault call.HistoryFull refused full = full
-
 module _ {A : Type 0} where
   abbrev pub commands_of : List (Line A) → List (Command A)
   commands_of lines = map (λ line. line.command) lines

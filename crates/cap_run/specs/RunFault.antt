@@ -1,10 +1,10 @@
 -- How a run ends.
 use Rattle.std.specs.Prelude.{◌≡◌, ◌⊎◌, ℕ, List, Bool, true, false, Result, Ok, Err}
 use Rattle.cap_value.specs.declared.memory.Fault.{Fault}
-use Rattle.cap_value.specs.declared.memory.Fault.TheVariants.{Refused, OutOfMemory}
+use Rattle.cap_value.specs.declared.memory.Fault.TheVariants as memory
 use Rattle.cap_run.specs.declared.fault.RunFault.{RunFault}
 use Rattle.cap_run.specs.declared.fault.RunFault.TheVariants.{Script, NotUtf8, NotHex, Blob, Call, Read}
-use Rattle.cap_run.specs.declared.fault.RunFault.TheVariants.{Write, Memory, Close, Patchset, Concat}
+use Rattle.cap_run.specs.declared.fault.RunFault.TheVariants.{Write, OutOfMemory, Close, Patchset, Concat}
 use Rattle.cap_script.specs.FirstRefused.{IsFirstRefused}
 
 -- the exit status: 1 where the input is refused, and 3 where a call, a read, a write or the closing of the
@@ -19,12 +19,12 @@ exit_status (Concat fault) = 1
 exit_status (Call fault) = 3
 exit_status Read = 3
 exit_status Write = 3
-exit_status Memory = 3
+exit_status OutOfMemory = 3
 exit_status Close = 3
 
 -- the input was not read to its end
 abbrev pub IsUnread : RunFault → Type 0
-IsUnread fault = (fault ≡ Read) ⊎ (fault ≡ Memory)
+IsUnread fault = (fault ≡ Read) ⊎ (fault ≡ OutOfMemory)
 
 -- whether a read failed
 abbrev pub is_read : RunFault → Bool
@@ -55,13 +55,13 @@ RunsNothing fault = Unit {0}
 -- the text spells no workload, or memory ran out
 abbrev pub IsUnspelled : RunFault → Type 0
 IsUnspelled (Script fault) = Unit {0}
-IsUnspelled Memory = Unit {0}
+IsUnspelled OutOfMemory = Unit {0}
 IsUnspelled fault = ⊥
 
 -- the fault of a run whose input is refused, or out of memory
 abbrev pub input_fault : Fault RunFault → RunFault
-input_fault (Refused fault) = fault
-input_fault OutOfMemory = Memory
+input_fault (memory.Refused fault) = fault
+input_fault memory.OutOfMemory = OutOfMemory
 
 -- what follows from this, or its fault
 abbrev pub after : {X Y : Type 0} → Result X RunFault → (X → Result Y RunFault) → Result Y RunFault

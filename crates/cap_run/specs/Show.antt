@@ -16,12 +16,12 @@ use Rattle.cap_show.specs.ShowText.{changeset_text, patchset_text}
 use Rattle.cap_show.specs.Sql.{changeset_sql, patchset_sql}
 
 -- what bytes hold
-abbrev pub contents_of : (A : Type 0) → List ℕ → Result (Contents A) RunFault
-contents_of A bytes = result_map_both (λ contents. contents) Blob (blob_at {A = A} bytes)
+abbrev pub blob_contents : (A : Type 0) → List ℕ → Result (Contents A) RunFault
+blob_contents A bytes = result_map_both (λ contents. contents) Blob (blob_at {A = A} bytes)
 
 -- what an input holds
-abbrev pub contents_at : (A : Type 0) → Encoding → List ℕ → Result (Contents A) RunFault
-contents_at A encoding given = after (decoded encoding given) (contents_of A)
+abbrev pub input_contents : (A : Type 0) → Encoding → List ℕ → Result (Contents A) RunFault
+input_contents A encoding given = after (decoded encoding given) (blob_contents A)
 
 -- its groups and its changes as lines
 abbrev pub lines_text : {A : Type 0} → Contents A → List ℕ

@@ -2,9 +2,9 @@
 ghost use Rattle.std.specs.Prelude.{◌≡◌, ◌∷◌, ◌<◌, false, length, IfErr};
 ghost use Rattle.std.specs.Option.{option_map};
 ghost use Rattle.cap_value.specs.Memory.{LeavesUnlessMemory};
-ghost use Rattle.cap_run.specs.BlobList.{frame_at, lines_of, texts_in};
-ghost use Rattle.cap_run.specs.Concatenation.{added_at, all_added, blob_added, line_added, listed_added};
-ghost use Rattle.cap_run.specs.Concatenation.{numbered_fault, text_added};
+ghost use Rattle.cap_run.specs.BlobList.{frame_at, split_lines, texts_in};
+ghost use Rattle.cap_run.specs.Concatenation.{added_at, blob_added, line_added, listed_added};
+ghost use Rattle.cap_run.specs.Concatenation.{numbered_fault, text_added, texts_added};
 ghost use Rattle.cap_run.specs.RunFault.{input_fault, is_read, RunsNothing};
 
 use crate::fault::{ConcatFault, ListedFault};
@@ -21,8 +21,8 @@ pub(crate) fn add_blobs<A: AllocHandle>(
     given: &[u8],
 ) -> Result<(), Fault<RunFault>>
     ensures content { LeavesUnlessMemory result
-        (all_added encoding 1 group.old (texts_in encoding given.now)) group.new }
-    ensures read { IfErr result (λ fault. is_read (input_fault fault) ≡ false) }
+        (texts_added encoding 1 group.old (texts_in encoding given.now)) group.new }
+    ensures no_failed_read { IfErr result (λ fault. is_read (input_fault fault) ≡ false) }
     ensures early { IfErr result (λ fault. RunsNothing (input_fault fault)) }
 {
     let mut rest = given;
@@ -46,7 +46,7 @@ fn add_numbered<A: AllocHandle>(
 ) -> Result<(), Fault<RunFault>>
     ensures content { LeavesUnlessMemory result
         (added_at encoding number group.old (option_map (λ t. t.now) text.entry)) group.new }
-    ensures read { IfErr result (λ fault. is_read (input_fault fault) ≡ false) }
+    ensures no_failed_read { IfErr result (λ fault. is_read (input_fault fault) ≡ false) }
     ensures early { IfErr result (λ fault. RunsNothing (input_fault fault)) }
 {
     match add_text(alloc, encoding, group, text) {
@@ -155,7 +155,7 @@ fn first_text(encoding: Encoding, given: &[u8]) -> (Option<&[u8]>, &[u8])
 #[tactic(auto, using(crate::proofs::BlobListLemmas::line_at, crate::proofs::BlobListLemmas::line_more, crate::proofs::BlobListLemmas::line_alone))]
 fn first_line(text: &[u8]) -> (&[u8], &[u8])
     requires some { 0 < length text.now }
-    ensures first { lines_of text.now ≡ result.0.now ∷ lines_of result.1.now }
+    ensures first { split_lines text.now ≡ result.0.now ∷ split_lines result.1.now }
     ensures left { length result.1.now < length text.now }
 {
     for at in 0..text.len() {

@@ -3,7 +3,7 @@ ghost use Rattle.std.specs.Prelude.{◌≡◌, ◌++◌, ◌∷◌, ◌+◌, ◌
 ghost use Rattle.std.specs.Prelude.{string_bytes, vec_capacity, vec_len};
 ghost use Rattle.std.specs.List.{AllZip};
 ghost use denote.Param.Send.{Frees, IsSend, IsSync};
-ghost use Rattle.cap_run.specs.Code.Calls.{HasWorked, lines_of, work};
+ghost use Rattle.cap_run.specs.Code.Calls.{HasWorked, seat_lines, work};
 ghost use Rattle.cap_run.specs.Options.{IsThreadCount};
 
 use crate::Gate;
@@ -56,7 +56,7 @@ fn carry_out<J: Naming, A: AllocHandle, T: Wait, G: Gate>(
     task: Task<'_, J, A, T, G>,
 ) -> Worker<J, A>
     requires threads { IsThreadCount task.shared.now.threads }
-    requires given { 0 < length (lines_of task.shared.now.threads task.worker.seat.number task.block.now) }
+    requires given { 0 < length (seat_lines task.shared.now.threads task.worker.seat.number task.block.now) }
     ensures worked { HasWorked task.entry.shared.now.threads task.entry.block.now task.entry.worker.seat
         (work result.seat (map string_bytes result.texts.items) result.ended) }
 {
@@ -179,7 +179,7 @@ fn start<
 ) -> Result<PromisedHandle<Worker<J, A>, Called<'e, J, A>>, Worker<J, A>>
     requires frees { Frees A.Allocator A.dealloc_token }
     requires threads { IsThreadCount task.shared.now.threads }
-    requires given { 0 < length (lines_of task.shared.now.threads task.worker.seat.number task.block.now) }
+    requires given { 0 < length (seat_lines task.shared.now.threads task.worker.seat.number task.block.now) }
     ensures threads { IfOk result (λ handle. handle.promise.threads ≡ task.entry.shared.now.threads) }
     ensures block { IfOk result (λ handle. handle.promise.block.now ≡ task.entry.block.now) }
     ensures worker { IfOk result (λ handle. handle.promise.worker.value.seat ≡ task.entry.worker.seat) }
@@ -199,7 +199,7 @@ fn start<
         requires { IsSend J.row × IsSync J.row × IsSend A.row × IsSync A.row × IsSync T.row × IsSync G.row
             × Frees A.Allocator A.dealloc_token
             × IsThreadCount task.shared.now.threads
-            × (0 < length (lines_of task.shared.now.threads task.worker.seat.number task.block.now)) }
+            × (0 < length (seat_lines task.shared.now.threads task.worker.seat.number task.block.now)) }
         ensures { HasWorked task.entry.shared.now.threads task.entry.block.now task.entry.worker.seat
             (work result.seat (map string_bytes result.texts.items) result.ended) }
     { carry_out(task) };

@@ -37,7 +37,7 @@ makes one changeset of several. Nothing runs before the end of the input, except
 which runs each line as it is read.
 
 What is refused has a code. G1 Syntax, G2 (a limit, with its E) and G3 (a blob, with its D) are of a line
-of a workload, and tell its number. D1 Truncated, D2 BadHeader, D3 BadVarint, D4 BadName, D5 BadOp, D6
+of a workload, and have its number. D1 Truncated, D2 BadHeader, D3 BadVarint, D4 BadName, D5 BadOp, D6
 BadField, D7 Real, D8 BadText, D9 BadRecord and D10 Mixed are of the bytes of a blob. E1 to E20 are of a
 command, as E5 Duplicate; the refusal is its reply, and the next command runs.
 
@@ -84,7 +84,7 @@ Tables:
   scan T              read all rows: scan t
   save B              save all tables under a name: save old
 Sessions:
-  session             make a session, which records changes; its reply tells its number
+  session             make a session, which records changes; its reply has its number
   drop S              end a session: drop 1
   attach S T          let a session record changes to a table: attach 1 t
   attachall S         let it attach each table that changes: attachall 1
@@ -247,7 +247,7 @@ pub fn options(alloc: Global, words: &[String]) -> Result<Options, OptionsFault>
     // The number of threads is in range.
     ensures range { IfOk result IsInRange }
 {
-    let command = command_line(alloc).map_err(|_| OptionsFault::Memory)?;
+    let command = command_line(alloc).map_err(|_| OptionsFault::OutOfMemory)?;
     match command.try_get_matches_from(words) {
         Ok(matches) => Ok(asked_for(&matches)),
         Err(error) => Err(fault_of(alloc, &error)),
@@ -321,11 +321,11 @@ fn encoding(matches: &ArgMatches) -> Encoding {
 // The fault that the parser reports.
 fn fault_of(alloc: Global, error: &Error) -> OptionsFault {
     if error.kind() == ErrorKind::OutOfMemory {
-        return OptionsFault::Memory;
+        return OptionsFault::OutOfMemory;
     }
     match format!(in alloc; "{error}") {
         Ok(text) if error.use_stderr() => OptionsFault::Refused(text),
         Ok(text) => OptionsFault::Help(text),
-        Err(_) => OptionsFault::Memory,
+        Err(_) => OptionsFault::OutOfMemory,
     }
 }

@@ -1,7 +1,7 @@
 //! Concatenates the blobs of an input.
 ghost use Rattle.std.specs.Prelude.{◌≡◌, ◌⊎◌, Err, false, IfSome, IfErr, IfOk, IsErrAnd};
 ghost use Rattle.cap_value.specs.Memory.{ShowsUnlessMemory};
-ghost use Rattle.cap_run.specs.Concatenation.{concat_at};
+ghost use Rattle.cap_run.specs.Concatenation.{concatenated_at};
 ghost use Rattle.cap_run.specs.Conversion.{WritesOutput};
 ghost use Rattle.cap_run.specs.Reads.{EndsReads, ShowsUnlessUnread};
 ghost use Rattle.cap_run.specs.RunFault.{exit_status, input_fault, is_read, IsUnread, RunsNothing};
@@ -29,21 +29,21 @@ pub fn concat_blobs<A: AllocHandle, R: Source, W: RunOutput>(
 ) -> Result<(), RunFault>
     // What is written, where it is known what the reader gives: the concatenation, a beginning of it where
     // a write failed, and else nothing.
-    ensures written { IfSome (R.remaining reader.old) (λ given. IfOk (concat_at A concatenation given)
+    ensures written { IfSome (R.remaining reader.old) (λ given. IfOk (concatenated_at A concatenation given)
         (λ output. WritesOutput output result (W.contents writer.old) (W.contents writer.new))) }
     // The first blob that is refused gives its fault with its number, where it is known what the reader
     // gives.
-    ensures refused { IfSome (R.remaining reader.old) (λ given. IfErr (concat_at A concatenation given)
+    ensures refused { IfSome (R.remaining reader.old) (λ given. IfErr (concatenated_at A concatenation given)
         (λ fault. IsErrAnd result (λ f. (f ≡ fault) ⊎ IsUnread f))) }
     ensures just { IfSome (R.remaining reader.old) (λ given. IfErr result (λ fault.
-        exit_status fault ≡ 1 → concat_at A concatenation given ≡ Err fault)) }
+        exit_status fault ≡ 1 → concatenated_at A concatenation given ≡ Err fault)) }
     // When a failed read is reported, as far as the outcomes of the reads are known.
-    ensures reported { EndsReads R.gave R.failed result reader.old reader.new }
+    ensures read_reported { EndsReads R.gave R.failed result reader.old reader.new }
     // When a failed write is reported, as far as the outcomes of the writes are known.
     ensures write_reported { EndsWrites W.went W.failed result writer.old writer.new }
     // Nothing is written where the input is refused, or out of memory.
     ensures silent { IfErr result (λ fault. exit_status fault ≡ 1 → writer.new ≡ writer.old) }
-    ensures memory { result ≡ Err RunFault.Memory → writer.new ≡ writer.old }
+    ensures memory { result ≡ Err RunFault.OutOfMemory → writer.new ≡ writer.old }
 {
     let output = read_output(alloc, concatenation, reader)?;
     write_output(writer, output.as_slice())
@@ -56,8 +56,8 @@ fn read_output<A: AllocHandle, R: Source>(
     reader: &mut R,
 ) -> Result<Vec<u8, A>, RunFault>
     ensures output { IfSome (R.remaining reader.old) (λ given.
-        ShowsUnlessUnread (λ output. output.items) result (concat_at A concatenation given)) }
-    ensures reported { EndsReads R.gave R.failed result reader.old reader.new }
+        ShowsUnlessUnread (λ output. output.items) result (concatenated_at A concatenation given)) }
+    ensures read_reported { EndsReads R.gave R.failed result reader.old reader.new }
     ensures early { IfErr result RunsNothing }
 {
     let given = read_whole(alloc, reader)?;
@@ -71,8 +71,8 @@ fn concatenated<A: AllocHandle>(
     given: &[u8],
 ) -> Result<Vec<u8, A>, Fault<RunFault>>
     ensures output { ShowsUnlessMemory (λ output. output.items) result
-        (concat_at A concatenation given.now) }
-    ensures read { IfErr result (λ fault. is_read (input_fault fault) ≡ false) }
+        (concatenated_at A concatenation given.now) }
+    ensures no_failed_read { IfErr result (λ fault. is_read (input_fault fault) ≡ false) }
     ensures early { IfErr result (λ fault. RunsNothing (input_fault fault)) }
 {
     let mut group = ChangeGroup::new(alloc);

@@ -34,12 +34,12 @@ pub fn convert_blob<A: AllocHandle, R: Source, W: RunOutput>(
     ensures just { IfSome (R.remaining reader.old) (λ given. IfErr result (λ fault.
         exit_status fault ≡ 1 → converted_at A conversion given ≡ Err fault)) }
     // When a failed read is reported, as far as the outcomes of the reads are known.
-    ensures reported { EndsReads R.gave R.failed result reader.old reader.new }
+    ensures read_reported { EndsReads R.gave R.failed result reader.old reader.new }
     // When a failed write is reported, as far as the outcomes of the writes are known.
     ensures write_reported { EndsWrites W.went W.failed result writer.old writer.new }
     // Nothing is written where the input is refused, or out of memory.
     ensures silent { IfErr result (λ fault. exit_status fault ≡ 1 → writer.new ≡ writer.old) }
-    ensures memory { result ≡ Err RunFault.Memory → writer.new ≡ writer.old }
+    ensures memory { result ≡ Err RunFault.OutOfMemory → writer.new ≡ writer.old }
 {
     let output = read_output(alloc, conversion, reader)?;
     write_output(writer, output.as_slice())
@@ -53,7 +53,7 @@ fn read_output<A: AllocHandle, R: Source>(
 ) -> Result<Vec<u8, A>, RunFault>
     ensures output { IfSome (R.remaining reader.old) (λ given.
         ShowsUnlessUnread (λ output. output.items) result (converted_at A conversion given)) }
-    ensures reported { EndsReads R.gave R.failed result reader.old reader.new }
+    ensures read_reported { EndsReads R.gave R.failed result reader.old reader.new }
     ensures early { IfErr result RunsNothing }
 {
     let bytes = read_bytes(alloc, conversion.encoding, reader)?;
@@ -67,7 +67,7 @@ fn convert<A: AllocHandle>(
     bytes: &[u8],
 ) -> Result<Vec<u8, A>, Fault<RunFault>>
     ensures output { ShowsUnlessMemory (λ output. output.items) result (output_of A conversion bytes.now) }
-    ensures read { IfErr result (λ fault. is_read (input_fault fault) ≡ false) }
+    ensures no_failed_read { IfErr result (λ fault. is_read (input_fault fault) ≡ false) }
     ensures early { IfErr result (λ fault. RunsNothing (input_fault fault)) }
 {
     match target_bytes(alloc, conversion, bytes) {

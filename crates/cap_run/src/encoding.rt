@@ -31,7 +31,7 @@ pub(crate) fn read_bytes<A: AllocHandle, R: Source>(
 ) -> Result<Vec<u8, A>, RunFault>
     ensures bytes { IfSome (R.remaining reader.old) (λ given.
         ShowsUnlessUnread (λ bytes. bytes.items) result (decoded encoding given)) }
-    ensures reported { EndsReads R.gave R.failed result reader.old reader.new }
+    ensures read_reported { EndsReads R.gave R.failed result reader.old reader.new }
     ensures early { IfErr result RunsNothing }
 {
     let given = read_whole(alloc, reader)?;
@@ -45,7 +45,7 @@ fn decode<A: AllocHandle>(
     given: Vec<u8, A>,
 ) -> Result<Vec<u8, A>, Fault<RunFault>>
     ensures bytes { ShowsUnlessMemory (λ bytes. bytes.items) result (decoded encoding given.items) }
-    ensures read { IfErr result (λ fault. is_read (input_fault fault) ≡ false) }
+    ensures no_failed_read { IfErr result (λ fault. is_read (input_fault fault) ≡ false) }
     ensures early { IfErr result (λ fault. RunsNothing (input_fault fault)) }
 {
     match encoding {
@@ -57,7 +57,7 @@ fn decode<A: AllocHandle>(
 // The bytes that these hex digits spell.
 fn decode_hex<A: AllocHandle>(alloc: A, text: &[u8]) -> Result<Vec<u8, A>, Fault<RunFault>>
     ensures bytes { ShowsUnlessMemory (λ bytes. bytes.items) result (decoded Encoding.Hex text.now) }
-    ensures read { IfErr result (λ fault. is_read (input_fault fault) ≡ false) }
+    ensures no_failed_read { IfErr result (λ fault. is_read (input_fault fault) ≡ false) }
     ensures early { IfErr result (λ fault. RunsNothing (input_fault fault)) }
 {
     let digits = text.strip_suffix(b"\n").unwrap_or(text);

@@ -76,8 +76,8 @@ pub enum RunFault {
     Write,
     /// Out of memory for the input, for a new server, or for the whole of what is shown, converted or
     /// concatenated. Nothing was run or printed.
-    #[error("no memory for the input")]
-    Memory,
+    #[error("out of memory")]
+    OutOfMemory,
     /// The server could not be closed. All lines were run and their replies printed.
     #[error("the server was not closed")]
     Close,
@@ -101,7 +101,7 @@ impl RunFault {
             RunFault::Call(_)
             | RunFault::Read
             | RunFault::Write
-            | RunFault::Memory
+            | RunFault::OutOfMemory
             | RunFault::Close => 3,
         }
     }
@@ -116,7 +116,7 @@ impl From<Fault<RunFault>> for RunFault {
     fn from(fault: Fault<RunFault>) -> RunFault {
         match fault {
             Fault::Refused(fault) => fault,
-            Fault::OutOfMemory => RunFault::Memory,
+            Fault::OutOfMemory => RunFault::OutOfMemory,
         }
     }
 }

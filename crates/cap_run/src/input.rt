@@ -31,10 +31,10 @@ pub fn read_whole<A: AllocHandle, R: Source>(
     ensures whole { IfOk result (λ bytes.
         IfSome (R.remaining reader.old) (λ given. bytes.items ≡ given)) }
     ensures unread { IfErr result IsUnread }
-    ensures reported { EndsReads R.gave R.failed result reader.old reader.new }
+    ensures read_reported { EndsReads R.gave R.failed result reader.old reader.new }
 {
     let pieces = read_pieces(alloc, reader)?;
-    pieces.join(alloc).map_err(|_| RunFault::Memory)
+    pieces.join(alloc).map_err(|_| RunFault::OutOfMemory)
 }
 
 // Reads to the end of the reader, in pieces. An interrupted read is made again.
@@ -42,7 +42,7 @@ fn read_pieces<A: AllocHandle, R: Source>(alloc: A, reader: &mut R) -> Result<Pi
     ensures whole { IfOk result (λ pieces.
         IfSome (R.remaining reader.old) (λ given. pieces ≡ given)) }
     ensures unread { IfErr result IsUnread }
-    ensures reported { EndsReads R.gave R.failed result reader.old reader.new }
+    ensures read_reported { EndsReads R.gave R.failed result reader.old reader.new }
 {
     let mut bytes = [0u8; READ_LEN];
     let mut pieces = Pieces::new(alloc);
@@ -57,7 +57,7 @@ fn read_pieces<A: AllocHandle, R: Source>(alloc: A, reader: &mut R) -> Result<Pi
         }
         pieces
             .push(alloc, &bytes[..count])
-            .map_err(|_| RunFault::Memory)?;
+            .map_err(|_| RunFault::OutOfMemory)?;
     }
     Err(RunFault::Read)
 }

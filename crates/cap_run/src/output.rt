@@ -21,7 +21,7 @@ pub fn write_whole<W: RunOutput>(writer: &mut W, bytes: &[u8]) -> Result<(), Run
     ensures ok { OnOk result (Appends (W.contents writer.old) (W.contents writer.new) bytes.now) }
     ensures err { IfErr result (λ fault. (fault ≡ RunFault.Write)
         × AppendsFront (W.contents writer.old) (W.contents writer.new) bytes.now) }
-    ensures reported { EndsWrites W.went W.failed result writer.old writer.new }
+    ensures write_reported { EndsWrites W.went W.failed result writer.old writer.new }
 {
     let mut rest = bytes;
     for _ in 0..WRITES_MAX {
@@ -43,7 +43,7 @@ pub(crate) fn write_output<W: RunOutput>(writer: &mut W, output: &[u8]) -> Resul
     ensures ok { OnOk result (Appends (W.contents writer.old) (W.contents writer.new) output.now) }
     ensures err { IfErr result (λ fault. (fault ≡ RunFault.Write)
         × AppendsFront (W.contents writer.old) (W.contents writer.new) output.now) }
-    ensures reported { EndsWrites W.went W.failed result writer.old writer.new }
+    ensures write_reported { EndsWrites W.went W.failed result writer.old writer.new }
 {
     write_whole(writer, output)?;
     flush(writer)
@@ -58,7 +58,7 @@ pub(crate) fn write_pending<A: AllocHandle, W: RunOutput>(
         × Appends (W.contents writer.old) (W.contents writer.new) (string_bytes pending.old)) }
     ensures err { IfErr result (λ fault. (fault ≡ RunFault.Write)
         × AppendsFront (W.contents writer.old) (W.contents writer.new) (string_bytes pending.old)) }
-    ensures reported { EndsWrites W.went W.failed result writer.old writer.new }
+    ensures write_reported { EndsWrites W.went W.failed result writer.old writer.new }
 {
     write_whole(writer, pending.as_str().as_bytes())?;
     pending.clear();
@@ -75,7 +75,7 @@ pub(crate) fn write_long<A: AllocHandle, W: RunOutput>(
         × Appends (W.contents writer.old) (W.contents writer.new) front) }
     ensures err { IfErr result (λ fault. (fault ≡ RunFault.Write)
         × AppendsFront (W.contents writer.old) (W.contents writer.new) (string_bytes pending.old)) }
-    ensures reported { EndsWrites W.went W.failed result writer.old writer.new }
+    ensures write_reported { EndsWrites W.went W.failed result writer.old writer.new }
 {
     if pending.len() < PIECE_LEN {
         return Ok(());
@@ -91,7 +91,7 @@ pub(crate) fn write_ending<W: RunOutput>(
     ensures ok { OnOk result (Appends (W.contents writer.old) (W.contents writer.new) (ending outcome)) }
     ensures err { IfErr result (λ fault. (fault ≡ RunFault.Write)
         × AppendsFront (W.contents writer.old) (W.contents writer.new) (ending outcome)) }
-    ensures reported { EndsWrites W.went W.failed result writer.old writer.new }
+    ensures write_reported { EndsWrites W.went W.failed result writer.old writer.new }
 {
     write_last_line(outcome, writer)?;
     flush(writer)
@@ -101,7 +101,7 @@ pub(crate) fn write_ending<W: RunOutput>(
 fn flush<W: RunOutput>(writer: &mut W) -> Result<(), RunFault>
     ensures bytes { Keeps (W.contents writer.old) (W.contents writer.new) }
     ensures err { IfErr result (λ fault. fault ≡ RunFault.Write) }
-    ensures reported { EndsWrites W.went W.failed result writer.old writer.new }
+    ensures write_reported { EndsWrites W.went W.failed result writer.old writer.new }
 {
     writer.flush_all().map_err(|_| RunFault::Write)
 }
@@ -115,7 +115,7 @@ fn write_last_line<W: RunOutput>(
     ensures ok { OnOk result (Appends (W.contents writer.old) (W.contents writer.new) (ending outcome)) }
     ensures err { IfErr result (λ fault. (fault ≡ RunFault.Write)
         × AppendsFront (W.contents writer.old) (W.contents writer.new) (ending outcome)) }
-    ensures reported { EndsWrites W.went W.failed result writer.old writer.new }
+    ensures write_reported { EndsWrites W.went W.failed result writer.old writer.new }
 {
     match outcome {
         Ok(()) => write_whole(writer, b""),
@@ -133,7 +133,7 @@ fn write_overtaken<W: RunOutput>(writer: &mut W, front: u64) -> Result<(), RunFa
     ensures err { IfErr result (λ fault. (fault ≡ RunFault.Write)
         × AppendsFront (W.contents writer.old) (W.contents writer.new)
         ((codes "overtaken " ++ decimal front) ++ 10 ∷ [])) }
-    ensures reported { EndsWrites W.went W.failed result writer.old writer.new }
+    ensures write_reported { EndsWrites W.went W.failed result writer.old writer.new }
 {
     let mut digits = Buffer::new();
     if let Err(_) = write_both(writer, b"overtaken ", digits.format(front).as_bytes()) {
@@ -152,7 +152,7 @@ fn write_both<W: RunOutput>(writer: &mut W, first: &[u8], second: &[u8]) -> Resu
         (first.now ++ second.now)) }
     ensures err { IfErr result (λ fault. (fault ≡ RunFault.Write)
         × AppendsFront (W.contents writer.old) (W.contents writer.new) (first.now ++ second.now)) }
-    ensures reported { EndsWrites W.went W.failed result writer.old writer.new }
+    ensures write_reported { EndsWrites W.went W.failed result writer.old writer.new }
 {
     if let Err(_) = write_whole(writer, first) {
         return Err(RunFault::Write);

@@ -35,7 +35,7 @@ pub enum OptionsFault {
     /// The words ask for this help or version text.
     Help(String),
     /// Out of memory.
-    Memory,
+    OutOfMemory,
 }
 
 impl OptionsFault {
@@ -46,7 +46,7 @@ impl OptionsFault {
         match self {
             OptionsFault::Refused(_) => 2,
             OptionsFault::Help(_) => 0,
-            OptionsFault::Memory => 3,
+            OptionsFault::OutOfMemory => 3,
         }
     }
 }

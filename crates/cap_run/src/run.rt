@@ -5,7 +5,7 @@ ghost use Rattle.std.specs.Io.KnownBytes.{Appends};
 ghost use Rattle.cap_core.specs.Answer.{IsLegal, answer, event_by, reply_of, state};
 ghost use Rattle.cap_core.specs.Transition.{next};
 ghost use Rattle.cap_core.specs.declared.event.Event.{Event};
-ghost use Rattle.cap_run.specs.Run.{AppendsFront, BeginsRun, EndsAt, IsRun, MatchFault, Writes, WritesInput};
+ghost use Rattle.cap_run.specs.Run.{AppendsFront, BeginsRun, EndsAt, IsRun, Writes, WritesInput};
 ghost use Rattle.cap_run.specs.Run.{ending, events_max, on_a_line, run_outcome};
 ghost use Rattle.cap_run.specs.Reads.{EndsReads};
 ghost use Rattle.cap_run.specs.RunFault.{exit_status, is_read, is_script, IsNoWorkload, IsOfText, IsUnread};
@@ -15,6 +15,7 @@ ghost use Rattle.cap_script.specs.FirstRefused.{SpellsWithin};
 ghost use Rattle.cap_script.specs.ReplyText.{reply_text};
 ghost use Rattle.cap_script.specs.Script.{SpellsScript};
 ghost use Rattle.cap_script.specs.declared.line.Line.{Line};
+ghost use Rattle.cap_server.specs.Fault.{MatchCallFault};
 
 use crate::input::read_whole;
 use crate::output::{write_ending, write_long, write_pending};
@@ -42,9 +43,9 @@ pub fn run_core<A: AllocHandle, R: Source, W: RunOutput>(
     writer: &mut W,
 ) -> Result<(), RunFault>
     // Exactly the input that is not UTF-8 is refused as such, where it is known what the reader gives.
-    ensures no_text { IfSome (R.remaining reader.old) (λ given. ¬ (IsUtf8 given)
+    ensures not_utf8 { IfSome (R.remaining reader.old) (λ given. ¬ (IsUtf8 given)
         → IsErrAnd result (λ fault. (fault ≡ RunFault.NotUtf8) ⊎ IsUnread fault)) }
-    ensures text { IfSome (R.remaining reader.old) (λ given.
+    ensures only_not_utf8 { IfSome (R.remaining reader.old) (λ given.
         result ≡ Err RunFault.NotUtf8 → ¬ (IsUtf8 given)) }
 
     // A text that is refused is refused at its first line that spells no command within the limits, and no
@@ -52,13 +53,13 @@ pub fn run_core<A: AllocHandle, R: Source, W: RunOutput>(
     // memory.
     ensures refused { IfSome (R.remaining reader.old)
         (λ given. IfErr result (λ fault. IsOfText A fault given)) }
-    ensures read { IfSome (R.remaining reader.old) (λ given. SpellsWithin A given
+    ensures accepted { IfSome (R.remaining reader.old) (λ given. SpellsWithin A given
         → IfErr result (λ fault. is_script fault ≡ false)) }
     ensures no_lines { IfSome (R.remaining reader.old) (λ given. ¬ (SpellsWithin A given)
         → IsErrAnd result IsNoWorkload) }
 
     // When a failed read is reported, as far as the outcomes of the reads are known.
-    ensures reported { EndsReads R.gave R.failed result reader.old reader.new }
+    ensures read_reported { EndsReads R.gave R.failed result reader.old reader.new }
 
     // When a failed write is reported, as far as the outcomes of the writes are known.
     ensures write_reported { EndsWrites W.went W.failed result writer.old writer.new }
@@ -72,7 +73,7 @@ pub fn run_core<A: AllocHandle, R: Source, W: RunOutput>(
         (W.contents writer.old) (W.contents writer.new) }
 {
     let text = read_text(alloc, reader)?;
-    let mut lines = lines_of(alloc, text.as_str())?;
+    let mut lines = parse_lines(alloc, text.as_str())?;
     run_lines(alloc, &mut lines, writer)
 }
 
@@ -83,10 +84,10 @@ pub(crate) fn read_text<A: AllocHandle, R: Source>(
 ) -> Result<String<A>, RunFault>
     ensures whole { IfOk result (λ text.
         IfSome (R.remaining reader.old) (λ given. string_bytes text ≡ given)) }
-    ensures text { IfSome (R.remaining reader.old) (λ given.
+    ensures only_not_utf8 { IfSome (R.remaining reader.old) (λ given.
         result ≡ Err RunFault.NotUtf8 → ¬ (IsUtf8 given)) }
     ensures unread { IfErr result (λ fault. (fault ≡ RunFault.NotUtf8) ⊎ IsUnread fault) }
-    ensures reported { EndsReads R.gave R.failed result reader.old reader.new }
+    ensures read_reported { EndsReads R.gave R.failed result reader.old reader.new }
 {
     text_of(read_whole(alloc, reader)?)
 }
@@ -94,24 +95,24 @@ pub(crate) fn read_text<A: AllocHandle, R: Source>(
 // The text with these bytes, or that they are not UTF-8.
 fn text_of<A: AllocHandle>(bytes: Vec<u8, A>) -> Result<String<A>, RunFault>
     ensures text { IfOk result (λ text. string_bytes text ≡ bytes.items) }
-    ensures no_text { IfErr result (λ fault. (fault ≡ RunFault.NotUtf8) × (¬ (IsUtf8 bytes.items))) }
+    ensures only_not_utf8 { IfErr result (λ fault. (fault ≡ RunFault.NotUtf8) × (¬ (IsUtf8 bytes.items))) }
 {
     String::from_utf8(bytes).map_err(|_| RunFault::NotUtf8)
 }
 
 // The lines of a workload's text, after all of it is parsed once.
-pub(crate) fn lines_of<A: AllocHandle>(alloc: A, text: &str) -> Result<Lines<'_, A>, RunFault>
+pub(crate) fn parse_lines<A: AllocHandle>(alloc: A, text: &str) -> Result<Lines<'_, A>, RunFault>
     ensures whole { IfOk result (λ lines. lines ≡ text.now) }
     ensures spelled { IfOk result (λ lines. (spelled : List (Line A)) × SpellsScript spelled text.now) }
     ensures within { IfOk result (λ lines. SpellsWithin A text.now) }
     ensures early { IfErr result IsUnspelled }
     ensures refused { IfErr result (λ fault. IsOfText A fault text.now) }
-    ensures read { IfErr result (λ fault. SpellsWithin A text.now → is_script fault ≡ false) }
+    ensures accepted { IfErr result (λ fault. SpellsWithin A text.now → is_script fault ≡ false) }
 {
     match Lines::new(alloc, text) {
         Ok(lines) => Ok(lines),
         Err(Fault::Refused(fault)) => Err(RunFault::Script(fault)),
-        Err(Fault::OutOfMemory) => Err(RunFault::Memory),
+        Err(Fault::OutOfMemory) => Err(RunFault::OutOfMemory),
     }
 }
 
@@ -124,7 +125,7 @@ fn run_lines<A: AllocHandle, W: RunOutput>(
     ensures writes { (spelled : List (Line A)) → SpellsScript spelled lines.old
         → Writes spelled result (W.contents writer.old) (W.contents writer.new) }
     ensures status { IfErr result (λ fault. exit_status fault ≡ 3) }
-    ensures read { IfErr result (λ fault. is_read fault ≡ false) }
+    ensures no_failed_read { IfErr result (λ fault. is_read fault ≡ false) }
     ensures write_reported { EndsWrites W.went W.failed result writer.old writer.new }
 {
     let mut pending = String::new(alloc);
@@ -138,7 +139,7 @@ fn run_lines<A: AllocHandle, W: RunOutput>(
 pub(crate) fn run_outcome(outcome: Result<(), CallFault>) -> Result<(), RunFault>
     ensures same { result ≡ run_outcome outcome }
     ensures status { IfErr result (λ fault. exit_status fault ≡ 3) }
-    ensures read { IfErr result (λ fault. is_read fault ≡ false) }
+    ensures no_failed_read { IfErr result (λ fault. is_read fault ≡ false) }
 {
     outcome.map_err(RunFault::Call)
 }
@@ -178,9 +179,9 @@ fn write_replies<A: AllocHandle, W: RunOutput>(
     }
 }
 
-// The fault of a line that is out of memory. A full history comes first.
+// The fault of a line that is out of memory. A full history comes first, and no call is overtaken.
 fn line_fault<A: AllocHandle>(core: &Core<A>) -> CallFault
-    ensures { MatchFault result (core.now.events < events_max) (events_max ≤ core.now.events) }
+    ensures { MatchCallFault result (core.now.events < events_max) (λ _. ⊥) (events_max ≤ core.now.events) }
 {
     if core.events() >= EVENTS_MAX {
         CallFault::HistoryFull
@@ -202,7 +203,7 @@ pub(crate) fn run_line<A: AllocHandle>(
         ≡ string_bytes pending.old ++ on_a_line (reply_text line.now (reply_of h line.now.command)))) }
     ensures room { OnOk result (core.old.events < events_max) }
     ensures full { IfErr result (λ fault.
-        MatchFault fault (core.old.events < events_max) (events_max ≤ core.old.events)) }
+        MatchCallFault fault (core.old.events < events_max) (λ _. ⊥) (events_max ≤ core.old.events)) }
     ensures same { OnErr result (string_bytes pending.new ≡ string_bytes pending.old) }
 {
     legal_histories_grow::<A>();

@@ -27,12 +27,12 @@ pub trait RunOutput {
         requires { 1 ≤ length bytes.now }
         ensures bound { WritesAtMost result bytes.now }
         ensures bytes { WriteAppends (contents self.old) (contents self.new) result bytes.now }
-        ensures reported { ReportsWrite went failed result self.old self.new };
+        ensures write_reported { ReportsWrite went failed result self.old self.new };
 
     /// One flush, as `Write::flush` makes it.
     fn flush_all(&mut self) -> io::Result<()>
         ensures bytes { Keeps (contents self.old) (contents self.new) }
-        ensures reported { ReportsFlush went failed result self.old self.new };
+        ensures write_reported { ReportsFlush went failed result self.old self.new };
 }
 
 impl<W: Write> RunOutput for W {

@@ -39,7 +39,7 @@ pub fn run_shell<A: AllocHandle, R: Source, W: RunOutput, E: RunOutput>(
     // The shell does not end at a line that is refused.
     ensures status { IfErr result (λ fault. exit_status fault ≡ 3) }
     // When a failed read is reported, as far as the outcomes of the reads are known.
-    ensures reported { EndsReads R.gave R.failed result reader.old reader.new }
+    ensures read_reported { EndsReads R.gave R.failed result reader.old reader.new }
     // When a failed write is reported, as far as the outcomes of the writes are known.
     ensures write_reported { EndsBoth W.went W.failed E.went E.failed result
         replies.old replies.new faults.old faults.new }
@@ -92,7 +92,7 @@ fn write_printed<A: AllocHandle, W: RunOutput, E: RunOutput>(
     ensures err { IfErr result (λ fault. (fault ≡ RunFault.Write)
         × AppendsFront (W.contents replies.old) (W.contents replies.new) (string_bytes printed.now.reply)
         × AppendsFront (E.contents faults.old) (E.contents faults.new) (string_bytes printed.now.fault)) }
-    ensures reported { EndsBoth W.went W.failed E.went E.failed result
+    ensures write_reported { EndsBoth W.went W.failed E.went E.failed result
         replies.old replies.new faults.old faults.new }
 {
     if let Err(fault) = write_output(replies, printed.reply.as_str().as_bytes()) {
@@ -108,8 +108,8 @@ fn end<W: RunOutput>(replies: &mut W, fault: CallFault) -> Result<(), RunFault>
         (λ f. (f ≡ fault) × Appends (W.contents replies.old) (W.contents replies.new) (ending (Err fault)))
         (AppendsFront (W.contents replies.old) (W.contents replies.new) (ending (Err fault)))) }
     ensures status { IfErr result (λ why. exit_status why ≡ 3) }
-    ensures read { IfErr result (λ why. is_read why ≡ false) }
-    ensures reported { EndsWrites W.went W.failed result replies.old replies.new }
+    ensures no_failed_read { IfErr result (λ why. is_read why ≡ false) }
+    ensures write_reported { EndsWrites W.went W.failed result replies.old replies.new }
 {
     match write_ending(Err(fault), replies) {
         Ok(()) => Err(RunFault::Call(fault)),
@@ -130,7 +130,7 @@ fn answer_line<A: AllocHandle>(
 {
     match str::from_utf8(line) {
         Ok(text) => answer_text(alloc, core, number, text),
-        Err(_) => tell_no_text(alloc, number),
+        Err(_) => printed_not_utf8(alloc, number),
     }
 }
 
@@ -190,7 +190,7 @@ fn answer_refused<A: AllocHandle>(
     ensures ended { IfErr result (λ fault. fault ≡ CallFault.OutOfMemory) }
 {
     match fault {
-        Fault::Refused(why) => tell_fault(alloc, why),
+        Fault::Refused(why) => printed_script_fault(alloc, why),
         Fault::OutOfMemory => Err(CallFault::OutOfMemory),
     }
 }
@@ -207,31 +207,34 @@ fn nothing<A: AllocHandle>(alloc: A) -> Printed<A>
 }
 
 // The fault of a line that is not UTF-8.
-fn tell_no_text<A: AllocHandle>(alloc: A, number: u64) -> Result<Printed<A>, CallFault>
+fn printed_not_utf8<A: AllocHandle>(alloc: A, number: u64) -> Result<Printed<A>, CallFault>
     ensures fault { IfOk result (λ printed. (string_bytes printed.reply ≡ []) × (string_bytes printed.fault
         ≡ on_a_line (codes "line " ++ (decimal number ++ codes ": not UTF-8")))) }
     ensures memory { IfErr result (λ fault. fault ≡ CallFault.OutOfMemory) }
 {
     match format!(in alloc; "line {number}: not UTF-8") {
-        Ok(text) => tell(alloc, text),
+        Ok(text) => printed_fault(alloc, text),
         Err(_) => Err(CallFault::OutOfMemory),
     }
 }
 
 // The fault of a line that spells no command within the limits.
-fn tell_fault<A: AllocHandle>(alloc: A, fault: ScriptFault) -> Result<Printed<A>, CallFault>
+fn printed_script_fault<A: AllocHandle>(
+    alloc: A,
+    fault: ScriptFault,
+) -> Result<Printed<A>, CallFault>
     ensures fault { IfOk result (λ printed. (string_bytes printed.reply ≡ [])
         × (string_bytes printed.fault ≡ on_a_line (fault_text fault))) }
     ensures memory { IfErr result (λ fault. fault ≡ CallFault.OutOfMemory) }
 {
     match print_fault(alloc, fault) {
-        Ok(text) => tell(alloc, text),
+        Ok(text) => printed_fault(alloc, text),
         Err(_) => Err(CallFault::OutOfMemory),
     }
 }
 
 // A fault with this text.
-fn tell<A: AllocHandle>(alloc: A, text: String<A>) -> Result<Printed<A>, CallFault>
+fn printed_fault<A: AllocHandle>(alloc: A, text: String<A>) -> Result<Printed<A>, CallFault>
     ensures fault { IfOk result (λ printed. (string_bytes printed.reply ≡ [])
         × (string_bytes printed.fault ≡ on_a_line (string_bytes text))) }
     ensures memory { IfErr result (λ fault. fault ≡ CallFault.OutOfMemory) }

@@ -5,7 +5,8 @@ ghost use Rattle.cap_value.specs.Memory.{ShowsUnlessMemory};
 ghost use Rattle.cap_run.specs.Conversion.{WritesOutput};
 ghost use Rattle.cap_run.specs.Reads.{EndsReads, ShowsUnlessUnread};
 ghost use Rattle.cap_run.specs.RunFault.{exit_status, input_fault, is_read, IsUnread, RunsNothing};
-ghost use Rattle.cap_run.specs.Show.{contents_at, contents_of, json_text, lines_text, shown_text, sql_text};
+ghost use Rattle.cap_run.specs.Show.{blob_contents, input_contents, json_text, lines_text, shown_text};
+ghost use Rattle.cap_run.specs.Show.{sql_text};
 ghost use Rattle.cap_run.specs.Writes.{EndsWrites};
 
 use crate::encoding::read_bytes;
@@ -45,22 +46,22 @@ pub fn show_blob<A: AllocHandle, R: Source, W: RunOutput>(
 ) -> Result<(), RunFault>
     // Input that is not hex, or not a blob, is refused with its fault, where it is known what the reader
     // gives.
-    ensures refused { IfSome (R.remaining reader.old) (λ given. IfErr (contents_at A encoding given)
+    ensures refused { IfSome (R.remaining reader.old) (λ given. IfErr (input_contents A encoding given)
         (λ fault. IsErrAnd result (λ f. (f ≡ fault) ⊎ IsUnread f))) }
     ensures just { IfSome (R.remaining reader.old) (λ given. IfErr result (λ fault.
-        exit_status fault ≡ 1 → contents_at A encoding given ≡ Err fault)) }
+        exit_status fault ≡ 1 → input_contents A encoding given ≡ Err fault)) }
     // What is written, where it is known what the reader gives: the text of the blob in this form, or a
     // beginning of it where a write failed.
     ensures shown { IfSome (R.remaining reader.old) (λ given.
-        IfOk (contents_at A encoding given) (λ contents. WritesOutput (shown_text form contents) result
+        IfOk (input_contents A encoding given) (λ contents. WritesOutput (shown_text form contents) result
         (W.contents writer.old) (W.contents writer.new))) }
     // When a failed read is reported, as far as the outcomes of the reads are known.
-    ensures reported { EndsReads R.gave R.failed result reader.old reader.new }
+    ensures read_reported { EndsReads R.gave R.failed result reader.old reader.new }
     // When a failed write is reported, as far as the outcomes of the writes are known.
     ensures write_reported { EndsWrites W.went W.failed result writer.old writer.new }
     // Nothing is written where the input is refused, or out of memory.
     ensures silent { IfErr result (λ fault. exit_status fault ≡ 1 → writer.new ≡ writer.old) }
-    ensures memory { result ≡ Err RunFault.Memory → writer.new ≡ writer.old }
+    ensures memory { result ≡ Err RunFault.OutOfMemory → writer.new ≡ writer.old }
 {
     let blob = read_contents(alloc, encoding, reader)?;
     write_blob(alloc, form, &blob, writer)
@@ -73,8 +74,8 @@ fn read_contents<A: AllocHandle, R: Source>(
     reader: &mut R,
 ) -> Result<Contents<A>, RunFault>
     ensures contents { IfSome (R.remaining reader.old) (λ given.
-        ShowsUnlessUnread (λ contents. contents) result (contents_at A encoding given)) }
-    ensures reported { EndsReads R.gave R.failed result reader.old reader.new }
+        ShowsUnlessUnread (λ contents. contents) result (input_contents A encoding given)) }
+    ensures read_reported { EndsReads R.gave R.failed result reader.old reader.new }
     ensures early { IfErr result RunsNothing }
 {
     let bytes = read_bytes(alloc, encoding, reader)?;
@@ -83,8 +84,8 @@ fn read_contents<A: AllocHandle, R: Source>(
 
 // The content of the blob with these bytes.
 fn contents<A: AllocHandle>(alloc: A, bytes: &[u8]) -> Result<Contents<A>, Fault<RunFault>>
-    ensures contents { ShowsUnlessMemory (λ contents. contents) result (contents_of A bytes.now) }
-    ensures read { IfErr result (λ fault. is_read (input_fault fault) ≡ false) }
+    ensures contents { ShowsUnlessMemory (λ contents. contents) result (blob_contents A bytes.now) }
+    ensures no_failed_read { IfErr result (λ fault. is_read (input_fault fault) ≡ false) }
     ensures early { IfErr result (λ fault. RunsNothing (input_fault fault)) }
 {
     read_blob(alloc, bytes).map_err(|fault| match fault {
@@ -103,11 +104,11 @@ fn write_blob<A: AllocHandle, W: RunOutput>(
     ensures shown { WritesOutput (shown_text form blob.now) result
         (W.contents writer.old) (W.contents writer.new) }
     ensures status { IfErr result (λ fault. exit_status fault ≡ 3) }
-    ensures read { IfErr result (λ fault. is_read fault ≡ false) }
+    ensures no_failed_read { IfErr result (λ fault. is_read fault ≡ false) }
     ensures write_reported { EndsWrites W.went W.failed result writer.old writer.new }
-    ensures memory { result ≡ Err RunFault.Memory → writer.new ≡ writer.old }
+    ensures memory { result ≡ Err RunFault.OutOfMemory → writer.new ≡ writer.old }
 {
-    let text = shown(alloc, form, blob).map_err(|_| RunFault::Memory)?;
+    let text = shown(alloc, form, blob).map_err(|_| RunFault::OutOfMemory)?;
     write_output(writer, text.as_slice())
 }
 
@@ -120,13 +121,13 @@ fn shown<A: AllocHandle>(
     ensures { IfOk result (λ text. text.items ≡ shown_text form blob.now) }
 {
     match form {
-        Form::Text => lines_of(alloc, blob),
-        Form::Sql => sql_of(alloc, blob),
-        Form::Json => json_of(alloc, blob),
+        Form::Text => lines_text(alloc, blob),
+        Form::Sql => sql_text(alloc, blob),
+        Form::Json => json_text(alloc, blob),
     }
 }
 
-fn json_of<A: AllocHandle>(alloc: A, blob: &Contents<A>) -> Result<Vec<u8, A>, OutOfMemory>
+fn json_text<A: AllocHandle>(alloc: A, blob: &Contents<A>) -> Result<Vec<u8, A>, OutOfMemory>
     ensures { IfOk result (λ text. text.items ≡ json_text blob.now) }
 {
     match blob {
@@ -135,7 +136,7 @@ fn json_of<A: AllocHandle>(alloc: A, blob: &Contents<A>) -> Result<Vec<u8, A>, O
     }
 }
 
-fn lines_of<A: AllocHandle>(alloc: A, blob: &Contents<A>) -> Result<Vec<u8, A>, OutOfMemory>
+fn lines_text<A: AllocHandle>(alloc: A, blob: &Contents<A>) -> Result<Vec<u8, A>, OutOfMemory>
     ensures { IfOk result (λ text. text.items ≡ lines_text blob.now) }
 {
     let mut text = Vec::new(alloc);
@@ -155,7 +156,7 @@ fn write_lines<A: AllocHandle, W: Write>(blob: &Contents<A>, output: &mut W) -> 
     }
 }
 
-fn sql_of<A: AllocHandle>(alloc: A, blob: &Contents<A>) -> Result<Vec<u8, A>, OutOfMemory>
+fn sql_text<A: AllocHandle>(alloc: A, blob: &Contents<A>) -> Result<Vec<u8, A>, OutOfMemory>
     ensures { IfOk result (λ text. text.items ≡ sql_text blob.now) }
 {
     let mut text = Vec::new(alloc);

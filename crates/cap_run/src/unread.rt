@@ -61,7 +61,7 @@ impl<A: AllocHandle> Unread<A> {
     fn take_line(&mut self, line: &mut Vec<u8, A>) -> Result<bool, OutOfMemory>
         ensures taken { IfOk result (λ is_whole. (front : List ℕ)
             × (line.new.items ≡ line.old.items ++ front) × IsTaken is_whole front self.old self.new) }
-        ensures none { IfErr result (λ fault. 0 < length self.old) }
+        ensures some { IfErr result (λ fault. 0 < length self.old) }
     {
         let rest = &self.bytes.as_slice()[self.taken..];
         if rest.is_empty() {

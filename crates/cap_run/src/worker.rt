@@ -1,7 +1,7 @@
 //! A worker of a workload, and its calls.
 ghost use Rattle.std.specs.Prelude.{◌≡◌, ◌++◌, ◌∷◌, ◌<◌, ◌≤◌, [], IfOk, MatchBool, OnOk, OnErr, List, ℕ};
 ghost use Rattle.std.specs.Prelude.{Err, IfErr, length, map, string_bytes};
-ghost use Rattle.cap_run.specs.Code.Calls.{HasAnswered, HasCalledLines, HasSeen, KeepsCalls, lines_of};
+ghost use Rattle.cap_run.specs.Code.Calls.{HasCalledLine, HasCalledLines, HasSeen, KeepsCalls, seat_lines};
 ghost use Rattle.cap_run.specs.Options.{IsThreadCount};
 ghost use Rattle.cap_run.specs.Run.{on_a_line};
 ghost use Rattle.cap_run.specs.Workload.{seat_of};
@@ -64,8 +64,8 @@ pub(crate) fn seat_of(threads: u64, worker: Option<u64>) -> u64
 // Whether a line of the block is called from the seat.
 pub(crate) fn is_given<A: AllocHandle>(threads: u64, seat: u64, block: &[Line<A>]) -> bool
     requires { IsThreadCount threads }
-    ensures { MatchBool result (0 < length (lines_of threads seat block.now))
-        (lines_of threads seat block.now ≡ []) }
+    ensures { MatchBool result (0 < length (seat_lines threads seat block.now))
+        (seat_lines threads seat block.now ≡ []) }
 {
     for line in block {
         if seat_of(threads, line.worker) == seat {
@@ -85,7 +85,7 @@ pub(crate) fn answer_lines<J: Naming, A: AllocHandle, T: Wait, G: Gate>(
     requires threads { IsThreadCount shared.now.threads }
     requires none { worker.old.texts.items ≡ [] }
     ensures called { HasCalledLines shared.now.threads
-        (lines_of shared.now.threads worker.old.seat.number block.now)
+        (seat_lines shared.now.threads worker.old.seat.number block.now)
         result (map string_bytes worker.new.texts.items) worker.old.seat worker.new.seat }
 {
     let number = worker.seat.number();
@@ -131,7 +131,7 @@ fn answer_own<J: Naming, A: AllocHandle, T: Wait, G: Gate>(
     worker: &mut Worker<J, A>,
     line: &Line<A>,
 ) -> Result<(), CallFault>
-    ensures ok { OnOk result ((text : List ℕ) × HasAnswered line.now text worker.old.seat worker.new.seat
+    ensures ok { OnOk result ((text : List ℕ) × HasCalledLine line.now text worker.old.seat worker.new.seat
         × (map string_bytes worker.new.texts.items ≡ map string_bytes worker.old.texts.items ++ text ∷ [])) }
     ensures err { OnErr result (KeepsCalls worker.old.seat worker.new.seat
         × (worker.new.texts.items ≡ worker.old.texts.items)) }
@@ -142,7 +142,7 @@ fn answer_own<J: Naming, A: AllocHandle, T: Wait, G: Gate>(
     let call = worker.given;
     worker.given = call.saturating_add(1);
     shared.gate.before(number, call);
-    let answer = answer_line(
+    let answer = call_line(
         shared.rt,
         shared.alloc,
         shared.server,
@@ -159,14 +159,14 @@ fn answer_own<J: Naming, A: AllocHandle, T: Wait, G: Gate>(
 }
 
 // Calls a line's command from a seat, and gives the text of the reply with a line feed.
-pub(crate) fn answer_line<J: Naming, A: AllocHandle, T: Wait>(
+pub(crate) fn call_line<J: Naming, A: AllocHandle, T: Wait>(
     rt: &T,
     alloc: A,
     server: &Server<J, A>,
     seat: &mut Seat<J, A>,
     line: &Line<A>,
 ) -> Result<String<A>, CallFault>
-    ensures ok { IfOk result (λ text. HasAnswered line.now (string_bytes text) seat.old seat.new) }
+    ensures ok { IfOk result (λ text. HasCalledLine line.now (string_bytes text) seat.old seat.new) }
     ensures err { OnErr result (KeepsCalls seat.old seat.new) }
     ensures fault { IfErr result (λ fault. HasSeen (Err fault) seat.new) }
 {

@@ -5,9 +5,9 @@ ghost use Rattle.std.specs.Prelude.{false, string_bytes, vec_capacity, vec_len};
 ghost use Rattle.std.specs.List.{AllZip};
 ghost use denote.Param.Send.{Frees};
 ghost use Rattle.cap_history.specs.Seat.{SeatState};
-ghost use Rattle.cap_run.specs.Code.Calls.{AreSeats, EachAt, EndSo, Gathers, HasAnswered, HasSeen, HasWorked};
-ghost use Rattle.cap_run.specs.Code.Calls.{HaveCalled, IsFaultOf, IsNext, IsWholeBlock, KeepsCalls};
-ghost use Rattle.cap_run.specs.Code.Calls.{RunsLines, unclosed_outcome, work};
+ghost use Rattle.cap_run.specs.Code.Calls.{AreSeats, EachAt, Gathers, HasCalledLine, HasSeen, HasWorked};
+ghost use Rattle.cap_run.specs.Code.Calls.{HaveCalled, HaveEnded, IsFaultOf, IsNext, IsWholeBlock};
+ghost use Rattle.cap_run.specs.Code.Calls.{KeepsCalls, RunsLines, unclosed_outcome, work};
 ghost use Rattle.cap_run.specs.Options.{IsThreadCount};
 ghost use Rattle.cap_run.specs.Run.{IsSpelled, Known};
 ghost use Rattle.cap_run.specs.Reads.{EndsReads};
@@ -21,8 +21,8 @@ ghost use Rattle.cap_script.specs.declared.line.Line.{Line};
 use crate::block::run_block;
 use crate::meeting::{each_meets_first, first_meets_each};
 use crate::output::{write_ending, write_long, write_pending};
-use crate::run::{lines_of, read_text, run_outcome};
-use crate::worker::{Shared, Worker, answer_line, seat_of};
+use crate::run::{parse_lines, read_text, run_outcome};
+use crate::worker::{Shared, Worker, call_line, seat_of};
 use crate::{Gate, RunFault, RunOutput};
 use cap_codec::Source;
 use cap_history::{Naming, Opened, Seat};
@@ -59,9 +59,9 @@ pub fn run_workload<
     requires threads { IsThreadCount threads }
     requires frees { Frees A.Allocator A.dealloc_token }
     // Exactly the input that is not UTF-8 is refused as such, where it is known what the reader gives.
-    ensures no_text { IfSome (R.remaining reader.old) (λ given. ¬ (IsUtf8 given)
+    ensures not_utf8 { IfSome (R.remaining reader.old) (λ given. ¬ (IsUtf8 given)
         → IsErrAnd result (λ fault. (fault ≡ RunFault.NotUtf8) ⊎ IsUnread fault)) }
-    ensures text { IfSome (R.remaining reader.old) (λ given.
+    ensures only_not_utf8 { IfSome (R.remaining reader.old) (λ given.
         result ≡ Err RunFault.NotUtf8 → ¬ (IsUtf8 given)) }
 
     // A text that is refused is refused at its first line that spells no command within the limits, and no
@@ -69,13 +69,13 @@ pub fn run_workload<
     // memory.
     ensures refused { IfSome (R.remaining reader.old)
         (λ given. IfErr result (λ fault. IsOfText A fault given)) }
-    ensures read { IfSome (R.remaining reader.old) (λ given. SpellsWithin A given
+    ensures accepted { IfSome (R.remaining reader.old) (λ given. SpellsWithin A given
         → IfErr result (λ fault. is_script fault ≡ false)) }
     ensures no_lines { IfSome (R.remaining reader.old) (λ given. ¬ (SpellsWithin A given)
         → IsErrAnd result IsNoWorkload) }
 
     // When a failed read is reported, as far as the outcomes of the reads are known.
-    ensures reported { EndsReads R.gave R.failed result reader.old reader.new }
+    ensures read_reported { EndsReads R.gave R.failed result reader.old reader.new }
 
     // When a failed write is reported, as far as the outcomes of the writes are known.
     ensures write_reported { EndsWrites W.went W.failed result writer.old writer.new }
@@ -93,7 +93,7 @@ pub fn run_workload<
         (W.contents writer.old) (W.contents writer.new) }
 {
     let text = read_text(alloc, reader)?;
-    let mut lines = lines_of(alloc, text.as_str())?;
+    let mut lines = parse_lines(alloc, text.as_str())?;
     let opened = Opened::new();
     serve_lines::<Brand, A, T, G, W>(rt, alloc, gate, threads, opened, &mut lines, writer)
 }
@@ -120,20 +120,20 @@ fn serve_lines<
     requires seats { threads + 1 ≡ J.seats }
     requires spelled { (spelled : List (Line A)) × SpellsScript spelled lines.old }
     ensures status { IfErr result (λ fault. exit_status fault ≡ 3) }
-    ensures read { IfErr result (λ fault. is_read fault ≡ false) }
+    ensures no_failed_read { IfErr result (λ fault. is_read fault ≡ false) }
     ensures write_reported { EndsWrites W.went W.failed result writer.old writer.new }
     ensures written { (input : Known) → (spelled : List (Line A)) → IsSpelled input spelled
         → SpellsScript spelled lines.old
         → WritesWorkload A threads input result (W.contents writer.old) (W.contents writer.new) }
 {
     let Ok((server, seats)) = Server::<J, A>::open(opened, alloc, threads + 1) else {
-        return Err(RunFault::Memory);
+        return Err(RunFault::OutOfMemory);
     };
     let Ok(mut back) = Vec::with_capacity(alloc, seats.len()) else {
-        return Err(RunFault::Memory);
+        return Err(RunFault::OutOfMemory);
     };
-    let Ok(workers) = employ(alloc, seats) else {
-        return Err(RunFault::Memory);
+    let Ok(workers) = workers_of(alloc, seats) else {
+        return Err(RunFault::OutOfMemory);
     };
     let shared = Shared {
         rt,
@@ -142,8 +142,8 @@ fn serve_lines<
         gate,
         threads,
     };
-    let (workers, outcome) = run_lines(&shared, lines, workers, writer);
-    hand_back(workers, &mut back);
+    let (workers, outcome) = run_with_workers(&shared, lines, workers, writer);
+    take_seats(workers, &mut back);
     let closed = server.close(back);
     match closed {
         Ok(_closed) => outcome,
@@ -156,7 +156,7 @@ fn outcome_unclosed(outcome: Result<(), RunFault>) -> Result<(), RunFault>
     ensures same { result ≡ unclosed_outcome outcome }
     ensures status { IfErr outcome (λ fault. exit_status fault ≡ 3)
         → IfErr result (λ fault. exit_status fault ≡ 3) }
-    ensures read { IfErr outcome (λ fault. is_read fault ≡ false)
+    ensures no_failed_read { IfErr outcome (λ fault. is_read fault ≡ false)
         → IfErr result (λ fault. is_read fault ≡ false) }
 {
     match outcome {
@@ -166,7 +166,7 @@ fn outcome_unclosed(outcome: Result<(), RunFault>) -> Result<(), RunFault>
 }
 
 // A worker for each seat.
-fn employ<J: Naming, A: AllocHandle>(
+fn workers_of<J: Naming, A: AllocHandle>(
     alloc: A,
     seats: Vec<Seat<J, A>, A>,
 ) -> Result<Vec<Worker<J, A>, A>, OutOfMemory>
@@ -185,7 +185,7 @@ fn employ<J: Naming, A: AllocHandle>(
 }
 
 // Takes the seats from the workers.
-fn hand_back<J: Naming, A: AllocHandle>(
+fn take_seats<J: Naming, A: AllocHandle>(
     workers: Vec<Worker<J, A>, A>,
     seats: &mut Vec<Seat<J, A>, A>,
 )
@@ -204,7 +204,7 @@ fn hand_back<J: Naming, A: AllocHandle>(
 }
 
 // Runs the lines, and writes their replies and the fault at which they ended.
-fn run_lines<
+fn run_with_workers<
     J: Naming + Send + Sync,
     A: AllocHandle + Send + Sync,
     T: Threads + Wait + Sync,
@@ -221,7 +221,7 @@ fn run_lines<
     requires seats { AreSeats shared.now.threads (map (λ w. w.seat) workers.items) }
     requires spelled { (spelled : List (Line A)) × SpellsScript spelled lines.old }
     ensures status { IfErr result.1 (λ fault. exit_status fault ≡ 3) }
-    ensures read { IfErr result.1 (λ fault. is_read fault ≡ false) }
+    ensures no_failed_read { IfErr result.1 (λ fault. is_read fault ≡ false) }
     ensures write_reported { EndsWrites W.went W.failed result.1 writer.old writer.new }
     ensures len { vec_len result.0 ≡ vec_len workers }
     ensures runs { (spelled : List (Line A)) → SpellsScript spelled lines.old
@@ -245,11 +245,11 @@ fn write_rest<A: AllocHandle, W: RunOutput>(
     outcome: Result<(), CallFault>,
 ) -> Result<(), RunFault>
     ensures status { IfErr result (λ fault. exit_status fault ≡ 3) }
-    ensures read { IfErr result (λ fault. is_read fault ≡ false) }
+    ensures no_failed_read { IfErr result (λ fault. is_read fault ≡ false) }
     ensures write_reported { EndsWrites W.went W.failed result writer.old writer.new }
     ensures runs { (threads : ℕ) → (lines : List (Line A)) → (a : List (SeatState A))
         → (b : List (SeatState A)) → (known : Known)
-        → EndSo threads lines outcome (string_bytes pending.old) a b known (W.contents writer.old)
+        → HaveEnded threads lines outcome (string_bytes pending.old) a b known (W.contents writer.old)
         → RunsLines threads lines result a b known (W.contents writer.new) }
 {
     write_pending(writer, pending)?;
@@ -284,7 +284,7 @@ fn answer_all<
     ensures status { IfErr result.1 (λ fault. fault ≡ RunFault.Write) }
     ensures write_reported { EndsWrites W.went W.failed result.1 writer.old writer.new }
     ensures called { (spelled : List (Line A)) → SpellsScript spelled lines.old → MatchResult result.1
-        (λ ended. EndSo shared.now.threads spelled ended (string_bytes pending.new)
+        (λ ended. HaveEnded shared.now.threads spelled ended (string_bytes pending.new)
         (map (λ w. w.seat) workers.items)
         (map (λ w. w.seat) result.0.items) (W.contents writer.old) (W.contents writer.new))
         (λ fault. RunsLines shared.now.threads spelled (Err RunFault.Write) (map (λ w. w.seat) workers.items)
@@ -424,12 +424,12 @@ fn answer_here<J: Naming, A: AllocHandle, T: Wait, G: Gate>(
     pending: &mut String<A>,
 ) -> Result<(), CallFault>
     ensures ok { OnOk result ((text : List ℕ) × (string_bytes pending.new ≡ string_bytes pending.old ++ text)
-        × HasAnswered line.now text seat.old seat.new) }
+        × HasCalledLine line.now text seat.old seat.new) }
     ensures err { OnErr result ((string_bytes pending.new ≡ string_bytes pending.old)
         × KeepsCalls seat.old seat.new) }
     ensures fault { HasSeen result seat.new }
 {
-    let text = answer_line(shared.rt, shared.alloc, shared.server, seat, line)?;
+    let text = call_line(shared.rt, shared.alloc, shared.server, seat, line)?;
     match pending.push_str(text.as_str()) {
         Ok(()) => Ok(()),
         Err(_) => Err(CallFault::OutOfMemory),

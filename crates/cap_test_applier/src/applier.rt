@@ -1,5 +1,5 @@
 //! Blobs are applied with each request for memory refused. What comes of a change under each answer of a
-//! policy is told by the program's examples (examples/apply).
+//! policy is in the program's examples (examples/apply).
 use cap_apply::{Answer, Policy, apply};
 use cap_codec::{Contents, read_blob};
 use cap_database::{Action, Cause, Database, Op};

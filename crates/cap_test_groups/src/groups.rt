@@ -234,7 +234,7 @@ fn refuses<A: AllocHandle>(
         return false;
     };
     let answer = group.add(&added);
-    matches!(answer, Err(Fault::Refused(told)) if told == why) && has(alloc, group, before)
+    matches!(answer, Err(Fault::Refused(refusal)) if refusal == why) && has(alloc, group, before)
 }
 
 // Whether the blob is added.

@@ -4,7 +4,7 @@ use Rattle.cap_codec.specs.StreamCalls.{AllWent, Calls}
 use Rattle.cap_run.specs.Reads.{EndsReads}
 use Rattle.cap_run.specs.Writes.{EndsBoth, EndsWrites}
 use Rattle.cap_run.specs.declared.fault.RunFault.{RunFault}
-use Rattle.cap_run.specs.declared.fault.RunFault.TheVariants.{Blob, Call, Close, Concat, Memory, NotHex, NotUtf8, Patchset, Read, Script, Write}
+use Rattle.cap_run.specs.declared.fault.RunFault.TheVariants.{Blob, Call, Close, Concat, NotHex, NotUtf8, OutOfMemory, Patchset, Read, Script, Write}
 
 module _ {S : Type 0} (has_failed : S → Bool) where
   -- a call that did not fail
@@ -34,7 +34,7 @@ module _ {S : Type 0} (has_failed : S → Bool) where
   read_reported (Err (Call fault)) a b so fresh failed = none_failed a b so fresh failed
   read_reported (Err Read) a b so fresh failed = refl
   read_reported (Err Write) a b so fresh failed = none_failed a b so fresh failed
-  read_reported (Err Memory) a b so fresh failed = none_failed a b so fresh failed
+  read_reported (Err OutOfMemory) a b so fresh failed = none_failed a b so fresh failed
   read_reported (Err Close) a b so fresh failed = none_failed a b so fresh failed
 
   pub write_reported : {X : Type 0} (result : Result X RunFault) (a b : S) → EndsWrites Stays Fails result a b → has_failed a ≡ false → has_failed b ≡ true → result ≡ Err Write
@@ -48,7 +48,7 @@ module _ {S : Type 0} (has_failed : S → Bool) where
   write_reported (Err (Call fault)) a b so fresh failed = none_failed a b so fresh failed
   write_reported (Err Read) a b so fresh failed = none_failed a b so fresh failed
   write_reported (Err Write) a b so fresh failed = refl
-  write_reported (Err Memory) a b so fresh failed = none_failed a b so fresh failed
+  write_reported (Err OutOfMemory) a b so fresh failed = none_failed a b so fresh failed
   write_reported (Err Close) a b so fresh failed = none_failed a b so fresh failed
 
 -- ---- two writers

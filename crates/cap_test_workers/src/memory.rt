@@ -49,7 +49,7 @@ fn ends_for_memory(replies: &str, written: &[u8]) -> bool {
 fn is_as_it_should(outcome: Result<(), RunFault>, replies: &str, written: &[u8]) -> bool {
     match outcome {
         Ok(()) => written == replies.as_bytes(),
-        Err(RunFault::Memory) => written.is_empty(),
+        Err(RunFault::OutOfMemory) => written.is_empty(),
         Err(RunFault::Call(CallFault::OutOfMemory)) => ends_for_memory(replies, written),
         _ => false,
     }
@@ -80,7 +80,7 @@ fn each_allocation_of_a_run_may_be_refused(rt: HostRuntime) -> Result<(), Fail> 
         }
     }
     assert!(rt; !memory.has_refused());
-    assert_eq!(rt; RunFault::Memory.status(), 3);
+    assert_eq!(rt; RunFault::OutOfMemory.status(), 3);
     assert_eq!(rt; RunFault::Call(CallFault::OutOfMemory).status(), 3);
     Ok(())
 }
@@ -101,7 +101,7 @@ fn out_of_memory_for_a_blob(rt: HostRuntime) -> Result<(), Fail> {
         ) {
             Ok(()) => assert!(rt; written.as_slice() == SHOWN.as_bytes()),
             Err(fault) => {
-                assert_eq!(rt; fault, RunFault::Memory, "{number}");
+                assert_eq!(rt; fault, RunFault::OutOfMemory, "{number}");
                 assert!(rt; written.is_empty(), "{number}");
                 ended = ended.saturating_add(1);
             }
@@ -125,7 +125,7 @@ fn out_of_memory_for_a_conversion(rt: HostRuntime) -> Result<(), Fail> {
             match convert_blob(&memory, conversion, &mut CHANGESET.as_bytes(), &mut written) {
                 Ok(()) => assert!(rt; written.as_slice() == output.as_bytes()),
                 Err(fault) => {
-                    assert_eq!(rt; fault, RunFault::Memory, "{number}");
+                    assert_eq!(rt; fault, RunFault::OutOfMemory, "{number}");
                     assert!(rt; written.is_empty(), "{number}");
                     ended = ended.saturating_add(1);
                 }
@@ -149,7 +149,7 @@ fn out_of_memory_for_a_concatenation(rt: HostRuntime) -> Result<(), Fail> {
         match concat_blobs(&memory, TOGETHER, &mut TO_JOIN.as_bytes(), &mut written) {
             Ok(()) => assert!(rt; written.as_slice() == JOINED.as_bytes()),
             Err(fault) => {
-                assert_eq!(rt; fault, RunFault::Memory, "{number}");
+                assert_eq!(rt; fault, RunFault::OutOfMemory, "{number}");
                 assert!(rt; written.is_empty(), "{number}");
                 ended = ended.saturating_add(1);
             }

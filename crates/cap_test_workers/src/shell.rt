@@ -1,4 +1,4 @@
-//! Shells: lines with what is printed and told of each, refused memory, and streams that fail.
+//! Shells: lines with the reply and the fault of each, refused memory, and streams that fail.
 use crate::rows::WORKLOADS;
 use crate::{Watched, shell_watched};
 use cap_run::{RunFault, run_shell};
@@ -117,11 +117,11 @@ fn lines_and_replies(rt: HostRuntime) -> Result<(), Fail> {
 #[test]
 fn workloads(rt: HostRuntime) -> Result<(), Fail> {
     for (text, replies) in WORKLOADS {
-        let (mut written, mut told) = (Vec::new(rt.alloc()), Vec::new(rt.alloc()));
-        let outcome = run_shell(rt.alloc(), &mut text.as_bytes(), &mut written, &mut told);
+        let (mut written, mut faults) = (Vec::new(rt.alloc()), Vec::new(rt.alloc()));
+        let outcome = run_shell(rt.alloc(), &mut text.as_bytes(), &mut written, &mut faults);
         assert_eq!(rt; outcome, Ok(()), "{text}");
         assert_eq!(rt; written.as_slice(), replies.as_bytes(), "{text}");
-        assert!(rt; told.is_empty(), "{text}");
+        assert!(rt; faults.is_empty(), "{text}");
     }
     Ok(())
 }
@@ -194,8 +194,13 @@ fn each_allocation_of_a_shell_may_be_refused(rt: HostRuntime) -> Result<(), Fail
     let mut ended = 0u64;
     for number in 1..CALLS_MAX {
         memory.refuse(number);
-        let (mut written, mut told) = (Vec::new(rt.alloc()), Vec::new(rt.alloc()));
-        let outcome = run_shell(&memory, &mut lines.text.as_slice(), &mut written, &mut told);
+        let (mut written, mut faults) = (Vec::new(rt.alloc()), Vec::new(rt.alloc()));
+        let outcome = run_shell(
+            &memory,
+            &mut lines.text.as_slice(),
+            &mut written,
+            &mut faults,
+        );
         if outcome.is_err() {
             let fault = RunFault::Call(CallFault::OutOfMemory);
             assert_eq!(rt; outcome, Err(fault), "{number}");

@@ -140,8 +140,8 @@ pub fn shell_watched<R: Read, W: Write, E: Write>(
     requires replies { replies.old.has_failed ≡ false }
     requires faults { faults.old.has_failed ≡ false }
     ensures read { reader.new.has_failed ≡ true → result ≡ Err RunFault.Read }
-    ensures write { replies.new.has_failed ≡ true → result ≡ Err RunFault.Write }
-    ensures tell { faults.new.has_failed ≡ true → result ≡ Err RunFault.Write }
+    ensures write_replies { replies.new.has_failed ≡ true → result ≡ Err RunFault.Write }
+    ensures write_faults { faults.new.has_failed ≡ true → result ≡ Err RunFault.Write }
 {
     run_shell(alloc, reader, replies, faults)
 }

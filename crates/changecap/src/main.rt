@@ -42,7 +42,7 @@ fn explain(rt: &(impl Print + Eprint), fault: &OptionsFault) -> u8 {
     let printed = match fault {
         OptionsFault::Refused(text) => eprint!(rt; "{text}"),
         OptionsFault::Help(text) => print!(rt; "{text}"),
-        OptionsFault::Memory => Ok(()),
+        OptionsFault::OutOfMemory => Ok(()),
     };
     if printed.is_err() {
         return FAILED;

@@ -62,7 +62,7 @@ module _ {A : Type 0} where
       AllByRecursion (λ seat. IsPrefix seat.answered seat.seen) seats × EachSawIn (first_seen seats) seats
 
   -- the seat has made this line's call, and no other; the text is that of the reply
-  pub record HasAnswered (line : Line A) (text : List ℕ) (old new : SeatState A) : Type 0 where
+  pub record HasCalledLine (line : Line A) (text : List ℕ) (old new : SeatState A) : Type 0 where
     pub reply : Reply A
     pub text_is : text ≡ on_a_line (reply_text line reply)
     pub number : new.number ≡ old.number
@@ -78,8 +78,8 @@ module _ {A : Type 0} where
     pub goes_on : GoesOn old new
 
   -- the lines that are called from a seat
-  abbrev pub lines_of : ℕ → ℕ → List (Line A) → List (Line A)
-  lines_of threads number lines = filter (λ line. nat_eq (seat_of threads line.worker) number) lines
+  abbrev pub seat_lines : ℕ → ℕ → List (Line A) → List (Line A)
+  seat_lines threads number lines = filter (λ line. nat_eq (seat_of threads line.worker) number) lines
 
   -- the text of each reply, on a line of its own
   abbrev pub reply_texts : List (Line A) → List (Reply A) → List (List ℕ)
@@ -107,7 +107,7 @@ module _ {A : Type 0} where
   -- a worker that had this seat has called its lines of a block
   abbrev pub HasWorked : ℕ → List (Line A) → SeatState A → Work A → Type 0
   HasWorked threads block old new =
-      HasCalledLines threads (lines_of threads old.number block) new.ended new.texts old new.seat
+      HasCalledLines threads (seat_lines threads old.number block) new.ended new.texts old new.seat
 
   -- out of memory, or the fault that ended one of the workers
   abbrev pub IsFaultOf : List (Work A) → Ended → Type 0
@@ -247,7 +247,7 @@ module _ {A : Type 0} where
     pub spelled : OnOk ended (SpellsScript left behind)
 
   -- how all lines ended, and what of the replies was written
-  abbrev pub EndSo : ℕ → List (Line A) → Ended → List ℕ → List (SeatState A) → List (SeatState A) → Known
+  abbrev pub HaveEnded : ℕ → List (Line A) → Ended → List ℕ → List (SeatState A) → List (SeatState A) → Known
       → Known → Type 0
-  EndSo threads lines ended pending a b old new =
+  HaveEnded threads lines ended pending a b old new =
       (written : List ℕ) × HaveCalled threads lines ended (written ++ pending) a b × Appends old new written

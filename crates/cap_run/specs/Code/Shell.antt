@@ -4,8 +4,9 @@ use Rattle.std.specs.Prelude.{length}
 use Rattle.cap_core.specs.Answer.{IsLegal, State, state}
 use Rattle.cap_core.specs.Table.{BlobsFit}
 use Rattle.cap_core.specs.declared.event.Event.{Event}
+use Rattle.cap_server.specs.Fault.{MatchCallFault}
 use Rattle.cap_server.specs.declared.fault.CallFault.{CallFault}
-use Rattle.cap_run.specs.Run.{MatchFault, events_max}
+use Rattle.cap_run.specs.Run.{events_max}
 use Rattle.cap_run.specs.Shell.{IsReadAs, ReadLine, after_line, fault_of, reply_to}
 use Rattle.cap_run.specs.declared.fault.RunFault.{RunFault}
 use Rattle.cap_run.specs.declared.fault.RunFault.TheVariants.{Call, Write}
@@ -30,6 +31,6 @@ module _ {A : Type 0} where
       (line : ReadLine A) × IsReadAs number text line × Leaves (after_line history line) core
       × (reply ≡ reply_to history line) × (fault ≡ fault_of number line)
 
-  -- out of memory, or a full history
+  -- out of memory, or a full history; on one thread no call is overtaken
   abbrev pub MayEnd : CallFault → State A → Type 0
-  MayEnd fault core = MatchFault fault (Unit {0}) (events_max ≤ core.events)
+  MayEnd fault core = MatchCallFault fault (Unit {0}) (λ front. ⊥) (events_max ≤ core.events)

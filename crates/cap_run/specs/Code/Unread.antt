@@ -3,7 +3,7 @@ use Rattle.std.specs.Prelude.{◌≡◌, ◌⊎◌, ℕ, ◌+◌, ◌≤◌, Boo
 use Rattle.std.specs.Prelude.{None, Some, length}
 use Rattle.std.specs.Io.KnownBytes.{Consumes, IsAtEnd, Keeps, prepend_known}
 use Rattle.cap_codec.specs.StreamCalls.{Calls, LastFailed}
-use Rattle.cap_run.specs.BlobList.{lines_of}
+use Rattle.cap_run.specs.BlobList.{split_lines}
 use Rattle.cap_run.specs.Run.{Known}
 use Rattle.cap_run.specs.declared.unread.ReadFault.{ReadFault}
 use Rattle.cap_run.specs.declared.unread.ReadFault.TheVariants.{Failed as ReadFailed, OutOfMemory}
@@ -13,7 +13,7 @@ use Rattle.cap_script.specs.Script.{has_line_feed}
 abbrev pub CutsLine : List ℕ → Known → Known → Type 0
 CutsLine line None new = Unit {0}
 CutsLine line (Some given) None = ⊥
-CutsLine line (Some given) (Some rest) = lines_of given ≡ line ∷ lines_of rest
+CutsLine line (Some given) (Some rest) = split_lines given ≡ line ∷ split_lines rest
 
 -- the first where memory ran out, the second where a read failed
 abbrev pub MatchRead : ReadFault → Type 0 → Type 0 → Type 0

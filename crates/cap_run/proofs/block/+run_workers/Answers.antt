@@ -1,5 +1,5 @@
 use Rattle.std.proofs.Common.{◌∙◌, ap, map, string_bytes, sym}
-use Rattle.cap_run.specs.Code.Calls.{lines_of, work}
+use Rattle.cap_run.specs.Code.Calls.{seat_lines, work}
 use Rattle.cap_run.proofs.GatherLemmas.{worked_back}
 use Rattle.cap_run.proofs.WorkerLemmas.{work_same, worked_none, worked_promised}
 use Rattle.cap_run.proofs.block.+run_workers.Goals as goal
@@ -11,7 +11,7 @@ returns-then-not-is_given-clause-worked g t c =
     let block = c.args.block.now in
     worked_back (λ w. w.seat) (λ w. work w.seat (map string_bytes w.texts.items) w.ended) threads block c.args.workers.now.items c.pop.new.self.items c.run_workers.new.workers.items _
     c.in-Some.worker c.ended.result c.in-Some.ensures.items c.push_reserved.ensures.items c.run_workers.ensures.worked
-    (worked_none threads block c.in-Some.worker.seat _ (ap (λ n. lines_of threads n block) (sym c.number.ensures.number) ∙ (rw c.if-not-is_given.true at c.is_given.ensures))
+    (worked_none threads block c.in-Some.worker.seat _ (ap (λ n. seat_lines threads n block) (sym c.number.ensures.number) ∙ (rw c.if-not-is_given.true at c.is_given.ensures))
     (work_same _ _ _ _ _ _ c.ended.ensures.seat (ap (map string_bytes) c.ended.ensures.texts) c.ended.ensures.ended))
 
 -- it had a thread

@@ -23,15 +23,15 @@ returns-in-Err-clause-err g c =
           (front_sooner _ _ (codes "overtaken " ++ c.as_bytes.result.now) (10 ∷ []) c.in-Err.ensures.err.1),
     )
 
-pub returns-in-Err-write_whole-clause-reported : goal.returns-in-Err-write_whole-clause-reported
-returns-in-Err-write_whole-clause-reported g c =
-    fault_later g.W.RunOutput.went g.W.RunOutput.failed Write c.args.writer.now c.write_both.new.writer c.write_whole.new.writer c.in_default.ensures.reported
-    (write_fault g.W.RunOutput.went g.W.RunOutput.failed c.in-Err-write_whole.field-0 c.write_both.new.writer c.write_whole.new.writer c.in-Err-write_whole.ensures.err.0 c.in-Err-write_whole.ensures.reported)
+pub returns-in-Err-write_whole-clause-write_reported : goal.returns-in-Err-write_whole-clause-write_reported
+returns-in-Err-write_whole-clause-write_reported g c =
+    fault_later g.W.RunOutput.went g.W.RunOutput.failed Write c.args.writer.now c.write_both.new.writer c.write_whole.new.writer c.in_default.ensures.write_reported
+    (write_fault g.W.RunOutput.went g.W.RunOutput.failed c.in-Err-write_whole.field-0 c.write_both.new.writer c.write_whole.new.writer c.in-Err-write_whole.ensures.err.0 c.in-Err-write_whole.ensures.write_reported)
 
-pub returns-in-Err-clause-reported : goal.returns-in-Err-clause-reported
-returns-in-Err-clause-reported g c =
-    write_fault g.W.RunOutput.went g.W.RunOutput.failed c.in-Err.field-0 c.args.writer.now c.write_both.new.writer c.in-Err.ensures.err.0 c.in-Err.ensures.reported
+pub returns-in-Err-clause-write_reported : goal.returns-in-Err-clause-write_reported
+returns-in-Err-clause-write_reported g c =
+    write_fault g.W.RunOutput.went g.W.RunOutput.failed c.in-Err.field-0 c.args.writer.now c.write_both.new.writer c.in-Err.ensures.err.0 c.in-Err.ensures.write_reported
 
-pub returns-clause-reported : goal.returns-clause-reported
-returns-clause-reported g c =
-    went_on g.W.RunOutput.went g.W.RunOutput.failed c.args.writer.now c.write_both.new.writer c.write_whole.new.writer c.in_default.ensures.reported c.in_default-write_whole.ensures.reported
+pub returns-clause-write_reported : goal.returns-clause-write_reported
+returns-clause-write_reported g c =
+    went_on g.W.RunOutput.went g.W.RunOutput.failed c.args.writer.now c.write_both.new.writer c.write_whole.new.writer c.in_default.ensures.write_reported c.in_default-write_whole.ensures.write_reported

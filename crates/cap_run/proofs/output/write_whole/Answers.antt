@@ -8,5 +8,5 @@ pub loop-preserved : goal.loop-preserved
 loop-preserved g c = record {
   written = rw (take_rest c.loop.rest.now c.in-Ok.count) (writes_more _ _ _ c.args.bytes.now c.loop.rest.now c.in-Ok.count c.loop.invariant.written c.in-Ok.ensures.bytes);
   went = one_write g.W.RunOutput.went g.W.RunOutput.failed c.loop.counter c.args.writer.now c.loop.writer c.write_some.new.self c.loop.invariant.went
-      (write_went g.W.RunOutput.went g.W.RunOutput.failed c.in-Ok.count c.loop.writer c.write_some.new.self (λ e. omega arith) c.in-Ok.ensures.reported);
+      (write_went g.W.RunOutput.went g.W.RunOutput.failed c.in-Ok.count c.loop.writer c.write_some.new.self (λ e. omega arith) c.in-Ok.ensures.write_reported);
 }

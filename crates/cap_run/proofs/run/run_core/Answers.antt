@@ -9,16 +9,16 @@ use Rattle.cap_run.proofs.OutputLemmas.{none_reported}
 use Rattle.cap_run.proofs.RunLemmas.{writes_input, writes_nothing}
 use Rattle.cap_run.proofs.run.run_core.Goals as goal
 
-pub returns-clause-no_text : goal.returns-clause-no_text
-returns-clause-no_text g c =
+pub returns-clause-not_utf8 : goal.returns-clause-not_utf8
+returns-clause-not_utf8 g c =
     text_known (λ given. IsErrAnd c.run_lines.result (λ fault. (fault ≡ NotUtf8) ⊎ IsUnread fault)) (g.R.Source.remaining c.args.reader.now)
     (string_bytes c.in_ok-text.text) c.as_str.result.now c.as_str.ensures.value c.in_ok-text.ensures.whole c.as_str.utf8
 
 pub returns-clause-silent : goal.returns-clause-silent
 returns-clause-silent g c = not_of_input (c.run_lines.new.writer ≡ c.args.writer.now) c.run_lines.result c.run_lines.ensures.status
 
-pub returns-clause-text : goal.returns-clause-text
-returns-clause-text g c = no_text_fault (g.R.Source.remaining c.args.reader.now) c.run_lines.result c.run_lines.ensures.status
+pub returns-clause-only_not_utf8 : goal.returns-clause-only_not_utf8
+returns-clause-only_not_utf8 g c = no_text_fault (g.R.Source.remaining c.args.reader.now) c.run_lines.result c.run_lines.ensures.status
 
 pub returns-clause-written : goal.returns-clause-written
 returns-clause-written g c =
@@ -33,25 +33,25 @@ returns-in_err-text-clause-written g c =
     let p = err_from_is_err_and c.from_residual.result c.from_residual.ensures.1 in
     rw (p.1, p.2) (writes_nothing g.row.A.Denot (g.R.Source.remaining c.args.reader.now) c.in_err-text.field-0.0 _ (unread_early c.in_err-text.field-0.0 c.in_err-text.ensures.unread))
 
-pub returns-clause-reported : goal.returns-clause-reported
-returns-clause-reported g c = reads_passed g.R.Source.gave g.R.Source.failed c.run_lines.result _ _ c.run_lines.ensures.read c.in_ok-text.ensures.reported
+pub returns-clause-read_reported : goal.returns-clause-read_reported
+returns-clause-read_reported g c = reads_passed g.R.Source.gave g.R.Source.failed c.run_lines.result _ _ c.run_lines.ensures.no_failed_read c.in_ok-text.ensures.read_reported
 
-pub returns-in_err-lines-clause-reported : goal.returns-in_err-lines-clause-reported
-returns-in_err-lines-clause-reported g c =
+pub returns-in_err-lines-clause-read_reported : goal.returns-in_err-lines-clause-read_reported
+returns-in_err-lines-clause-read_reported g c =
     let p = err_from_is_err_and c.from_residual-in_err-lines.result c.from_residual-in_err-lines.ensures.1 in
-    rw (p.1, p.2) (reads_unspelled g.R.Source.gave g.R.Source.failed c.in_err-lines.field-0.0 _ _ c.in_err-lines.ensures.early c.in_ok-text.ensures.reported)
+    rw (p.1, p.2) (reads_unspelled g.R.Source.gave g.R.Source.failed c.in_err-lines.field-0.0 _ _ c.in_err-lines.ensures.early c.in_ok-text.ensures.read_reported)
 
-pub returns-in_err-text-clause-reported : goal.returns-in_err-text-clause-reported
-returns-in_err-text-clause-reported g c =
+pub returns-in_err-text-clause-read_reported : goal.returns-in_err-text-clause-read_reported
+returns-in_err-text-clause-read_reported g c =
     let p = err_from_is_err_and c.from_residual.result c.from_residual.ensures.1 in
-    rw (p.1, p.2) c.in_err-text.ensures.reported
+    rw (p.1, p.2) c.in_err-text.ensures.read_reported
 
 -- which texts are refused
 pub returns-clause-refused : goal.returns-clause-refused
 returns-clause-refused g c = each_text _ (g.R.Source.remaining c.args.reader.now) (λ given. fault_of_text g.row.A.Denot c.run_lines.result given c.run_lines.ensures.status)
 
-pub returns-clause-read : goal.returns-clause-read
-returns-clause-read g c = each_text _ (g.R.Source.remaining c.args.reader.now) (λ given within. no_script_fault c.run_lines.result c.run_lines.ensures.status)
+pub returns-clause-accepted : goal.returns-clause-accepted
+returns-clause-accepted g c = each_text _ (g.R.Source.remaining c.args.reader.now) (λ given within. no_script_fault c.run_lines.result c.run_lines.ensures.status)
 
 pub returns-clause-no_lines : goal.returns-clause-no_lines
 returns-clause-no_lines g c =
@@ -62,10 +62,10 @@ returns-in_err-lines-clause-refused g c =
     let p = err_from_is_err_and c.from_residual-in_err-lines.result c.from_residual-in_err-lines.ensures.1 in
     rw (p.1, p.2) (known_text (λ given. IsOfText g.row.A.Denot c.in_err-lines.field-0.0 given) (g.R.Source.remaining c.args.reader.now) (string_bytes c.in_ok-text.text) c.as_str.result.now c.as_str.ensures.value c.in_ok-text.ensures.whole c.in_err-lines.ensures.refused)
 
-pub returns-in_err-lines-clause-read : goal.returns-in_err-lines-clause-read
-returns-in_err-lines-clause-read g c =
+pub returns-in_err-lines-clause-accepted : goal.returns-in_err-lines-clause-accepted
+returns-in_err-lines-clause-accepted g c =
     let p = err_from_is_err_and c.from_residual-in_err-lines.result c.from_residual-in_err-lines.ensures.1 in
-    rw (p.1, p.2) (known_text (λ given. SpellsWithin g.row.A.Denot given → is_script c.in_err-lines.field-0.0 ≡ false) (g.R.Source.remaining c.args.reader.now) (string_bytes c.in_ok-text.text) c.as_str.result.now c.as_str.ensures.value c.in_ok-text.ensures.whole c.in_err-lines.ensures.read)
+    rw (p.1, p.2) (known_text (λ given. SpellsWithin g.row.A.Denot given → is_script c.in_err-lines.field-0.0 ≡ false) (g.R.Source.remaining c.args.reader.now) (string_bytes c.in_ok-text.text) c.as_str.result.now c.as_str.ensures.value c.in_ok-text.ensures.whole c.in_err-lines.ensures.accepted)
 
 pub returns-in_err-lines-clause-no_lines : goal.returns-in_err-lines-clause-no_lines
 returns-in_err-lines-clause-no_lines g c =
@@ -77,8 +77,8 @@ returns-in_err-text-clause-refused g c =
     let p = err_from_is_err_and c.from_residual.result c.from_residual.ensures.1 in
     rw (p.1, p.2) (each_text _ (g.R.Source.remaining c.args.reader.now) (λ given. unread_of_text g.row.A.Denot c.in_err-text.field-0.0 given c.in_err-text.ensures.unread))
 
-pub returns-in_err-text-clause-read : goal.returns-in_err-text-clause-read
-returns-in_err-text-clause-read g c =
+pub returns-in_err-text-clause-accepted : goal.returns-in_err-text-clause-accepted
+returns-in_err-text-clause-accepted g c =
     let p = err_from_is_err_and c.from_residual.result c.from_residual.ensures.1 in
     rw (p.1, p.2) (each_text _ (g.R.Source.remaining c.args.reader.now) (λ given within. unread_no_script c.in_err-text.field-0.0 c.in_err-text.ensures.unread))
 

@@ -21,7 +21,7 @@ loop-line-preserved g c = record {
       let taken = subst (λ (o : Option (Line g.row.A.Denot)). TakesFirst o so.others c.next_line.new.self) c.in-Ok-Some.field-0-is (c.in-Ok-Some.ensures.next so.others so.spelled) in
       let next = at_next spelled c.loop-line.lines c.next_line.new.self c.loop-line.core c.run_line.new.core (string_bytes c.loop-line.pending) (string_bytes c.run_line.new.pending) _ _ c.in-Ok-Some.line so taken c.in-Ok.ensures.history c.blob_fits.ensures c.in-Ok.ensures.room in
       at_written spelled c.next_line.new.self c.run_line.new.core (string_bytes c.run_line.new.pending) (string_bytes c.write_long.new.pending) _ _ _ next c.in_ok-write_long.ensures.ok;
-  went = went_on g.W.RunOutput.went g.W.RunOutput.failed c.args.writer.now c.loop-line.writer c.write_long.new.writer c.loop-line.invariant.went c.in_ok-write_long.ensures.reported;
+  went = went_on g.W.RunOutput.went g.W.RunOutput.failed c.args.writer.now c.loop-line.writer c.write_long.new.writer c.loop-line.invariant.went c.in_ok-write_long.ensures.write_reported;
 }
 
 pub loop-line-preserved-in_ok-write_long : goal.loop-line-preserved-in_ok-write_long
@@ -31,7 +31,7 @@ loop-line-preserved-in_ok-write_long g c = record {
       let taken = subst (λ (o : Option (Line g.row.A.Denot)). TakesFirst o so.others c.next_line.new.self) c.in-Ok-Some.field-0-is (c.in-Ok-Some.ensures.next so.others so.spelled) in
       let next = at_next spelled c.loop-line.lines c.next_line.new.self c.loop-line.core c.run_line.new.core (string_bytes c.loop-line.pending) (string_bytes c.run_line.new.pending) _ _ c.in-Ok-Some.line so taken c.in-Ok.ensures.history c.blob_fits.ensures c.in-Ok.ensures.room in
       at_written spelled c.next_line.new.self c.run_line.new.core (string_bytes c.run_line.new.pending) (string_bytes c.write_long.new.pending) _ _ _ next c.in_ok-write_long.ensures.ok;
-  went = went_on g.W.RunOutput.went g.W.RunOutput.failed c.args.writer.now c.loop-line.writer c.write_long.new.writer c.loop-line.invariant.went c.in_ok-write_long.ensures.reported;
+  went = went_on g.W.RunOutput.went g.W.RunOutput.failed c.args.writer.now c.loop-line.writer c.write_long.new.writer c.loop-line.invariant.went c.in_ok-write_long.ensures.write_reported;
 }
 
 pub loop-line-preserved-in_ok-write_long-2 : goal.loop-line-preserved-in_ok-write_long-2
@@ -41,7 +41,7 @@ loop-line-preserved-in_ok-write_long-2 g c = record {
       let taken = subst (λ (o : Option (Line g.row.A.Denot)). TakesFirst o so.others c.next_line.new.self) c.in-Ok-Some.field-0-is (c.in-Ok-Some.ensures.next so.others so.spelled) in
       let next = at_next spelled c.loop-line.lines c.next_line.new.self c.loop-line.core c.run_line.new.core (string_bytes c.loop-line.pending) (string_bytes c.run_line.new.pending) _ _ c.in-Ok-Some.line so taken c.in-Ok.ensures.history c.blob_fits.ensures c.in-Ok.ensures.room in
       at_written spelled c.next_line.new.self c.run_line.new.core (string_bytes c.run_line.new.pending) (string_bytes c.write_long.new.pending) _ _ _ next c.in_ok-write_long.ensures.ok;
-  went = went_on g.W.RunOutput.went g.W.RunOutput.failed c.args.writer.now c.loop-line.writer c.write_long.new.writer c.loop-line.invariant.went c.in_ok-write_long.ensures.reported;
+  went = went_on g.W.RunOutput.went g.W.RunOutput.failed c.args.writer.now c.loop-line.writer c.write_long.new.writer c.loop-line.invariant.went c.in_ok-write_long.ensures.write_reported;
 }
 
 pub loop-line-preserved-in_ok-write_long-3 : goal.loop-line-preserved-in_ok-write_long-3
@@ -51,7 +51,7 @@ loop-line-preserved-in_ok-write_long-3 g c = record {
       let taken = subst (λ (o : Option (Line g.row.A.Denot)). TakesFirst o so.others c.next_line.new.self) c.in-Ok-Some.field-0-is (c.in-Ok-Some.ensures.next so.others so.spelled) in
       let next = at_next spelled c.loop-line.lines c.next_line.new.self c.loop-line.core c.run_line.new.core (string_bytes c.loop-line.pending) (string_bytes c.run_line.new.pending) _ _ c.in-Ok-Some.line so taken c.in-Ok.ensures.history c.blob_fits.ensures c.in-Ok.ensures.room in
       at_written spelled c.next_line.new.self c.run_line.new.core (string_bytes c.run_line.new.pending) (string_bytes c.write_long.new.pending) _ _ _ next c.in_ok-write_long.ensures.ok;
-  went = went_on g.W.RunOutput.went g.W.RunOutput.failed c.args.writer.now c.loop-line.writer c.write_long.new.writer c.loop-line.invariant.went c.in_ok-write_long.ensures.reported;
+  went = went_on g.W.RunOutput.went g.W.RunOutput.failed c.args.writer.now c.loop-line.writer c.write_long.new.writer c.loop-line.invariant.went c.in_ok-write_long.ensures.write_reported;
 }
 
 -- out of memory for the line
@@ -82,4 +82,4 @@ returns-in_err-write_long-clause-err g c = λ spelled is.
 pub returns-in_err-write_long-clause-write_reported : goal.returns-in_err-write_long-clause-write_reported
 returns-in_err-write_long-clause-write_reported g c =
     let p = err_from_is_err_and c.from_residual.result c.from_residual.ensures.1 in
-    rw (p.1, p.2) (fault_later g.W.RunOutput.went g.W.RunOutput.failed c.in_err-write_long.field-0.0 c.args.writer.now c.loop-line.writer c.write_long.new.writer c.loop-line.invariant.went c.in_err-write_long.ensures.reported)
+    rw (p.1, p.2) (fault_later g.W.RunOutput.went g.W.RunOutput.failed c.in_err-write_long.field-0.0 c.args.writer.now c.loop-line.writer c.write_long.new.writer c.loop-line.invariant.went c.in_err-write_long.ensures.write_reported)

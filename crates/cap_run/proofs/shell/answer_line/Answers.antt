@@ -8,4 +8,4 @@ use Rattle.cap_run.proofs.shell.answer_line.Goals as goal
 pub returns-in-Err-clause-answered : goal.returns-in-Err-clause-answered
 returns-in-Err-clause-answered g c = λ h so.
     no_command (λ p. string_bytes p.reply) (λ p. string_bytes p.fault) c.args.number c.args.line.now NoText
-    (on_a_line (codes "line " ++ (decimal c.args.number ++ codes ": not UTF-8"))) c.tell_no_text.result h c.args.core.now refl refl refl (search rules) so c.tell_no_text.ensures.fault
+    (on_a_line (codes "line " ++ (decimal c.args.number ++ codes ": not UTF-8"))) c.printed_not_utf8.result h c.args.core.now refl refl refl (search rules) so c.printed_not_utf8.ensures.fault

@@ -25,16 +25,16 @@ loop-found-init g c =
 
 -- ---- out of memory for a line
 
-pub returns-in-Err-OutOfMemory-clause-reported : goal.returns-in-Err-OutOfMemory-clause-reported
-returns-in-Err-OutOfMemory-clause-reported g c =
+pub returns-in-Err-OutOfMemory-clause-read_reported : goal.returns-in-Err-OutOfMemory-clause-read_reported
+returns-in-Err-OutOfMemory-clause-read_reported g c =
     let memory = rw c.in-Err-OutOfMemory.field-0-is at c.in-Err-OutOfMemory.ensures.failed in
-    reads_passed g.R.Source.gave g.R.Source.failed c.end.result c.args.reader.now c.next_line.new.reader c.end.ensures.read
+    reads_passed g.R.Source.gave g.R.Source.failed c.end.result c.args.reader.now c.next_line.new.reader c.end.ensures.no_failed_read
     (all_went g.R.Source.gave 1099511627776 c.next_line.new.reads c.args.reader.now c.next_line.new.reader (counted_on g.R.Source.gave 1099511627776 c.loop-found.reads c.next_line.new.reads c.args.reader.now c.loop-found.reader c.next_line.new.reader c.loop-found.invariant.counted memory.0))
 
 pub returns-in-Err-OutOfMemory-clause-write_reported : goal.returns-in-Err-OutOfMemory-clause-write_reported
 returns-in-Err-OutOfMemory-clause-write_reported g c =
     first_alone g.W.RunOutput.went g.W.RunOutput.failed g.E.RunOutput.went g.E.RunOutput.failed c.end.result c.args.replies.now c.loop-found.replies c.end.new.replies c.args.faults.now c.loop-found.faults
-    c.loop-found.invariant.went c.loop-found.invariant.reported c.end.ensures.reported
+    c.loop-found.invariant.went c.loop-found.invariant.reported c.end.ensures.write_reported
 
 pub returns-in-Err-OutOfMemory-clause-written : goal.returns-in-Err-OutOfMemory-clause-written
 returns-in-Err-OutOfMemory-clause-written g c =
@@ -50,8 +50,8 @@ returns-in-Err-OutOfMemory-clause-written g c =
 
 -- ---- a read failed
 
-pub returns-in-Err-Failed-clause-reported : goal.returns-in-Err-Failed-clause-reported
-returns-in-Err-Failed-clause-reported g c =
+pub returns-in-Err-Failed-clause-read_reported : goal.returns-in-Err-Failed-clause-read_reported
+returns-in-Err-Failed-clause-read_reported g c =
     let unread = rw c.in-Err-Failed.field-0-is at c.in-Err-Failed.ensures.failed in
     failed_reported g.R.Source.gave g.R.Source.failed c.args.reader.now c.next_line.new.reader
     (failed_on g.R.Source.gave g.R.Source.failed 1099511627776 c.loop-found.reads c.args.reader.now c.loop-found.reader c.next_line.new.reader c.loop-found.invariant.counted unread.0)
@@ -69,8 +69,8 @@ returns-in-Err-Failed-clause-written g c =
 
 -- ---- the end of the input
 
-pub returns-in_default-clause-reported : goal.returns-in_default-clause-reported
-returns-in_default-clause-reported g c = (all_went g.R.Source.gave 1099511627776 c.next_line.new.reads c.args.reader.now c.next_line.new.reader (counted_on g.R.Source.gave 1099511627776 c.loop-found.reads c.next_line.new.reads c.args.reader.now c.loop-found.reader c.next_line.new.reader c.loop-found.invariant.counted c.in-Ok.ensures.gave))
+pub returns-in_default-clause-read_reported : goal.returns-in_default-clause-read_reported
+returns-in_default-clause-read_reported g c = (all_went g.R.Source.gave 1099511627776 c.next_line.new.reads c.args.reader.now c.next_line.new.reader (counted_on g.R.Source.gave 1099511627776 c.loop-found.reads c.next_line.new.reads c.args.reader.now c.loop-found.reader c.next_line.new.reader c.loop-found.invariant.counted c.in-Ok.ensures.gave))
 
 pub returns-in_default-clause-written : goal.returns-in_default-clause-written
 returns-in_default-clause-written g c =
@@ -85,15 +85,15 @@ returns-in_default-clause-written g c =
 
 -- ---- a line at which the shell ends
 
-pub returns-in-Err-clause-reported : goal.returns-in-Err-clause-reported
-returns-in-Err-clause-reported g c =
-    reads_passed g.R.Source.gave g.R.Source.failed c.end-in-Err.result c.args.reader.now c.next_line.new.reader c.end-in-Err.ensures.read
+pub returns-in-Err-clause-read_reported : goal.returns-in-Err-clause-read_reported
+returns-in-Err-clause-read_reported g c =
+    reads_passed g.R.Source.gave g.R.Source.failed c.end-in-Err.result c.args.reader.now c.next_line.new.reader c.end-in-Err.ensures.no_failed_read
     (all_went g.R.Source.gave 1099511627776 c.next_line.new.reads c.args.reader.now c.next_line.new.reader (counted_on g.R.Source.gave 1099511627776 c.loop-found.reads c.next_line.new.reads c.args.reader.now c.loop-found.reader c.next_line.new.reader c.loop-found.invariant.counted c.in-Ok.ensures.gave))
 
 pub returns-in-Err-clause-write_reported : goal.returns-in-Err-clause-write_reported
 returns-in-Err-clause-write_reported g c =
     first_alone g.W.RunOutput.went g.W.RunOutput.failed g.E.RunOutput.went g.E.RunOutput.failed c.end-in-Err.result c.args.replies.now c.loop-found.replies c.end-in-Err.new.replies c.args.faults.now c.loop-found.faults
-    c.loop-found.invariant.went c.loop-found.invariant.reported c.end-in-Err.ensures.reported
+    c.loop-found.invariant.went c.loop-found.invariant.reported c.end-in-Err.ensures.write_reported
 
 pub returns-in-Err-clause-written : goal.returns-in-Err-clause-written
 returns-in-Err-clause-written g c =
@@ -110,8 +110,8 @@ returns-in-Err-clause-written g c =
 
 -- ---- a write failed
 
-pub returns-in-Err-write_printed-clause-reported : goal.returns-in-Err-write_printed-clause-reported
-returns-in-Err-write_printed-clause-reported g c =
+pub returns-in-Err-write_printed-clause-read_reported : goal.returns-in-Err-write_printed-clause-read_reported
+returns-in-Err-write_printed-clause-read_reported g c =
     let later : is_read c.in-Err-write_printed.fault ≡ false = ap is_read c.in-Err-write_printed.ensures.err.0 in
     reads_before g.R.Source.gave g.R.Source.failed c.in-Err-write_printed.fault c.args.reader.now c.next_line.new.reader later
     (all_went g.R.Source.gave 1099511627776 c.next_line.new.reads c.args.reader.now c.next_line.new.reader (counted_on g.R.Source.gave 1099511627776 c.loop-found.reads c.next_line.new.reads c.args.reader.now c.loop-found.reader c.next_line.new.reader c.loop-found.invariant.counted c.in-Ok.ensures.gave))
@@ -119,7 +119,7 @@ returns-in-Err-write_printed-clause-reported g c =
 pub returns-in-Err-write_printed-clause-write_reported : goal.returns-in-Err-write_printed-clause-write_reported
 returns-in-Err-write_printed-clause-write_reported g c =
     both_later g.W.RunOutput.went g.W.RunOutput.failed g.E.RunOutput.went g.E.RunOutput.failed (Err c.in-Err-write_printed.fault) c.args.replies.now c.loop-found.replies c.write_printed.new.replies c.args.faults.now c.loop-found.faults c.write_printed.new.faults
-    c.loop-found.invariant.went c.loop-found.invariant.reported c.in-Err-write_printed.ensures.reported
+    c.loop-found.invariant.went c.loop-found.invariant.reported c.in-Err-write_printed.ensures.write_reported
 
 pub returns-in-Err-write_printed-clause-written : goal.returns-in-Err-write_printed-clause-written
 returns-in-Err-write_printed-clause-written g c =
@@ -157,8 +157,8 @@ loop-found-preserved g c =
     let fewer = rw c.in-Some.is at c.in-Ok.ensures.fewer in record {
       run = at_next input left rest c.loop-found.core c.answer_line.new.core c.loop-found.number (c.loop-found.number + 1) old here after c.as_slice.result.now
           (string_bytes c.in-Ok-answer_line.printed.reply) (string_bytes c.in-Ok-answer_line.printed.fault) so text refl answered wrote.ok;
-      went = went_on g.W.RunOutput.went g.W.RunOutput.failed c.args.replies.now c.loop-found.replies c.write_printed.new.replies c.loop-found.invariant.went wrote.reported.0;
-      reported = went_on g.E.RunOutput.went g.E.RunOutput.failed c.args.faults.now c.loop-found.faults c.write_printed.new.faults c.loop-found.invariant.reported wrote.reported.1;
+      went = went_on g.W.RunOutput.went g.W.RunOutput.failed c.args.replies.now c.loop-found.replies c.write_printed.new.replies c.loop-found.invariant.went wrote.write_reported.0;
+      reported = went_on g.E.RunOutput.went g.E.RunOutput.failed c.args.faults.now c.loop-found.faults c.write_printed.new.faults c.loop-found.invariant.reported wrote.write_reported.1;
       counted = counted_on g.R.Source.gave 1099511627776 c.loop-found.reads c.next_line.new.reads c.args.reader.now c.loop-found.reader c.next_line.new.reader c.loop-found.invariant.counted c.in-Ok.ensures.gave;
       few = omega (arith, c.loop-found.invariant.few, fewer);
     }

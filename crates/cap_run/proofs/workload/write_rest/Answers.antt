@@ -22,19 +22,19 @@ returns-in_err-write_ending-clause-runs g c = λ threads lines a b known ran.
 pub returns-in_err-write_pending-clause-write_reported : goal.returns-in_err-write_pending-clause-write_reported
 returns-in_err-write_pending-clause-write_reported g c =
     let p = err_from_is_err_and c.from_residual.result c.from_residual.ensures.1 in
-    rw (p.1, p.2) c.in_err-write_pending.ensures.reported
+    rw (p.1, p.2) c.in_err-write_pending.ensures.write_reported
 
 pub returns-in_err-write_ending-clause-write_reported : goal.returns-in_err-write_ending-clause-write_reported
 returns-in_err-write_ending-clause-write_reported g c =
     let p = err_from_is_err_and c.from_residual-in_err-write_ending.result c.from_residual-in_err-write_ending.ensures.1 in
     rw (p.1, p.2) (fault_later g.W.RunOutput.went g.W.RunOutput.failed c.in_err-write_ending.field-0.0 c.args.writer.now c.write_pending.new.writer c.write_ending.new.writer
-    c.in_ok-write_pending.ensures.reported c.in_err-write_ending.ensures.reported)
+    c.in_ok-write_pending.ensures.write_reported c.in_err-write_ending.ensures.write_reported)
 
 pub returns-clause-write_reported : goal.returns-clause-write_reported
 returns-clause-write_reported g c =
     rw c.run_outcome.ensures.same
     (ended_reported g.W.RunOutput.went g.W.RunOutput.failed c.args.outcome c.args.writer.now c.write_ending.new.writer
-    (went_on g.W.RunOutput.went g.W.RunOutput.failed c.args.writer.now c.write_pending.new.writer c.write_ending.new.writer c.in_ok-write_pending.ensures.reported c.in_ok-write_ending.ensures.reported))
+    (went_on g.W.RunOutput.went g.W.RunOutput.failed c.args.writer.now c.write_pending.new.writer c.write_ending.new.writer c.in_ok-write_pending.ensures.write_reported c.in_ok-write_ending.ensures.write_reported))
 
 pub returns-clause-runs : goal.returns-clause-runs
 returns-clause-runs g c = λ threads lines a b known ran.

@@ -3,7 +3,7 @@ use Rattle.cap_test_workers.proofs.watched.concat_watched.Goals as goal
 
 pub returns-clause-read : goal.returns-clause-read
 returns-clause-read g c = λ failed.
-    read_reported (λ watched. watched.has_failed) c.concat_blobs.result c.args.reader.now c.concat_blobs.new.reader c.concat_blobs.ensures.reported c.requires.reader failed
+    read_reported (λ watched. watched.has_failed) c.concat_blobs.result c.args.reader.now c.concat_blobs.new.reader c.concat_blobs.ensures.read_reported c.requires.reader failed
 
 pub returns-clause-write : goal.returns-clause-write
 returns-clause-write g c = λ failed.

@@ -8,7 +8,7 @@ run_workload-requires-clause-frees g c κs within = frees
 
 pub returns-clause-read : goal.returns-clause-read
 returns-clause-read g c = λ failed.
-    read_reported (λ watched. watched.has_failed) c.run_workload.result c.args.reader.now c.run_workload.new.reader c.run_workload.ensures.reported c.requires.reader failed
+    read_reported (λ watched. watched.has_failed) c.run_workload.result c.args.reader.now c.run_workload.new.reader c.run_workload.ensures.read_reported c.requires.reader failed
 
 pub returns-clause-write : goal.returns-clause-write
 returns-clause-write g c = λ failed.

@@ -1,8 +1,8 @@
 use Rattle.std.proofs.Common.{◌≡◌}
 use Rattle.cap_run.specs.declared.fault.RunFault.TheVariants.{Write}
 use Rattle.cap_run.proofs.OutputLemmas.{writes_later}
-use Rattle.cap_run.proofs.workload.run_lines.Goals as goal
-use Rattle.cap_run.proofs.workload.run_lines.Goals.{in-Ok, in-Err}
+use Rattle.cap_run.proofs.workload.run_with_workers.Goals as goal
+use Rattle.cap_run.proofs.workload.run_with_workers.Goals.{in-Ok, in-Err}
 
 pub returns-clause-runs : goal.returns-clause-runs
 returns-clause-runs g c = λ spelled is.

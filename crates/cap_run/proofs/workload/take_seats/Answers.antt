@@ -1,6 +1,6 @@
 use Rattle.std.proofs.Common.{arith}
-use Rattle.cap_run.proofs.SeatLemmas.{handed_back}
-use Rattle.cap_run.proofs.workload.hand_back.Goals as goal
+use Rattle.cap_run.proofs.SeatLemmas.{seats_taken}
+use Rattle.cap_run.proofs.workload.take_seats.Goals as goal
 
 pub loop-worker-preserved : goal.loop-worker-preserved
 loop-worker-preserved g c =
@@ -8,6 +8,6 @@ loop-worker-preserved g c =
     let next = c.in-Some.ensures.steps in
     let put = c.push_reserved.ensures in
     record {
-      seats = handed_back (λ w. w.seat) c.loop-worker.seats.items c.push_reserved.new.self.items _ _ _ _ so.seats next.0 put.items;
+      seats = seats_taken (λ w. w.seat) c.loop-worker.seats.items c.push_reserved.new.self.items _ _ _ _ so.seats next.0 put.items;
       room = omega (arith, so.room, next.1, put.len, put.capacity);
     }

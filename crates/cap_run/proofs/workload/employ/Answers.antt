@@ -1,6 +1,0 @@
-use Rattle.cap_run.proofs.SeatLemmas.{employed}
-use Rattle.cap_run.proofs.workload.employ.Goals as goal
-
-pub loop-seat-preserved : goal.loop-seat-preserved
-loop-seat-preserved g c =
-    employed (λ w. w.seat) c.loop-seat.workers.items c.push.new.self.items _ c.args.seats.items _ _ c.loop-seat.invariant c.in-Some.ensures.steps.0 c.in_ok-push.ensures.items
