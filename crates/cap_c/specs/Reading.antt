@@ -19,7 +19,7 @@ use Rattle.cap_c.specs.declared.change_info.FieldValue.{FieldValue}
 use Rattle.cap_c.specs.declared.fault.PlacedFault.{PlacedFault}
 use Rattle.cap_c.specs.declared.query.Query.{Query}
 use Rattle.cap_c.specs.declared.query.Query.TheVariants.{One, All}
-use Rattle.cap_c.specs.declared.status.TheConstants.{DONE, REFUSED}
+use Rattle.cap_c.specs.declared.status.TheConstants.{OK, REFUSED}
 
 -- Rows, each with its id, or 0 where it has a key; the row at which the reading stands, if any; the next one.
 pub record ReadingState : Type 0 where
@@ -71,7 +71,7 @@ rows_output query table _ = []
 
 -- a query is refused where there is no table
 abbrev pub query_status : List ℕ → Tables Global → ℕ
-query_status table tables = if is_some (table_of tables table) then DONE else REFUSED
+query_status table tables = if is_some (table_of tables table) then OK else REFUSED
 
 abbrev pub query_fault : List ℕ → Tables Global → PlacedFault → PlacedFault
 query_fault table tables old = if is_some (table_of tables table) then old else refused None NoTable

@@ -11,7 +11,7 @@ use Rattle.cap_script.specs.declared.line.Line.{Line}
 use Rattle.cap_c.specs.Draft.{draft_on}
 use Rattle.cap_c.specs.Reading.{before}
 use Rattle.cap_c.specs.declared.server.TextServer.{TextServer}
-use Rattle.cap_c.specs.declared.status.TheConstants.{DONE, REFUSED}
+use Rattle.cap_c.specs.declared.status.TheConstants.{OK, REFUSED}
 
 -- without tables, sessions and events, before any reply, without an operation, and with no row read
 pub record IsNew (server : TextServer) : Type 0 where
@@ -22,11 +22,11 @@ pub record IsNew (server : TextServer) : Type 0 where
 
 -- the command has a reply
 abbrev pub IsAnswered : ℕ → Type 0
-IsAnswered status = (status ≡ DONE) ⊎ (status ≡ REFUSED)
+IsAnswered status = (status ≡ OK) ⊎ (status ≡ REFUSED)
 
 abbrev pub reply_status : {A : Type 0} → Reply A → ℕ
 reply_status (reply.Refused at why) = REFUSED
-reply_status said = DONE
+reply_status said = OK
 
 -- The line's command was carried out, as `next` and `answer` say, and its reply is printed. The batch and the
 -- rows are as they were.

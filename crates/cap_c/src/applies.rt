@@ -13,13 +13,13 @@ ghost use Rattle.cap_c.specs.Commands.{NoReply, Runs};
 ghost use Rattle.cap_c.specs.Fault.{placed};
 ghost use Rattle.cap_c.specs.Replies.{fault_output};
 ghost use Rattle.cap_c.specs.Server.{IsAnswered};
-ghost use Rattle.cap_c.specs.declared.status.TheConstants.{MALFORMED, MISUSE, NO_MEMORY};
+ghost use Rattle.cap_c.specs.declared.status.TheConstants.{MALFORMED, MISUSE, NOMEM};
 
 use crate::apply_report::{ApplyReport, policy_of, set_report};
 use crate::fault::PlacedFault;
 use crate::server::TextServer;
 use crate::server_handle::{ServerHandle, put, take};
-use crate::status::{FULL, MALFORMED, MISUSE, NO_MEMORY};
+use crate::status::{FULL, MALFORMED, MISUSE, NOMEM};
 use cap_apply::Policy;
 use cap_codec::read_blob;
 use cap_core::Command;
@@ -56,7 +56,7 @@ pub extern "C" fn changecap_apply(
     ensures malformed { result ≡ MALFORMED →
         (wrong : Wrong) × (blob_at {A = Global} blob.now ≡ Err wrong) × (fault.new ≡ placed wrong) }
     // A first byte that begins no group is refused without memory.
-    ensures first { (wrong : Wrong) → first_fault blob.now ≡ Some wrong → ¬ (result ≡ NO_MEMORY) }
+    ensures first { (wrong : Wrong) → first_fault blob.now ≡ Some wrong → ¬ (result ≡ NOMEM) }
     // Exactly a number that is no answer is misuse.
     ensures misuse { (result ≡ MISUSE) ↔ (policy_of on_data on_notfound on_conflict ≡ None) }
     ensures why { ¬ (IsAnswered result) → ¬ (result ≡ MALFORMED) → ¬ (result ≡ MISUSE) →
@@ -91,7 +91,7 @@ fn apply(
         fault.new ≡ fault_output (answer server.old.core (command.Apply contents policy)) fault.old }
     ensures malformed { result ≡ MALFORMED →
         (wrong : Wrong) × (blob_at {A = Global} blob.now ≡ Err wrong) × (fault.new ≡ placed wrong) }
-    ensures first { (wrong : Wrong) → first_fault blob.now ≡ Some wrong → ¬ (result ≡ NO_MEMORY) }
+    ensures first { (wrong : Wrong) → first_fault blob.now ≡ Some wrong → ¬ (result ≡ NOMEM) }
     ensures misuse { ¬ (result ≡ MISUSE) }
     ensures why { ¬ (IsAnswered result) → ¬ (result ≡ MALFORMED) → NoReply server.old result }
     ensures kept { ¬ (IsAnswered result) → (server.new ≡ server.old) × (report.new ≡ report.old) }
@@ -112,7 +112,7 @@ fn apply(
             *fault = PlacedFault::of(wrong);
             MALFORMED
         }
-        Err(Fault::OutOfMemory) => NO_MEMORY,
+        Err(Fault::OutOfMemory) => NOMEM,
     }
 }
 

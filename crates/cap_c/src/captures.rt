@@ -10,7 +10,7 @@ ghost use Rattle.cap_c.specs.Replies.{bytes_asked, fault_output};
 ghost use Rattle.cap_c.specs.Server.{IsAnswered};
 ghost use Rattle.cap_c.specs.Outputs.{LacksRoom, WritesAll};
 ghost use Rattle.cap_c.specs.declared.captured.CapturedForm.TheVariants.{Changeset, Patchset};
-ghost use Rattle.cap_c.specs.declared.status.TheConstants.{DONE, MISUSE, NO_ROOM};
+ghost use Rattle.cap_c.specs.declared.status.TheConstants.{MISUSE, OK, ROOM};
 
 use crate::captured::CapturedForm;
 use crate::fault::PlacedFault;
@@ -38,21 +38,21 @@ pub extern "C" fn changecap_session_changeset(
         Holds handle.old.value
         (λ old. fault.new ≡ fault_output (answer old.core (command.Capture session)) fault.old) }
     // The bytes of the changeset, or how many there are.
-    ensures written { (flags : Flags) → key_flags_of key_flags ≡ Some flags → result ≡ DONE →
+    ensures written { (flags : Flags) → key_flags_of key_flags ≡ Some flags → result ≡ OK →
         Holds handle.old.value
         (λ old. WritesAll (bytes_asked Changeset flags (answer old.core (command.Capture session)))
         out.old out.new len.old len.new) }
-    ensures room { (flags : Flags) → key_flags_of key_flags ≡ Some flags → result ≡ NO_ROOM →
+    ensures room { (flags : Flags) → key_flags_of key_flags ≡ Some flags → result ≡ ROOM →
         Holds handle.old.value
         (λ old. LacksRoom
         (bytes_asked Changeset flags (answer old.core (command.Capture session))) out.old len.new) }
     // Exactly a number that names no key flags is misuse.
     ensures misuse { (result ≡ MISUSE) ↔ (key_flags_of key_flags ≡ None) }
-    ensures why { ¬ (IsAnswered result) → ¬ (result ≡ NO_ROOM) → ¬ (result ≡ MISUSE) →
+    ensures why { ¬ (IsAnswered result) → ¬ (result ≡ ROOM) → ¬ (result ≡ MISUSE) →
         Holds handle.old.value (λ old. NoReply old result) }
     ensures kept { ¬ (IsAnswered result) → (handle.new.value ≡ handle.old.value) × (fault.new ≡ fault.old) }
-    ensures unset { ¬ (result ≡ DONE) → out.new ≡ out.old }
-    ensures len { ¬ (result ≡ DONE) → ¬ (result ≡ NO_ROOM) → len.new ≡ len.old }
+    ensures unset { ¬ (result ≡ OK) → out.new ≡ out.old }
+    ensures len { ¬ (result ≡ OK) → ¬ (result ≡ ROOM) → len.new ≡ len.old }
 {
     let Some(flags) = key_flags_of(key_flags) else {
         return MISUSE;
@@ -90,21 +90,21 @@ pub extern "C" fn changecap_session_patchset(
         Holds handle.old.value
         (λ old. fault.new ≡ fault_output (answer old.core (command.Capture session)) fault.old) }
     // The bytes of the patchset, or how many there are.
-    ensures written { (flags : Flags) → key_flags_of key_flags ≡ Some flags → result ≡ DONE →
+    ensures written { (flags : Flags) → key_flags_of key_flags ≡ Some flags → result ≡ OK →
         Holds handle.old.value
         (λ old. WritesAll (bytes_asked Patchset flags (answer old.core (command.Capture session)))
         out.old out.new len.old len.new) }
-    ensures room { (flags : Flags) → key_flags_of key_flags ≡ Some flags → result ≡ NO_ROOM →
+    ensures room { (flags : Flags) → key_flags_of key_flags ≡ Some flags → result ≡ ROOM →
         Holds handle.old.value
         (λ old. LacksRoom
         (bytes_asked Patchset flags (answer old.core (command.Capture session))) out.old len.new) }
     // Exactly a number that names no key flags is misuse.
     ensures misuse { (result ≡ MISUSE) ↔ (key_flags_of key_flags ≡ None) }
-    ensures why { ¬ (IsAnswered result) → ¬ (result ≡ NO_ROOM) → ¬ (result ≡ MISUSE) →
+    ensures why { ¬ (IsAnswered result) → ¬ (result ≡ ROOM) → ¬ (result ≡ MISUSE) →
         Holds handle.old.value (λ old. NoReply old result) }
     ensures kept { ¬ (IsAnswered result) → (handle.new.value ≡ handle.old.value) × (fault.new ≡ fault.old) }
-    ensures unset { ¬ (result ≡ DONE) → out.new ≡ out.old }
-    ensures len { ¬ (result ≡ DONE) → ¬ (result ≡ NO_ROOM) → len.new ≡ len.old }
+    ensures unset { ¬ (result ≡ OK) → out.new ≡ out.old }
+    ensures len { ¬ (result ≡ OK) → ¬ (result ≡ ROOM) → len.new ≡ len.old }
 {
     let Some(flags) = key_flags_of(key_flags) else {
         return MISUSE;
@@ -142,21 +142,21 @@ pub extern "C" fn changecap_session_restart(
         Holds handle.old.value
         (λ old. fault.new ≡ fault_output (answer old.core (command.Restart session)) fault.old) }
     // The bytes of the changeset, or how many there are.
-    ensures written { (flags : Flags) → key_flags_of key_flags ≡ Some flags → result ≡ DONE →
+    ensures written { (flags : Flags) → key_flags_of key_flags ≡ Some flags → result ≡ OK →
         Holds handle.old.value
         (λ old. WritesAll (bytes_asked Changeset flags (answer old.core (command.Restart session)))
         out.old out.new len.old len.new) }
-    ensures room { (flags : Flags) → key_flags_of key_flags ≡ Some flags → result ≡ NO_ROOM →
+    ensures room { (flags : Flags) → key_flags_of key_flags ≡ Some flags → result ≡ ROOM →
         Holds handle.old.value
         (λ old. LacksRoom
         (bytes_asked Changeset flags (answer old.core (command.Restart session))) out.old len.new) }
     // Exactly a number that names no key flags is misuse.
     ensures misuse { (result ≡ MISUSE) ↔ (key_flags_of key_flags ≡ None) }
-    ensures why { ¬ (IsAnswered result) → ¬ (result ≡ NO_ROOM) → ¬ (result ≡ MISUSE) →
+    ensures why { ¬ (IsAnswered result) → ¬ (result ≡ ROOM) → ¬ (result ≡ MISUSE) →
         Holds handle.old.value (λ old. NoReply old result) }
     ensures kept { ¬ (IsAnswered result) → (handle.new.value ≡ handle.old.value) × (fault.new ≡ fault.old) }
-    ensures unset { ¬ (result ≡ DONE) → out.new ≡ out.old }
-    ensures len { ¬ (result ≡ DONE) → ¬ (result ≡ NO_ROOM) → len.new ≡ len.old }
+    ensures unset { ¬ (result ≡ OK) → out.new ≡ out.old }
+    ensures len { ¬ (result ≡ OK) → ¬ (result ≡ ROOM) → len.new ≡ len.old }
 {
     let Some(flags) = key_flags_of(key_flags) else {
         return MISUSE;

@@ -7,13 +7,13 @@ ghost use Rattle.cap_c.specs.Commands.{NoReply, Runs};
 ghost use Rattle.cap_c.specs.Replies.{bytes_asked, fault_output, flag_output, number_output};
 ghost use Rattle.cap_c.specs.Server.{IsAnswered};
 ghost use Rattle.cap_c.specs.Outputs.{LacksRoom, WritesAll};
-ghost use Rattle.cap_c.specs.declared.status.TheConstants.{DONE, NO_ROOM};
+ghost use Rattle.cap_c.specs.declared.status.TheConstants.{OK, ROOM};
 
 use crate::captured::{CaptureHook, CapturedForm};
 use crate::fault::PlacedFault;
 use crate::reply_outputs::{set_flag, set_number, set_refusal};
 use crate::server::TextServer;
-use crate::status::{FULL, NO_MEMORY};
+use crate::status::{FULL, NOMEM};
 use cap_codec::KeyFlags;
 use cap_core::{Command, EVENTS_MAX, NoHook, Reply};
 use cap_value::Fault;
@@ -40,7 +40,7 @@ impl TextServer {
         }
         match self.core.step(command, &mut NoHook) {
             Ok(reply) => Ok(reply),
-            Err(_) => Err(NO_MEMORY),
+            Err(_) => Err(NOMEM),
         }
     }
 
@@ -118,16 +118,16 @@ impl TextServer {
         ensures ran { IsAnswered result → Runs self.old self.new command.now result }
         ensures fault { IsAnswered result →
             fault.new ≡ fault_output (answer self.old.core command.now) fault.old }
-        ensures done { result ≡ DONE →
+        ensures done { result ≡ OK →
             WritesAll (bytes_asked form key_flags (answer self.old.core command.now))
             out.old out.new len.old len.new }
-        ensures room { result ≡ NO_ROOM →
+        ensures room { result ≡ ROOM →
             LacksRoom (bytes_asked form key_flags (answer self.old.core command.now))
             out.old len.new }
-        ensures why { ¬ (IsAnswered result) → ¬ (result ≡ NO_ROOM) → NoReply self.old result }
+        ensures why { ¬ (IsAnswered result) → ¬ (result ≡ ROOM) → NoReply self.old result }
         ensures kept { ¬ (IsAnswered result) → (self.new ≡ self.old) × (fault.new ≡ fault.old) }
-        ensures unset { ¬ (result ≡ DONE) → out.new ≡ out.old }
-        ensures len { ¬ (result ≡ DONE) → ¬ (result ≡ NO_ROOM) → len.new ≡ len.old }
+        ensures unset { ¬ (result ≡ OK) → out.new ≡ out.old }
+        ensures len { ¬ (result ≡ OK) → ¬ (result ≡ ROOM) → len.new ≡ len.old }
     {
         if self.is_full() {
             return FULL;
@@ -142,7 +142,7 @@ impl TextServer {
         match self.core.step(command, &mut hook) {
             Ok(reply) => set_refusal(&reply, fault),
             Err(Fault::Refused(status)) => status,
-            Err(Fault::OutOfMemory) => NO_MEMORY,
+            Err(Fault::OutOfMemory) => NOMEM,
         }
     }
 }

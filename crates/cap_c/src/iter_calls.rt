@@ -10,7 +10,7 @@ ghost use Rattle.cap_c.specs.IterOutputs.{key_output, new_bytes, new_output, old
 ghost use Rattle.cap_c.specs.Status.{IsUnlessMemory, read_status};
 ghost use Rattle.cap_c.specs.Outputs.{OutputsBytes, OutputsFound};
 ghost use Rattle.cap_c.specs.declared.iter.BlobIter.{BlobIter as Iter};
-ghost use Rattle.cap_c.specs.declared.status.TheConstants.{DONE, MALFORMED, ROW, END};
+ghost use Rattle.cap_c.specs.declared.status.TheConstants.{DONE, MALFORMED, OK, ROW};
 
 use crate::change_info::{ChangeInfo, FieldValue};
 use crate::fault::PlacedFault;
@@ -19,7 +19,7 @@ use crate::iter_handle::{IterHandle, put, take};
 use crate::iter_outputs::{
     set_info, set_key, set_new, set_new_bytes, set_old, set_old_bytes, set_table,
 };
-use crate::status::{DONE, END, MALFORMED, NO_MEMORY, ROW};
+use crate::status::{DONE, MALFORMED, NOMEM, OK, ROW};
 use cap_codec::read_blob;
 use cap_value::Fault;
 use std::alloc::Global;
@@ -35,26 +35,26 @@ pub extern "C" fn changecap_iter_open(
     requires closed { handle.old.value ≡ None }
     ensures status { IsUnlessMemory result (read_status (blob_at {A = Global} blob.now)) }
     // It goes over what the bytes spell.
-    ensures opened { result ≡ DONE → (contents : Spelled Global) × Spells contents blob.now
+    ensures opened { result ≡ OK → (contents : Spelled Global) × Spells contents blob.now
         × (blob_at blob.now ≡ Ok contents) × (handle.new.value ≡ Some (begin contents)) }
     ensures fault { result ≡ MALFORMED →
         (wrong : Wrong) × (blob_at {A = Global} blob.now ≡ Err wrong) × (fault.new ≡ placed wrong) }
-    ensures kept { ¬ (result ≡ DONE) → handle.new.value ≡ None }
+    ensures kept { ¬ (result ≡ OK) → handle.new.value ≡ None }
     ensures same_fault { ¬ (result ≡ MALFORMED) → fault.new ≡ fault.old }
 {
     match read_blob(alloc, blob) {
         Ok(contents) => match Box::new(alloc, BlobIter::new(contents)) {
             Ok(it) => {
                 put(handle, it);
-                DONE
+                OK
             }
-            Err(_) => NO_MEMORY,
+            Err(_) => NOMEM,
         },
         Err(Fault::Refused(wrong)) => {
             *fault = PlacedFault::of(wrong);
             MALFORMED
         }
-        Err(Fault::OutOfMemory) => NO_MEMORY,
+        Err(Fault::OutOfMemory) => NOMEM,
     }
 }
 
@@ -64,13 +64,13 @@ pub extern "C" fn changecap_iter_next(alloc: Global, handle: &mut IterHandle) ->
     requires opened { IsSome handle.old.value }
     ensures row { result ≡ ROW → (old : Iter) × (new : Iter) × (handle.old.value ≡ Some old)
         × (handle.new.value ≡ Some new) × Steps old new true }
-    ensures end { ¬ (result ≡ ROW) → (old : Iter) × (new : Iter) × (result ≡ END)
+    ensures end { ¬ (result ≡ ROW) → (old : Iter) × (new : Iter) × (result ≡ DONE)
         × (handle.old.value ≡ Some old) × (handle.new.value ≡ Some new) × Steps old new false }
 {
     let mut it = take(alloc, handle);
     let is_row = it.step();
     put(handle, it);
-    if is_row { ROW } else { END }
+    if is_row { ROW } else { DONE }
 }
 
 /// Outputs what the change is.

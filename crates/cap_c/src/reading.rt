@@ -8,7 +8,7 @@ ghost use Rattle.cap_c.specs.Outputs.{OutputsBytes, OutputsFound};
 use crate::change_info::{FieldValue, value_bytes, value_output};
 use crate::output::write_bytes;
 use crate::query::IdRows;
-use crate::status::{DONE, MISUSE};
+use crate::status::{MISUSE, OK};
 use cap_row::Row;
 use cap_value::Value;
 use std::alloc::Global;
@@ -79,7 +79,7 @@ impl Reading {
         match self.row() {
             Some(row) => {
                 *id = row.0;
-                DONE
+                OK
             }
             None => MISUSE,
         }
@@ -92,7 +92,7 @@ impl Reading {
         match self.row() {
             Some(row) => {
                 *columns = row.1.width();
-                DONE
+                OK
             }
             None => MISUSE,
         }
@@ -105,7 +105,7 @@ impl Reading {
         match self.value(column) {
             Some(found) => {
                 *value = value_output(Some(found));
-                DONE
+                OK
             }
             None => MISUSE,
         }

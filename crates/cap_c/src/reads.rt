@@ -14,7 +14,7 @@ ghost use Rattle.cap_c.specs.Server.{IsAnswered};
 ghost use Rattle.cap_c.specs.Outputs.{OutputsBytes, OutputsFound};
 ghost use Rattle.cap_c.specs.declared.query.Query.TheVariants as asked;
 ghost use Rattle.cap_c.specs.declared.server.TextServer.{TextServer as Text};
-ghost use Rattle.cap_c.specs.declared.status.TheConstants.{END, MISUSE, NO_MEMORY, ROW};
+ghost use Rattle.cap_c.specs.declared.status.TheConstants.{DONE, MISUSE, NOMEM, ROW};
 
 use crate::change_info::FieldValue;
 use crate::draft::{names_row, row_named};
@@ -23,7 +23,7 @@ use crate::names::name_text;
 use crate::query::{Query, QueryHook};
 use crate::server::TextServer;
 use crate::server_handle::{ServerHandle, put, take};
-use crate::status::{DONE, END, FULL, MISUSE, NO_MEMORY, REFUSED, ROW};
+use crate::status::{DONE, FULL, MISUSE, NOMEM, OK, REFUSED, ROW};
 use cap_core::{Command, Reply};
 use cap_database::Database;
 use cap_value::{Name, Refusal};
@@ -94,13 +94,13 @@ pub extern "C" fn changecap_step(alloc: Global, handle: &mut ServerHandle) -> u3
     requires opened { IsSome handle.old.value }
     ensures row { result ≡ ROW → Between handle.old.value handle.new.value
         (λ old new. GoesOn old.reading new.reading true × (new ≡ record old { reading = new.reading })) }
-    ensures end { ¬ (result ≡ ROW) → (result ≡ END) × Between handle.old.value handle.new.value
+    ensures end { ¬ (result ≡ ROW) → (result ≡ DONE) × Between handle.old.value handle.new.value
         (λ old new. GoesOn old.reading new.reading false × (new ≡ record old { reading = new.reading })) }
 {
     let mut server = take(alloc, handle);
     let is_row = server.reading.step();
     put(handle, server);
-    if is_row { ROW } else { END }
+    if is_row { ROW } else { DONE }
 }
 
 /// Outputs the id of the row, or 0 where it has a key.
@@ -198,10 +198,10 @@ impl TextServer {
             return FULL;
         }
         let Ok(table) = Name::new(alloc, table) else {
-            return NO_MEMORY;
+            return NOMEM;
         };
         let Ok(name) = row_named(alloc, id, self.draft.values()) else {
-            return NO_MEMORY;
+            return NOMEM;
         };
         self.read(alloc, &Query::One(name), &table, fault)
     }
@@ -222,7 +222,7 @@ impl TextServer {
             return FULL;
         }
         let Ok(table) = Name::new(alloc, table) else {
-            return NO_MEMORY;
+            return NOMEM;
         };
         self.read(alloc, &Query::All, &table, fault)
     }
@@ -237,7 +237,7 @@ impl TextServer {
         requires room { HasRoom self.old.core.events }
         ensures read { IsAnswered result → Reads self.old self.new query.now table.now result }
         ensures fault { IsAnswered result → fault.new ≡ query_fault table.now self.old.core.main fault.old }
-        ensures memory { ¬ (IsAnswered result) → result ≡ NO_MEMORY }
+        ensures memory { ¬ (IsAnswered result) → result ≡ NOMEM }
         ensures kept { ¬ (IsAnswered result) → self.new ≡ self.old }
         ensures unset { ¬ (IsAnswered result) → fault.new ≡ fault.old }
     {
@@ -253,7 +253,7 @@ impl TextServer {
                 set_table(snapshot.database(), table, fault)
             }
             Ok(_) => unreachable!(),
-            Err(_) => NO_MEMORY,
+            Err(_) => NOMEM,
         }
     }
 }
@@ -265,7 +265,7 @@ fn set_table(tables: &Database<Global>, table: &Name<Global>, fault: &mut Placed
     ensures answered { IsAnswered result }
 {
     match tables.table(table) {
-        Some(_) => DONE,
+        Some(_) => OK,
         None => {
             *fault = PlacedFault::refused(None, Refusal::NoTable);
             REFUSED

@@ -8,7 +8,7 @@ use crate::fault::PlacedFault;
 use crate::one_line::one_line;
 use crate::printer::Printer;
 use crate::reading::Reading;
-use crate::status::{DONE, FULL, NO_COMMAND, NO_MEMORY, REFUSED};
+use crate::status::{COMMAND, FULL, NOMEM, OK, REFUSED};
 use cap_core::{Core, EVENTS_MAX, Reply};
 use cap_script::Line;
 use cap_value::Fault;
@@ -53,9 +53,9 @@ impl TextServer {
             Ok(line) => line,
             Err(Fault::Refused(why)) => {
                 *fault = why;
-                return NO_COMMAND;
+                return COMMAND;
             }
-            Err(Fault::OutOfMemory) => return NO_MEMORY,
+            Err(Fault::OutOfMemory) => return NOMEM,
         };
         if self.core.events() >= EVENTS_MAX {
             return FULL;
@@ -76,7 +76,7 @@ impl TextServer {
         };
         match self.core.step(&line.command, &mut printer) {
             Ok(reply) => reply_status(&reply),
-            Err(_) => NO_MEMORY,
+            Err(_) => NOMEM,
         }
     }
 }
@@ -87,6 +87,6 @@ fn reply_status(reply: &Reply<Global>) -> u32
 {
     match reply {
         Reply::Refused { .. } => REFUSED,
-        _ => DONE,
+        _ => OK,
     }
 }

@@ -4,29 +4,29 @@ ghost use Rattle.cap_c.specs.Server.{IsAnswered, IsNew, Ran};
 ghost use Rattle.cap_c.specs.Status.{room_status};
 ghost use Rattle.cap_c.specs.Outputs.{Writes};
 ghost use Rattle.cap_c.specs.declared.server.TextServer.{TextServer as Text};
-ghost use Rattle.cap_c.specs.declared.status.TheConstants.{DONE, FULL, NO_MEMORY};
+ghost use Rattle.cap_c.specs.declared.status.TheConstants.{FULL, NOMEM, OK};
 
 use crate::fault::PlacedFault;
 use crate::output::write_bytes;
 use crate::server::TextServer;
 use crate::server_handle::{ServerHandle, put, take};
-use crate::status::{DONE, NO_MEMORY};
+use crate::status::{NOMEM, OK};
 use std::alloc::Global;
 
 /// Opens an empty server.
 #[unsafe(no_mangle)]
 pub extern "C" fn changecap_server_open(alloc: Global, handle: &mut ServerHandle) -> u32
     requires closed { handle.old.value ≡ None }
-    ensures opened { result ≡ DONE → (server : Text) × (handle.new.value ≡ Some server)
+    ensures opened { result ≡ OK → (server : Text) × (handle.new.value ≡ Some server)
         × IsNew server }
-    ensures kept { ¬ (result ≡ DONE) → (result ≡ NO_MEMORY) × (handle.new.value ≡ None) }
+    ensures kept { ¬ (result ≡ OK) → (result ≡ NOMEM) × (handle.new.value ≡ None) }
 {
     match Box::new(alloc, TextServer::new(alloc)) {
         Ok(server) => {
             put(handle, server);
-            DONE
+            OK
         }
-        Err(_) => NO_MEMORY,
+        Err(_) => NOMEM,
     }
 }
 

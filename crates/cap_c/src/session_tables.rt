@@ -11,13 +11,13 @@ ghost use Rattle.cap_c.specs.Filter.{filter_fault};
 ghost use Rattle.cap_c.specs.Names.{IsName};
 ghost use Rattle.cap_c.specs.Replies.{fault_output};
 ghost use Rattle.cap_c.specs.Server.{IsAnswered};
-ghost use Rattle.cap_c.specs.declared.status.TheConstants.{MISUSE, NO_FILTER};
+ghost use Rattle.cap_c.specs.declared.status.TheConstants.{FILTER, MISUSE};
 
 use crate::fault::PlacedFault;
 use crate::names::name_text;
 use crate::server::TextServer;
 use crate::server_handle::{ServerHandle, put, take};
-use crate::status::{FULL, MISUSE, NO_FILTER, NO_MEMORY};
+use crate::status::{FILTER, FULL, MISUSE, NOMEM};
 use cap_core::Command;
 use cap_filter::TableFilter;
 use cap_value::{Fault, Name, Refusal};
@@ -42,15 +42,15 @@ pub extern "C" fn changecap_session_filter(
     ensures fault { (filter : Rule) → filter_of text.now ≡ Ok filter → IsAnswered result →
         Holds handle.old.value
         (λ old. fault.new ≡ fault_output (answer old.core (command.SetFilter session filter)) fault.old) }
-    ensures no_filter { result ≡ NO_FILTER →
+    ensures no_filter { result ≡ FILTER →
         (why : Why) × (filter_of text.now ≡ Err why) × (fault.new ≡ filter_fault why) }
     // Exactly bytes that are not UTF-8 are misuse.
     ensures misuse { result ≡ MISUSE → ¬ (IsUtf8 text.now) }
     ensures utf8 { ¬ (result ≡ MISUSE) → IsUtf8 text.now }
-    ensures why { ¬ (IsAnswered result) → ¬ (result ≡ NO_FILTER) → ¬ (result ≡ MISUSE) →
+    ensures why { ¬ (IsAnswered result) → ¬ (result ≡ FILTER) → ¬ (result ≡ MISUSE) →
         Holds handle.old.value (λ old. NoReply old result) }
     ensures kept { ¬ (IsAnswered result) → handle.new.value ≡ handle.old.value }
-    ensures unset { ¬ (IsAnswered result) → ¬ (result ≡ NO_FILTER) → fault.new ≡ fault.old }
+    ensures unset { ¬ (IsAnswered result) → ¬ (result ≡ FILTER) → fault.new ≡ fault.old }
 {
     let mut server = take(alloc, handle);
     let status = filter(alloc, &mut server, session, text, fault);
@@ -70,14 +70,14 @@ fn filter(
     ensures spelled { IsAnswered result → (filter : Rule) × (filter_of text.now ≡ Ok filter) }
     ensures fault { (filter : Rule) → filter_of text.now ≡ Ok filter → IsAnswered result →
         fault.new ≡ fault_output (answer server.old.core (command.SetFilter session filter)) fault.old }
-    ensures no_filter { result ≡ NO_FILTER →
+    ensures no_filter { result ≡ FILTER →
         (why : Why) × (filter_of text.now ≡ Err why) × (fault.new ≡ filter_fault why) }
     ensures misuse { result ≡ MISUSE → ¬ (IsUtf8 text.now) }
     ensures utf8 { ¬ (result ≡ MISUSE) → IsUtf8 text.now }
-    ensures why { ¬ (IsAnswered result) → ¬ (result ≡ NO_FILTER) → ¬ (result ≡ MISUSE) →
+    ensures why { ¬ (IsAnswered result) → ¬ (result ≡ FILTER) → ¬ (result ≡ MISUSE) →
         NoReply server.old result }
     ensures kept { ¬ (IsAnswered result) → server.new ≡ server.old }
-    ensures unset { ¬ (IsAnswered result) → ¬ (result ≡ NO_FILTER) → fault.new ≡ fault.old }
+    ensures unset { ¬ (IsAnswered result) → ¬ (result ≡ FILTER) → fault.new ≡ fault.old }
 {
     let Ok(text) = str::from_utf8(text) else {
         return MISUSE;
@@ -89,9 +89,9 @@ fn filter(
         Ok(filter) => server.set_refusal(&Command::SetFilter { session, filter }, fault),
         Err(Fault::Refused(why)) => {
             *fault = filter_fault(why);
-            NO_FILTER
+            FILTER
         }
-        Err(Fault::OutOfMemory) => NO_MEMORY,
+        Err(Fault::OutOfMemory) => NOMEM,
     }
 }
 
@@ -147,7 +147,7 @@ fn save(alloc: Global, server: &mut TextServer, database: &[u8], fault: &mut Pla
         return FULL;
     }
     let Ok(database) = Name::new(alloc, name) else {
-        return NO_MEMORY;
+        return NOMEM;
     };
     server.set_refusal(&Command::SaveAs { database }, fault)
 }
@@ -210,10 +210,10 @@ fn diff(
         return FULL;
     }
     let Ok(from) = Name::new(alloc, from) else {
-        return NO_MEMORY;
+        return NOMEM;
     };
     let Ok(table) = Name::new(alloc, table) else {
-        return NO_MEMORY;
+        return NOMEM;
     };
     let command = Command::Diff {
         session,

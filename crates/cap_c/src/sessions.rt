@@ -13,7 +13,7 @@ use crate::fault::PlacedFault;
 use crate::names::name_text;
 use crate::server::TextServer;
 use crate::server_handle::{ServerHandle, put, take};
-use crate::status::{FULL, MISUSE, NO_MEMORY};
+use crate::status::{FULL, MISUSE, NOMEM};
 use cap_core::Command;
 use cap_value::Name;
 use std::alloc::Global;
@@ -139,7 +139,7 @@ fn attach(
         return FULL;
     }
     let Ok(table) = Name::new(alloc, name) else {
-        return NO_MEMORY;
+        return NOMEM;
     };
     server.set_refusal(&Command::Attach { session, table }, fault)
 }

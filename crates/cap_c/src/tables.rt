@@ -13,7 +13,7 @@ use crate::fault::PlacedFault;
 use crate::names::{are_columns, name_text, schema_of};
 use crate::server::TextServer;
 use crate::server_handle::{ServerHandle, put, take};
-use crate::status::{FULL, MISUSE, NO_MEMORY};
+use crate::status::{FULL, MISUSE, NOMEM};
 use cap_core::Command;
 use cap_value::Name;
 use std::alloc::Global;
@@ -81,10 +81,10 @@ fn create(
         return FULL;
     }
     let Ok(table) = Name::new(alloc, name) else {
-        return NO_MEMORY;
+        return NOMEM;
     };
     let Ok(schema) = schema_of(alloc, key) else {
-        return NO_MEMORY;
+        return NOMEM;
     };
     server.set_number(&Command::CreateTable { table, schema }, version, fault)
 }
