@@ -9,7 +9,7 @@ ghost use Rattle.cap_core.specs.Answer.{answer};
 ghost use Rattle.cap_core.specs.declared.command.Command.TheVariants as command;
 ghost use Rattle.cap_c.specs.Apply.{policy_of, report_output};
 ghost use Rattle.cap_c.specs.Between.{Between, Holds};
-ghost use Rattle.cap_c.specs.Commands.{NoReply, Runs};
+ghost use Rattle.cap_c.specs.Commands.{NoReply, RunsCommand};
 ghost use Rattle.cap_c.specs.Fault.{placed};
 ghost use Rattle.cap_c.specs.Replies.{fault_output};
 ghost use Rattle.cap_c.specs.Server.{IsAnswered};
@@ -17,7 +17,7 @@ ghost use Rattle.cap_c.specs.declared.status.TheConstants.{MALFORMED, MISUSE, NO
 
 use crate::apply_report::{ApplyReport, policy_of, set_report};
 use crate::fault::PlacedFault;
-use crate::server::TextServer;
+use crate::server::OpenServer;
 use crate::server_handle::{ServerHandle, put, take};
 use crate::status::{FULL, MALFORMED, MISUSE, NOMEM};
 use cap_apply::Policy;
@@ -43,7 +43,7 @@ pub extern "C" fn changecap_apply(
     ensures ran { (policy : Answers) → policy_of on_data on_notfound on_conflict ≡ Some policy →
         (contents : Spelled Global) → blob_at blob.now ≡ Ok contents → IsAnswered result →
         Between handle.old.value handle.new.value
-        (λ old new. Runs old new (command.Apply contents policy) result) }
+        (λ old new. RunsCommand old new (command.Apply contents policy) result) }
     ensures spelled { IsAnswered result → (contents : Spelled Global) × (blob_at blob.now ≡ Ok contents) }
     ensures report { (policy : Answers) → policy_of on_data on_notfound on_conflict ≡ Some policy →
         (contents : Spelled Global) → blob_at blob.now ≡ Ok contents → IsAnswered result →
@@ -76,14 +76,14 @@ pub extern "C" fn changecap_apply(
 
 fn apply(
     alloc: Global,
-    server: &mut TextServer,
+    server: &mut OpenServer,
     blob: &[u8],
     policy: Policy,
     report: &mut ApplyReport,
     fault: &mut PlacedFault,
 ) -> u32
     ensures ran { (contents : Spelled Global) → blob_at blob.now ≡ Ok contents → IsAnswered result →
-        Runs server.old server.new (command.Apply contents policy) result }
+        RunsCommand server.old server.new (command.Apply contents policy) result }
     ensures spelled { IsAnswered result → (contents : Spelled Global) × (blob_at blob.now ≡ Ok contents) }
     ensures report { (contents : Spelled Global) → blob_at blob.now ≡ Ok contents → IsAnswered result →
         report.new ≡ report_output (answer server.old.core (command.Apply contents policy)) report.old }
@@ -116,7 +116,7 @@ fn apply(
     }
 }
 
-impl TextServer {
+impl OpenServer {
     /// Carries out a command that applies a blob, and sets the report of what became of its changes.
     fn set_report(
         &mut self,
@@ -124,7 +124,7 @@ impl TextServer {
         report: &mut ApplyReport,
         fault: &mut PlacedFault,
     ) -> u32
-        ensures ran { IsAnswered result → Runs self.old self.new command.now result }
+        ensures ran { IsAnswered result → RunsCommand self.old self.new command.now result }
         ensures report { IsAnswered result →
             report.new ≡ report_output (answer self.old.core command.now) report.old }
         ensures fault { IsAnswered result →

@@ -21,7 +21,7 @@ use crate::draft::{ActionKind, Draft, cause_of};
 use crate::fault::PlacedFault;
 use crate::names::name_text;
 use crate::reply_outputs::set_number;
-use crate::server::TextServer;
+use crate::server::OpenServer;
 use crate::server_handle::{ServerHandle, put, take};
 use crate::status::{FULL, MISUSE, NOMEM, OK, REFUSED};
 use cap_core::Command;
@@ -271,7 +271,7 @@ pub extern "C" fn changecap_commit(
     status
 }
 
-impl TextServer {
+impl OpenServer {
     fn bind(&mut self, value: Value<Global>) -> u32
         ensures bound { result ≡ OK → Drafts self.old self.new (bound value self.old.draft) }
         ensures kept { ¬ (result ≡ OK) → (result ≡ NOMEM) × (self.new ≡ self.old) }

@@ -4,7 +4,7 @@ ghost use Rattle.cap_codec.specs.declared.key_flags.KeyFlags.{KeyFlags as Flags}
 ghost use Rattle.cap_core.specs.Answer.{answer};
 ghost use Rattle.cap_core.specs.declared.command.Command.TheVariants as command;
 ghost use Rattle.cap_c.specs.Between.{Between, Holds};
-ghost use Rattle.cap_c.specs.Commands.{NoReply, Runs};
+ghost use Rattle.cap_c.specs.Commands.{NoReply, RunsCommand};
 ghost use Rattle.cap_c.specs.KeyFlags.{key_flags_of};
 ghost use Rattle.cap_c.specs.Replies.{bytes_asked, fault_output};
 ghost use Rattle.cap_c.specs.Server.{IsAnswered};
@@ -32,8 +32,8 @@ pub extern "C" fn changecap_session_changeset(
     fault: &mut PlacedFault,
 ) -> u32
     requires opened { IsSome handle.old.value }
-    ensures ran { IsAnswered result →
-        Between handle.old.value handle.new.value (λ old new. Runs old new (command.Capture session) result) }
+    ensures ran { IsAnswered result → Between handle.old.value handle.new.value
+        (λ old new. RunsCommand old new (command.Capture session) result) }
     ensures fault { IsAnswered result →
         Holds handle.old.value
         (λ old. fault.new ≡ fault_output (answer old.core (command.Capture session)) fault.old) }
@@ -84,8 +84,8 @@ pub extern "C" fn changecap_session_patchset(
     fault: &mut PlacedFault,
 ) -> u32
     requires opened { IsSome handle.old.value }
-    ensures ran { IsAnswered result →
-        Between handle.old.value handle.new.value (λ old new. Runs old new (command.Capture session) result) }
+    ensures ran { IsAnswered result → Between handle.old.value handle.new.value
+        (λ old new. RunsCommand old new (command.Capture session) result) }
     ensures fault { IsAnswered result →
         Holds handle.old.value
         (λ old. fault.new ≡ fault_output (answer old.core (command.Capture session)) fault.old) }
@@ -136,8 +136,8 @@ pub extern "C" fn changecap_session_restart(
     fault: &mut PlacedFault,
 ) -> u32
     requires opened { IsSome handle.old.value }
-    ensures ran { IsAnswered result →
-        Between handle.old.value handle.new.value (λ old new. Runs old new (command.Restart session) result) }
+    ensures ran { IsAnswered result → Between handle.old.value handle.new.value
+        (λ old new. RunsCommand old new (command.Restart session) result) }
     ensures fault { IsAnswered result →
         Holds handle.old.value
         (λ old. fault.new ≡ fault_output (answer old.core (command.Restart session)) fault.old) }

@@ -3,7 +3,7 @@ ghost use Rattle.std.specs.Prelude.{◌≡◌, IfErr, IfOk, OnErr, OnOk, false, 
 ghost use Rattle.cap_core.specs.Answer.{answer};
 ghost use Rattle.cap_core.specs.Past.{HasRoom};
 ghost use Rattle.cap_core.specs.Transition.{next};
-ghost use Rattle.cap_c.specs.Commands.{NoReply, Runs};
+ghost use Rattle.cap_c.specs.Commands.{NoReply, RunsCommand};
 ghost use Rattle.cap_c.specs.Replies.{bytes_asked, fault_output, flag_output, number_output};
 ghost use Rattle.cap_c.specs.Server.{IsAnswered};
 ghost use Rattle.cap_c.specs.Outputs.{LacksRoom, WritesAll};
@@ -12,14 +12,14 @@ ghost use Rattle.cap_c.specs.declared.status.TheConstants.{OK, ROOM};
 use crate::captured::{CaptureHook, CapturedForm};
 use crate::fault::PlacedFault;
 use crate::reply_outputs::{set_flag, set_number, set_refusal};
-use crate::server::TextServer;
+use crate::server::OpenServer;
 use crate::status::{FULL, NOMEM};
 use cap_codec::KeyFlags;
 use cap_core::{Command, EVENTS_MAX, NoHook, Reply};
 use cap_value::Fault;
 use std::alloc::Global;
 
-impl TextServer {
+impl OpenServer {
     /// Whether the history has no room for another command.
     pub(crate) fn is_full(&self) -> bool
         ensures full { result ≡ true → ¬ (HasRoom self.now.core.events) }
@@ -51,7 +51,7 @@ impl TextServer {
         number: &mut u64,
         fault: &mut PlacedFault,
     ) -> u32
-        ensures ran { IsAnswered result → Runs self.old self.new command.now result }
+        ensures ran { IsAnswered result → RunsCommand self.old self.new command.now result }
         ensures number { IsAnswered result →
             number.new ≡ number_output (answer self.old.core command.now) number.old }
         ensures fault { IsAnswered result →
@@ -73,7 +73,7 @@ impl TextServer {
         flag: &mut u32,
         fault: &mut PlacedFault,
     ) -> u32
-        ensures ran { IsAnswered result → Runs self.old self.new command.now result }
+        ensures ran { IsAnswered result → RunsCommand self.old self.new command.now result }
         ensures flag { IsAnswered result →
             flag.new ≡ flag_output (answer self.old.core command.now) flag.old }
         ensures fault { IsAnswered result →
@@ -90,7 +90,7 @@ impl TextServer {
 
     /// Carries out a command, and sets nothing but the fault where it is refused.
     pub(crate) fn set_refusal(&mut self, command: &Command<Global>, fault: &mut PlacedFault) -> u32
-        ensures ran { IsAnswered result → Runs self.old self.new command.now result }
+        ensures ran { IsAnswered result → RunsCommand self.old self.new command.now result }
         ensures fault { IsAnswered result →
             fault.new ≡ fault_output (answer self.old.core command.now) fault.old }
         ensures why { ¬ (IsAnswered result) → NoReply self.old result }
@@ -115,7 +115,7 @@ impl TextServer {
         len: &mut usize,
         fault: &mut PlacedFault,
     ) -> u32
-        ensures ran { IsAnswered result → Runs self.old self.new command.now result }
+        ensures ran { IsAnswered result → RunsCommand self.old self.new command.now result }
         ensures fault { IsAnswered result →
             fault.new ≡ fault_output (answer self.old.core command.now) fault.old }
         ensures done { result ≡ OK →

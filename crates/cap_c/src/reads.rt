@@ -13,7 +13,7 @@ ghost use Rattle.cap_c.specs.Reading.{query_status};
 ghost use Rattle.cap_c.specs.Server.{IsAnswered};
 ghost use Rattle.cap_c.specs.Outputs.{OutputsBytes, OutputsFound};
 ghost use Rattle.cap_c.specs.declared.query.Query.TheVariants as asked;
-ghost use Rattle.cap_c.specs.declared.server.TextServer.{TextServer as Text};
+ghost use Rattle.cap_c.specs.declared.server.OpenServer.{OpenServer as Server};
 ghost use Rattle.cap_c.specs.declared.status.TheConstants.{DONE, MISUSE, NOMEM, ROW};
 
 use crate::change_info::FieldValue;
@@ -21,7 +21,7 @@ use crate::draft::{names_row, row_named};
 use crate::fault::PlacedFault;
 use crate::names::name_text;
 use crate::query::{Query, QueryHook};
-use crate::server::TextServer;
+use crate::server::OpenServer;
 use crate::server_handle::{ServerHandle, put, take};
 use crate::status::{DONE, FULL, MISUSE, NOMEM, OK, REFUSED, ROW};
 use cap_core::{Command, Reply};
@@ -108,7 +108,7 @@ pub extern "C" fn changecap_step(alloc: Global, handle: &mut ServerHandle) -> u3
 pub extern "C" fn changecap_row_id(alloc: Global, handle: &mut ServerHandle, id: &mut u64) -> u32
     requires opened { IsSome handle.old.value }
     ensures same { handle.new.value ≡ handle.old.value }
-    ensures outputs { (server : Text) → handle.old.value ≡ Some server →
+    ensures outputs { (server : Server) → handle.old.value ≡ Some server →
         OutputsFound (id_output server.reading) result id.old id.new }
 {
     let server = take(alloc, handle);
@@ -126,7 +126,7 @@ pub extern "C" fn changecap_columns(
 ) -> u32
     requires opened { IsSome handle.old.value }
     ensures same { handle.new.value ≡ handle.old.value }
-    ensures outputs { (server : Text) → handle.old.value ≡ Some server →
+    ensures outputs { (server : Server) → handle.old.value ≡ Some server →
         OutputsFound (columns_output server.reading) result columns.old columns.new }
 {
     let server = take(alloc, handle);
@@ -145,7 +145,7 @@ pub extern "C" fn changecap_column(
 ) -> u32
     requires opened { IsSome handle.old.value }
     ensures same { handle.new.value ≡ handle.old.value }
-    ensures outputs { (server : Text) → handle.old.value ≡ Some server →
+    ensures outputs { (server : Server) → handle.old.value ≡ Some server →
         OutputsFound (column_output server.reading column) result value.old value.new }
 {
     let server = take(alloc, handle);
@@ -165,7 +165,7 @@ pub extern "C" fn changecap_column_bytes(
 ) -> u32
     requires opened { IsSome handle.old.value }
     ensures same { handle.new.value ≡ handle.old.value }
-    ensures outputs { (server : Text) → handle.old.value ≡ Some server →
+    ensures outputs { (server : Server) → handle.old.value ≡ Some server →
         OutputsBytes (column_bytes server.reading column) result out.old out.new len.new }
 {
     let server = take(alloc, handle);
@@ -174,7 +174,7 @@ pub extern "C" fn changecap_column_bytes(
     status
 }
 
-impl TextServer {
+impl OpenServer {
     fn get(&mut self, alloc: Global, table: &[u8], id: u64, fault: &mut PlacedFault) -> u32
         ensures read { IsAnswered result → (name : Named Global)
             × (row_named id self.old.draft.values ≡ Some name)

@@ -1,6 +1,6 @@
 //! A server that C calls, with commands as text or by words and numbers.
 ghost use Rattle.std.specs.Prelude.{◌≡◌, ◌+◌, ◌<◌, ◌^◌};
-ghost use Rattle.cap_c.specs.Server.{IsAnswered, IsNew, Ran, RunsLine, reply_status};
+ghost use Rattle.cap_c.specs.Server.{IsAnswered, IsNew, RunsText, RunsLine, reply_status};
 ghost use Rattle.cap_c.specs.declared.status.TheConstants.{FULL};
 
 use crate::draft::Draft;
@@ -16,19 +16,19 @@ use std::alloc::Global;
 
 /// A server, the text of its last reply, the batch that is put together, and the rows that were read last.
 #[derive(Drop)]
-pub struct TextServer {
+pub struct OpenServer {
     pub(crate) core: Core<Global>,
     output: Vec<u8, Global>,
     pub(crate) draft: Draft,
     pub(crate) reading: Reading,
 }
 
-impl TextServer {
+impl OpenServer {
     /// An empty server.
     pub(crate) fn new(alloc: Global) -> Self
         ensures { IsNew result }
     {
-        TextServer {
+        OpenServer {
             core: Core::new(alloc),
             output: Vec::new(alloc),
             draft: Draft::new(alloc, None),
@@ -45,7 +45,7 @@ impl TextServer {
 
     /// Carries out the command that the text is, and keeps the text of its reply.
     pub(crate) fn call(&mut self, alloc: Global, text: &[u8], fault: &mut PlacedFault) -> u32
-        ensures ran { IsAnswered result → Ran self.old self.new text.now result }
+        ensures ran { IsAnswered result → RunsText self.old self.new text.now result }
         ensures kept { ¬ (IsAnswered result) → self.new ≡ self.old }
         ensures full { result ≡ FULL → ¬ (self.old.core.events + 1 < 2 ^ 63) }
     {

@@ -6,7 +6,7 @@ ghost use Rattle.cap_filter.specs.Rule.{Rule};
 ghost use Rattle.cap_core.specs.Answer.{answer};
 ghost use Rattle.cap_core.specs.declared.command.Command.TheVariants as command;
 ghost use Rattle.cap_c.specs.Between.{Between, Holds};
-ghost use Rattle.cap_c.specs.Commands.{NoReply, Runs};
+ghost use Rattle.cap_c.specs.Commands.{NoReply, RunsCommand};
 ghost use Rattle.cap_c.specs.Filter.{filter_fault};
 ghost use Rattle.cap_c.specs.Names.{IsName};
 ghost use Rattle.cap_c.specs.Replies.{fault_output};
@@ -15,7 +15,7 @@ ghost use Rattle.cap_c.specs.declared.status.TheConstants.{FILTER, MISUSE};
 
 use crate::fault::PlacedFault;
 use crate::names::name_text;
-use crate::server::TextServer;
+use crate::server::OpenServer;
 use crate::server_handle::{ServerHandle, put, take};
 use crate::status::{FILTER, FULL, MISUSE, NOMEM};
 use cap_core::Command;
@@ -37,7 +37,7 @@ pub extern "C" fn changecap_session_filter(
     // The filter is the one that the text spells.
     ensures ran { (filter : Rule) → filter_of text.now ≡ Ok filter → IsAnswered result →
         Between handle.old.value handle.new.value
-        (λ old new. Runs old new (command.SetFilter session filter) result) }
+        (λ old new. RunsCommand old new (command.SetFilter session filter) result) }
     ensures spelled { IsAnswered result → (filter : Rule) × (filter_of text.now ≡ Ok filter) }
     ensures fault { (filter : Rule) → filter_of text.now ≡ Ok filter → IsAnswered result →
         Holds handle.old.value
@@ -60,13 +60,13 @@ pub extern "C" fn changecap_session_filter(
 
 fn filter(
     alloc: Global,
-    server: &mut TextServer,
+    server: &mut OpenServer,
     session: u64,
     text: &[u8],
     fault: &mut PlacedFault,
 ) -> u32
     ensures ran { (filter : Rule) → filter_of text.now ≡ Ok filter → IsAnswered result →
-        Runs server.old server.new (command.SetFilter session filter) result }
+        RunsCommand server.old server.new (command.SetFilter session filter) result }
     ensures spelled { IsAnswered result → (filter : Rule) × (filter_of text.now ≡ Ok filter) }
     ensures fault { (filter : Rule) → filter_of text.now ≡ Ok filter → IsAnswered result →
         fault.new ≡ fault_output (answer server.old.core (command.SetFilter session filter)) fault.old }
@@ -114,7 +114,7 @@ pub extern "C" fn changecap_save(
 ) -> u32
     requires opened { IsSome handle.old.value }
     ensures ran { IsAnswered result → Between handle.old.value handle.new.value
-        (λ old new. Runs old new (command.SaveAs database.now) result) }
+        (λ old new. RunsCommand old new (command.SaveAs database.now) result) }
     ensures fault { IsAnswered result → Holds handle.old.value
         (λ old. fault.new ≡ fault_output (answer old.core (command.SaveAs database.now)) fault.old) }
     // Exactly bytes that are no name are misuse.
@@ -131,8 +131,8 @@ pub extern "C" fn changecap_save(
     status
 }
 
-fn save(alloc: Global, server: &mut TextServer, database: &[u8], fault: &mut PlacedFault) -> u32
-    ensures ran { IsAnswered result → Runs server.old server.new (command.SaveAs database.now) result }
+fn save(alloc: Global, server: &mut OpenServer, database: &[u8], fault: &mut PlacedFault) -> u32
+    ensures ran { IsAnswered result → RunsCommand server.old server.new (command.SaveAs database.now) result }
     ensures fault { IsAnswered result →
         fault.new ≡ fault_output (answer server.old.core (command.SaveAs database.now)) fault.old }
     ensures misuse { result ≡ MISUSE → ¬ (IsName database.now) }
@@ -164,7 +164,7 @@ pub extern "C" fn changecap_session_diff(
 ) -> u32
     requires opened { IsSome handle.old.value }
     ensures ran { IsAnswered result → Between handle.old.value handle.new.value
-        (λ old new. Runs old new (command.Diff session from.now table.now) result) }
+        (λ old new. RunsCommand old new (command.Diff session from.now table.now) result) }
     ensures fault { IsAnswered result → Holds handle.old.value
         (λ old. fault.new
         ≡ fault_output (answer old.core (command.Diff session from.now table.now)) fault.old) }
@@ -184,14 +184,14 @@ pub extern "C" fn changecap_session_diff(
 
 fn diff(
     alloc: Global,
-    server: &mut TextServer,
+    server: &mut OpenServer,
     session: u64,
     from: &[u8],
     table: &[u8],
     fault: &mut PlacedFault,
 ) -> u32
     ensures ran { IsAnswered result →
-        Runs server.old server.new (command.Diff session from.now table.now) result }
+        RunsCommand server.old server.new (command.Diff session from.now table.now) result }
     ensures fault { IsAnswered result →
         fault.new ≡ fault_output
         (answer server.old.core (command.Diff session from.now table.now)) fault.old }

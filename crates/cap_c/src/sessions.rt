@@ -3,7 +3,7 @@ ghost use Rattle.std.specs.Prelude.{◌≡◌, ◌↔◌, Bool, IsSome, None, Op
 ghost use Rattle.cap_core.specs.Answer.{answer};
 ghost use Rattle.cap_core.specs.declared.command.Command.TheVariants as command;
 ghost use Rattle.cap_c.specs.Between.{Between, Holds};
-ghost use Rattle.cap_c.specs.Commands.{NoReply, Runs, asked_of};
+ghost use Rattle.cap_c.specs.Commands.{NoReply, RunsCommand, asked_of};
 ghost use Rattle.cap_c.specs.Names.{IsName};
 ghost use Rattle.cap_c.specs.Replies.{fault_output, flag_output, number_output};
 ghost use Rattle.cap_c.specs.Server.{IsAnswered};
@@ -11,7 +11,7 @@ ghost use Rattle.cap_c.specs.declared.status.TheConstants.{MISUSE};
 
 use crate::fault::PlacedFault;
 use crate::names::name_text;
-use crate::server::TextServer;
+use crate::server::OpenServer;
 use crate::server_handle::{ServerHandle, put, take};
 use crate::status::{FULL, MISUSE, NOMEM};
 use cap_core::Command;
@@ -28,7 +28,7 @@ pub extern "C" fn changecap_session_new(
 ) -> u32
     requires opened { IsSome handle.old.value }
     ensures ran { IsAnswered result → Between handle.old.value handle.new.value
-        (λ old new. Runs old new command.NewSession result) }
+        (λ old new. RunsCommand old new command.NewSession result) }
     ensures session { IsAnswered result → Holds handle.old.value
         (λ old. session.new ≡ number_output (answer old.core command.NewSession) session.old) }
     ensures fault { IsAnswered result → Holds handle.old.value
@@ -53,7 +53,7 @@ pub extern "C" fn changecap_session_drop(
 ) -> u32
     requires opened { IsSome handle.old.value }
     ensures ran { IsAnswered result → Between handle.old.value handle.new.value
-        (λ old new. Runs old new (command.DropSession session) result) }
+        (λ old new. RunsCommand old new (command.DropSession session) result) }
     ensures fault { IsAnswered result → Holds handle.old.value
         (λ old. fault.new ≡ fault_output (answer old.core (command.DropSession session)) fault.old) }
     ensures why { ¬ (IsAnswered result) → Holds handle.old.value (λ old. NoReply old result) }
@@ -76,7 +76,7 @@ pub extern "C" fn changecap_session_attach_all(
 ) -> u32
     requires opened { IsSome handle.old.value }
     ensures ran { IsAnswered result → Between handle.old.value handle.new.value
-        (λ old new. Runs old new (command.AttachAll session) result) }
+        (λ old new. RunsCommand old new (command.AttachAll session) result) }
     ensures fault { IsAnswered result → Holds handle.old.value
         (λ old. fault.new ≡ fault_output (answer old.core (command.AttachAll session)) fault.old) }
     ensures why { ¬ (IsAnswered result) → Holds handle.old.value (λ old. NoReply old result) }
@@ -100,7 +100,7 @@ pub extern "C" fn changecap_session_attach(
 ) -> u32
     requires opened { IsSome handle.old.value }
     ensures ran { IsAnswered result → Between handle.old.value handle.new.value
-        (λ old new. Runs old new (command.Attach session table.now) result) }
+        (λ old new. RunsCommand old new (command.Attach session table.now) result) }
     ensures fault { IsAnswered result → Holds handle.old.value
         (λ old. fault.new ≡ fault_output (answer old.core (command.Attach session table.now)) fault.old) }
     // Exactly bytes that are no name are misuse.
@@ -119,12 +119,13 @@ pub extern "C" fn changecap_session_attach(
 
 fn attach(
     alloc: Global,
-    server: &mut TextServer,
+    server: &mut OpenServer,
     session: u64,
     table: &[u8],
     fault: &mut PlacedFault,
 ) -> u32
-    ensures ran { IsAnswered result → Runs server.old server.new (command.Attach session table.now) result }
+    ensures ran { IsAnswered result →
+        RunsCommand server.old server.new (command.Attach session table.now) result }
     ensures fault { IsAnswered result →
         fault.new ≡ fault_output (answer server.old.core (command.Attach session table.now)) fault.old }
     ensures misuse { result ≡ MISUSE → ¬ (IsName table.now) }
@@ -157,7 +158,7 @@ pub extern "C" fn changecap_session_enable(
     requires opened { IsSome handle.old.value }
     ensures ran { (value : Option Bool) → asked_of asked ≡ Some value → IsAnswered result →
         Between handle.old.value handle.new.value
-        (λ old new. Runs old new (command.Enable session value) result) }
+        (λ old new. RunsCommand old new (command.Enable session value) result) }
     ensures flag { (value : Option Bool) → asked_of asked ≡ Some value → IsAnswered result →
         Holds handle.old.value
         (λ old. flag.new ≡ flag_output (answer old.core (command.Enable session value)) flag.old) }
@@ -193,7 +194,7 @@ pub extern "C" fn changecap_session_indirect(
     requires opened { IsSome handle.old.value }
     ensures ran { (value : Option Bool) → asked_of asked ≡ Some value → IsAnswered result →
         Between handle.old.value handle.new.value
-        (λ old new. Runs old new (command.Indirect session value) result) }
+        (λ old new. RunsCommand old new (command.Indirect session value) result) }
     ensures flag { (value : Option Bool) → asked_of asked ≡ Some value → IsAnswered result →
         Holds handle.old.value
         (λ old. flag.new ≡ flag_output (answer old.core (command.Indirect session value)) flag.old) }
@@ -227,7 +228,7 @@ pub extern "C" fn changecap_session_isempty(
 ) -> u32
     requires opened { IsSome handle.old.value }
     ensures ran { IsAnswered result → Between handle.old.value handle.new.value
-        (λ old new. Runs old new (command.IsEmpty session) result) }
+        (λ old new. RunsCommand old new (command.IsEmpty session) result) }
     ensures flag { IsAnswered result → Holds handle.old.value
         (λ old. flag.new ≡ flag_output (answer old.core (command.IsEmpty session)) flag.old) }
     ensures fault { IsAnswered result → Holds handle.old.value

@@ -3,7 +3,7 @@ ghost use Rattle.std.specs.Prelude.{◌≡◌, IsSome};
 ghost use Rattle.cap_core.specs.Answer.{answer};
 ghost use Rattle.cap_core.specs.declared.command.Command.TheVariants as command;
 ghost use Rattle.cap_c.specs.Between.{Between, Holds};
-ghost use Rattle.cap_c.specs.Commands.{NoReply, Runs, key_columns};
+ghost use Rattle.cap_c.specs.Commands.{NoReply, RunsCommand, key_columns};
 ghost use Rattle.cap_c.specs.Names.{IsTable};
 ghost use Rattle.cap_c.specs.Replies.{fault_output, number_output};
 ghost use Rattle.cap_c.specs.Server.{IsAnswered};
@@ -11,7 +11,7 @@ ghost use Rattle.cap_c.specs.declared.status.TheConstants.{MISUSE};
 
 use crate::fault::PlacedFault;
 use crate::names::{are_columns, name_text, schema_of};
-use crate::server::TextServer;
+use crate::server::OpenServer;
 use crate::server_handle::{ServerHandle, put, take};
 use crate::status::{FULL, MISUSE, NOMEM};
 use cap_core::Command;
@@ -30,7 +30,7 @@ pub extern "C" fn changecap_create(
 ) -> u32
     requires opened { IsSome handle.old.value }
     ensures ran { IsAnswered result → Between handle.old.value handle.new.value
-        (λ old new. Runs old new (command.CreateTable table.now (key_columns key.now)) result) }
+        (λ old new. RunsCommand old new (command.CreateTable table.now (key_columns key.now)) result) }
     ensures version { IsAnswered result → Holds handle.old.value (λ old. version.new
         ≡ number_output (answer old.core (command.CreateTable table.now (key_columns key.now))) version.old) }
     ensures fault { IsAnswered result → Holds handle.old.value (λ old. fault.new
@@ -51,14 +51,14 @@ pub extern "C" fn changecap_create(
 
 fn create(
     alloc: Global,
-    server: &mut TextServer,
+    server: &mut OpenServer,
     table: &[u8],
     key: &[u8],
     version: &mut u64,
     fault: &mut PlacedFault,
 ) -> u32
     ensures ran { IsAnswered result →
-        Runs server.old server.new (command.CreateTable table.now (key_columns key.now)) result }
+        RunsCommand server.old server.new (command.CreateTable table.now (key_columns key.now)) result }
     ensures version { IsAnswered result → version.new
         ≡ number_output
         (answer server.old.core (command.CreateTable table.now (key_columns key.now))) version.old }
