@@ -8,7 +8,8 @@ use Rattle.cap_core.specs.Transition.{next}
 use Rattle.cap_core.specs.declared.command.Command.TheVariants as command
 use Rattle.cap_c.specs.Draft.{DraftState, action_of, batch_on, cause_of, op_on, with_op}
 use Rattle.cap_c.specs.Names.{IsName}
-use Rattle.cap_c.specs.Reading.{before, query_status, rows_asked}
+use Rattle.cap_c.specs.Query.{query_status, rows_asked}
+use Rattle.cap_c.specs.RowCursor.{begin}
 use Rattle.cap_c.specs.Server.{reply_status}
 use Rattle.cap_c.specs.declared.draft.ActionKind.{ActionKind}
 use Rattle.cap_c.specs.declared.query.Query.{Query}
@@ -49,6 +50,6 @@ pub record Reads (old new : OpenServer) (query : Query) (table : List ℕ) (stat
   pub state : new ≡ record old {
     core = next old.core command.Read;
     draft = record old.draft { values = []; fields = [] };
-    reading = before (rows_asked query table old.core.main);
+    cursor = begin (rows_asked query table old.core.main);
   }
   pub status_is : status ≡ query_status table old.core.main

@@ -9,7 +9,7 @@ use Rattle.cap_script.specs.ReplyText.{reply_text}
 use Rattle.cap_script.specs.Script.{SpellsScript}
 use Rattle.cap_script.specs.declared.line.Line.{Line}
 use Rattle.cap_c.specs.Draft.{draft_on}
-use Rattle.cap_c.specs.Reading.{before}
+use Rattle.cap_c.specs.RowCursor.{begin}
 use Rattle.cap_c.specs.declared.server.OpenServer.{OpenServer}
 use Rattle.cap_c.specs.declared.status.TheConstants.{OK, REFUSED}
 
@@ -18,7 +18,7 @@ pub record IsNew (server : OpenServer) : Type 0 where
   pub core : server.core ≡ state []
   pub output : server.output.items ≡ []
   pub draft : server.draft ≡ draft_on None
-  pub reading : server.reading ≡ before []
+  pub cursor : server.cursor ≡ begin []
 
 -- the command has a reply
 abbrev pub IsAnswered : ℕ → Type 0
@@ -32,7 +32,7 @@ reply_status said = OK
 -- rows are as they were.
 pub record RunsLine (old new : OpenServer) (line : Line Global) (status : ℕ) : Type 0 where
   pub core : new.core ≡ next old.core line.command
-  pub others : (new.draft ≡ old.draft) × (new.reading ≡ old.reading)
+  pub others : (new.draft ≡ old.draft) × (new.cursor ≡ old.cursor)
   pub output : new.output.items ≡ reply_text line (answer old.core line.command)
   pub status_is : status ≡ reply_status (answer old.core line.command)
 

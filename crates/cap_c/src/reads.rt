@@ -7,9 +7,8 @@ ghost use Rattle.cap_c.specs.Commands.{NoReply};
 ghost use Rattle.cap_c.specs.Draft.{row_named};
 ghost use Rattle.cap_c.specs.Drafted.{Reads};
 ghost use Rattle.cap_c.specs.Names.{IsName};
-ghost use Rattle.cap_c.specs.Reading.{GoesOn, column_bytes, column_output, columns_output, id_output};
-ghost use Rattle.cap_c.specs.Reading.{query_fault};
-ghost use Rattle.cap_c.specs.Reading.{query_status};
+ghost use Rattle.cap_c.specs.Query.{query_fault, query_status};
+ghost use Rattle.cap_c.specs.RowCursor.{Steps, column_bytes, column_output, columns_output, id_output};
 ghost use Rattle.cap_c.specs.Server.{IsAnswered};
 ghost use Rattle.cap_c.specs.Outputs.{OutputsBytes, OutputsFound};
 ghost use Rattle.cap_c.specs.declared.query.Query.TheVariants as asked;
@@ -93,12 +92,12 @@ pub extern "C" fn changecap_scan(
 pub extern "C" fn changecap_step(alloc: Global, handle: &mut ServerHandle) -> u32
     requires opened { IsSome handle.old.value }
     ensures row { result ≡ ROW → Between handle.old.value handle.new.value
-        (λ old new. GoesOn old.reading new.reading true × (new ≡ record old { reading = new.reading })) }
+        (λ old new. Steps old.cursor new.cursor true × (new ≡ record old { cursor = new.cursor })) }
     ensures end { ¬ (result ≡ ROW) → (result ≡ DONE) × Between handle.old.value handle.new.value
-        (λ old new. GoesOn old.reading new.reading false × (new ≡ record old { reading = new.reading })) }
+        (λ old new. Steps old.cursor new.cursor false × (new ≡ record old { cursor = new.cursor })) }
 {
     let mut server = take(alloc, handle);
-    let is_row = server.reading.step();
+    let is_row = server.cursor.step();
     put(handle, server);
     if is_row { ROW } else { DONE }
 }
@@ -109,10 +108,10 @@ pub extern "C" fn changecap_row_id(alloc: Global, handle: &mut ServerHandle, id:
     requires opened { IsSome handle.old.value }
     ensures same { handle.new.value ≡ handle.old.value }
     ensures outputs { (server : Server) → handle.old.value ≡ Some server →
-        OutputsFound (id_output server.reading) result id.old id.new }
+        OutputsFound (id_output server.cursor) result id.old id.new }
 {
     let server = take(alloc, handle);
-    let status = server.reading.set_id(id);
+    let status = server.cursor.set_id(id);
     put(handle, server);
     status
 }
@@ -127,10 +126,10 @@ pub extern "C" fn changecap_columns(
     requires opened { IsSome handle.old.value }
     ensures same { handle.new.value ≡ handle.old.value }
     ensures outputs { (server : Server) → handle.old.value ≡ Some server →
-        OutputsFound (columns_output server.reading) result columns.old columns.new }
+        OutputsFound (columns_output server.cursor) result columns.old columns.new }
 {
     let server = take(alloc, handle);
-    let status = server.reading.set_columns(columns);
+    let status = server.cursor.set_columns(columns);
     put(handle, server);
     status
 }
@@ -146,10 +145,10 @@ pub extern "C" fn changecap_column(
     requires opened { IsSome handle.old.value }
     ensures same { handle.new.value ≡ handle.old.value }
     ensures outputs { (server : Server) → handle.old.value ≡ Some server →
-        OutputsFound (column_output server.reading column) result value.old value.new }
+        OutputsFound (column_output server.cursor column) result value.old value.new }
 {
     let server = take(alloc, handle);
-    let status = server.reading.set_column(column, value);
+    let status = server.cursor.set_column(column, value);
     put(handle, server);
     status
 }
@@ -166,10 +165,10 @@ pub extern "C" fn changecap_column_bytes(
     requires opened { IsSome handle.old.value }
     ensures same { handle.new.value ≡ handle.old.value }
     ensures outputs { (server : Server) → handle.old.value ≡ Some server →
-        OutputsBytes (column_bytes server.reading column) result out.old out.new len.new }
+        OutputsBytes (column_bytes server.cursor column) result out.old out.new len.new }
 {
     let server = take(alloc, handle);
-    let status = server.reading.set_bytes(column, out, len);
+    let status = server.cursor.set_bytes(column, out, len);
     put(handle, server);
     status
 }
@@ -245,7 +244,7 @@ impl OpenServer {
             alloc,
             query,
             table,
-            reading: &mut self.reading,
+            cursor: &mut self.cursor,
         };
         match self.core.step(&Command::Read, &mut hook) {
             Ok(Reply::Snapshot(snapshot)) => {

@@ -7,7 +7,7 @@ use crate::draft::Draft;
 use crate::fault::PlacedFault;
 use crate::one_line::one_line;
 use crate::printer::Printer;
-use crate::reading::Reading;
+use crate::row_cursor::RowCursor;
 use crate::status::{COMMAND, FULL, NOMEM, OK, REFUSED};
 use cap_core::{Core, EVENTS_MAX, Reply};
 use cap_script::Line;
@@ -20,7 +20,7 @@ pub struct OpenServer {
     pub(crate) core: Core<Global>,
     output: Vec<u8, Global>,
     pub(crate) draft: Draft,
-    pub(crate) reading: Reading,
+    pub(crate) cursor: RowCursor,
 }
 
 impl OpenServer {
@@ -32,7 +32,7 @@ impl OpenServer {
             core: Core::new(alloc),
             output: Vec::new(alloc),
             draft: Draft::new(alloc, None),
-            reading: Reading::before(Vec::new(alloc)),
+            cursor: RowCursor::new(Vec::new(alloc)),
         }
     }
 
