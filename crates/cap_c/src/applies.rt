@@ -61,9 +61,9 @@ pub extern "C" fn changecap_apply(
     ensures misuse { (result ≡ MISUSE) ↔ (policy_of on_data on_notfound on_conflict ≡ None) }
     ensures why { ¬ (IsAnswered result) → ¬ (result ≡ MALFORMED) → ¬ (result ≡ MISUSE) →
         Holds handle.old.value (λ old. NoReply old result) }
-    ensures kept { ¬ (IsAnswered result) →
-        (handle.new.value ≡ handle.old.value) × (report.new ≡ report.old) }
-    ensures unset { ¬ (IsAnswered result) → ¬ (result ≡ MALFORMED) → fault.new ≡ fault.old }
+    ensures kept { ¬ (IsAnswered result) → handle.new.value ≡ handle.old.value }
+    ensures report_kept { ¬ (IsAnswered result) → report.new ≡ report.old }
+    ensures fault_kept { ¬ (IsAnswered result) → ¬ (result ≡ MALFORMED) → fault.new ≡ fault.old }
 {
     let Some(policy) = policy_of(on_data, on_notfound, on_conflict) else {
         return MISUSE;
@@ -94,8 +94,9 @@ fn apply(
     ensures first { (wrong : Wrong) → first_fault blob.now ≡ Some wrong → ¬ (result ≡ NOMEM) }
     ensures misuse { ¬ (result ≡ MISUSE) }
     ensures why { ¬ (IsAnswered result) → ¬ (result ≡ MALFORMED) → NoReply server.old result }
-    ensures kept { ¬ (IsAnswered result) → (server.new ≡ server.old) × (report.new ≡ report.old) }
-    ensures unset { ¬ (IsAnswered result) → ¬ (result ≡ MALFORMED) → fault.new ≡ fault.old }
+    ensures kept { ¬ (IsAnswered result) → server.new ≡ server.old }
+    ensures report_kept { ¬ (IsAnswered result) → report.new ≡ report.old }
+    ensures fault_kept { ¬ (IsAnswered result) → ¬ (result ≡ MALFORMED) → fault.new ≡ fault.old }
 {
     if server.is_full() {
         return FULL;
@@ -132,7 +133,8 @@ impl OpenServer {
         ensures why { ¬ (IsAnswered result) → NoReply self.old result }
         ensures other { ¬ (result ≡ MALFORMED) × ¬ (result ≡ MISUSE) }
         ensures kept { ¬ (IsAnswered result) → self.new ≡ self.old }
-        ensures unset { ¬ (IsAnswered result) → (report.new ≡ report.old) × (fault.new ≡ fault.old) }
+        ensures report_kept { ¬ (IsAnswered result) → report.new ≡ report.old }
+        ensures fault_kept { ¬ (IsAnswered result) → fault.new ≡ fault.old }
     {
         match self.reply_to(command) {
             Ok(reply) => set_report(&reply, report, fault),

@@ -171,7 +171,7 @@ pub extern "C" fn changecap_insert(
     ensures room { ¬ (result ≡ MISUSE) → ¬ (result ≡ REFUSED) →
         ((result ≡ OK) ⊎ (result ≡ NOMEM)) × Holds handle.old.value (λ old. ¬ (HasAllOps old.draft)) }
     ensures kept { ¬ (result ≡ OK) → handle.new.value ≡ handle.old.value }
-    ensures unset { ¬ (result ≡ REFUSED) → fault.new ≡ fault.old }
+    ensures fault_kept { ¬ (result ≡ REFUSED) → fault.new ≡ fault.old }
 {
     let mut server = take(alloc, handle);
     let status = server.put(alloc, ActionKind::Insert, table, 0, cause, fault);
@@ -205,7 +205,7 @@ pub extern "C" fn changecap_update(
     ensures room { ¬ (result ≡ MISUSE) → ¬ (result ≡ REFUSED) →
         ((result ≡ OK) ⊎ (result ≡ NOMEM)) × Holds handle.old.value (λ old. ¬ (HasAllOps old.draft)) }
     ensures kept { ¬ (result ≡ OK) → handle.new.value ≡ handle.old.value }
-    ensures unset { ¬ (result ≡ REFUSED) → fault.new ≡ fault.old }
+    ensures fault_kept { ¬ (result ≡ REFUSED) → fault.new ≡ fault.old }
 {
     let mut server = take(alloc, handle);
     let status = server.put(alloc, ActionKind::Update, table, id, cause, fault);
@@ -238,7 +238,7 @@ pub extern "C" fn changecap_delete(
     ensures room { ¬ (result ≡ MISUSE) → ¬ (result ≡ REFUSED) →
         ((result ≡ OK) ⊎ (result ≡ NOMEM)) × Holds handle.old.value (λ old. ¬ (HasAllOps old.draft)) }
     ensures kept { ¬ (result ≡ OK) → handle.new.value ≡ handle.old.value }
-    ensures unset { ¬ (result ≡ REFUSED) → fault.new ≡ fault.old }
+    ensures fault_kept { ¬ (result ≡ REFUSED) → fault.new ≡ fault.old }
 {
     let mut server = take(alloc, handle);
     let status = server.put(alloc, ActionKind::Delete, table, id, cause, fault);
@@ -263,7 +263,8 @@ pub extern "C" fn changecap_commit(
         (λ old. fault.new ≡ fault_output (answer old.core (command.Commit old.draft.batch)) fault.old) }
     ensures why { ¬ (IsAnswered result) → Holds handle.old.value (λ old. NoReply old result) }
     ensures kept { ¬ (IsAnswered result) → handle.new.value ≡ handle.old.value }
-    ensures unset { ¬ (IsAnswered result) → (version.new ≡ version.old) × (fault.new ≡ fault.old) }
+    ensures version_kept { ¬ (IsAnswered result) → version.new ≡ version.old }
+    ensures fault_kept { ¬ (IsAnswered result) → fault.new ≡ fault.old }
 {
     let mut server = take(alloc, handle);
     let status = server.commit(alloc, version, fault);
@@ -351,7 +352,7 @@ impl OpenServer {
         ensures room { ¬ (result ≡ MISUSE) → ¬ (result ≡ REFUSED) →
             ((result ≡ OK) ⊎ (result ≡ NOMEM)) × ¬ (HasAllOps self.old.draft) }
         ensures kept { ¬ (result ≡ OK) → self.new ≡ self.old }
-        ensures unset { ¬ (result ≡ REFUSED) → fault.new ≡ fault.old }
+        ensures fault_kept { ¬ (result ≡ REFUSED) → fault.new ≡ fault.old }
     {
         let Some(table) = name_text(table) else {
             return MISUSE;
@@ -380,7 +381,8 @@ impl OpenServer {
             ≡ fault_output (answer self.old.core (command.Commit self.old.draft.batch)) fault.old }
         ensures why { ¬ (IsAnswered result) → NoReply self.old result }
         ensures kept { ¬ (IsAnswered result) → self.new ≡ self.old }
-        ensures unset { ¬ (IsAnswered result) → (version.new ≡ version.old) × (fault.new ≡ fault.old) }
+        ensures version_kept { ¬ (IsAnswered result) → version.new ≡ version.old }
+        ensures fault_kept { ¬ (IsAnswered result) → fault.new ≡ fault.old }
     {
         if self.is_full() {
             return FULL;

@@ -29,7 +29,7 @@ pub extern "C" fn changecap_check(alloc: Global, blob: &[u8], fault: &mut Placed
     ensures spelled { result ≡ OK → (contents : Spelled Global) × Spells contents blob.now }
     ensures fault { result ≡ MALFORMED →
         (wrong : Wrong) × (blob_at {A = Global} blob.now ≡ Err wrong) × (fault.new ≡ placed wrong) }
-    ensures kept { ¬ (result ≡ MALFORMED) → fault.new ≡ fault.old }
+    ensures fault_kept { ¬ (result ≡ MALFORMED) → fault.new ≡ fault.old }
 {
     match read_blob(alloc, blob) {
         Ok(_) => OK,
@@ -59,8 +59,9 @@ pub extern "C" fn changecap_invert(
         Outputs (inverse_at Global flags blob.now) result out.old out.new len.new fault.new }
     // Exactly a number that names no key flags is misuse.
     ensures misuse { (result ≡ MISUSE) ↔ (key_flags_of key_flags ≡ None) }
-    ensures kept { ¬ (result ≡ OK) → out.new ≡ out.old }
-    ensures unchanged { result ≡ NOMEM → (len.new ≡ len.old) × (fault.new ≡ fault.old) }
+    ensures out_kept { ¬ (result ≡ OK) → out.new ≡ out.old }
+    ensures len_kept { result ≡ NOMEM → len.new ≡ len.old }
+    ensures fault_kept { result ≡ NOMEM → fault.new ≡ fault.old }
 {
     let Some(flags) = key_flags_of(key_flags) else {
         return MISUSE;
@@ -86,8 +87,9 @@ pub extern "C" fn changecap_patchset(
         Outputs (patchset_at Global flags blob.now) result out.old out.new len.new fault.new }
     // Exactly a number that names no key flags is misuse.
     ensures misuse { (result ≡ MISUSE) ↔ (key_flags_of key_flags ≡ None) }
-    ensures kept { ¬ (result ≡ OK) → out.new ≡ out.old }
-    ensures unchanged { result ≡ NOMEM → (len.new ≡ len.old) × (fault.new ≡ fault.old) }
+    ensures out_kept { ¬ (result ≡ OK) → out.new ≡ out.old }
+    ensures len_kept { result ≡ NOMEM → len.new ≡ len.old }
+    ensures fault_kept { result ≡ NOMEM → fault.new ≡ fault.old }
 {
     let Some(flags) = key_flags_of(key_flags) else {
         return MISUSE;

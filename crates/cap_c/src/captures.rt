@@ -50,9 +50,10 @@ pub extern "C" fn changecap_session_changeset(
     ensures misuse { (result ≡ MISUSE) ↔ (key_flags_of key_flags ≡ None) }
     ensures why { ¬ (IsAnswered result) → ¬ (result ≡ ROOM) → ¬ (result ≡ MISUSE) →
         Holds handle.old.value (λ old. NoReply old result) }
-    ensures kept { ¬ (IsAnswered result) → (handle.new.value ≡ handle.old.value) × (fault.new ≡ fault.old) }
-    ensures unset { ¬ (result ≡ OK) → out.new ≡ out.old }
-    ensures len { ¬ (result ≡ OK) → ¬ (result ≡ ROOM) → len.new ≡ len.old }
+    ensures kept { ¬ (IsAnswered result) → handle.new.value ≡ handle.old.value }
+    ensures fault_kept { ¬ (IsAnswered result) → fault.new ≡ fault.old }
+    ensures out_kept { ¬ (result ≡ OK) → out.new ≡ out.old }
+    ensures len_kept { ¬ (result ≡ OK) → ¬ (result ≡ ROOM) → len.new ≡ len.old }
 {
     let Some(flags) = key_flags_of(key_flags) else {
         return MISUSE;
@@ -102,9 +103,10 @@ pub extern "C" fn changecap_session_patchset(
     ensures misuse { (result ≡ MISUSE) ↔ (key_flags_of key_flags ≡ None) }
     ensures why { ¬ (IsAnswered result) → ¬ (result ≡ ROOM) → ¬ (result ≡ MISUSE) →
         Holds handle.old.value (λ old. NoReply old result) }
-    ensures kept { ¬ (IsAnswered result) → (handle.new.value ≡ handle.old.value) × (fault.new ≡ fault.old) }
-    ensures unset { ¬ (result ≡ OK) → out.new ≡ out.old }
-    ensures len { ¬ (result ≡ OK) → ¬ (result ≡ ROOM) → len.new ≡ len.old }
+    ensures kept { ¬ (IsAnswered result) → handle.new.value ≡ handle.old.value }
+    ensures fault_kept { ¬ (IsAnswered result) → fault.new ≡ fault.old }
+    ensures out_kept { ¬ (result ≡ OK) → out.new ≡ out.old }
+    ensures len_kept { ¬ (result ≡ OK) → ¬ (result ≡ ROOM) → len.new ≡ len.old }
 {
     let Some(flags) = key_flags_of(key_flags) else {
         return MISUSE;
@@ -154,9 +156,10 @@ pub extern "C" fn changecap_session_restart(
     ensures misuse { (result ≡ MISUSE) ↔ (key_flags_of key_flags ≡ None) }
     ensures why { ¬ (IsAnswered result) → ¬ (result ≡ ROOM) → ¬ (result ≡ MISUSE) →
         Holds handle.old.value (λ old. NoReply old result) }
-    ensures kept { ¬ (IsAnswered result) → (handle.new.value ≡ handle.old.value) × (fault.new ≡ fault.old) }
-    ensures unset { ¬ (result ≡ OK) → out.new ≡ out.old }
-    ensures len { ¬ (result ≡ OK) → ¬ (result ≡ ROOM) → len.new ≡ len.old }
+    ensures kept { ¬ (IsAnswered result) → handle.new.value ≡ handle.old.value }
+    ensures fault_kept { ¬ (IsAnswered result) → fault.new ≡ fault.old }
+    ensures out_kept { ¬ (result ≡ OK) → out.new ≡ out.old }
+    ensures len_kept { ¬ (result ≡ OK) → ¬ (result ≡ ROOM) → len.new ≡ len.old }
 {
     let Some(flags) = key_flags_of(key_flags) else {
         return MISUSE;

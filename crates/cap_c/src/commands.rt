@@ -58,7 +58,8 @@ impl OpenServer {
             fault.new ≡ fault_output (answer self.old.core command.now) fault.old }
         ensures why { ¬ (IsAnswered result) → NoReply self.old result }
         ensures kept { ¬ (IsAnswered result) → self.new ≡ self.old }
-        ensures unset { ¬ (IsAnswered result) → (number.new ≡ number.old) × (fault.new ≡ fault.old) }
+        ensures number_kept { ¬ (IsAnswered result) → number.new ≡ number.old }
+        ensures fault_kept { ¬ (IsAnswered result) → fault.new ≡ fault.old }
     {
         match self.reply_to(command) {
             Ok(reply) => set_number(&reply, number, fault),
@@ -80,7 +81,8 @@ impl OpenServer {
             fault.new ≡ fault_output (answer self.old.core command.now) fault.old }
         ensures why { ¬ (IsAnswered result) → NoReply self.old result }
         ensures kept { ¬ (IsAnswered result) → self.new ≡ self.old }
-        ensures unset { ¬ (IsAnswered result) → (flag.new ≡ flag.old) × (fault.new ≡ fault.old) }
+        ensures flag_kept { ¬ (IsAnswered result) → flag.new ≡ flag.old }
+        ensures fault_kept { ¬ (IsAnswered result) → fault.new ≡ fault.old }
     {
         match self.reply_to(command) {
             Ok(reply) => set_flag(&reply, flag, fault),
@@ -95,7 +97,7 @@ impl OpenServer {
             fault.new ≡ fault_output (answer self.old.core command.now) fault.old }
         ensures why { ¬ (IsAnswered result) → NoReply self.old result }
         ensures kept { ¬ (IsAnswered result) → self.new ≡ self.old }
-        ensures unset { ¬ (IsAnswered result) → fault.new ≡ fault.old }
+        ensures fault_kept { ¬ (IsAnswered result) → fault.new ≡ fault.old }
     {
         match self.reply_to(command) {
             Ok(reply) => set_refusal(&reply, fault),
@@ -118,16 +120,17 @@ impl OpenServer {
         ensures ran { IsAnswered result → RunsCommand self.old self.new command.now result }
         ensures fault { IsAnswered result →
             fault.new ≡ fault_output (answer self.old.core command.now) fault.old }
-        ensures done { result ≡ OK →
+        ensures written { result ≡ OK →
             WritesAll (bytes_asked form key_flags (answer self.old.core command.now))
             out.old out.new len.old len.new }
         ensures room { result ≡ ROOM →
             LacksRoom (bytes_asked form key_flags (answer self.old.core command.now))
             out.old len.new }
         ensures why { ¬ (IsAnswered result) → ¬ (result ≡ ROOM) → NoReply self.old result }
-        ensures kept { ¬ (IsAnswered result) → (self.new ≡ self.old) × (fault.new ≡ fault.old) }
-        ensures unset { ¬ (result ≡ OK) → out.new ≡ out.old }
-        ensures len { ¬ (result ≡ OK) → ¬ (result ≡ ROOM) → len.new ≡ len.old }
+        ensures kept { ¬ (IsAnswered result) → self.new ≡ self.old }
+        ensures fault_kept { ¬ (IsAnswered result) → fault.new ≡ fault.old }
+        ensures out_kept { ¬ (result ≡ OK) → out.new ≡ out.old }
+        ensures len_kept { ¬ (result ≡ OK) → ¬ (result ≡ ROOM) → len.new ≡ len.old }
     {
         if self.is_full() {
             return FULL;

@@ -38,9 +38,10 @@ pub extern "C" fn changecap_concat(
         fault.new blob.new }
     // Exactly a number that names no key flags is misuse.
     ensures misuse { (result ≡ MISUSE) ↔ (key_flags_of key_flags ≡ None) }
-    ensures kept { ¬ (result ≡ OK) → out.new ≡ out.old }
+    ensures out_kept { ¬ (result ≡ OK) → out.new ≡ out.old }
     ensures fault_kept { ¬ (result ≡ MALFORMED) → fault.new ≡ fault.old }
-    ensures unchanged { result ≡ NOMEM → (len.new ≡ len.old) × (blob.new ≡ blob.old) }
+    ensures len_kept { result ≡ NOMEM → len.new ≡ len.old }
+    ensures blob_kept { result ≡ NOMEM → blob.new ≡ blob.old }
 {
     let Some(flags) = key_flags_of(key_flags) else {
         return MISUSE;
@@ -68,9 +69,10 @@ fn set_concat(
         ShowsUnlessMemory (λ bytes. bytes.items) answer said →
         ¬ (result ≡ NOMEM) → OutputsConcat said result out.old out.new len.new fault.new blob.new }
     ensures misuse { ¬ (result ≡ MISUSE) }
-    ensures kept { ¬ (result ≡ OK) → out.new ≡ out.old }
+    ensures out_kept { ¬ (result ≡ OK) → out.new ≡ out.old }
     ensures fault_kept { ¬ (result ≡ MALFORMED) → fault.new ≡ fault.old }
-    ensures unchanged { result ≡ NOMEM → (len.new ≡ len.old) × (blob.new ≡ blob.old) }
+    ensures len_kept { result ≡ NOMEM → len.new ≡ len.old }
+    ensures blob_kept { result ≡ NOMEM → blob.new ≡ blob.old }
 {
     match answer {
         Ok(bytes) => write_bytes(bytes.as_slice(), out, len),

@@ -43,7 +43,7 @@ impl PieceDecoder {
             × (lasting (blob_at {A = Global} (self.old.pieces ++ piece.now)) ≡ Err wrong)
             × (fault.new ≡ placed wrong) × (lasting (blob_at {A = Global} self.new.pieces) ≡ Err wrong) }
         ensures kept { result ≡ NOMEM → self.new ≡ self.old }
-        ensures unset { ¬ (result ≡ MALFORMED) → fault.new ≡ fault.old }
+        ensures fault_kept { ¬ (result ≡ MALFORMED) → fault.new ≡ fault.old }
     {
         match self.pieces.feed(piece) {
             Ok(()) => OK,

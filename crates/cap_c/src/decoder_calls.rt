@@ -61,7 +61,7 @@ pub extern "C" fn changecap_decoder_feed(
     ensures lasts { result ≡ MALFORMED → (new : Fed) × (wrong : Wrong) × (handle.new.value ≡ Some new)
         × (fault.new ≡ placed wrong) × (lasting (blob_at {A = Global} new.pieces) ≡ Err wrong) }
     ensures kept { result ≡ NOMEM → handle.new.value ≡ handle.old.value }
-    ensures unset { ¬ (result ≡ MALFORMED) → fault.new ≡ fault.old }
+    ensures fault_kept { ¬ (result ≡ MALFORMED) → fault.new ≡ fault.old }
 {
     let mut decoder = take(alloc, handle);
     let status = decoder.feed(piece, fault);
@@ -87,8 +87,8 @@ pub extern "C" fn changecap_decoder_finish(
         × (blob_at old.pieces ≡ Ok contents) × (iter.new.value ≡ Some (begin contents)) }
     ensures fault { (old : Fed) → handle.old.value ≡ Some old → result ≡ MALFORMED →
         (wrong : Wrong) × (blob_at {A = Global} old.pieces ≡ Err wrong) × (fault.new ≡ placed wrong) }
-    ensures kept { ¬ (result ≡ OK) → iter.new.value ≡ None }
-    ensures unset { ¬ (result ≡ MALFORMED) → fault.new ≡ fault.old }
+    ensures iter_kept { ¬ (result ≡ OK) → iter.new.value ≡ None }
+    ensures fault_kept { ¬ (result ≡ MALFORMED) → fault.new ≡ fault.old }
 {
     let decoder = take(alloc, handle);
     match Box::into_inner(decoder).finish() {

@@ -40,7 +40,7 @@ pub extern "C" fn changecap_iter_open(
     ensures fault { result ≡ MALFORMED →
         (wrong : Wrong) × (blob_at {A = Global} blob.now ≡ Err wrong) × (fault.new ≡ placed wrong) }
     ensures kept { ¬ (result ≡ OK) → handle.new.value ≡ None }
-    ensures same_fault { ¬ (result ≡ MALFORMED) → fault.new ≡ fault.old }
+    ensures fault_kept { ¬ (result ≡ MALFORMED) → fault.new ≡ fault.old }
 {
     match read_blob(alloc, blob) {
         Ok(contents) => match Box::new(alloc, BlobIter::new(contents)) {
@@ -81,7 +81,7 @@ pub extern "C" fn changecap_iter_op(
     info: &mut ChangeInfo,
 ) -> u32
     requires opened { IsSome handle.old.value }
-    ensures same { handle.new.value ≡ handle.old.value }
+    ensures kept { handle.new.value ≡ handle.old.value }
     ensures outputs { (it : Iter) → handle.old.value ≡ Some it →
         OutputsFound (info_of it) result info.old info.new }
 {
@@ -100,7 +100,7 @@ pub extern "C" fn changecap_iter_table(
     len: &mut usize,
 ) -> u32
     requires opened { IsSome handle.old.value }
-    ensures same { handle.new.value ≡ handle.old.value }
+    ensures kept { handle.new.value ≡ handle.old.value }
     ensures outputs { (it : Iter) → handle.old.value ≡ Some it →
         OutputsBytes (table_of it) result out.old out.new len.new }
 {
@@ -119,7 +119,7 @@ pub extern "C" fn changecap_iter_key(
     is_key: &mut u32,
 ) -> u32
     requires opened { IsSome handle.old.value }
-    ensures same { handle.new.value ≡ handle.old.value }
+    ensures kept { handle.new.value ≡ handle.old.value }
     ensures outputs { (it : Iter) → handle.old.value ≡ Some it →
         OutputsFound (key_output it column) result is_key.old is_key.new }
 {
@@ -138,7 +138,7 @@ pub extern "C" fn changecap_iter_old(
     value: &mut FieldValue,
 ) -> u32
     requires opened { IsSome handle.old.value }
-    ensures same { handle.new.value ≡ handle.old.value }
+    ensures kept { handle.new.value ≡ handle.old.value }
     ensures outputs { (it : Iter) → handle.old.value ≡ Some it →
         OutputsFound (old_output it column) result value.old value.new }
 {
@@ -157,7 +157,7 @@ pub extern "C" fn changecap_iter_new(
     value: &mut FieldValue,
 ) -> u32
     requires opened { IsSome handle.old.value }
-    ensures same { handle.new.value ≡ handle.old.value }
+    ensures kept { handle.new.value ≡ handle.old.value }
     ensures outputs { (it : Iter) → handle.old.value ≡ Some it →
         OutputsFound (new_output it column) result value.old value.new }
 {
@@ -177,7 +177,7 @@ pub extern "C" fn changecap_iter_old_bytes(
     len: &mut usize,
 ) -> u32
     requires opened { IsSome handle.old.value }
-    ensures same { handle.new.value ≡ handle.old.value }
+    ensures kept { handle.new.value ≡ handle.old.value }
     ensures outputs { (it : Iter) → handle.old.value ≡ Some it →
         OutputsBytes (old_bytes it column) result out.old out.new len.new }
 {
@@ -197,7 +197,7 @@ pub extern "C" fn changecap_iter_new_bytes(
     len: &mut usize,
 ) -> u32
     requires opened { IsSome handle.old.value }
-    ensures same { handle.new.value ≡ handle.old.value }
+    ensures kept { handle.new.value ≡ handle.old.value }
     ensures outputs { (it : Iter) → handle.old.value ≡ Some it →
         OutputsBytes (new_bytes it column) result out.old out.new len.new }
 {

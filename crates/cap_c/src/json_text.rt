@@ -28,8 +28,9 @@ pub extern "C" fn changecap_json(
     // The text, its length, or the fault.
     ensures outputs { ¬ (result ≡ NOMEM) →
         Outputs (json_at Global blob.now) result out.old out.new len.new fault.new }
-    ensures kept { ¬ (result ≡ OK) → out.new ≡ out.old }
-    ensures unchanged { result ≡ NOMEM → (len.new ≡ len.old) × (fault.new ≡ fault.old) }
+    ensures out_kept { ¬ (result ≡ OK) → out.new ≡ out.old }
+    ensures len_kept { result ≡ NOMEM → len.new ≡ len.old }
+    ensures fault_kept { result ≡ NOMEM → fault.new ≡ fault.old }
 {
     set_bytes(json_bytes(alloc, blob), out, len, fault)
 }

@@ -17,7 +17,7 @@ pub(crate) fn write_bytes(bytes: &[u8], out: &mut [u8], len: &mut usize) -> u32
     ensures status { result ≡ room_status (length bytes.now) (length out.old) }
     ensures len { len.new ≡ length bytes.now }
     ensures written { result ≡ OK → out.new ≡ begins_with bytes.now out.old }
-    ensures kept { ¬ (result ≡ OK) → out.new ≡ out.old }
+    ensures out_kept { ¬ (result ≡ OK) → out.new ≡ out.old }
 {
     *len = bytes.len();
     if out.len() < bytes.len() {
@@ -39,8 +39,9 @@ pub(crate) fn set_bytes(
     ensures outputs { (said : Result (List ℕ) Refused) →
         ShowsUnlessMemory (λ bytes. bytes.items) answer said →
         ¬ (result ≡ NOMEM) → Outputs said result out.old out.new len.new fault.new }
-    ensures kept { ¬ (result ≡ OK) → out.new ≡ out.old }
-    ensures unchanged { result ≡ NOMEM → (len.new ≡ len.old) × (fault.new ≡ fault.old) }
+    ensures out_kept { ¬ (result ≡ OK) → out.new ≡ out.old }
+    ensures len_kept { result ≡ NOMEM → len.new ≡ len.old }
+    ensures fault_kept { result ≡ NOMEM → fault.new ≡ fault.old }
 {
     match answer {
         Ok(bytes) => write_bytes(bytes.as_slice(), out, len),

@@ -52,7 +52,7 @@ pub extern "C" fn changecap_get(
     ensures why { ¬ (IsAnswered result) → ¬ (result ≡ MISUSE) → Holds handle.old.value
         (λ old. NoReply old result) }
     ensures kept { ¬ (IsAnswered result) → handle.new.value ≡ handle.old.value }
-    ensures unset { ¬ (IsAnswered result) → fault.new ≡ fault.old }
+    ensures fault_kept { ¬ (IsAnswered result) → fault.new ≡ fault.old }
 {
     let mut server = take(alloc, handle);
     let status = server.get(alloc, table, id, fault);
@@ -79,7 +79,7 @@ pub extern "C" fn changecap_scan(
     ensures why { ¬ (IsAnswered result) → ¬ (result ≡ MISUSE) → Holds handle.old.value
         (λ old. NoReply old result) }
     ensures kept { ¬ (IsAnswered result) → handle.new.value ≡ handle.old.value }
-    ensures unset { ¬ (IsAnswered result) → fault.new ≡ fault.old }
+    ensures fault_kept { ¬ (IsAnswered result) → fault.new ≡ fault.old }
 {
     let mut server = take(alloc, handle);
     let status = server.scan(alloc, table, fault);
@@ -106,7 +106,7 @@ pub extern "C" fn changecap_step(alloc: Global, handle: &mut ServerHandle) -> u3
 #[unsafe(no_mangle)]
 pub extern "C" fn changecap_row_id(alloc: Global, handle: &mut ServerHandle, id: &mut u64) -> u32
     requires opened { IsSome handle.old.value }
-    ensures same { handle.new.value ≡ handle.old.value }
+    ensures kept { handle.new.value ≡ handle.old.value }
     ensures outputs { (server : Server) → handle.old.value ≡ Some server →
         OutputsFound (id_output server.cursor) result id.old id.new }
 {
@@ -124,7 +124,7 @@ pub extern "C" fn changecap_columns(
     columns: &mut usize,
 ) -> u32
     requires opened { IsSome handle.old.value }
-    ensures same { handle.new.value ≡ handle.old.value }
+    ensures kept { handle.new.value ≡ handle.old.value }
     ensures outputs { (server : Server) → handle.old.value ≡ Some server →
         OutputsFound (columns_output server.cursor) result columns.old columns.new }
 {
@@ -143,7 +143,7 @@ pub extern "C" fn changecap_column(
     value: &mut FieldValue,
 ) -> u32
     requires opened { IsSome handle.old.value }
-    ensures same { handle.new.value ≡ handle.old.value }
+    ensures kept { handle.new.value ≡ handle.old.value }
     ensures outputs { (server : Server) → handle.old.value ≡ Some server →
         OutputsFound (column_output server.cursor column) result value.old value.new }
 {
@@ -163,7 +163,7 @@ pub extern "C" fn changecap_column_bytes(
     len: &mut usize,
 ) -> u32
     requires opened { IsSome handle.old.value }
-    ensures same { handle.new.value ≡ handle.old.value }
+    ensures kept { handle.new.value ≡ handle.old.value }
     ensures outputs { (server : Server) → handle.old.value ≡ Some server →
         OutputsBytes (column_bytes server.cursor column) result out.old out.new len.new }
 {
@@ -185,7 +185,7 @@ impl OpenServer {
             IsName table.now × IsSome (row_named id self.old.draft.values) }
         ensures why { ¬ (IsAnswered result) → ¬ (result ≡ MISUSE) → NoReply self.old result }
         ensures kept { ¬ (IsAnswered result) → self.new ≡ self.old }
-        ensures unset { ¬ (IsAnswered result) → fault.new ≡ fault.old }
+        ensures fault_kept { ¬ (IsAnswered result) → fault.new ≡ fault.old }
     {
         let Some(table) = name_text(table) else {
             return MISUSE;
@@ -212,7 +212,7 @@ impl OpenServer {
         ensures named { ¬ (result ≡ MISUSE) → IsName table.now }
         ensures why { ¬ (IsAnswered result) → ¬ (result ≡ MISUSE) → NoReply self.old result }
         ensures kept { ¬ (IsAnswered result) → self.new ≡ self.old }
-        ensures unset { ¬ (IsAnswered result) → fault.new ≡ fault.old }
+        ensures fault_kept { ¬ (IsAnswered result) → fault.new ≡ fault.old }
     {
         let Some(table) = name_text(table) else {
             return MISUSE;
@@ -238,7 +238,7 @@ impl OpenServer {
         ensures fault { IsAnswered result → fault.new ≡ query_fault table.now self.old.core.main fault.old }
         ensures memory { ¬ (IsAnswered result) → result ≡ NOMEM }
         ensures kept { ¬ (IsAnswered result) → self.new ≡ self.old }
-        ensures unset { ¬ (IsAnswered result) → fault.new ≡ fault.old }
+        ensures fault_kept { ¬ (IsAnswered result) → fault.new ≡ fault.old }
     {
         let mut hook = QueryHook {
             alloc,

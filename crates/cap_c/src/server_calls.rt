@@ -62,7 +62,7 @@ pub extern "C" fn changecap_server_reply(
     len: &mut usize,
 ) -> u32
     requires opened { IsSome handle.old.value }
-    ensures same { handle.new.value ≡ handle.old.value }
+    ensures kept { handle.new.value ≡ handle.old.value }
     ensures status { (server : Server) → handle.old.value ≡ Some server →
         result ≡ room_status (length server.output.items) (length out.old) }
     ensures written { (server : Server) → handle.old.value ≡ Some server →

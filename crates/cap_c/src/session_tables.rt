@@ -50,7 +50,7 @@ pub extern "C" fn changecap_session_filter(
     ensures why { ¬ (IsAnswered result) → ¬ (result ≡ FILTER) → ¬ (result ≡ MISUSE) →
         Holds handle.old.value (λ old. NoReply old result) }
     ensures kept { ¬ (IsAnswered result) → handle.new.value ≡ handle.old.value }
-    ensures unset { ¬ (IsAnswered result) → ¬ (result ≡ FILTER) → fault.new ≡ fault.old }
+    ensures fault_kept { ¬ (IsAnswered result) → ¬ (result ≡ FILTER) → fault.new ≡ fault.old }
 {
     let mut server = take(alloc, handle);
     let status = filter(alloc, &mut server, session, text, fault);
@@ -77,7 +77,7 @@ fn filter(
     ensures why { ¬ (IsAnswered result) → ¬ (result ≡ FILTER) → ¬ (result ≡ MISUSE) →
         NoReply server.old result }
     ensures kept { ¬ (IsAnswered result) → server.new ≡ server.old }
-    ensures unset { ¬ (IsAnswered result) → ¬ (result ≡ FILTER) → fault.new ≡ fault.old }
+    ensures fault_kept { ¬ (IsAnswered result) → ¬ (result ≡ FILTER) → fault.new ≡ fault.old }
 {
     let Ok(text) = str::from_utf8(text) else {
         return MISUSE;
@@ -123,7 +123,7 @@ pub extern "C" fn changecap_save(
     ensures why { ¬ (IsAnswered result) → ¬ (result ≡ MISUSE) → Holds handle.old.value
         (λ old. NoReply old result) }
     ensures kept { ¬ (IsAnswered result) → handle.new.value ≡ handle.old.value }
-    ensures unset { ¬ (IsAnswered result) → fault.new ≡ fault.old }
+    ensures fault_kept { ¬ (IsAnswered result) → fault.new ≡ fault.old }
 {
     let mut server = take(alloc, handle);
     let status = save(alloc, &mut server, database, fault);
@@ -138,7 +138,8 @@ fn save(alloc: Global, server: &mut OpenServer, database: &[u8], fault: &mut Pla
     ensures misuse { result ≡ MISUSE → ¬ (IsName database.now) }
     ensures named { ¬ (result ≡ MISUSE) → IsName database.now }
     ensures why { ¬ (IsAnswered result) → ¬ (result ≡ MISUSE) → NoReply server.old result }
-    ensures kept { ¬ (IsAnswered result) → (server.new ≡ server.old) × (fault.new ≡ fault.old) }
+    ensures kept { ¬ (IsAnswered result) → server.new ≡ server.old }
+    ensures fault_kept { ¬ (IsAnswered result) → fault.new ≡ fault.old }
 {
     let Some(name) = name_text(database) else {
         return MISUSE;
@@ -174,7 +175,7 @@ pub extern "C" fn changecap_session_diff(
     ensures why { ¬ (IsAnswered result) → ¬ (result ≡ MISUSE) → Holds handle.old.value
         (λ old. NoReply old result) }
     ensures kept { ¬ (IsAnswered result) → handle.new.value ≡ handle.old.value }
-    ensures unset { ¬ (IsAnswered result) → fault.new ≡ fault.old }
+    ensures fault_kept { ¬ (IsAnswered result) → fault.new ≡ fault.old }
 {
     let mut server = take(alloc, handle);
     let status = diff(alloc, &mut server, session, from, table, fault);
@@ -198,7 +199,8 @@ fn diff(
     ensures misuse { result ≡ MISUSE → ¬ (IsName from.now × IsName table.now) }
     ensures named { ¬ (result ≡ MISUSE) → IsName from.now × IsName table.now }
     ensures why { ¬ (IsAnswered result) → ¬ (result ≡ MISUSE) → NoReply server.old result }
-    ensures kept { ¬ (IsAnswered result) → (server.new ≡ server.old) × (fault.new ≡ fault.old) }
+    ensures kept { ¬ (IsAnswered result) → server.new ≡ server.old }
+    ensures fault_kept { ¬ (IsAnswered result) → fault.new ≡ fault.old }
 {
     let Some(from) = name_text(from) else {
         return MISUSE;

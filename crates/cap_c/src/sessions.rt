@@ -35,7 +35,8 @@ pub extern "C" fn changecap_session_new(
         (λ old. fault.new ≡ fault_output (answer old.core command.NewSession) fault.old) }
     ensures why { ¬ (IsAnswered result) → Holds handle.old.value (λ old. NoReply old result) }
     ensures kept { ¬ (IsAnswered result) → handle.new.value ≡ handle.old.value }
-    ensures unset { ¬ (IsAnswered result) → (session.new ≡ session.old) × (fault.new ≡ fault.old) }
+    ensures session_kept { ¬ (IsAnswered result) → session.new ≡ session.old }
+    ensures fault_kept { ¬ (IsAnswered result) → fault.new ≡ fault.old }
 {
     let mut server = take(alloc, handle);
     let status = server.set_number(&Command::NewSession, session, fault);
@@ -58,7 +59,7 @@ pub extern "C" fn changecap_session_drop(
         (λ old. fault.new ≡ fault_output (answer old.core (command.DropSession session)) fault.old) }
     ensures why { ¬ (IsAnswered result) → Holds handle.old.value (λ old. NoReply old result) }
     ensures kept { ¬ (IsAnswered result) → handle.new.value ≡ handle.old.value }
-    ensures unset { ¬ (IsAnswered result) → fault.new ≡ fault.old }
+    ensures fault_kept { ¬ (IsAnswered result) → fault.new ≡ fault.old }
 {
     let mut server = take(alloc, handle);
     let status = server.set_refusal(&Command::DropSession { session }, fault);
@@ -81,7 +82,7 @@ pub extern "C" fn changecap_session_attach_all(
         (λ old. fault.new ≡ fault_output (answer old.core (command.AttachAll session)) fault.old) }
     ensures why { ¬ (IsAnswered result) → Holds handle.old.value (λ old. NoReply old result) }
     ensures kept { ¬ (IsAnswered result) → handle.new.value ≡ handle.old.value }
-    ensures unset { ¬ (IsAnswered result) → fault.new ≡ fault.old }
+    ensures fault_kept { ¬ (IsAnswered result) → fault.new ≡ fault.old }
 {
     let mut server = take(alloc, handle);
     let status = server.set_refusal(&Command::AttachAll { session }, fault);
@@ -109,7 +110,7 @@ pub extern "C" fn changecap_session_attach(
     ensures why { ¬ (IsAnswered result) → ¬ (result ≡ MISUSE) → Holds handle.old.value
         (λ old. NoReply old result) }
     ensures kept { ¬ (IsAnswered result) → handle.new.value ≡ handle.old.value }
-    ensures unset { ¬ (IsAnswered result) → fault.new ≡ fault.old }
+    ensures fault_kept { ¬ (IsAnswered result) → fault.new ≡ fault.old }
 {
     let mut server = take(alloc, handle);
     let status = attach(alloc, &mut server, session, table, fault);
@@ -131,7 +132,8 @@ fn attach(
     ensures misuse { result ≡ MISUSE → ¬ (IsName table.now) }
     ensures named { ¬ (result ≡ MISUSE) → IsName table.now }
     ensures why { ¬ (IsAnswered result) → ¬ (result ≡ MISUSE) → NoReply server.old result }
-    ensures kept { ¬ (IsAnswered result) → (server.new ≡ server.old) × (fault.new ≡ fault.old) }
+    ensures kept { ¬ (IsAnswered result) → server.new ≡ server.old }
+    ensures fault_kept { ¬ (IsAnswered result) → fault.new ≡ fault.old }
 {
     let Some(name) = name_text(table) else {
         return MISUSE;
@@ -170,7 +172,8 @@ pub extern "C" fn changecap_session_enable(
     ensures why { ¬ (IsAnswered result) → ¬ (result ≡ MISUSE) → Holds handle.old.value
         (λ old. NoReply old result) }
     ensures kept { ¬ (IsAnswered result) → handle.new.value ≡ handle.old.value }
-    ensures unset { ¬ (IsAnswered result) → (flag.new ≡ flag.old) × (fault.new ≡ fault.old) }
+    ensures flag_kept { ¬ (IsAnswered result) → flag.new ≡ flag.old }
+    ensures fault_kept { ¬ (IsAnswered result) → fault.new ≡ fault.old }
 {
     let Some(enabled) = asked_of(asked) else {
         return MISUSE;
@@ -206,7 +209,8 @@ pub extern "C" fn changecap_session_indirect(
     ensures why { ¬ (IsAnswered result) → ¬ (result ≡ MISUSE) → Holds handle.old.value
         (λ old. NoReply old result) }
     ensures kept { ¬ (IsAnswered result) → handle.new.value ≡ handle.old.value }
-    ensures unset { ¬ (IsAnswered result) → (flag.new ≡ flag.old) × (fault.new ≡ fault.old) }
+    ensures flag_kept { ¬ (IsAnswered result) → flag.new ≡ flag.old }
+    ensures fault_kept { ¬ (IsAnswered result) → fault.new ≡ fault.old }
 {
     let Some(indirect) = asked_of(asked) else {
         return MISUSE;
@@ -235,7 +239,8 @@ pub extern "C" fn changecap_session_isempty(
         (λ old. fault.new ≡ fault_output (answer old.core (command.IsEmpty session)) fault.old) }
     ensures why { ¬ (IsAnswered result) → Holds handle.old.value (λ old. NoReply old result) }
     ensures kept { ¬ (IsAnswered result) → handle.new.value ≡ handle.old.value }
-    ensures unset { ¬ (IsAnswered result) → (flag.new ≡ flag.old) × (fault.new ≡ fault.old) }
+    ensures flag_kept { ¬ (IsAnswered result) → flag.new ≡ flag.old }
+    ensures fault_kept { ¬ (IsAnswered result) → fault.new ≡ fault.old }
 {
     let mut server = take(alloc, handle);
     let status = server.set_flag(&Command::IsEmpty { session }, flag, fault);

@@ -41,7 +41,8 @@ pub extern "C" fn changecap_create(
     ensures why { ¬ (IsAnswered result) → ¬ (result ≡ MISUSE) → Holds handle.old.value
         (λ old. NoReply old result) }
     ensures kept { ¬ (IsAnswered result) → handle.new.value ≡ handle.old.value }
-    ensures unset { ¬ (IsAnswered result) → (version.new ≡ version.old) × (fault.new ≡ fault.old) }
+    ensures version_kept { ¬ (IsAnswered result) → version.new ≡ version.old }
+    ensures fault_kept { ¬ (IsAnswered result) → fault.new ≡ fault.old }
 {
     let mut server = take(alloc, handle);
     let status = create(alloc, &mut server, table, key, version, fault);
@@ -69,7 +70,8 @@ fn create(
     ensures table { ¬ (result ≡ MISUSE) → IsTable table.now key.now }
     ensures why { ¬ (IsAnswered result) → ¬ (result ≡ MISUSE) → NoReply server.old result }
     ensures kept { ¬ (IsAnswered result) → server.new ≡ server.old }
-    ensures unset { ¬ (IsAnswered result) → (version.new ≡ version.old) × (fault.new ≡ fault.old) }
+    ensures version_kept { ¬ (IsAnswered result) → version.new ≡ version.old }
+    ensures fault_kept { ¬ (IsAnswered result) → fault.new ≡ fault.old }
 {
     if !are_columns(key) {
         return MISUSE;
