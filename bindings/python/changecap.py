@@ -67,7 +67,7 @@ class NoFilter(Error):
 
 
 class Refused(Error):
-    """A command that the server refuses. The text is its reply. A call that has no text tells the number, as in E18."""
+    """A command that the server refuses. The text is its reply; of a call without text, the number, as in E18."""
 
     def __init__(self, reply):
         super().__init__(REFUSED, reply)

@@ -211,7 +211,7 @@ impl ChangesetItem<'_> {
     }
 }
 
-/// The value that a call tells of, whose bytes are taken where it has any; none where it is undefined.
+/// The value that a call sets, whose bytes are taken where it has any; none where it is undefined.
 pub(crate) fn value_of(field: ffi::Field, taken: impl Fn() -> Result<Vec<u8>>) -> Result<Option<Value>> {
     Ok(match field.kind {
         0 => None,

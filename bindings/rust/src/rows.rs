@@ -108,7 +108,7 @@ impl Connection {
         })
     }
 
-    /// Commits the batch, and answers the new version. A refusal tells the number of the operation, from 0.
+    /// Commits the batch, and answers the new version. A refusal has the number of the operation, from 0.
     pub fn commit(&self) -> Result<u64> {
         let (mut version, mut fault) = (0, ffi::Fault::default());
         match unsafe { ffi::changecap_commit(self.at(), &mut version, &mut fault) } {

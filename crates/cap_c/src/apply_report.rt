@@ -49,7 +49,7 @@ fn answer_of(number: u32) -> Option<Answer>
     }
 }
 
-/// Outputs what became of the changes of a blob, or why it is refused.
+/// Sets the report of what became of the changes of a blob, or the fault where it is refused.
 pub(crate) fn set_report(
     reply: &Reply<Global>,
     report: &mut ApplyReport,

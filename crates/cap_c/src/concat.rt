@@ -84,7 +84,7 @@ fn set_concat(
     }
 }
 
-// Outputs the fault of a blob that is refused, where it has one.
+// Sets the fault of a blob that is refused, where it has one.
 fn set_refused(why: BlobRefusal, fault: &mut PlacedFault) -> u32
     ensures status { result ≡ refused_status why }
     ensures outputs { OutputsFault why fault.new }

@@ -73,7 +73,7 @@ pub extern "C" fn changecap_iter_next(alloc: Global, handle: &mut IterHandle) ->
     if is_row { ROW } else { DONE }
 }
 
-/// Outputs what the change is.
+/// Sets `info` to what the change is.
 #[unsafe(no_mangle)]
 pub extern "C" fn changecap_iter_op(
     alloc: Global,
@@ -110,7 +110,7 @@ pub extern "C" fn changecap_iter_table(
     status
 }
 
-/// Outputs whether a column of the change's table is in its key.
+/// Sets `is_key` to whether a column of the change's table is in its key.
 #[unsafe(no_mangle)]
 pub extern "C" fn changecap_iter_key(
     alloc: Global,
@@ -129,7 +129,7 @@ pub extern "C" fn changecap_iter_key(
     status
 }
 
-/// Outputs the value of a column before the change.
+/// Sets `value` to that of a column before the change.
 #[unsafe(no_mangle)]
 pub extern "C" fn changecap_iter_old(
     alloc: Global,
@@ -148,7 +148,7 @@ pub extern "C" fn changecap_iter_old(
     status
 }
 
-/// Outputs the value of a column after the change.
+/// Sets `value` to that of a column after the change.
 #[unsafe(no_mangle)]
 pub extern "C" fn changecap_iter_new(
     alloc: Global,

@@ -102,7 +102,7 @@ pub extern "C" fn changecap_step(alloc: Global, handle: &mut ServerHandle) -> u3
     if is_row { ROW } else { DONE }
 }
 
-/// Outputs the id of the row, or 0 where it has a key.
+/// Sets `id` to that of the row, or to 0 where it has a key.
 #[unsafe(no_mangle)]
 pub extern "C" fn changecap_row_id(alloc: Global, handle: &mut ServerHandle, id: &mut u64) -> u32
     requires opened { IsSome handle.old.value }
@@ -116,7 +116,7 @@ pub extern "C" fn changecap_row_id(alloc: Global, handle: &mut ServerHandle, id:
     status
 }
 
-/// Outputs how many columns the row has.
+/// Sets `columns` to how many the row has.
 #[unsafe(no_mangle)]
 pub extern "C" fn changecap_columns(
     alloc: Global,
@@ -134,7 +134,7 @@ pub extern "C" fn changecap_columns(
     status
 }
 
-/// Outputs the value of a column of the row.
+/// Sets `value` to that of a column of the row.
 #[unsafe(no_mangle)]
 pub extern "C" fn changecap_column(
     alloc: Global,
@@ -257,7 +257,7 @@ impl OpenServer {
     }
 }
 
-// Outputs whether there is the table that was asked for.
+// Sets the fault where there is no table of that name.
 fn set_table(tables: &Database<Global>, table: &Name<Global>, fault: &mut PlacedFault) -> u32
     ensures status { result ≡ query_status table.now tables.now }
     ensures fault { fault.new ≡ query_fault table.now tables.now fault.old }

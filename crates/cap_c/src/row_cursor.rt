@@ -72,7 +72,7 @@ impl RowCursor {
         row.1.fields().get(column)
     }
 
-    /// Outputs the row's id, or 0 where it has a key.
+    /// Sets `id` to that of the row, or to 0 where it has a key.
     pub(crate) fn set_id(&self, id: &mut u64) -> u32
         ensures { OutputsFound (id_output self.now) result id.old id.new }
     {
@@ -85,7 +85,7 @@ impl RowCursor {
         }
     }
 
-    /// Outputs how many columns the row has.
+    /// Sets `columns` to how many the row has.
     pub(crate) fn set_columns(&self, columns: &mut usize) -> u32
         ensures { OutputsFound (columns_output self.now) result columns.old columns.new }
     {
@@ -98,7 +98,7 @@ impl RowCursor {
         }
     }
 
-    /// Outputs the value of a column.
+    /// Sets `value` to that of a column.
     pub(crate) fn set_column(&self, column: usize, value: &mut FieldValue) -> u32
         ensures { OutputsFound (column_output self.now column) result value.old value.new }
     {

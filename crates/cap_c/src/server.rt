@@ -1,6 +1,6 @@
 //! A server that C calls, with commands as text or by words and numbers.
 ghost use Rattle.std.specs.Prelude.{◌≡◌, ◌+◌, ◌<◌, ◌^◌};
-ghost use Rattle.cap_c.specs.Server.{IsAnswered, IsNew, RunsText, RunsLine, reply_status};
+ghost use Rattle.cap_c.specs.Server.{IsAnswered, IsNew, RunsLine, RunsText, reply_status};
 ghost use Rattle.cap_c.specs.declared.status.TheConstants.{FULL};
 
 use crate::draft::Draft;
