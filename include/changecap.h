@@ -52,8 +52,8 @@ extern "C" {
 #define CHANGECAP_KIND      9 /* a changeset where the blob before it is a patchset, or the other way round */
 #define CHANGECAP_COLUMNS  10 /* a table that had other columns, or another key, before */
 #define CHANGECAP_FILTER   11 /* the text is no filter: the fault is set */
-#define CHANGECAP_ROW     100 /* the iterator is at a change */
-#define CHANGECAP_DONE    101 /* the iterator is behind the last change */
+#define CHANGECAP_ROW     100 /* the iterator is at a change, or the server at one of the rows that were read */
+#define CHANGECAP_DONE    101 /* the iterator is behind the last change, or the server behind the last row */
 
 /* ---- Faults of blobs ---- */
 
@@ -181,7 +181,7 @@ uint32_t changecap_iter_open(const uint8_t *blob, size_t n, changecap_iter *it, 
  *   ROW, or DONE behind the last change, and from then on. */
 uint32_t changecap_iter_next(changecap_iter *it);
 
-/* Reports what the change is.
+/* Sets *change to what the change is.
  *   OK, MISUSE (there is no change: before the first, behind the last). */
 uint32_t changecap_iter_op(changecap_iter *it, changecap_change *change);
 
@@ -189,17 +189,17 @@ uint32_t changecap_iter_op(changecap_iter *it, changecap_change *change);
  *   OK (*len), ROOM (*len), MISUSE. */
 uint32_t changecap_iter_table(changecap_iter *it, uint8_t *out, size_t room, size_t *len);
 
-/* Reports whether a column, from 0 on, is in the key of the change's table: 0 or 1.
+/* Sets *is_key to 1 where a column, from 0 on, is in the key of the change's table, and else to 0.
  *   OK, MISUSE (there is no change, or no such column). */
 uint32_t changecap_iter_key(changecap_iter *it, size_t column, uint32_t *is_key);
 
-/* Reports the value of a column before or after the change, as sqlite3changeset_old and sqlite3changeset_new. In a
+/* Set *value to that of a column before or after the change, as sqlite3changeset_old and sqlite3changeset_new. In a
  * patchset an UPDATE has its key columns before, and its modified columns after.
  *   OK, MISUSE. */
 uint32_t changecap_iter_old(changecap_iter *it, size_t column, changecap_value *value);
 uint32_t changecap_iter_new(changecap_iter *it, size_t column, changecap_value *value);
 
-/* Writes the bytes of a TEXT or a BLOB; any other value has none.
+/* Write the bytes of a TEXT or a BLOB; any other value has none.
  *   OK (*len), ROOM (*len), MISUSE. */
 uint32_t changecap_iter_old_bytes(changecap_iter *it, size_t column, uint8_t *out, size_t room, size_t *len);
 uint32_t changecap_iter_new_bytes(changecap_iter *it, size_t column, uint8_t *out, size_t room, size_t *len);
@@ -455,12 +455,12 @@ uint32_t changecap_scan(changecap_server *server, const uint8_t *table, size_t n
  *   ROW, or DONE behind the last row, and from then on. */
 uint32_t changecap_step(changecap_server *server);
 
-/* Report the id of the row, or 0 where it has a key, and how many columns it has.
+/* Set *id to that of the row, or to 0 where it has a key, and *columns to how many the row has.
  *   OK, MISUSE (there is no row: before the first, behind the last). */
 uint32_t changecap_row_id(changecap_server *server, uint64_t *id);
 uint32_t changecap_columns(changecap_server *server, size_t *columns);
 
-/* Reports the value of a column, from 0 on, and writes the bytes of a TEXT or a BLOB; any other value has none.
+/* Set *value to that of a column, from 0 on, and write the bytes of a TEXT or a BLOB; any other value has none.
  *   OK (*len), ROOM (*len), MISUSE (there is no row, or no such column). */
 uint32_t changecap_column(changecap_server *server, size_t column, changecap_value *value);
 uint32_t changecap_column_bytes(changecap_server *server, size_t column, uint8_t *out, size_t room, size_t *len);

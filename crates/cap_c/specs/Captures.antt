@@ -7,7 +7,7 @@ use Rattle.cap_c.specs.Replies.{bytes_asked}
 use Rattle.cap_c.specs.Server.{reply_status}
 use Rattle.cap_c.specs.Outputs.{LacksRoom, WritesAll}
 use Rattle.cap_c.specs.declared.captured.CapturedForm.{CapturedForm}
-use Rattle.cap_c.specs.declared.status.TheConstants.{DONE, NO_MEMORY, NO_ROOM, REFUSED}
+use Rattle.cap_c.specs.declared.status.TheConstants.{NOMEM, OK, REFUSED, ROOM}
 
 -- All bytes are written, and none where the command is refused.
 pub record Written (form : CapturedForm) (flags : KeyFlags) (reply : Reply Global) (old new : List ℕ)
@@ -18,8 +18,8 @@ pub record Written (form : CapturedForm) (flags : KeyFlags) (reply : Reply Globa
 -- The command does not take effect: there is no room for the bytes, or no memory.
 pub record NotWritten (asked : Option (List ℕ)) (status : ℕ) (old new : List ℕ) (old_len len : ℕ)
     : Type 0 where
-  pub not_done : ¬ (status ≡ DONE)
+  pub not_ok : ¬ (status ≡ OK)
   pub not_refused : ¬ (status ≡ REFUSED)
   pub kept : new ≡ old
-  pub room : status ≡ NO_ROOM → LacksRoom asked old len
-  pub memory : ¬ (status ≡ NO_ROOM) → (status ≡ NO_MEMORY) × (len ≡ old_len)
+  pub room : status ≡ ROOM → LacksRoom asked old len
+  pub memory : ¬ (status ≡ ROOM) → (status ≡ NOMEM) × (len ≡ old_len)

@@ -8,14 +8,15 @@ use Rattle.cap_core.specs.Transition.{next}
 use Rattle.cap_core.specs.declared.command.Command.TheVariants as command
 use Rattle.cap_c.specs.Draft.{DraftState, action_of, batch_on, cause_of, op_on, with_op}
 use Rattle.cap_c.specs.Names.{IsName}
-use Rattle.cap_c.specs.Reading.{before, query_status, rows_asked}
+use Rattle.cap_c.specs.Query.{query_status, rows_asked}
+use Rattle.cap_c.specs.RowCursor.{begin}
 use Rattle.cap_c.specs.Server.{reply_status}
 use Rattle.cap_c.specs.declared.draft.ActionKind.{ActionKind}
 use Rattle.cap_c.specs.declared.query.Query.{Query}
-use Rattle.cap_c.specs.declared.server.TextServer.{TextServer}
+use Rattle.cap_c.specs.declared.server.OpenServer.{OpenServer}
 
 -- what the server has beside the batch is as it was
-abbrev pub Drafts : TextServer → TextServer → DraftState → Type 0
+abbrev pub Drafts : OpenServer → OpenServer → DraftState → Type 0
 Drafts old new draft = new ≡ record old { draft = draft }
 
 -- a text has at most 1,000,000,000 bytes of UTF-8
@@ -31,13 +32,13 @@ pub record CanPut (kind : ActionKind) (table : List ℕ) (id cause : ℕ) (draft
   pub made : IsSome (action_of kind id draft)
 
 -- that operation is the last of the batch, and nothing is bound
-pub record Puts (old new : TextServer) (kind : ActionKind) (table : List ℕ) (id : ℕ) (cause : Cause)
+pub record Puts (old new : OpenServer) (kind : ActionKind) (table : List ℕ) (id : ℕ) (cause : Cause)
     (action : Action Global) : Type 0 where
   pub action_is : action_of kind id old.draft ≡ Some action
   pub left : Drafts old new (with_op (op_on table cause action) old.draft)
 
 -- The batch was committed, as `next` and `answer` say. One that may be made on any version is begun.
-pub record Commits (old new : TextServer) (status : ℕ) : Type 0 where
+pub record Commits (old new : OpenServer) (status : ℕ) : Type 0 where
   pub state : new ≡ record old {
     core = next old.core (command.Commit old.draft.batch);
     draft = record old.draft { batch = batch_on None };
@@ -45,10 +46,10 @@ pub record Commits (old new : TextServer) (status : ℕ) : Type 0 where
   pub status_is : status ≡ reply_status (answer old.core (command.Commit old.draft.batch))
 
 -- The tables were read, which is a command too, and nothing is bound any more.
-pub record Reads (old new : TextServer) (query : Query) (table : List ℕ) (status : ℕ) : Type 0 where
+pub record Reads (old new : OpenServer) (query : Query) (table : List ℕ) (status : ℕ) : Type 0 where
   pub state : new ≡ record old {
     core = next old.core command.Read;
     draft = record old.draft { values = []; fields = [] };
-    reading = before (rows_asked query table old.core.main);
+    cursor = begin (rows_asked query table old.core.main);
   }
   pub status_is : status ≡ query_status table old.core.main

@@ -12,7 +12,7 @@ use Rattle.cap_changes.specs.declared.row_change.RowChange.{RowChange}
 use Rattle.cap_changes.specs.declared.row_change.RowChange.TheVariants as changed
 use Rattle.cap_codec.specs.declared.read.Contents.{Contents}
 use Rattle.cap_codec.specs.declared.read.Contents.TheVariants.{Changes, Patches}
-use Rattle.cap_c.specs.declared.iter_fields.Operation.{Operation}
+use Rattle.cap_c.specs.declared.iter_fields.ChangeHead.{ChangeHead}
 use Rattle.cap_c.specs.declared.iter_position.Position.{Position}
 
 -- what a group says, where there is one
@@ -38,21 +38,21 @@ module _ {A : Type 0} where
   schema_at (Patches list) group = in_group (λ it. it.schema) list group
 
   -- SQLite's numbers of operations
-  abbrev pub operation_of_change : RowChange A → Operation
-  operation_of_change (changed.Insert indirect new) = record { byte = 18; indirect = indirect }
-  operation_of_change (changed.Update indirect old new) = record { byte = 23; indirect = indirect }
-  operation_of_change (changed.Delete indirect old) = record { byte = 9; indirect = indirect }
+  abbrev pub head_of_change : RowChange A → ChangeHead
+  head_of_change (changed.Insert indirect new) = record { byte = 18; indirect = indirect }
+  head_of_change (changed.Update indirect old new) = record { byte = 23; indirect = indirect }
+  head_of_change (changed.Delete indirect old) = record { byte = 9; indirect = indirect }
 
-  abbrev pub operation_of_patch : Patch A → Operation
-  operation_of_patch (patched.Insert indirect new) = record { byte = 18; indirect = indirect }
-  operation_of_patch (patched.Update indirect new) = record { byte = 23; indirect = indirect }
-  operation_of_patch (patched.Delete indirect key) = record { byte = 9; indirect = indirect }
+  abbrev pub head_of_patch : Patch A → ChangeHead
+  head_of_patch (patched.Insert indirect new) = record { byte = 18; indirect = indirect }
+  head_of_patch (patched.Update indirect new) = record { byte = 23; indirect = indirect }
+  head_of_patch (patched.Delete indirect key) = record { byte = 9; indirect = indirect }
 
-  abbrev pub operation_at : Contents A → Position → Option Operation
-  operation_at (Changes list) position =
-      entry_at (λ group change. Some (operation_of_change change)) list position
-  operation_at (Patches list) position =
-      entry_at (λ group patch. Some (operation_of_patch patch)) list position
+  abbrev pub head_at : Contents A → Position → Option ChangeHead
+  head_at (Changes list) position =
+      entry_at (λ group change. Some (head_of_change change)) list position
+  head_at (Patches list) position =
+      entry_at (λ group patch. Some (head_of_patch patch)) list position
 
   -- the value of a column, where it is defined
   abbrev pub field : RecordFields A → ℕ → Option (Value A)

@@ -7,7 +7,7 @@ use Rattle.cap_value.specs.declared.value.Value.{Value}
 use Rattle.cap_codec.specs.declared.read.Contents.{Contents}
 use Rattle.cap_codec.specs.declared.read.Contents.TheVariants.{Changes, Patches}
 use Rattle.cap_c.specs.Bits.{bit}
-use Rattle.cap_c.specs.Fields.{new_at, old_at, operation_at, schema_at, table_at}
+use Rattle.cap_c.specs.Fields.{head_at, new_at, old_at, schema_at, table_at}
 use Rattle.cap_c.specs.Positions.{IsFirstFrom, IsNoneFrom, counts}
 use Rattle.cap_c.specs.declared.change_info.ChangeInfo.{ChangeInfo}
 use Rattle.cap_c.specs.declared.iter.BlobIter.{BlobIter}
@@ -53,9 +53,9 @@ abbrev pub new_of : BlobIter → ℕ → Option (Value Global)
 new_of it column = option_and_then (λ position. new_at it.contents position column) it.current
 
 abbrev pub info_of : BlobIter → Option ChangeInfo
-info_of it = option_and_then (λ position. option_and_then (λ operation. Some (record {
-  op = operation.byte;
-  indirect = bit operation.indirect;
+info_of it = option_and_then (λ position. option_and_then (λ head. Some (record {
+  op = head.byte;
+  indirect = bit head.indirect;
   patchset = bit (is_patchset it.contents);
   columns = columns_of it;
-})) (operation_at it.contents position)) it.current
+})) (head_at it.contents position)) it.current

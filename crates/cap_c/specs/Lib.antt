@@ -17,9 +17,10 @@ pub mod KeyFlags
 pub mod Names
 pub mod Outputs
 pub mod Positions
-pub mod Reading
+pub mod Query
 pub mod Refusal
 pub mod Replies
+pub mod RowCursor
 pub mod Server
 pub mod ServerHandle
 pub mod Status

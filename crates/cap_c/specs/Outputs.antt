@@ -12,7 +12,7 @@ use Rattle.cap_c.specs.Fault.{placed}
 use Rattle.cap_c.specs.Status.{room_status}
 use Rattle.cap_c.specs.declared.change_info.FieldValue.{FieldValue}
 use Rattle.cap_c.specs.declared.fault.PlacedFault.{PlacedFault}
-use Rattle.cap_c.specs.declared.status.TheConstants.{DONE, MISUSE}
+use Rattle.cap_c.specs.declared.status.TheConstants.{MISUSE, OK}
 
 -- The bytes are at the beginning of the buffer, and what was behind them is still there.
 abbrev pub begins_with : List ℕ → List ℕ → List ℕ
@@ -21,8 +21,8 @@ begins_with bytes old = bytes ++ drop (length bytes) old
 -- what is in the buffer, and the length, after these bytes were asked for
 pub record Writes (bytes : List ℕ) (status : ℕ) (old new : List ℕ) (len : ℕ) : Type 0 where
   pub len_is : len ≡ length bytes
-  pub written : status ≡ DONE → new ≡ begins_with bytes old
-  pub kept : ¬ (status ≡ DONE) → new ≡ old
+  pub written : status ≡ OK → new ≡ begins_with bytes old
+  pub kept : ¬ (status ≡ OK) → new ≡ old
 
 -- The same of an answer that may be a refusal: nothing is written for it, and the fault is set.
 abbrev pub Outputs : Result (List ℕ) BytesRefusal → ℕ → List ℕ → List ℕ → ℕ → PlacedFault → Type 0
@@ -43,7 +43,7 @@ OutputsConcat (Err refusal) status old new len fault blob =
 
 -- what was asked for is set, or there is none and that is misuse
 abbrev pub OutputsFound : {X : Type 0} → Option X → ℕ → X → X → Type 0
-OutputsFound (Some found) status old new = (status ≡ DONE) × (new ≡ found)
+OutputsFound (Some found) status old new = (status ≡ OK) × (new ≡ found)
 OutputsFound None status old new = (status ≡ MISUSE) × (new ≡ old)
 
 -- the same of bytes

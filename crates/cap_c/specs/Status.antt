@@ -7,17 +7,17 @@ use Rattle.cap_group.specs.declared.refusal.BlobRefusal.{BlobRefusal}
 use Rattle.cap_group.specs.declared.refusal.BlobRefusal.TheVariants as not_added
 use Rattle.cap_group.specs.declared.refusal.ConcatRefusal.{ConcatRefusal}
 use Rattle.cap_group.specs.declared.refusal.GroupRefusal.TheVariants.{OtherKind, OtherColumns}
-use Rattle.cap_c.specs.declared.status.TheConstants.{DONE, MALFORMED, NO_ROOM, NO_MEMORY, PATCHSET}
-use Rattle.cap_c.specs.declared.status.TheConstants.{OTHER_KIND, OTHER_COLUMNS}
+use Rattle.cap_c.specs.declared.status.TheConstants.{MALFORMED, NOMEM, OK, PATCHSET, ROOM}
+use Rattle.cap_c.specs.declared.status.TheConstants.{COLUMNS, KIND}
 
 -- of a blob that was read, or of its fault
 abbrev pub read_status : {X : Type 0} → Result X BlobFault → ℕ
-read_status (Ok contents) = DONE
+read_status (Ok contents) = OK
 read_status (Err fault) = MALFORMED
 
 -- of so many bytes, for which there is so much room
 abbrev pub room_status : ℕ → ℕ → ℕ
-room_status len room = if nat_lt room len then NO_ROOM else DONE
+room_status len room = if nat_lt room len then ROOM else OK
 
 -- of bytes asked for, or of their refusal
 abbrev pub bytes_status : Result (List ℕ) BytesRefusal → ℕ → ℕ
@@ -28,8 +28,8 @@ bytes_status (Err refused.Patchset) room = PATCHSET
 -- of a blob that is not added to those before it
 abbrev pub refused_status : BlobRefusal → ℕ
 refused_status (not_added.Malformed fault) = MALFORMED
-refused_status (not_added.Group OtherKind) = OTHER_KIND
-refused_status (not_added.Group (OtherColumns group)) = OTHER_COLUMNS
+refused_status (not_added.Group OtherKind) = KIND
+refused_status (not_added.Group (OtherColumns group)) = COLUMNS
 
 -- of the bytes of a concatenation, or of the refusal of one of its blobs
 abbrev pub concat_status : Result (List ℕ) ConcatRefusal → ℕ → ℕ
@@ -38,4 +38,4 @@ concat_status (Err refusal) room = refused_status refusal.why
 
 -- this status, unless memory ran out
 abbrev pub IsUnlessMemory : ℕ → ℕ → Type 0
-IsUnlessMemory status answer = ¬ (status ≡ NO_MEMORY) → status ≡ answer
+IsUnlessMemory status answer = ¬ (status ≡ NOMEM) → status ≡ answer

@@ -9,17 +9,17 @@ ghost use Rattle.cap_core.specs.Answer.{answer};
 ghost use Rattle.cap_core.specs.declared.command.Command.TheVariants as command;
 ghost use Rattle.cap_c.specs.Apply.{policy_of, report_output};
 ghost use Rattle.cap_c.specs.Between.{Between, Holds};
-ghost use Rattle.cap_c.specs.Commands.{NoReply, Runs};
+ghost use Rattle.cap_c.specs.Commands.{NoReply, RunsCommand};
 ghost use Rattle.cap_c.specs.Fault.{placed};
 ghost use Rattle.cap_c.specs.Replies.{fault_output};
 ghost use Rattle.cap_c.specs.Server.{IsAnswered};
-ghost use Rattle.cap_c.specs.declared.status.TheConstants.{MALFORMED, MISUSE, NO_MEMORY};
+ghost use Rattle.cap_c.specs.declared.status.TheConstants.{MALFORMED, MISUSE, NOMEM};
 
 use crate::apply_report::{ApplyReport, policy_of, set_report};
 use crate::fault::PlacedFault;
-use crate::server::TextServer;
+use crate::server::OpenServer;
 use crate::server_handle::{ServerHandle, put, take};
-use crate::status::{FULL, MALFORMED, MISUSE, NO_MEMORY};
+use crate::status::{FULL, MALFORMED, MISUSE, NOMEM};
 use cap_apply::Policy;
 use cap_codec::read_blob;
 use cap_core::Command;
@@ -43,7 +43,7 @@ pub extern "C" fn changecap_apply(
     ensures ran { (policy : Answers) → policy_of on_data on_notfound on_conflict ≡ Some policy →
         (contents : Spelled Global) → blob_at blob.now ≡ Ok contents → IsAnswered result →
         Between handle.old.value handle.new.value
-        (λ old new. Runs old new (command.Apply contents policy) result) }
+        (λ old new. RunsCommand old new (command.Apply contents policy) result) }
     ensures spelled { IsAnswered result → (contents : Spelled Global) × (blob_at blob.now ≡ Ok contents) }
     ensures report { (policy : Answers) → policy_of on_data on_notfound on_conflict ≡ Some policy →
         (contents : Spelled Global) → blob_at blob.now ≡ Ok contents → IsAnswered result →
@@ -56,14 +56,14 @@ pub extern "C" fn changecap_apply(
     ensures malformed { result ≡ MALFORMED →
         (wrong : Wrong) × (blob_at {A = Global} blob.now ≡ Err wrong) × (fault.new ≡ placed wrong) }
     // A first byte that begins no group is refused without memory.
-    ensures first { (wrong : Wrong) → first_fault blob.now ≡ Some wrong → ¬ (result ≡ NO_MEMORY) }
+    ensures first { (wrong : Wrong) → first_fault blob.now ≡ Some wrong → ¬ (result ≡ NOMEM) }
     // Exactly a number that is no answer is misuse.
     ensures misuse { (result ≡ MISUSE) ↔ (policy_of on_data on_notfound on_conflict ≡ None) }
     ensures why { ¬ (IsAnswered result) → ¬ (result ≡ MALFORMED) → ¬ (result ≡ MISUSE) →
         Holds handle.old.value (λ old. NoReply old result) }
-    ensures kept { ¬ (IsAnswered result) →
-        (handle.new.value ≡ handle.old.value) × (report.new ≡ report.old) }
-    ensures unset { ¬ (IsAnswered result) → ¬ (result ≡ MALFORMED) → fault.new ≡ fault.old }
+    ensures kept { ¬ (IsAnswered result) → handle.new.value ≡ handle.old.value }
+    ensures report_kept { ¬ (IsAnswered result) → report.new ≡ report.old }
+    ensures fault_kept { ¬ (IsAnswered result) → ¬ (result ≡ MALFORMED) → fault.new ≡ fault.old }
 {
     let Some(policy) = policy_of(on_data, on_notfound, on_conflict) else {
         return MISUSE;
@@ -76,14 +76,14 @@ pub extern "C" fn changecap_apply(
 
 fn apply(
     alloc: Global,
-    server: &mut TextServer,
+    server: &mut OpenServer,
     blob: &[u8],
     policy: Policy,
     report: &mut ApplyReport,
     fault: &mut PlacedFault,
 ) -> u32
     ensures ran { (contents : Spelled Global) → blob_at blob.now ≡ Ok contents → IsAnswered result →
-        Runs server.old server.new (command.Apply contents policy) result }
+        RunsCommand server.old server.new (command.Apply contents policy) result }
     ensures spelled { IsAnswered result → (contents : Spelled Global) × (blob_at blob.now ≡ Ok contents) }
     ensures report { (contents : Spelled Global) → blob_at blob.now ≡ Ok contents → IsAnswered result →
         report.new ≡ report_output (answer server.old.core (command.Apply contents policy)) report.old }
@@ -91,11 +91,12 @@ fn apply(
         fault.new ≡ fault_output (answer server.old.core (command.Apply contents policy)) fault.old }
     ensures malformed { result ≡ MALFORMED →
         (wrong : Wrong) × (blob_at {A = Global} blob.now ≡ Err wrong) × (fault.new ≡ placed wrong) }
-    ensures first { (wrong : Wrong) → first_fault blob.now ≡ Some wrong → ¬ (result ≡ NO_MEMORY) }
+    ensures first { (wrong : Wrong) → first_fault blob.now ≡ Some wrong → ¬ (result ≡ NOMEM) }
     ensures misuse { ¬ (result ≡ MISUSE) }
     ensures why { ¬ (IsAnswered result) → ¬ (result ≡ MALFORMED) → NoReply server.old result }
-    ensures kept { ¬ (IsAnswered result) → (server.new ≡ server.old) × (report.new ≡ report.old) }
-    ensures unset { ¬ (IsAnswered result) → ¬ (result ≡ MALFORMED) → fault.new ≡ fault.old }
+    ensures kept { ¬ (IsAnswered result) → server.new ≡ server.old }
+    ensures report_kept { ¬ (IsAnswered result) → report.new ≡ report.old }
+    ensures fault_kept { ¬ (IsAnswered result) → ¬ (result ≡ MALFORMED) → fault.new ≡ fault.old }
 {
     if server.is_full() {
         return FULL;
@@ -112,11 +113,11 @@ fn apply(
             *fault = PlacedFault::of(wrong);
             MALFORMED
         }
-        Err(Fault::OutOfMemory) => NO_MEMORY,
+        Err(Fault::OutOfMemory) => NOMEM,
     }
 }
 
-impl TextServer {
+impl OpenServer {
     /// Carries out a command that applies a blob, and sets the report of what became of its changes.
     fn set_report(
         &mut self,
@@ -124,7 +125,7 @@ impl TextServer {
         report: &mut ApplyReport,
         fault: &mut PlacedFault,
     ) -> u32
-        ensures ran { IsAnswered result → Runs self.old self.new command.now result }
+        ensures ran { IsAnswered result → RunsCommand self.old self.new command.now result }
         ensures report { IsAnswered result →
             report.new ≡ report_output (answer self.old.core command.now) report.old }
         ensures fault { IsAnswered result →
@@ -132,7 +133,8 @@ impl TextServer {
         ensures why { ¬ (IsAnswered result) → NoReply self.old result }
         ensures other { ¬ (result ≡ MALFORMED) × ¬ (result ≡ MISUSE) }
         ensures kept { ¬ (IsAnswered result) → self.new ≡ self.old }
-        ensures unset { ¬ (IsAnswered result) → (report.new ≡ report.old) × (fault.new ≡ fault.old) }
+        ensures report_kept { ¬ (IsAnswered result) → report.new ≡ report.old }
+        ensures fault_kept { ¬ (IsAnswered result) → fault.new ≡ fault.old }
     {
         match self.reply_to(command) {
             Ok(reply) => set_report(&reply, report, fault),

@@ -6,7 +6,7 @@ ghost use Rattle.cap_c.specs.Server.{IsAnswered, reply_status};
 
 use crate::fault::PlacedFault;
 use crate::reply_outputs::set_refusal;
-use crate::status::DONE;
+use crate::status::OK;
 use cap_apply::{Answer, Policy};
 use cap_core::Reply;
 use std::alloc::Global;
@@ -49,7 +49,7 @@ fn answer_of(number: u32) -> Option<Answer>
     }
 }
 
-/// Outputs what became of the changes of a blob, or why it is refused.
+/// Sets the report of what became of the changes of a blob, or the fault where it is refused.
 pub(crate) fn set_report(
     reply: &Reply<Global>,
     report: &mut ApplyReport,
@@ -72,7 +72,7 @@ pub(crate) fn set_report(
                 omitted: made.omitted().len() as u64,
                 skipped: made.skipped().len() as u64,
             };
-            DONE
+            OK
         }
         _ => set_refusal(reply, fault),
     }

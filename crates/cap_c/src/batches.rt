@@ -15,15 +15,15 @@ ghost use Rattle.cap_c.specs.Refusal.{refused};
 ghost use Rattle.cap_c.specs.Replies.{fault_output, number_output};
 ghost use Rattle.cap_c.specs.Server.{IsAnswered};
 ghost use Rattle.cap_c.specs.declared.draft.ActionKind.TheVariants.{Insert, Update, Delete};
-ghost use Rattle.cap_c.specs.declared.status.TheConstants.{DONE, MISUSE, NO_MEMORY, REFUSED};
+ghost use Rattle.cap_c.specs.declared.status.TheConstants.{MISUSE, NOMEM, OK, REFUSED};
 
 use crate::draft::{ActionKind, Draft, cause_of};
 use crate::fault::PlacedFault;
 use crate::names::name_text;
 use crate::reply_outputs::set_number;
-use crate::server::TextServer;
+use crate::server::OpenServer;
 use crate::server_handle::{ServerHandle, put, take};
-use crate::status::{DONE, FULL, MISUSE, NO_MEMORY, REFUSED};
+use crate::status::{FULL, MISUSE, NOMEM, OK, REFUSED};
 use cap_core::Command;
 use cap_txn::Batch;
 use cap_value::{BYTES_MAX, Refusal, Value};
@@ -69,9 +69,9 @@ pub extern "C" fn changecap_clear_bindings(alloc: Global, handle: &mut ServerHan
 #[unsafe(no_mangle)]
 pub extern "C" fn changecap_bind_null(alloc: Global, handle: &mut ServerHandle) -> u32
     requires opened { IsSome handle.old.value }
-    ensures bound { result ≡ DONE → Between handle.old.value handle.new.value
+    ensures bound { result ≡ OK → Between handle.old.value handle.new.value
         (λ old new. Drafts old new (bound held.Null old.draft)) }
-    ensures kept { ¬ (result ≡ DONE) → (result ≡ NO_MEMORY) × (handle.new.value ≡ handle.old.value) }
+    ensures kept { ¬ (result ≡ OK) → (result ≡ NOMEM) × (handle.new.value ≡ handle.old.value) }
 {
     let mut server = take(alloc, handle);
     let status = server.bind(Value::Null);
@@ -83,9 +83,9 @@ pub extern "C" fn changecap_bind_null(alloc: Global, handle: &mut ServerHandle) 
 #[unsafe(no_mangle)]
 pub extern "C" fn changecap_bind_int(alloc: Global, handle: &mut ServerHandle, number: i64) -> u32
     requires opened { IsSome handle.old.value }
-    ensures bound { result ≡ DONE → Between handle.old.value handle.new.value
+    ensures bound { result ≡ OK → Between handle.old.value handle.new.value
         (λ old new. Drafts old new (bound (held.Int number) old.draft)) }
-    ensures kept { ¬ (result ≡ DONE) → (result ≡ NO_MEMORY) × (handle.new.value ≡ handle.old.value) }
+    ensures kept { ¬ (result ≡ OK) → (result ≡ NOMEM) × (handle.new.value ≡ handle.old.value) }
 {
     let mut server = take(alloc, handle);
     let status = server.bind(Value::Int(number));
@@ -97,13 +97,13 @@ pub extern "C" fn changecap_bind_int(alloc: Global, handle: &mut ServerHandle, n
 #[unsafe(no_mangle)]
 pub extern "C" fn changecap_bind_text(alloc: Global, handle: &mut ServerHandle, text: &[u8]) -> u32
     requires opened { IsSome handle.old.value }
-    ensures bound { result ≡ DONE → Between handle.old.value handle.new.value
+    ensures bound { result ≡ OK → Between handle.old.value handle.new.value
         (λ old new. Drafts old new (bound (held.Text text.now) old.draft)) }
     // Exactly bytes that are no text are misuse.
     ensures misuse { result ≡ MISUSE → ¬ (IsText text.now) }
     ensures text { ¬ (result ≡ MISUSE) → IsText text.now }
-    ensures kept { ¬ (result ≡ DONE) →
-        ((result ≡ MISUSE) ⊎ (result ≡ NO_MEMORY)) × (handle.new.value ≡ handle.old.value) }
+    ensures kept { ¬ (result ≡ OK) →
+        ((result ≡ MISUSE) ⊎ (result ≡ NOMEM)) × (handle.new.value ≡ handle.old.value) }
 {
     let mut server = take(alloc, handle);
     let status = server.bind_text(alloc, text);
@@ -115,13 +115,13 @@ pub extern "C" fn changecap_bind_text(alloc: Global, handle: &mut ServerHandle, 
 #[unsafe(no_mangle)]
 pub extern "C" fn changecap_bind_blob(alloc: Global, handle: &mut ServerHandle, blob: &[u8]) -> u32
     requires opened { IsSome handle.old.value }
-    ensures bound { result ≡ DONE → Between handle.old.value handle.new.value
+    ensures bound { result ≡ OK → Between handle.old.value handle.new.value
         (λ old new. Drafts old new (bound (held.Blob blob.now) old.draft)) }
     // Exactly bytes that are too many are misuse.
     ensures misuse { result ≡ MISUSE → ¬ (length blob.now ≤ 1000000000) }
     ensures short { ¬ (result ≡ MISUSE) → length blob.now ≤ 1000000000 }
-    ensures kept { ¬ (result ≡ DONE) →
-        ((result ≡ MISUSE) ⊎ (result ≡ NO_MEMORY)) × (handle.new.value ≡ handle.old.value) }
+    ensures kept { ¬ (result ≡ OK) →
+        ((result ≡ MISUSE) ⊎ (result ≡ NOMEM)) × (handle.new.value ≡ handle.old.value) }
 {
     let mut server = take(alloc, handle);
     let status = server.bind_blob(alloc, blob);
@@ -133,13 +133,13 @@ pub extern "C" fn changecap_bind_blob(alloc: Global, handle: &mut ServerHandle, 
 #[unsafe(no_mangle)]
 pub extern "C" fn changecap_set(alloc: Global, handle: &mut ServerHandle, column: usize) -> u32
     requires opened { IsSome handle.old.value }
-    ensures set { result ≡ DONE → Between handle.old.value handle.new.value
+    ensures set { result ≡ OK → Between handle.old.value handle.new.value
         (λ old new. Sets column old.draft new.draft × Drafts old new new.draft) }
     // Exactly where nothing is bound it is misuse.
     ensures misuse { result ≡ MISUSE → Holds handle.old.value (λ old. old.draft.values ≡ []) }
     ensures bound { ¬ (result ≡ MISUSE) → Holds handle.old.value (λ old. ¬ (old.draft.values ≡ [])) }
-    ensures kept { ¬ (result ≡ DONE) →
-        ((result ≡ MISUSE) ⊎ (result ≡ NO_MEMORY)) × (handle.new.value ≡ handle.old.value) }
+    ensures kept { ¬ (result ≡ OK) →
+        ((result ≡ MISUSE) ⊎ (result ≡ NOMEM)) × (handle.new.value ≡ handle.old.value) }
 {
     let mut server = take(alloc, handle);
     let status = server.set(column);
@@ -157,7 +157,7 @@ pub extern "C" fn changecap_insert(
     fault: &mut PlacedFault,
 ) -> u32
     requires opened { IsSome handle.old.value }
-    ensures put { (by : By) → cause_of cause ≡ Some by → result ≡ DONE →
+    ensures put { (by : By) → cause_of cause ≡ Some by → result ≡ OK →
         Between handle.old.value handle.new.value
         (λ old new. (action : Made Global) × Puts old new Insert table.now 0 by action) }
     // Exactly where they make no operation it is misuse.
@@ -169,9 +169,9 @@ pub extern "C" fn changecap_insert(
     ensures refused { result ≡ REFUSED → Holds handle.old.value (λ old. HasAllOps old.draft)
         × (fault.new ≡ refused None TooMany) }
     ensures room { ¬ (result ≡ MISUSE) → ¬ (result ≡ REFUSED) →
-        ((result ≡ DONE) ⊎ (result ≡ NO_MEMORY)) × Holds handle.old.value (λ old. ¬ (HasAllOps old.draft)) }
-    ensures kept { ¬ (result ≡ DONE) → handle.new.value ≡ handle.old.value }
-    ensures unset { ¬ (result ≡ REFUSED) → fault.new ≡ fault.old }
+        ((result ≡ OK) ⊎ (result ≡ NOMEM)) × Holds handle.old.value (λ old. ¬ (HasAllOps old.draft)) }
+    ensures kept { ¬ (result ≡ OK) → handle.new.value ≡ handle.old.value }
+    ensures fault_kept { ¬ (result ≡ REFUSED) → fault.new ≡ fault.old }
 {
     let mut server = take(alloc, handle);
     let status = server.put(alloc, ActionKind::Insert, table, 0, cause, fault);
@@ -191,7 +191,7 @@ pub extern "C" fn changecap_update(
     fault: &mut PlacedFault,
 ) -> u32
     requires opened { IsSome handle.old.value }
-    ensures put { (by : By) → cause_of cause ≡ Some by → result ≡ DONE →
+    ensures put { (by : By) → cause_of cause ≡ Some by → result ≡ OK →
         Between handle.old.value handle.new.value
         (λ old new. (action : Made Global) × Puts old new Update table.now id by action) }
     // Exactly where they make no operation it is misuse.
@@ -203,9 +203,9 @@ pub extern "C" fn changecap_update(
     ensures refused { result ≡ REFUSED → Holds handle.old.value (λ old. HasAllOps old.draft)
         × (fault.new ≡ refused None TooMany) }
     ensures room { ¬ (result ≡ MISUSE) → ¬ (result ≡ REFUSED) →
-        ((result ≡ DONE) ⊎ (result ≡ NO_MEMORY)) × Holds handle.old.value (λ old. ¬ (HasAllOps old.draft)) }
-    ensures kept { ¬ (result ≡ DONE) → handle.new.value ≡ handle.old.value }
-    ensures unset { ¬ (result ≡ REFUSED) → fault.new ≡ fault.old }
+        ((result ≡ OK) ⊎ (result ≡ NOMEM)) × Holds handle.old.value (λ old. ¬ (HasAllOps old.draft)) }
+    ensures kept { ¬ (result ≡ OK) → handle.new.value ≡ handle.old.value }
+    ensures fault_kept { ¬ (result ≡ REFUSED) → fault.new ≡ fault.old }
 {
     let mut server = take(alloc, handle);
     let status = server.put(alloc, ActionKind::Update, table, id, cause, fault);
@@ -224,7 +224,7 @@ pub extern "C" fn changecap_delete(
     fault: &mut PlacedFault,
 ) -> u32
     requires opened { IsSome handle.old.value }
-    ensures put { (by : By) → cause_of cause ≡ Some by → result ≡ DONE →
+    ensures put { (by : By) → cause_of cause ≡ Some by → result ≡ OK →
         Between handle.old.value handle.new.value
         (λ old new. (action : Made Global) × Puts old new Delete table.now id by action) }
     // Exactly where they make no operation it is misuse.
@@ -236,9 +236,9 @@ pub extern "C" fn changecap_delete(
     ensures refused { result ≡ REFUSED → Holds handle.old.value (λ old. HasAllOps old.draft)
         × (fault.new ≡ refused None TooMany) }
     ensures room { ¬ (result ≡ MISUSE) → ¬ (result ≡ REFUSED) →
-        ((result ≡ DONE) ⊎ (result ≡ NO_MEMORY)) × Holds handle.old.value (λ old. ¬ (HasAllOps old.draft)) }
-    ensures kept { ¬ (result ≡ DONE) → handle.new.value ≡ handle.old.value }
-    ensures unset { ¬ (result ≡ REFUSED) → fault.new ≡ fault.old }
+        ((result ≡ OK) ⊎ (result ≡ NOMEM)) × Holds handle.old.value (λ old. ¬ (HasAllOps old.draft)) }
+    ensures kept { ¬ (result ≡ OK) → handle.new.value ≡ handle.old.value }
+    ensures fault_kept { ¬ (result ≡ REFUSED) → fault.new ≡ fault.old }
 {
     let mut server = take(alloc, handle);
     let status = server.put(alloc, ActionKind::Delete, table, id, cause, fault);
@@ -263,7 +263,8 @@ pub extern "C" fn changecap_commit(
         (λ old. fault.new ≡ fault_output (answer old.core (command.Commit old.draft.batch)) fault.old) }
     ensures why { ¬ (IsAnswered result) → Holds handle.old.value (λ old. NoReply old result) }
     ensures kept { ¬ (IsAnswered result) → handle.new.value ≡ handle.old.value }
-    ensures unset { ¬ (IsAnswered result) → (version.new ≡ version.old) × (fault.new ≡ fault.old) }
+    ensures version_kept { ¬ (IsAnswered result) → version.new ≡ version.old }
+    ensures fault_kept { ¬ (IsAnswered result) → fault.new ≡ fault.old }
 {
     let mut server = take(alloc, handle);
     let status = server.commit(alloc, version, fault);
@@ -271,23 +272,23 @@ pub extern "C" fn changecap_commit(
     status
 }
 
-impl TextServer {
+impl OpenServer {
     fn bind(&mut self, value: Value<Global>) -> u32
-        ensures bound { result ≡ DONE → Drafts self.old self.new (bound value self.old.draft) }
-        ensures kept { ¬ (result ≡ DONE) → (result ≡ NO_MEMORY) × (self.new ≡ self.old) }
+        ensures bound { result ≡ OK → Drafts self.old self.new (bound value self.old.draft) }
+        ensures kept { ¬ (result ≡ OK) → (result ≡ NOMEM) × (self.new ≡ self.old) }
     {
         match self.draft.bind(value) {
-            Ok(()) => DONE,
-            Err(_) => NO_MEMORY,
+            Ok(()) => OK,
+            Err(_) => NOMEM,
         }
     }
 
     fn bind_text(&mut self, alloc: Global, text: &[u8]) -> u32
-        ensures bound { result ≡ DONE → Drafts self.old self.new (bound (held.Text text.now) self.old.draft) }
+        ensures bound { result ≡ OK → Drafts self.old self.new (bound (held.Text text.now) self.old.draft) }
         ensures misuse { result ≡ MISUSE → ¬ (IsText text.now) }
         ensures text { ¬ (result ≡ MISUSE) → IsText text.now }
-        ensures kept { ¬ (result ≡ DONE) →
-            ((result ≡ MISUSE) ⊎ (result ≡ NO_MEMORY)) × (self.new ≡ self.old) }
+        ensures kept { ¬ (result ≡ OK) →
+            ((result ≡ MISUSE) ⊎ (result ≡ NOMEM)) × (self.new ≡ self.old) }
     {
         if text.len() > BYTES_MAX {
             return MISUSE;
@@ -297,40 +298,40 @@ impl TextServer {
         };
         match Value::text(alloc, text) {
             Ok(value) => self.bind(value),
-            Err(_) => NO_MEMORY,
+            Err(_) => NOMEM,
         }
     }
 
     fn bind_blob(&mut self, alloc: Global, blob: &[u8]) -> u32
-        ensures bound { result ≡ DONE → Drafts self.old self.new (bound (held.Blob blob.now) self.old.draft) }
+        ensures bound { result ≡ OK → Drafts self.old self.new (bound (held.Blob blob.now) self.old.draft) }
         ensures misuse { result ≡ MISUSE → ¬ (length blob.now ≤ 1000000000) }
         ensures short { ¬ (result ≡ MISUSE) → length blob.now ≤ 1000000000 }
-        ensures kept { ¬ (result ≡ DONE) →
-            ((result ≡ MISUSE) ⊎ (result ≡ NO_MEMORY)) × (self.new ≡ self.old) }
+        ensures kept { ¬ (result ≡ OK) →
+            ((result ≡ MISUSE) ⊎ (result ≡ NOMEM)) × (self.new ≡ self.old) }
     {
         if blob.len() > BYTES_MAX {
             return MISUSE;
         }
         match Value::blob(alloc, blob) {
             Ok(value) => self.bind(value),
-            Err(_) => NO_MEMORY,
+            Err(_) => NOMEM,
         }
     }
 
     fn set(&mut self, column: usize) -> u32
-        ensures set { result ≡ DONE →
+        ensures set { result ≡ OK →
             Sets column self.old.draft self.new.draft × Drafts self.old self.new self.new.draft }
         ensures misuse { result ≡ MISUSE → self.old.draft.values ≡ [] }
         ensures bound { ¬ (result ≡ MISUSE) → ¬ (self.old.draft.values ≡ []) }
-        ensures kept { ¬ (result ≡ DONE) →
-            ((result ≡ MISUSE) ⊎ (result ≡ NO_MEMORY)) × (self.new ≡ self.old) }
+        ensures kept { ¬ (result ≡ OK) →
+            ((result ≡ MISUSE) ⊎ (result ≡ NOMEM)) × (self.new ≡ self.old) }
     {
         if self.draft.is_unbound() {
             return MISUSE;
         }
         match self.draft.set(column) {
-            Ok(()) => DONE,
-            Err(_) => NO_MEMORY,
+            Ok(()) => OK,
+            Err(_) => NOMEM,
         }
     }
 
@@ -343,15 +344,15 @@ impl TextServer {
         cause: u32,
         fault: &mut PlacedFault,
     ) -> u32
-        ensures put { (by : By) → cause_of cause ≡ Some by → result ≡ DONE →
+        ensures put { (by : By) → cause_of cause ≡ Some by → result ≡ OK →
             (action : Made Global) × Puts self.old self.new kind table.now id by action }
         ensures misuse { result ≡ MISUSE → ¬ (CanPut kind table.now id cause self.old.draft) }
         ensures can { ¬ (result ≡ MISUSE) → CanPut kind table.now id cause self.old.draft }
         ensures refused { result ≡ REFUSED → HasAllOps self.old.draft × (fault.new ≡ refused None TooMany) }
         ensures room { ¬ (result ≡ MISUSE) → ¬ (result ≡ REFUSED) →
-            ((result ≡ DONE) ⊎ (result ≡ NO_MEMORY)) × ¬ (HasAllOps self.old.draft) }
-        ensures kept { ¬ (result ≡ DONE) → self.new ≡ self.old }
-        ensures unset { ¬ (result ≡ REFUSED) → fault.new ≡ fault.old }
+            ((result ≡ OK) ⊎ (result ≡ NOMEM)) × ¬ (HasAllOps self.old.draft) }
+        ensures kept { ¬ (result ≡ OK) → self.new ≡ self.old }
+        ensures fault_kept { ¬ (result ≡ REFUSED) → fault.new ≡ fault.old }
     {
         let Some(table) = name_text(table) else {
             return MISUSE;
@@ -367,8 +368,8 @@ impl TextServer {
             return REFUSED;
         }
         match self.draft.put(alloc, table, cause, kind, id) {
-            Ok(()) => DONE,
-            Err(_) => NO_MEMORY,
+            Ok(()) => OK,
+            Err(_) => NOMEM,
         }
     }
 
@@ -380,7 +381,8 @@ impl TextServer {
             ≡ fault_output (answer self.old.core (command.Commit self.old.draft.batch)) fault.old }
         ensures why { ¬ (IsAnswered result) → NoReply self.old result }
         ensures kept { ¬ (IsAnswered result) → self.new ≡ self.old }
-        ensures unset { ¬ (IsAnswered result) → (version.new ≡ version.old) × (fault.new ≡ fault.old) }
+        ensures version_kept { ¬ (IsAnswered result) → version.new ≡ version.old }
+        ensures fault_kept { ¬ (IsAnswered result) → fault.new ≡ fault.old }
     {
         if self.is_full() {
             return FULL;

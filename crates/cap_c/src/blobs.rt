@@ -10,34 +10,34 @@ ghost use Rattle.cap_c.specs.Fault.{placed};
 ghost use Rattle.cap_c.specs.KeyFlags.{key_flags_of};
 ghost use Rattle.cap_c.specs.Status.{IsUnlessMemory, bytes_status, read_status};
 ghost use Rattle.cap_c.specs.Outputs.{Outputs};
-ghost use Rattle.cap_c.specs.declared.status.TheConstants.{DONE, MALFORMED, NO_MEMORY, MISUSE};
+ghost use Rattle.cap_c.specs.declared.status.TheConstants.{MALFORMED, MISUSE, NOMEM, OK};
 
 use crate::fault::PlacedFault;
 use crate::key_flags::key_flags_of;
 use crate::output::set_bytes;
-use crate::status::{DONE, MALFORMED, MISUSE, NO_MEMORY};
+use crate::status::{MALFORMED, MISUSE, NOMEM, OK};
 use cap_blob::{invert_bytes, patchset_bytes};
 use cap_codec::read_blob;
 use cap_value::Fault;
 use std::alloc::Global;
 
-/// Whether the bytes are a blob, a changeset or a patchset: `DONE`, or `MALFORMED` with the fault.
+/// Whether the bytes are a blob, a changeset or a patchset: `OK`, or `MALFORMED` with the fault.
 #[unsafe(no_mangle)]
 pub extern "C" fn changecap_check(alloc: Global, blob: &[u8], fault: &mut PlacedFault) -> u32
     // Just where the bytes spell something.
     ensures status { IsUnlessMemory result (read_status (blob_at {A = Global} blob.now)) }
-    ensures spelled { result ≡ DONE → (contents : Spelled Global) × Spells contents blob.now }
+    ensures spelled { result ≡ OK → (contents : Spelled Global) × Spells contents blob.now }
     ensures fault { result ≡ MALFORMED →
         (wrong : Wrong) × (blob_at {A = Global} blob.now ≡ Err wrong) × (fault.new ≡ placed wrong) }
-    ensures kept { ¬ (result ≡ MALFORMED) → fault.new ≡ fault.old }
+    ensures fault_kept { ¬ (result ≡ MALFORMED) → fault.new ≡ fault.old }
 {
     match read_blob(alloc, blob) {
-        Ok(_) => DONE,
+        Ok(_) => OK,
         Err(Fault::Refused(wrong)) => {
             *fault = PlacedFault::of(wrong);
             MALFORMED
         }
-        Err(Fault::OutOfMemory) => NO_MEMORY,
+        Err(Fault::OutOfMemory) => NOMEM,
     }
 }
 
@@ -55,12 +55,13 @@ pub extern "C" fn changecap_invert(
     ensures status { (flags : Flags) → key_flags_of key_flags ≡ Some flags →
         IsUnlessMemory result (bytes_status (inverse_at Global flags blob.now) (length out.old)) }
     // The bytes of the inverse, their number, or the fault.
-    ensures outputs { (flags : Flags) → key_flags_of key_flags ≡ Some flags → ¬ (result ≡ NO_MEMORY) →
+    ensures outputs { (flags : Flags) → key_flags_of key_flags ≡ Some flags → ¬ (result ≡ NOMEM) →
         Outputs (inverse_at Global flags blob.now) result out.old out.new len.new fault.new }
     // Exactly a number that names no key flags is misuse.
     ensures misuse { (result ≡ MISUSE) ↔ (key_flags_of key_flags ≡ None) }
-    ensures kept { ¬ (result ≡ DONE) → out.new ≡ out.old }
-    ensures unchanged { result ≡ NO_MEMORY → (len.new ≡ len.old) × (fault.new ≡ fault.old) }
+    ensures out_kept { ¬ (result ≡ OK) → out.new ≡ out.old }
+    ensures len_kept { result ≡ NOMEM → len.new ≡ len.old }
+    ensures fault_kept { result ≡ NOMEM → fault.new ≡ fault.old }
 {
     let Some(flags) = key_flags_of(key_flags) else {
         return MISUSE;
@@ -82,12 +83,13 @@ pub extern "C" fn changecap_patchset(
     ensures status { (flags : Flags) → key_flags_of key_flags ≡ Some flags →
         IsUnlessMemory result (bytes_status (patchset_at Global flags blob.now) (length out.old)) }
     // The bytes of the patchset, their number, or the fault.
-    ensures outputs { (flags : Flags) → key_flags_of key_flags ≡ Some flags → ¬ (result ≡ NO_MEMORY) →
+    ensures outputs { (flags : Flags) → key_flags_of key_flags ≡ Some flags → ¬ (result ≡ NOMEM) →
         Outputs (patchset_at Global flags blob.now) result out.old out.new len.new fault.new }
     // Exactly a number that names no key flags is misuse.
     ensures misuse { (result ≡ MISUSE) ↔ (key_flags_of key_flags ≡ None) }
-    ensures kept { ¬ (result ≡ DONE) → out.new ≡ out.old }
-    ensures unchanged { result ≡ NO_MEMORY → (len.new ≡ len.old) × (fault.new ≡ fault.old) }
+    ensures out_kept { ¬ (result ≡ OK) → out.new ≡ out.old }
+    ensures len_kept { result ≡ NOMEM → len.new ≡ len.old }
+    ensures fault_kept { result ≡ NOMEM → fault.new ≡ fault.old }
 {
     let Some(flags) = key_flags_of(key_flags) else {
         return MISUSE;

@@ -5,7 +5,7 @@ ghost use Rattle.cap_c.specs.Replies.{captured_bytes};
 ghost use Rattle.cap_c.specs.Outputs.{WritesAll};
 
 use crate::output::write_bytes;
-use crate::status::{DONE, NO_MEMORY};
+use crate::status::{NOMEM, OK};
 use cap_codec::KeyFlags;
 use cap_core::{Capture, CommitHook, Reply};
 use cap_value::OutOfMemory;
@@ -67,7 +67,7 @@ impl<'o, 'l> CaptureHook<'o, 'l> {
             self.old.out.now self.new.out.now self.old.len.now self.new.len.now) }
     {
         let Ok(bytes) = captured_bytes(self.alloc, self.form, self.key_flags, capture) else {
-            return Err(NO_MEMORY);
+            return Err(NOMEM);
         };
         write_all(bytes.as_slice(), self.out, self.len)
     }
@@ -80,7 +80,7 @@ fn write_all(bytes: &[u8], out: &mut [u8], len: &mut usize) -> Result<(), u32>
         NotWritten (Some bytes.now) status out.old out.new len.old len.new) }
 {
     match write_bytes(bytes, out, len) {
-        DONE => Ok(()),
+        OK => Ok(()),
         status => Err(status),
     }
 }

@@ -4,13 +4,13 @@ ghost use Rattle.cap_codec.specs.declared.key_flags.KeyFlags.{KeyFlags as Flags}
 ghost use Rattle.cap_core.specs.Answer.{answer};
 ghost use Rattle.cap_core.specs.declared.command.Command.TheVariants as command;
 ghost use Rattle.cap_c.specs.Between.{Between, Holds};
-ghost use Rattle.cap_c.specs.Commands.{NoReply, Runs};
+ghost use Rattle.cap_c.specs.Commands.{NoReply, RunsCommand};
 ghost use Rattle.cap_c.specs.KeyFlags.{key_flags_of};
 ghost use Rattle.cap_c.specs.Replies.{bytes_asked, fault_output};
 ghost use Rattle.cap_c.specs.Server.{IsAnswered};
 ghost use Rattle.cap_c.specs.Outputs.{LacksRoom, WritesAll};
 ghost use Rattle.cap_c.specs.declared.captured.CapturedForm.TheVariants.{Changeset, Patchset};
-ghost use Rattle.cap_c.specs.declared.status.TheConstants.{DONE, MISUSE, NO_ROOM};
+ghost use Rattle.cap_c.specs.declared.status.TheConstants.{MISUSE, OK, ROOM};
 
 use crate::captured::CapturedForm;
 use crate::fault::PlacedFault;
@@ -32,27 +32,28 @@ pub extern "C" fn changecap_session_changeset(
     fault: &mut PlacedFault,
 ) -> u32
     requires opened { IsSome handle.old.value }
-    ensures ran { IsAnswered result →
-        Between handle.old.value handle.new.value (λ old new. Runs old new (command.Capture session) result) }
+    ensures ran { IsAnswered result → Between handle.old.value handle.new.value
+        (λ old new. RunsCommand old new (command.Capture session) result) }
     ensures fault { IsAnswered result →
         Holds handle.old.value
         (λ old. fault.new ≡ fault_output (answer old.core (command.Capture session)) fault.old) }
     // The bytes of the changeset, or how many there are.
-    ensures written { (flags : Flags) → key_flags_of key_flags ≡ Some flags → result ≡ DONE →
+    ensures written { (flags : Flags) → key_flags_of key_flags ≡ Some flags → result ≡ OK →
         Holds handle.old.value
         (λ old. WritesAll (bytes_asked Changeset flags (answer old.core (command.Capture session)))
         out.old out.new len.old len.new) }
-    ensures room { (flags : Flags) → key_flags_of key_flags ≡ Some flags → result ≡ NO_ROOM →
+    ensures room { (flags : Flags) → key_flags_of key_flags ≡ Some flags → result ≡ ROOM →
         Holds handle.old.value
         (λ old. LacksRoom
         (bytes_asked Changeset flags (answer old.core (command.Capture session))) out.old len.new) }
     // Exactly a number that names no key flags is misuse.
     ensures misuse { (result ≡ MISUSE) ↔ (key_flags_of key_flags ≡ None) }
-    ensures why { ¬ (IsAnswered result) → ¬ (result ≡ NO_ROOM) → ¬ (result ≡ MISUSE) →
+    ensures why { ¬ (IsAnswered result) → ¬ (result ≡ ROOM) → ¬ (result ≡ MISUSE) →
         Holds handle.old.value (λ old. NoReply old result) }
-    ensures kept { ¬ (IsAnswered result) → (handle.new.value ≡ handle.old.value) × (fault.new ≡ fault.old) }
-    ensures unset { ¬ (result ≡ DONE) → out.new ≡ out.old }
-    ensures len { ¬ (result ≡ DONE) → ¬ (result ≡ NO_ROOM) → len.new ≡ len.old }
+    ensures kept { ¬ (IsAnswered result) → handle.new.value ≡ handle.old.value }
+    ensures fault_kept { ¬ (IsAnswered result) → fault.new ≡ fault.old }
+    ensures out_kept { ¬ (result ≡ OK) → out.new ≡ out.old }
+    ensures len_kept { ¬ (result ≡ OK) → ¬ (result ≡ ROOM) → len.new ≡ len.old }
 {
     let Some(flags) = key_flags_of(key_flags) else {
         return MISUSE;
@@ -84,27 +85,28 @@ pub extern "C" fn changecap_session_patchset(
     fault: &mut PlacedFault,
 ) -> u32
     requires opened { IsSome handle.old.value }
-    ensures ran { IsAnswered result →
-        Between handle.old.value handle.new.value (λ old new. Runs old new (command.Capture session) result) }
+    ensures ran { IsAnswered result → Between handle.old.value handle.new.value
+        (λ old new. RunsCommand old new (command.Capture session) result) }
     ensures fault { IsAnswered result →
         Holds handle.old.value
         (λ old. fault.new ≡ fault_output (answer old.core (command.Capture session)) fault.old) }
     // The bytes of the patchset, or how many there are.
-    ensures written { (flags : Flags) → key_flags_of key_flags ≡ Some flags → result ≡ DONE →
+    ensures written { (flags : Flags) → key_flags_of key_flags ≡ Some flags → result ≡ OK →
         Holds handle.old.value
         (λ old. WritesAll (bytes_asked Patchset flags (answer old.core (command.Capture session)))
         out.old out.new len.old len.new) }
-    ensures room { (flags : Flags) → key_flags_of key_flags ≡ Some flags → result ≡ NO_ROOM →
+    ensures room { (flags : Flags) → key_flags_of key_flags ≡ Some flags → result ≡ ROOM →
         Holds handle.old.value
         (λ old. LacksRoom
         (bytes_asked Patchset flags (answer old.core (command.Capture session))) out.old len.new) }
     // Exactly a number that names no key flags is misuse.
     ensures misuse { (result ≡ MISUSE) ↔ (key_flags_of key_flags ≡ None) }
-    ensures why { ¬ (IsAnswered result) → ¬ (result ≡ NO_ROOM) → ¬ (result ≡ MISUSE) →
+    ensures why { ¬ (IsAnswered result) → ¬ (result ≡ ROOM) → ¬ (result ≡ MISUSE) →
         Holds handle.old.value (λ old. NoReply old result) }
-    ensures kept { ¬ (IsAnswered result) → (handle.new.value ≡ handle.old.value) × (fault.new ≡ fault.old) }
-    ensures unset { ¬ (result ≡ DONE) → out.new ≡ out.old }
-    ensures len { ¬ (result ≡ DONE) → ¬ (result ≡ NO_ROOM) → len.new ≡ len.old }
+    ensures kept { ¬ (IsAnswered result) → handle.new.value ≡ handle.old.value }
+    ensures fault_kept { ¬ (IsAnswered result) → fault.new ≡ fault.old }
+    ensures out_kept { ¬ (result ≡ OK) → out.new ≡ out.old }
+    ensures len_kept { ¬ (result ≡ OK) → ¬ (result ≡ ROOM) → len.new ≡ len.old }
 {
     let Some(flags) = key_flags_of(key_flags) else {
         return MISUSE;
@@ -136,27 +138,28 @@ pub extern "C" fn changecap_session_restart(
     fault: &mut PlacedFault,
 ) -> u32
     requires opened { IsSome handle.old.value }
-    ensures ran { IsAnswered result →
-        Between handle.old.value handle.new.value (λ old new. Runs old new (command.Restart session) result) }
+    ensures ran { IsAnswered result → Between handle.old.value handle.new.value
+        (λ old new. RunsCommand old new (command.Restart session) result) }
     ensures fault { IsAnswered result →
         Holds handle.old.value
         (λ old. fault.new ≡ fault_output (answer old.core (command.Restart session)) fault.old) }
     // The bytes of the changeset, or how many there are.
-    ensures written { (flags : Flags) → key_flags_of key_flags ≡ Some flags → result ≡ DONE →
+    ensures written { (flags : Flags) → key_flags_of key_flags ≡ Some flags → result ≡ OK →
         Holds handle.old.value
         (λ old. WritesAll (bytes_asked Changeset flags (answer old.core (command.Restart session)))
         out.old out.new len.old len.new) }
-    ensures room { (flags : Flags) → key_flags_of key_flags ≡ Some flags → result ≡ NO_ROOM →
+    ensures room { (flags : Flags) → key_flags_of key_flags ≡ Some flags → result ≡ ROOM →
         Holds handle.old.value
         (λ old. LacksRoom
         (bytes_asked Changeset flags (answer old.core (command.Restart session))) out.old len.new) }
     // Exactly a number that names no key flags is misuse.
     ensures misuse { (result ≡ MISUSE) ↔ (key_flags_of key_flags ≡ None) }
-    ensures why { ¬ (IsAnswered result) → ¬ (result ≡ NO_ROOM) → ¬ (result ≡ MISUSE) →
+    ensures why { ¬ (IsAnswered result) → ¬ (result ≡ ROOM) → ¬ (result ≡ MISUSE) →
         Holds handle.old.value (λ old. NoReply old result) }
-    ensures kept { ¬ (IsAnswered result) → (handle.new.value ≡ handle.old.value) × (fault.new ≡ fault.old) }
-    ensures unset { ¬ (result ≡ DONE) → out.new ≡ out.old }
-    ensures len { ¬ (result ≡ DONE) → ¬ (result ≡ NO_ROOM) → len.new ≡ len.old }
+    ensures kept { ¬ (IsAnswered result) → handle.new.value ≡ handle.old.value }
+    ensures fault_kept { ¬ (IsAnswered result) → fault.new ≡ fault.old }
+    ensures out_kept { ¬ (result ≡ OK) → out.new ≡ out.old }
+    ensures len_kept { ¬ (result ≡ OK) → ¬ (result ≡ ROOM) → len.new ≡ len.old }
 {
     let Some(flags) = key_flags_of(key_flags) else {
         return MISUSE;

@@ -3,23 +3,23 @@ ghost use Rattle.std.specs.Prelude.{◌≡◌, IfErr, IfOk, OnErr, OnOk, false, 
 ghost use Rattle.cap_core.specs.Answer.{answer};
 ghost use Rattle.cap_core.specs.Past.{HasRoom};
 ghost use Rattle.cap_core.specs.Transition.{next};
-ghost use Rattle.cap_c.specs.Commands.{NoReply, Runs};
+ghost use Rattle.cap_c.specs.Commands.{NoReply, RunsCommand};
 ghost use Rattle.cap_c.specs.Replies.{bytes_asked, fault_output, flag_output, number_output};
 ghost use Rattle.cap_c.specs.Server.{IsAnswered};
 ghost use Rattle.cap_c.specs.Outputs.{LacksRoom, WritesAll};
-ghost use Rattle.cap_c.specs.declared.status.TheConstants.{DONE, NO_ROOM};
+ghost use Rattle.cap_c.specs.declared.status.TheConstants.{OK, ROOM};
 
 use crate::captured::{CaptureHook, CapturedForm};
 use crate::fault::PlacedFault;
 use crate::reply_outputs::{set_flag, set_number, set_refusal};
-use crate::server::TextServer;
-use crate::status::{FULL, NO_MEMORY};
+use crate::server::OpenServer;
+use crate::status::{FULL, NOMEM};
 use cap_codec::KeyFlags;
 use cap_core::{Command, EVENTS_MAX, NoHook, Reply};
 use cap_value::Fault;
 use std::alloc::Global;
 
-impl TextServer {
+impl OpenServer {
     /// Whether the history has no room for another command.
     pub(crate) fn is_full(&self) -> bool
         ensures full { result ≡ true → ¬ (HasRoom self.now.core.events) }
@@ -40,7 +40,7 @@ impl TextServer {
         }
         match self.core.step(command, &mut NoHook) {
             Ok(reply) => Ok(reply),
-            Err(_) => Err(NO_MEMORY),
+            Err(_) => Err(NOMEM),
         }
     }
 
@@ -51,14 +51,15 @@ impl TextServer {
         number: &mut u64,
         fault: &mut PlacedFault,
     ) -> u32
-        ensures ran { IsAnswered result → Runs self.old self.new command.now result }
+        ensures ran { IsAnswered result → RunsCommand self.old self.new command.now result }
         ensures number { IsAnswered result →
             number.new ≡ number_output (answer self.old.core command.now) number.old }
         ensures fault { IsAnswered result →
             fault.new ≡ fault_output (answer self.old.core command.now) fault.old }
         ensures why { ¬ (IsAnswered result) → NoReply self.old result }
         ensures kept { ¬ (IsAnswered result) → self.new ≡ self.old }
-        ensures unset { ¬ (IsAnswered result) → (number.new ≡ number.old) × (fault.new ≡ fault.old) }
+        ensures number_kept { ¬ (IsAnswered result) → number.new ≡ number.old }
+        ensures fault_kept { ¬ (IsAnswered result) → fault.new ≡ fault.old }
     {
         match self.reply_to(command) {
             Ok(reply) => set_number(&reply, number, fault),
@@ -73,14 +74,15 @@ impl TextServer {
         flag: &mut u32,
         fault: &mut PlacedFault,
     ) -> u32
-        ensures ran { IsAnswered result → Runs self.old self.new command.now result }
+        ensures ran { IsAnswered result → RunsCommand self.old self.new command.now result }
         ensures flag { IsAnswered result →
             flag.new ≡ flag_output (answer self.old.core command.now) flag.old }
         ensures fault { IsAnswered result →
             fault.new ≡ fault_output (answer self.old.core command.now) fault.old }
         ensures why { ¬ (IsAnswered result) → NoReply self.old result }
         ensures kept { ¬ (IsAnswered result) → self.new ≡ self.old }
-        ensures unset { ¬ (IsAnswered result) → (flag.new ≡ flag.old) × (fault.new ≡ fault.old) }
+        ensures flag_kept { ¬ (IsAnswered result) → flag.new ≡ flag.old }
+        ensures fault_kept { ¬ (IsAnswered result) → fault.new ≡ fault.old }
     {
         match self.reply_to(command) {
             Ok(reply) => set_flag(&reply, flag, fault),
@@ -90,12 +92,12 @@ impl TextServer {
 
     /// Carries out a command, and sets nothing but the fault where it is refused.
     pub(crate) fn set_refusal(&mut self, command: &Command<Global>, fault: &mut PlacedFault) -> u32
-        ensures ran { IsAnswered result → Runs self.old self.new command.now result }
+        ensures ran { IsAnswered result → RunsCommand self.old self.new command.now result }
         ensures fault { IsAnswered result →
             fault.new ≡ fault_output (answer self.old.core command.now) fault.old }
         ensures why { ¬ (IsAnswered result) → NoReply self.old result }
         ensures kept { ¬ (IsAnswered result) → self.new ≡ self.old }
-        ensures unset { ¬ (IsAnswered result) → fault.new ≡ fault.old }
+        ensures fault_kept { ¬ (IsAnswered result) → fault.new ≡ fault.old }
     {
         match self.reply_to(command) {
             Ok(reply) => set_refusal(&reply, fault),
@@ -115,19 +117,20 @@ impl TextServer {
         len: &mut usize,
         fault: &mut PlacedFault,
     ) -> u32
-        ensures ran { IsAnswered result → Runs self.old self.new command.now result }
+        ensures ran { IsAnswered result → RunsCommand self.old self.new command.now result }
         ensures fault { IsAnswered result →
             fault.new ≡ fault_output (answer self.old.core command.now) fault.old }
-        ensures done { result ≡ DONE →
+        ensures written { result ≡ OK →
             WritesAll (bytes_asked form key_flags (answer self.old.core command.now))
             out.old out.new len.old len.new }
-        ensures room { result ≡ NO_ROOM →
+        ensures room { result ≡ ROOM →
             LacksRoom (bytes_asked form key_flags (answer self.old.core command.now))
             out.old len.new }
-        ensures why { ¬ (IsAnswered result) → ¬ (result ≡ NO_ROOM) → NoReply self.old result }
-        ensures kept { ¬ (IsAnswered result) → (self.new ≡ self.old) × (fault.new ≡ fault.old) }
-        ensures unset { ¬ (result ≡ DONE) → out.new ≡ out.old }
-        ensures len { ¬ (result ≡ DONE) → ¬ (result ≡ NO_ROOM) → len.new ≡ len.old }
+        ensures why { ¬ (IsAnswered result) → ¬ (result ≡ ROOM) → NoReply self.old result }
+        ensures kept { ¬ (IsAnswered result) → self.new ≡ self.old }
+        ensures fault_kept { ¬ (IsAnswered result) → fault.new ≡ fault.old }
+        ensures out_kept { ¬ (result ≡ OK) → out.new ≡ out.old }
+        ensures len_kept { ¬ (result ≡ OK) → ¬ (result ≡ ROOM) → len.new ≡ len.old }
     {
         if self.is_full() {
             return FULL;
@@ -142,7 +145,7 @@ impl TextServer {
         match self.core.step(command, &mut hook) {
             Ok(reply) => set_refusal(&reply, fault),
             Err(Fault::Refused(status)) => status,
-            Err(Fault::OutOfMemory) => NO_MEMORY,
+            Err(Fault::OutOfMemory) => NOMEM,
         }
     }
 }

@@ -7,12 +7,12 @@ ghost use Rattle.cap_group.specs.declared.refusal.ConcatRefusal.{ConcatRefusal a
 ghost use Rattle.cap_c.specs.KeyFlags.{key_flags_of};
 ghost use Rattle.cap_c.specs.Status.{IsUnlessMemory, concat_status, refused_status};
 ghost use Rattle.cap_c.specs.Outputs.{OutputsConcat, OutputsFault};
-ghost use Rattle.cap_c.specs.declared.status.TheConstants.{DONE, MALFORMED, MISUSE, NO_MEMORY};
+ghost use Rattle.cap_c.specs.declared.status.TheConstants.{MALFORMED, MISUSE, NOMEM, OK};
 
 use crate::fault::PlacedFault;
 use crate::key_flags::key_flags_of;
 use crate::output::write_bytes;
-use crate::status::{MALFORMED, MISUSE, NO_MEMORY, OTHER_COLUMNS, OTHER_KIND};
+use crate::status::{COLUMNS, KIND, MALFORMED, MISUSE, NOMEM};
 use cap_group::{BlobRefusal, ConcatRefusal, GroupRefusal, concat_bytes};
 use cap_value::Fault;
 use std::alloc::Global;
@@ -33,14 +33,15 @@ pub extern "C" fn changecap_concat(
     ensures status { (flags : Flags) → key_flags_of key_flags ≡ Some flags → IsUnlessMemory result
         (concat_status (concat_at Global flags (first.now ∷ second.now ∷ [])) (length out.old)) }
     // The bytes of the concatenation, their number, or which blob is refused and its fault.
-    ensures outputs { (flags : Flags) → key_flags_of key_flags ≡ Some flags → ¬ (result ≡ NO_MEMORY) →
+    ensures outputs { (flags : Flags) → key_flags_of key_flags ≡ Some flags → ¬ (result ≡ NOMEM) →
         OutputsConcat (concat_at Global flags (first.now ∷ second.now ∷ [])) result out.old out.new len.new
         fault.new blob.new }
     // Exactly a number that names no key flags is misuse.
     ensures misuse { (result ≡ MISUSE) ↔ (key_flags_of key_flags ≡ None) }
-    ensures kept { ¬ (result ≡ DONE) → out.new ≡ out.old }
+    ensures out_kept { ¬ (result ≡ OK) → out.new ≡ out.old }
     ensures fault_kept { ¬ (result ≡ MALFORMED) → fault.new ≡ fault.old }
-    ensures unchanged { result ≡ NO_MEMORY → (len.new ≡ len.old) × (blob.new ≡ blob.old) }
+    ensures len_kept { result ≡ NOMEM → len.new ≡ len.old }
+    ensures blob_kept { result ≡ NOMEM → blob.new ≡ blob.old }
 {
     let Some(flags) = key_flags_of(key_flags) else {
         return MISUSE;
@@ -66,11 +67,12 @@ fn set_concat(
         IsUnlessMemory result (concat_status said (length out.old)) }
     ensures outputs { (said : Result (List ℕ) Refused) →
         ShowsUnlessMemory (λ bytes. bytes.items) answer said →
-        ¬ (result ≡ NO_MEMORY) → OutputsConcat said result out.old out.new len.new fault.new blob.new }
+        ¬ (result ≡ NOMEM) → OutputsConcat said result out.old out.new len.new fault.new blob.new }
     ensures misuse { ¬ (result ≡ MISUSE) }
-    ensures kept { ¬ (result ≡ DONE) → out.new ≡ out.old }
+    ensures out_kept { ¬ (result ≡ OK) → out.new ≡ out.old }
     ensures fault_kept { ¬ (result ≡ MALFORMED) → fault.new ≡ fault.old }
-    ensures unchanged { result ≡ NO_MEMORY → (len.new ≡ len.old) × (blob.new ≡ blob.old) }
+    ensures len_kept { result ≡ NOMEM → len.new ≡ len.old }
+    ensures blob_kept { result ≡ NOMEM → blob.new ≡ blob.old }
 {
     match answer {
         Ok(bytes) => write_bytes(bytes.as_slice(), out, len),
@@ -78,11 +80,11 @@ fn set_concat(
             *blob = refusal.blob;
             set_refused(refusal.why, fault)
         }
-        Err(Fault::OutOfMemory) => NO_MEMORY,
+        Err(Fault::OutOfMemory) => NOMEM,
     }
 }
 
-// Outputs the fault of a blob that is refused, where it has one.
+// Sets the fault of a blob that is refused, where it has one.
 fn set_refused(why: BlobRefusal, fault: &mut PlacedFault) -> u32
     ensures status { result ≡ refused_status why }
     ensures outputs { OutputsFault why fault.new }
@@ -93,7 +95,7 @@ fn set_refused(why: BlobRefusal, fault: &mut PlacedFault) -> u32
             *fault = PlacedFault::of(wrong);
             MALFORMED
         }
-        BlobRefusal::Group(GroupRefusal::OtherKind) => OTHER_KIND,
-        BlobRefusal::Group(GroupRefusal::OtherColumns { .. }) => OTHER_COLUMNS,
+        BlobRefusal::Group(GroupRefusal::OtherKind) => KIND,
+        BlobRefusal::Group(GroupRefusal::OtherColumns { .. }) => COLUMNS,
     }
 }

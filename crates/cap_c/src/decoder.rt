@@ -6,10 +6,10 @@ ghost use Rattle.cap_codec.specs.Pieces.{lasting};
 ghost use Rattle.cap_codec.specs.declared.fault.BlobFault.{BlobFault as Wrong};
 ghost use Rattle.cap_c.specs.Fault.{placed};
 ghost use Rattle.cap_c.specs.Status.{IsUnlessMemory, read_status};
-ghost use Rattle.cap_c.specs.declared.status.TheConstants.{DONE, MALFORMED, NO_MEMORY};
+ghost use Rattle.cap_c.specs.declared.status.TheConstants.{MALFORMED, NOMEM, OK};
 
 use crate::fault::PlacedFault;
-use crate::status::{DONE, MALFORMED, NO_MEMORY};
+use crate::status::{MALFORMED, NOMEM, OK};
 use cap_codec::{BlobFault, Contents, Decoder};
 use cap_value::Fault;
 use std::alloc::Global;
@@ -34,7 +34,7 @@ impl PieceDecoder {
     pub(crate) fn feed(&mut self, piece: &[u8], fault: &mut PlacedFault) -> u32
         ensures status { IsUnlessMemory result
             (read_status (lasting (blob_at {A = Global} (self.old.pieces ++ piece.now)))) }
-        ensures fed { result ≡ DONE → self.new.pieces ≡ self.old.pieces ++ piece.now }
+        ensures fed { result ≡ OK → self.new.pieces ≡ self.old.pieces ++ piece.now }
         ensures again { (wrong : Wrong) → lasting (blob_at {A = Global} self.old.pieces) ≡ Err wrong →
             result ≡ MALFORMED }
         ensures same { (wrong : Wrong) → lasting (blob_at {A = Global} self.old.pieces) ≡ Err wrong →
@@ -42,16 +42,16 @@ impl PieceDecoder {
         ensures fault { result ≡ MALFORMED → (wrong : Wrong)
             × (lasting (blob_at {A = Global} (self.old.pieces ++ piece.now)) ≡ Err wrong)
             × (fault.new ≡ placed wrong) × (lasting (blob_at {A = Global} self.new.pieces) ≡ Err wrong) }
-        ensures kept { result ≡ NO_MEMORY → self.new ≡ self.old }
-        ensures unset { ¬ (result ≡ MALFORMED) → fault.new ≡ fault.old }
+        ensures kept { result ≡ NOMEM → self.new ≡ self.old }
+        ensures fault_kept { ¬ (result ≡ MALFORMED) → fault.new ≡ fault.old }
     {
         match self.pieces.feed(piece) {
-            Ok(()) => DONE,
+            Ok(()) => OK,
             Err(Fault::Refused(wrong)) => {
                 *fault = PlacedFault::of(wrong);
                 MALFORMED
             }
-            Err(Fault::OutOfMemory) => NO_MEMORY,
+            Err(Fault::OutOfMemory) => NOMEM,
         }
     }
 

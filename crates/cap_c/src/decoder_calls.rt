@@ -8,14 +8,14 @@ ghost use Rattle.cap_c.specs.Fault.{placed};
 ghost use Rattle.cap_c.specs.Iter.{begin};
 ghost use Rattle.cap_c.specs.Status.{IsUnlessMemory, read_status};
 ghost use Rattle.cap_c.specs.declared.decoder.PieceDecoder.{PieceDecoder as Fed};
-ghost use Rattle.cap_c.specs.declared.status.TheConstants.{DONE, MALFORMED, NO_MEMORY};
+ghost use Rattle.cap_c.specs.declared.status.TheConstants.{MALFORMED, NOMEM, OK};
 
 use crate::decoder::PieceDecoder;
 use crate::decoder_handle::{DecoderHandle, put, take};
 use crate::fault::PlacedFault;
 use crate::iter::BlobIter;
 use crate::iter_handle::{self, IterHandle};
-use crate::status::{DONE, MALFORMED, NO_MEMORY};
+use crate::status::{MALFORMED, NOMEM, OK};
 use cap_value::Fault;
 use std::alloc::Global;
 
@@ -23,16 +23,16 @@ use std::alloc::Global;
 #[unsafe(no_mangle)]
 pub extern "C" fn changecap_decoder_open(alloc: Global, handle: &mut DecoderHandle) -> u32
     requires closed { handle.old.value ≡ None }
-    ensures opened { result ≡ DONE → (decoder : Fed) × (handle.new.value ≡ Some decoder)
+    ensures opened { result ≡ OK → (decoder : Fed) × (handle.new.value ≡ Some decoder)
         × (decoder.pieces ≡ []) }
-    ensures kept { ¬ (result ≡ DONE) → (result ≡ NO_MEMORY) × (handle.new.value ≡ None) }
+    ensures kept { ¬ (result ≡ OK) → (result ≡ NOMEM) × (handle.new.value ≡ None) }
 {
     match Box::new(alloc, PieceDecoder::new(alloc)) {
         Ok(decoder) => {
             put(handle, decoder);
-            DONE
+            OK
         }
-        Err(_) => NO_MEMORY,
+        Err(_) => NOMEM,
     }
 }
 
@@ -48,7 +48,7 @@ pub extern "C" fn changecap_decoder_feed(
     // A fault of the bytes so far is set where no further bytes can mend it.
     ensures status { (old : Fed) → handle.old.value ≡ Some old →
         IsUnlessMemory result (read_status (lasting (blob_at {A = Global} (old.pieces ++ piece.now)))) }
-    ensures fed { (old : Fed) → handle.old.value ≡ Some old → result ≡ DONE →
+    ensures fed { (old : Fed) → handle.old.value ≡ Some old → result ≡ OK →
         handle.new.value ≡ Some (record { pieces = old.pieces ++ piece.now }) }
     // It is set again whatever follows, which takes no memory.
     ensures again { (old : Fed) → (wrong : Wrong) → handle.old.value ≡ Some old →
@@ -60,8 +60,8 @@ pub extern "C" fn changecap_decoder_feed(
         × (fault.new ≡ placed wrong) }
     ensures lasts { result ≡ MALFORMED → (new : Fed) × (wrong : Wrong) × (handle.new.value ≡ Some new)
         × (fault.new ≡ placed wrong) × (lasting (blob_at {A = Global} new.pieces) ≡ Err wrong) }
-    ensures kept { result ≡ NO_MEMORY → handle.new.value ≡ handle.old.value }
-    ensures unset { ¬ (result ≡ MALFORMED) → fault.new ≡ fault.old }
+    ensures kept { result ≡ NOMEM → handle.new.value ≡ handle.old.value }
+    ensures fault_kept { ¬ (result ≡ MALFORMED) → fault.new ≡ fault.old }
 {
     let mut decoder = take(alloc, handle);
     let status = decoder.feed(piece, fault);
@@ -83,27 +83,27 @@ pub extern "C" fn changecap_decoder_finish(
     ensures status { (old : Fed) → handle.old.value ≡ Some old →
         IsUnlessMemory result (read_status (blob_at {A = Global} old.pieces)) }
     // It goes over what the pieces spell.
-    ensures opened { (old : Fed) → handle.old.value ≡ Some old → result ≡ DONE → (contents : Spelled Global)
+    ensures opened { (old : Fed) → handle.old.value ≡ Some old → result ≡ OK → (contents : Spelled Global)
         × (blob_at old.pieces ≡ Ok contents) × (iter.new.value ≡ Some (begin contents)) }
     ensures fault { (old : Fed) → handle.old.value ≡ Some old → result ≡ MALFORMED →
         (wrong : Wrong) × (blob_at {A = Global} old.pieces ≡ Err wrong) × (fault.new ≡ placed wrong) }
-    ensures kept { ¬ (result ≡ DONE) → iter.new.value ≡ None }
-    ensures unset { ¬ (result ≡ MALFORMED) → fault.new ≡ fault.old }
+    ensures iter_kept { ¬ (result ≡ OK) → iter.new.value ≡ None }
+    ensures fault_kept { ¬ (result ≡ MALFORMED) → fault.new ≡ fault.old }
 {
     let decoder = take(alloc, handle);
     match Box::into_inner(decoder).finish() {
         Ok(contents) => match Box::new(alloc, BlobIter::new(contents)) {
             Ok(it) => {
                 iter_handle::put(iter, it);
-                DONE
+                OK
             }
-            Err(_) => NO_MEMORY,
+            Err(_) => NOMEM,
         },
         Err(Fault::Refused(wrong)) => {
             *fault = PlacedFault::of(wrong);
             MALFORMED
         }
-        Err(Fault::OutOfMemory) => NO_MEMORY,
+        Err(Fault::OutOfMemory) => NOMEM,
     }
 }
 

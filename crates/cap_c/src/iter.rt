@@ -5,7 +5,7 @@ ghost use Rattle.cap_c.specs.Iter.{Steps, begin, columns_of, info_of, is_key, is
 ghost use Rattle.cap_c.specs.Iter.{new_of, old_of, table_of};
 
 use crate::change_info::ChangeInfo;
-use crate::iter_fields::{new_at, old_at, operation_at, schema_at, table_at};
+use crate::iter_fields::{head_at, new_at, old_at, schema_at, table_at};
 use crate::iter_position::{Position, first_from};
 use cap_codec::Contents;
 use cap_value::{Name, Value};
@@ -58,10 +58,10 @@ impl BlobIter {
         ensures { result ≡ info_of self.now }
     {
         let position = self.current?;
-        let operation = operation_at(&self.contents, position)?;
+        let head = head_at(&self.contents, position)?;
         Some(ChangeInfo {
-            op: operation.byte,
-            indirect: u32::from(operation.indirect),
+            op: head.byte,
+            indirect: u32::from(head.indirect),
             patchset: u32::from(self.is_patchset()),
             columns: self.columns(),
         })

@@ -10,7 +10,7 @@ ghost use Rattle.cap_c.specs.IterOutputs.{key_output, new_bytes, new_output, old
 ghost use Rattle.cap_c.specs.Status.{IsUnlessMemory, read_status};
 ghost use Rattle.cap_c.specs.Outputs.{OutputsBytes, OutputsFound};
 ghost use Rattle.cap_c.specs.declared.iter.BlobIter.{BlobIter as Iter};
-ghost use Rattle.cap_c.specs.declared.status.TheConstants.{DONE, MALFORMED, ROW, END};
+ghost use Rattle.cap_c.specs.declared.status.TheConstants.{DONE, MALFORMED, OK, ROW};
 
 use crate::change_info::{ChangeInfo, FieldValue};
 use crate::fault::PlacedFault;
@@ -19,7 +19,7 @@ use crate::iter_handle::{IterHandle, put, take};
 use crate::iter_outputs::{
     set_info, set_key, set_new, set_new_bytes, set_old, set_old_bytes, set_table,
 };
-use crate::status::{DONE, END, MALFORMED, NO_MEMORY, ROW};
+use crate::status::{DONE, MALFORMED, NOMEM, OK, ROW};
 use cap_codec::read_blob;
 use cap_value::Fault;
 use std::alloc::Global;
@@ -35,26 +35,26 @@ pub extern "C" fn changecap_iter_open(
     requires closed { handle.old.value ≡ None }
     ensures status { IsUnlessMemory result (read_status (blob_at {A = Global} blob.now)) }
     // It goes over what the bytes spell.
-    ensures opened { result ≡ DONE → (contents : Spelled Global) × Spells contents blob.now
+    ensures opened { result ≡ OK → (contents : Spelled Global) × Spells contents blob.now
         × (blob_at blob.now ≡ Ok contents) × (handle.new.value ≡ Some (begin contents)) }
     ensures fault { result ≡ MALFORMED →
         (wrong : Wrong) × (blob_at {A = Global} blob.now ≡ Err wrong) × (fault.new ≡ placed wrong) }
-    ensures kept { ¬ (result ≡ DONE) → handle.new.value ≡ None }
-    ensures same_fault { ¬ (result ≡ MALFORMED) → fault.new ≡ fault.old }
+    ensures kept { ¬ (result ≡ OK) → handle.new.value ≡ None }
+    ensures fault_kept { ¬ (result ≡ MALFORMED) → fault.new ≡ fault.old }
 {
     match read_blob(alloc, blob) {
         Ok(contents) => match Box::new(alloc, BlobIter::new(contents)) {
             Ok(it) => {
                 put(handle, it);
-                DONE
+                OK
             }
-            Err(_) => NO_MEMORY,
+            Err(_) => NOMEM,
         },
         Err(Fault::Refused(wrong)) => {
             *fault = PlacedFault::of(wrong);
             MALFORMED
         }
-        Err(Fault::OutOfMemory) => NO_MEMORY,
+        Err(Fault::OutOfMemory) => NOMEM,
     }
 }
 
@@ -64,16 +64,16 @@ pub extern "C" fn changecap_iter_next(alloc: Global, handle: &mut IterHandle) ->
     requires opened { IsSome handle.old.value }
     ensures row { result ≡ ROW → (old : Iter) × (new : Iter) × (handle.old.value ≡ Some old)
         × (handle.new.value ≡ Some new) × Steps old new true }
-    ensures end { ¬ (result ≡ ROW) → (old : Iter) × (new : Iter) × (result ≡ END)
+    ensures end { ¬ (result ≡ ROW) → (old : Iter) × (new : Iter) × (result ≡ DONE)
         × (handle.old.value ≡ Some old) × (handle.new.value ≡ Some new) × Steps old new false }
 {
     let mut it = take(alloc, handle);
     let is_row = it.step();
     put(handle, it);
-    if is_row { ROW } else { END }
+    if is_row { ROW } else { DONE }
 }
 
-/// Outputs what the change is.
+/// Sets `info` to what the change is.
 #[unsafe(no_mangle)]
 pub extern "C" fn changecap_iter_op(
     alloc: Global,
@@ -81,7 +81,7 @@ pub extern "C" fn changecap_iter_op(
     info: &mut ChangeInfo,
 ) -> u32
     requires opened { IsSome handle.old.value }
-    ensures same { handle.new.value ≡ handle.old.value }
+    ensures kept { handle.new.value ≡ handle.old.value }
     ensures outputs { (it : Iter) → handle.old.value ≡ Some it →
         OutputsFound (info_of it) result info.old info.new }
 {
@@ -100,7 +100,7 @@ pub extern "C" fn changecap_iter_table(
     len: &mut usize,
 ) -> u32
     requires opened { IsSome handle.old.value }
-    ensures same { handle.new.value ≡ handle.old.value }
+    ensures kept { handle.new.value ≡ handle.old.value }
     ensures outputs { (it : Iter) → handle.old.value ≡ Some it →
         OutputsBytes (table_of it) result out.old out.new len.new }
 {
@@ -110,7 +110,7 @@ pub extern "C" fn changecap_iter_table(
     status
 }
 
-/// Outputs whether a column of the change's table is in its key.
+/// Sets `is_key` to whether a column of the change's table is in its key.
 #[unsafe(no_mangle)]
 pub extern "C" fn changecap_iter_key(
     alloc: Global,
@@ -119,7 +119,7 @@ pub extern "C" fn changecap_iter_key(
     is_key: &mut u32,
 ) -> u32
     requires opened { IsSome handle.old.value }
-    ensures same { handle.new.value ≡ handle.old.value }
+    ensures kept { handle.new.value ≡ handle.old.value }
     ensures outputs { (it : Iter) → handle.old.value ≡ Some it →
         OutputsFound (key_output it column) result is_key.old is_key.new }
 {
@@ -129,7 +129,7 @@ pub extern "C" fn changecap_iter_key(
     status
 }
 
-/// Outputs the value of a column before the change.
+/// Sets `value` to that of a column before the change.
 #[unsafe(no_mangle)]
 pub extern "C" fn changecap_iter_old(
     alloc: Global,
@@ -138,7 +138,7 @@ pub extern "C" fn changecap_iter_old(
     value: &mut FieldValue,
 ) -> u32
     requires opened { IsSome handle.old.value }
-    ensures same { handle.new.value ≡ handle.old.value }
+    ensures kept { handle.new.value ≡ handle.old.value }
     ensures outputs { (it : Iter) → handle.old.value ≡ Some it →
         OutputsFound (old_output it column) result value.old value.new }
 {
@@ -148,7 +148,7 @@ pub extern "C" fn changecap_iter_old(
     status
 }
 
-/// Outputs the value of a column after the change.
+/// Sets `value` to that of a column after the change.
 #[unsafe(no_mangle)]
 pub extern "C" fn changecap_iter_new(
     alloc: Global,
@@ -157,7 +157,7 @@ pub extern "C" fn changecap_iter_new(
     value: &mut FieldValue,
 ) -> u32
     requires opened { IsSome handle.old.value }
-    ensures same { handle.new.value ≡ handle.old.value }
+    ensures kept { handle.new.value ≡ handle.old.value }
     ensures outputs { (it : Iter) → handle.old.value ≡ Some it →
         OutputsFound (new_output it column) result value.old value.new }
 {
@@ -177,7 +177,7 @@ pub extern "C" fn changecap_iter_old_bytes(
     len: &mut usize,
 ) -> u32
     requires opened { IsSome handle.old.value }
-    ensures same { handle.new.value ≡ handle.old.value }
+    ensures kept { handle.new.value ≡ handle.old.value }
     ensures outputs { (it : Iter) → handle.old.value ≡ Some it →
         OutputsBytes (old_bytes it column) result out.old out.new len.new }
 {
@@ -197,7 +197,7 @@ pub extern "C" fn changecap_iter_new_bytes(
     len: &mut usize,
 ) -> u32
     requires opened { IsSome handle.old.value }
-    ensures same { handle.new.value ≡ handle.old.value }
+    ensures kept { handle.new.value ≡ handle.old.value }
     ensures outputs { (it : Iter) → handle.old.value ≡ Some it →
         OutputsBytes (new_bytes it column) result out.old out.new len.new }
 {

@@ -1,30 +1,36 @@
 //! What is at a position of a blob: the table, the change, and its fields.
 ghost use Rattle.std.specs.Prelude.{◌≡◌};
 ghost use Rattle.std.specs.Option.{option_copied};
+ghost use Rattle.cap_codec.specs.Operation.{operation_byte};
 ghost use Rattle.cap_c.specs.Fields.{change_new, change_old, entry_at, new_at, old_at};
-ghost use Rattle.cap_c.specs.Fields.{operation_at, operation_of_change, operation_of_patch};
+ghost use Rattle.cap_c.specs.Fields.{head_at, head_of_change, head_of_patch};
 ghost use Rattle.cap_c.specs.Fields.{patch_new, patch_old};
 ghost use Rattle.cap_c.specs.Fields.{schema_at, table_at};
 
 use crate::iter_position::Position;
 use cap_changes::{ChangeList, Patch, PatchList, RowChange};
-use cap_codec::Contents;
+use cap_codec::{Contents, Operation};
 use cap_row::Schema;
 use cap_value::{Name, Value};
 use std::alloc::Global;
 
-/// What a change is: its byte in a blob, and whether it is indirect.
+/// The bytes that begin a change in a blob: that of its operation, and whether it is indirect.
 #[derive(Clone, Copy, Drop)]
-pub struct Operation {
+pub struct ChangeHead {
     pub(crate) byte: u32,
     pub(crate) indirect: bool,
 }
 
-const DELETE: u32 = 0x09;
-
-const INSERT: u32 = 0x12;
-
-const UPDATE: u32 = 0x17;
+impl ChangeHead {
+    fn new(operation: Operation, indirect: bool) -> Self
+        ensures { result ≡ record { byte = operation_byte operation; indirect = indirect } }
+    {
+        ChangeHead {
+            byte: u32::from(operation.byte()),
+            indirect,
+        }
+    }
+}
 
 /// The table of a group.
 pub(crate) fn table_at(contents: &Contents<Global>, group: usize) -> Option<&Name<Global>>
@@ -58,21 +64,21 @@ pub(crate) fn schema_at(contents: &Contents<Global>, group: usize) -> Option<&Sc
     }
 }
 
-/// The operation of a change.
-pub(crate) fn operation_at(contents: &Contents<Global>, position: Position) -> Option<Operation>
-    ensures { result ≡ operation_at contents.now position }
+/// The head of a change.
+pub(crate) fn head_at(contents: &Contents<Global>, position: Position) -> Option<ChangeHead>
+    ensures { result ≡ head_at contents.now position }
 {
     match contents {
         Contents::Changes(list) => match list.groups().get(position.group) {
             Some(group) => match group.changes().get(position.change) {
-                Some(change) => Some(operation_of_change(change)),
+                Some(change) => Some(head_of_change(change)),
                 None => None,
             },
             None => None,
         },
         Contents::Patches(list) => match list.groups().get(position.group) {
             Some(group) => match group.changes().get(position.change) {
-                Some(patch) => Some(operation_of_patch(patch)),
+                Some(patch) => Some(head_of_patch(patch)),
                 None => None,
             },
             None => None,
@@ -80,41 +86,23 @@ pub(crate) fn operation_at(contents: &Contents<Global>, position: Position) -> O
     }
 }
 
-fn operation_of_change(change: &RowChange<Global>) -> Operation
-    ensures { result ≡ operation_of_change change.now }
+fn head_of_change(change: &RowChange<Global>) -> ChangeHead
+    ensures { result ≡ head_of_change change.now }
 {
     match change {
-        RowChange::Insert { indirect, .. } => Operation {
-            byte: INSERT,
-            indirect: *indirect,
-        },
-        RowChange::Update { indirect, .. } => Operation {
-            byte: UPDATE,
-            indirect: *indirect,
-        },
-        RowChange::Delete { indirect, .. } => Operation {
-            byte: DELETE,
-            indirect: *indirect,
-        },
+        RowChange::Insert { indirect, .. } => ChangeHead::new(Operation::Insert, *indirect),
+        RowChange::Update { indirect, .. } => ChangeHead::new(Operation::Update, *indirect),
+        RowChange::Delete { indirect, .. } => ChangeHead::new(Operation::Delete, *indirect),
     }
 }
 
-fn operation_of_patch(patch: &Patch<Global>) -> Operation
-    ensures { result ≡ operation_of_patch patch.now }
+fn head_of_patch(patch: &Patch<Global>) -> ChangeHead
+    ensures { result ≡ head_of_patch patch.now }
 {
     match patch {
-        Patch::Insert { indirect, .. } => Operation {
-            byte: INSERT,
-            indirect: *indirect,
-        },
-        Patch::Update { indirect, .. } => Operation {
-            byte: UPDATE,
-            indirect: *indirect,
-        },
-        Patch::Delete { indirect, .. } => Operation {
-            byte: DELETE,
-            indirect: *indirect,
-        },
+        Patch::Insert { indirect, .. } => ChangeHead::new(Operation::Insert, *indirect),
+        Patch::Update { indirect, .. } => ChangeHead::new(Operation::Update, *indirect),
+        Patch::Delete { indirect, .. } => ChangeHead::new(Operation::Delete, *indirect),
     }
 }
 

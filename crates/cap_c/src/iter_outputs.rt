@@ -7,7 +7,7 @@ ghost use Rattle.cap_c.specs.Outputs.{OutputsBytes, OutputsFound};
 use crate::change_info::{ChangeInfo, FieldValue, value_bytes, value_output};
 use crate::iter::BlobIter;
 use crate::output::write_bytes;
-use crate::status::{DONE, MISUSE};
+use crate::status::{MISUSE, OK};
 
 pub(crate) fn set_info(it: &BlobIter, info: &mut ChangeInfo) -> u32
     ensures { OutputsFound (info_of it.now) result info.old info.new }
@@ -15,7 +15,7 @@ pub(crate) fn set_info(it: &BlobIter, info: &mut ChangeInfo) -> u32
     match it.info() {
         Some(found) => {
             *info = found;
-            DONE
+            OK
         }
         None => MISUSE,
     }
@@ -35,7 +35,7 @@ pub(crate) fn set_key(it: &BlobIter, column: usize, is_key: &mut u32) -> u32
 {
     if column < it.columns() {
         *is_key = u32::from(it.is_key(column));
-        DONE
+        OK
     } else {
         MISUSE
     }
@@ -46,7 +46,7 @@ pub(crate) fn set_old(it: &BlobIter, column: usize, value: &mut FieldValue) -> u
 {
     if column < it.columns() {
         *value = value_output(it.old(column));
-        DONE
+        OK
     } else {
         MISUSE
     }
@@ -57,7 +57,7 @@ pub(crate) fn set_new(it: &BlobIter, column: usize, value: &mut FieldValue) -> u
 {
     if column < it.columns() {
         *value = value_output(it.new_value(column));
-        DONE
+        OK
     } else {
         MISUSE
     }

@@ -4,7 +4,7 @@ ghost use Rattle.cap_value.specs.Memory.{ShowsUnlessMemory};
 ghost use Rattle.cap_c.specs.Json.{json_at, json_of};
 ghost use Rattle.cap_c.specs.Status.{IsUnlessMemory, bytes_status};
 ghost use Rattle.cap_c.specs.Outputs.{Outputs};
-ghost use Rattle.cap_c.specs.declared.status.TheConstants.{DONE, NO_MEMORY};
+ghost use Rattle.cap_c.specs.declared.status.TheConstants.{NOMEM, OK};
 
 use crate::fault::PlacedFault;
 use crate::output::set_bytes;
@@ -26,10 +26,11 @@ pub extern "C" fn changecap_json(
     // Which status.
     ensures status { IsUnlessMemory result (bytes_status (json_at Global blob.now) (length out.old)) }
     // The text, its length, or the fault.
-    ensures outputs { ¬ (result ≡ NO_MEMORY) →
+    ensures outputs { ¬ (result ≡ NOMEM) →
         Outputs (json_at Global blob.now) result out.old out.new len.new fault.new }
-    ensures kept { ¬ (result ≡ DONE) → out.new ≡ out.old }
-    ensures unchanged { result ≡ NO_MEMORY → (len.new ≡ len.old) × (fault.new ≡ fault.old) }
+    ensures out_kept { ¬ (result ≡ OK) → out.new ≡ out.old }
+    ensures len_kept { result ≡ NOMEM → len.new ≡ len.old }
+    ensures fault_kept { result ≡ NOMEM → fault.new ≡ fault.old }
 {
     set_bytes(json_bytes(alloc, blob), out, len, fault)
 }

@@ -4,10 +4,10 @@ ghost use Rattle.cap_value.specs.Memory.{ShowsUnlessMemory};
 ghost use Rattle.cap_blob.specs.declared.refusal.BytesRefusal.{BytesRefusal as Refused};
 ghost use Rattle.cap_c.specs.Status.{IsUnlessMemory, bytes_status, room_status};
 ghost use Rattle.cap_c.specs.Outputs.{Outputs, Writes, begins_with};
-ghost use Rattle.cap_c.specs.declared.status.TheConstants.{DONE, NO_MEMORY};
+ghost use Rattle.cap_c.specs.declared.status.TheConstants.{NOMEM, OK};
 
 use crate::fault::PlacedFault;
-use crate::status::{DONE, MALFORMED, NO_MEMORY, NO_ROOM, PATCHSET};
+use crate::status::{MALFORMED, NOMEM, OK, PATCHSET, ROOM};
 use cap_blob::BytesRefusal;
 use cap_value::Fault;
 use std::alloc::Global;
@@ -16,15 +16,15 @@ use std::alloc::Global;
 pub(crate) fn write_bytes(bytes: &[u8], out: &mut [u8], len: &mut usize) -> u32
     ensures status { result ≡ room_status (length bytes.now) (length out.old) }
     ensures len { len.new ≡ length bytes.now }
-    ensures written { result ≡ DONE → out.new ≡ begins_with bytes.now out.old }
-    ensures kept { ¬ (result ≡ DONE) → out.new ≡ out.old }
+    ensures written { result ≡ OK → out.new ≡ begins_with bytes.now out.old }
+    ensures out_kept { ¬ (result ≡ OK) → out.new ≡ out.old }
 {
     *len = bytes.len();
     if out.len() < bytes.len() {
-        return NO_ROOM;
+        return ROOM;
     }
     out[..bytes.len()].copy_from_slice(bytes);
-    DONE
+    OK
 }
 
 /// Writes the bytes that were asked for, or sets the fault where there are none.
@@ -38,9 +38,10 @@ pub(crate) fn set_bytes(
         IsUnlessMemory result (bytes_status said (length out.old)) }
     ensures outputs { (said : Result (List ℕ) Refused) →
         ShowsUnlessMemory (λ bytes. bytes.items) answer said →
-        ¬ (result ≡ NO_MEMORY) → Outputs said result out.old out.new len.new fault.new }
-    ensures kept { ¬ (result ≡ DONE) → out.new ≡ out.old }
-    ensures unchanged { result ≡ NO_MEMORY → (len.new ≡ len.old) × (fault.new ≡ fault.old) }
+        ¬ (result ≡ NOMEM) → Outputs said result out.old out.new len.new fault.new }
+    ensures out_kept { ¬ (result ≡ OK) → out.new ≡ out.old }
+    ensures len_kept { result ≡ NOMEM → len.new ≡ len.old }
+    ensures fault_kept { result ≡ NOMEM → fault.new ≡ fault.old }
 {
     match answer {
         Ok(bytes) => write_bytes(bytes.as_slice(), out, len),
@@ -49,6 +50,6 @@ pub(crate) fn set_bytes(
             MALFORMED
         }
         Err(Fault::Refused(BytesRefusal::Patchset)) => PATCHSET,
-        Err(Fault::OutOfMemory) => NO_MEMORY,
+        Err(Fault::OutOfMemory) => NOMEM,
     }
 }

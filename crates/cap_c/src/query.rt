@@ -1,10 +1,10 @@
 //! What a query reads of the tables, and the commit hook that reads it before the command takes effect.
 ghost use Rattle.std.specs.Prelude.{◌≡◌, IfOk};
-ghost use Rattle.cap_c.specs.Reading.{all_rows, id_of, id_rows, one_row, rows_output};
+ghost use Rattle.cap_c.specs.Query.{all_rows, id_of, id_rows, one_row, rows_output};
 ghost use Rattle.cap_table.specs.Scan.{name_shown};
 ghost use Rattle.cap_database.specs.Read.{read, rows_of};
 
-use crate::reading::Reading;
+use crate::row_cursor::RowCursor;
 use cap_core::{CommitHook, Reply};
 use cap_database::Snapshot;
 use cap_row::Row;
@@ -30,26 +30,27 @@ pub(crate) struct QueryHook<'q, 't, 'r> {
     pub(crate) alloc: Global,
     pub(crate) query: &'q Query,
     pub(crate) table: &'t Name<Global>,
-    pub(crate) reading: &'r mut Reading,
+    pub(crate) cursor: &'r mut RowCursor,
 }
 
 impl<'q, 't, 'r> CommitHook<Global> for QueryHook<'q, 't, 'r> {
     type Refusal = OutOfMemory;
 
     ghost use Rattle.std.specs.Prelude.{◌≡◌, MatchResult};
-    ghost use Rattle.cap_c.specs.Reading.{before, rows_output};
+    ghost use Rattle.cap_c.specs.Query.{rows_output};
+    ghost use Rattle.cap_c.specs.RowCursor.{begin};
 
     ghost can_ask = { λ hook reply. Unit {0} };
 
-    ghost gives = { λ old reply answer new. (new.reading.ghost_name ≡ old.reading.ghost_name)
+    ghost gives = { λ old reply answer new. (new.cursor.ghost_name ≡ old.cursor.ghost_name)
         × MatchResult answer
-        (λ _. new.reading.now ≡ before (rows_output old.query.now old.table.now reply))
-        (λ _. new.reading.now ≡ old.reading.now) };
+        (λ _. new.cursor.now ≡ begin (rows_output old.query.now old.table.now reply))
+        (λ _. new.cursor.now ≡ old.cursor.now) };
 
     fn before_commit(&mut self, reply: &Reply<Global>) -> Result<(), OutOfMemory> {
         match rows_output(self.alloc, self.query, self.table, reply) {
             Ok(rows) => {
-                *self.reading = Reading::before(rows);
+                *self.cursor = RowCursor::new(rows);
                 Ok(())
             }
             Err(fault) => Err(fault),

@@ -7,23 +7,22 @@ ghost use Rattle.cap_c.specs.Commands.{NoReply};
 ghost use Rattle.cap_c.specs.Draft.{row_named};
 ghost use Rattle.cap_c.specs.Drafted.{Reads};
 ghost use Rattle.cap_c.specs.Names.{IsName};
-ghost use Rattle.cap_c.specs.Reading.{GoesOn, column_bytes, column_output, columns_output, id_output};
-ghost use Rattle.cap_c.specs.Reading.{query_fault};
-ghost use Rattle.cap_c.specs.Reading.{query_status};
+ghost use Rattle.cap_c.specs.Query.{query_fault, query_status};
+ghost use Rattle.cap_c.specs.RowCursor.{Steps, column_bytes, column_output, columns_output, id_output};
 ghost use Rattle.cap_c.specs.Server.{IsAnswered};
 ghost use Rattle.cap_c.specs.Outputs.{OutputsBytes, OutputsFound};
 ghost use Rattle.cap_c.specs.declared.query.Query.TheVariants as asked;
-ghost use Rattle.cap_c.specs.declared.server.TextServer.{TextServer as Text};
-ghost use Rattle.cap_c.specs.declared.status.TheConstants.{END, MISUSE, NO_MEMORY, ROW};
+ghost use Rattle.cap_c.specs.declared.server.OpenServer.{OpenServer as Server};
+ghost use Rattle.cap_c.specs.declared.status.TheConstants.{DONE, MISUSE, NOMEM, ROW};
 
 use crate::change_info::FieldValue;
 use crate::draft::{names_row, row_named};
 use crate::fault::PlacedFault;
 use crate::names::name_text;
 use crate::query::{Query, QueryHook};
-use crate::server::TextServer;
+use crate::server::OpenServer;
 use crate::server_handle::{ServerHandle, put, take};
-use crate::status::{DONE, END, FULL, MISUSE, NO_MEMORY, REFUSED, ROW};
+use crate::status::{DONE, FULL, MISUSE, NOMEM, OK, REFUSED, ROW};
 use cap_core::{Command, Reply};
 use cap_database::Database;
 use cap_value::{Name, Refusal};
@@ -53,7 +52,7 @@ pub extern "C" fn changecap_get(
     ensures why { ¬ (IsAnswered result) → ¬ (result ≡ MISUSE) → Holds handle.old.value
         (λ old. NoReply old result) }
     ensures kept { ¬ (IsAnswered result) → handle.new.value ≡ handle.old.value }
-    ensures unset { ¬ (IsAnswered result) → fault.new ≡ fault.old }
+    ensures fault_kept { ¬ (IsAnswered result) → fault.new ≡ fault.old }
 {
     let mut server = take(alloc, handle);
     let status = server.get(alloc, table, id, fault);
@@ -80,7 +79,7 @@ pub extern "C" fn changecap_scan(
     ensures why { ¬ (IsAnswered result) → ¬ (result ≡ MISUSE) → Holds handle.old.value
         (λ old. NoReply old result) }
     ensures kept { ¬ (IsAnswered result) → handle.new.value ≡ handle.old.value }
-    ensures unset { ¬ (IsAnswered result) → fault.new ≡ fault.old }
+    ensures fault_kept { ¬ (IsAnswered result) → fault.new ≡ fault.old }
 {
     let mut server = take(alloc, handle);
     let status = server.scan(alloc, table, fault);
@@ -93,31 +92,31 @@ pub extern "C" fn changecap_scan(
 pub extern "C" fn changecap_step(alloc: Global, handle: &mut ServerHandle) -> u32
     requires opened { IsSome handle.old.value }
     ensures row { result ≡ ROW → Between handle.old.value handle.new.value
-        (λ old new. GoesOn old.reading new.reading true × (new ≡ record old { reading = new.reading })) }
-    ensures end { ¬ (result ≡ ROW) → (result ≡ END) × Between handle.old.value handle.new.value
-        (λ old new. GoesOn old.reading new.reading false × (new ≡ record old { reading = new.reading })) }
+        (λ old new. Steps old.cursor new.cursor true × (new ≡ record old { cursor = new.cursor })) }
+    ensures end { ¬ (result ≡ ROW) → (result ≡ DONE) × Between handle.old.value handle.new.value
+        (λ old new. Steps old.cursor new.cursor false × (new ≡ record old { cursor = new.cursor })) }
 {
     let mut server = take(alloc, handle);
-    let is_row = server.reading.step();
+    let is_row = server.cursor.step();
     put(handle, server);
-    if is_row { ROW } else { END }
+    if is_row { ROW } else { DONE }
 }
 
-/// Outputs the id of the row, or 0 where it has a key.
+/// Sets `id` to that of the row, or to 0 where it has a key.
 #[unsafe(no_mangle)]
 pub extern "C" fn changecap_row_id(alloc: Global, handle: &mut ServerHandle, id: &mut u64) -> u32
     requires opened { IsSome handle.old.value }
-    ensures same { handle.new.value ≡ handle.old.value }
-    ensures outputs { (server : Text) → handle.old.value ≡ Some server →
-        OutputsFound (id_output server.reading) result id.old id.new }
+    ensures kept { handle.new.value ≡ handle.old.value }
+    ensures outputs { (server : Server) → handle.old.value ≡ Some server →
+        OutputsFound (id_output server.cursor) result id.old id.new }
 {
     let server = take(alloc, handle);
-    let status = server.reading.set_id(id);
+    let status = server.cursor.set_id(id);
     put(handle, server);
     status
 }
 
-/// Outputs how many columns the row has.
+/// Sets `columns` to how many the row has.
 #[unsafe(no_mangle)]
 pub extern "C" fn changecap_columns(
     alloc: Global,
@@ -125,17 +124,17 @@ pub extern "C" fn changecap_columns(
     columns: &mut usize,
 ) -> u32
     requires opened { IsSome handle.old.value }
-    ensures same { handle.new.value ≡ handle.old.value }
-    ensures outputs { (server : Text) → handle.old.value ≡ Some server →
-        OutputsFound (columns_output server.reading) result columns.old columns.new }
+    ensures kept { handle.new.value ≡ handle.old.value }
+    ensures outputs { (server : Server) → handle.old.value ≡ Some server →
+        OutputsFound (columns_output server.cursor) result columns.old columns.new }
 {
     let server = take(alloc, handle);
-    let status = server.reading.set_columns(columns);
+    let status = server.cursor.set_columns(columns);
     put(handle, server);
     status
 }
 
-/// Outputs the value of a column of the row.
+/// Sets `value` to that of a column of the row.
 #[unsafe(no_mangle)]
 pub extern "C" fn changecap_column(
     alloc: Global,
@@ -144,12 +143,12 @@ pub extern "C" fn changecap_column(
     value: &mut FieldValue,
 ) -> u32
     requires opened { IsSome handle.old.value }
-    ensures same { handle.new.value ≡ handle.old.value }
-    ensures outputs { (server : Text) → handle.old.value ≡ Some server →
-        OutputsFound (column_output server.reading column) result value.old value.new }
+    ensures kept { handle.new.value ≡ handle.old.value }
+    ensures outputs { (server : Server) → handle.old.value ≡ Some server →
+        OutputsFound (column_output server.cursor column) result value.old value.new }
 {
     let server = take(alloc, handle);
-    let status = server.reading.set_column(column, value);
+    let status = server.cursor.set_column(column, value);
     put(handle, server);
     status
 }
@@ -164,17 +163,17 @@ pub extern "C" fn changecap_column_bytes(
     len: &mut usize,
 ) -> u32
     requires opened { IsSome handle.old.value }
-    ensures same { handle.new.value ≡ handle.old.value }
-    ensures outputs { (server : Text) → handle.old.value ≡ Some server →
-        OutputsBytes (column_bytes server.reading column) result out.old out.new len.new }
+    ensures kept { handle.new.value ≡ handle.old.value }
+    ensures outputs { (server : Server) → handle.old.value ≡ Some server →
+        OutputsBytes (column_bytes server.cursor column) result out.old out.new len.new }
 {
     let server = take(alloc, handle);
-    let status = server.reading.set_bytes(column, out, len);
+    let status = server.cursor.set_bytes(column, out, len);
     put(handle, server);
     status
 }
 
-impl TextServer {
+impl OpenServer {
     fn get(&mut self, alloc: Global, table: &[u8], id: u64, fault: &mut PlacedFault) -> u32
         ensures read { IsAnswered result → (name : Named Global)
             × (row_named id self.old.draft.values ≡ Some name)
@@ -186,7 +185,7 @@ impl TextServer {
             IsName table.now × IsSome (row_named id self.old.draft.values) }
         ensures why { ¬ (IsAnswered result) → ¬ (result ≡ MISUSE) → NoReply self.old result }
         ensures kept { ¬ (IsAnswered result) → self.new ≡ self.old }
-        ensures unset { ¬ (IsAnswered result) → fault.new ≡ fault.old }
+        ensures fault_kept { ¬ (IsAnswered result) → fault.new ≡ fault.old }
     {
         let Some(table) = name_text(table) else {
             return MISUSE;
@@ -198,10 +197,10 @@ impl TextServer {
             return FULL;
         }
         let Ok(table) = Name::new(alloc, table) else {
-            return NO_MEMORY;
+            return NOMEM;
         };
         let Ok(name) = row_named(alloc, id, self.draft.values()) else {
-            return NO_MEMORY;
+            return NOMEM;
         };
         self.read(alloc, &Query::One(name), &table, fault)
     }
@@ -213,7 +212,7 @@ impl TextServer {
         ensures named { ¬ (result ≡ MISUSE) → IsName table.now }
         ensures why { ¬ (IsAnswered result) → ¬ (result ≡ MISUSE) → NoReply self.old result }
         ensures kept { ¬ (IsAnswered result) → self.new ≡ self.old }
-        ensures unset { ¬ (IsAnswered result) → fault.new ≡ fault.old }
+        ensures fault_kept { ¬ (IsAnswered result) → fault.new ≡ fault.old }
     {
         let Some(table) = name_text(table) else {
             return MISUSE;
@@ -222,7 +221,7 @@ impl TextServer {
             return FULL;
         }
         let Ok(table) = Name::new(alloc, table) else {
-            return NO_MEMORY;
+            return NOMEM;
         };
         self.read(alloc, &Query::All, &table, fault)
     }
@@ -237,15 +236,15 @@ impl TextServer {
         requires room { HasRoom self.old.core.events }
         ensures read { IsAnswered result → Reads self.old self.new query.now table.now result }
         ensures fault { IsAnswered result → fault.new ≡ query_fault table.now self.old.core.main fault.old }
-        ensures memory { ¬ (IsAnswered result) → result ≡ NO_MEMORY }
+        ensures memory { ¬ (IsAnswered result) → result ≡ NOMEM }
         ensures kept { ¬ (IsAnswered result) → self.new ≡ self.old }
-        ensures unset { ¬ (IsAnswered result) → fault.new ≡ fault.old }
+        ensures fault_kept { ¬ (IsAnswered result) → fault.new ≡ fault.old }
     {
         let mut hook = QueryHook {
             alloc,
             query,
             table,
-            reading: &mut self.reading,
+            cursor: &mut self.cursor,
         };
         match self.core.step(&Command::Read, &mut hook) {
             Ok(Reply::Snapshot(snapshot)) => {
@@ -253,19 +252,19 @@ impl TextServer {
                 set_table(snapshot.database(), table, fault)
             }
             Ok(_) => unreachable!(),
-            Err(_) => NO_MEMORY,
+            Err(_) => NOMEM,
         }
     }
 }
 
-// Outputs whether there is the table that was asked for.
+// Sets the fault where there is no table of that name.
 fn set_table(tables: &Database<Global>, table: &Name<Global>, fault: &mut PlacedFault) -> u32
     ensures status { result ≡ query_status table.now tables.now }
     ensures fault { fault.new ≡ query_fault table.now tables.now fault.old }
     ensures answered { IsAnswered result }
 {
     match tables.table(table) {
-        Some(_) => DONE,
+        Some(_) => OK,
         None => {
             *fault = PlacedFault::refused(None, Refusal::NoTable);
             REFUSED

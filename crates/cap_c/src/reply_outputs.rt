@@ -4,7 +4,7 @@ ghost use Rattle.cap_c.specs.Replies.{fault_output, flag_output, number_output};
 ghost use Rattle.cap_c.specs.Server.{IsAnswered, reply_status};
 
 use crate::fault::PlacedFault;
-use crate::status::{DONE, REFUSED};
+use crate::status::{OK, REFUSED};
 use cap_core::Reply;
 use std::alloc::Global;
 
@@ -18,11 +18,11 @@ pub(crate) fn set_number(reply: &Reply<Global>, number: &mut u64, fault: &mut Pl
     match reply {
         Reply::Written { version } => {
             *number = *version;
-            DONE
+            OK
         }
         Reply::Session(session) => {
             *number = *session;
-            DONE
+            OK
         }
         _ => set_refusal(reply, fault),
     }
@@ -38,7 +38,7 @@ pub(crate) fn set_flag(reply: &Reply<Global>, flag: &mut u32, fault: &mut Placed
     match reply {
         Reply::Flag(value) => {
             *flag = u32::from(*value);
-            DONE
+            OK
         }
         _ => set_refusal(reply, fault),
     }
@@ -55,6 +55,6 @@ pub(crate) fn set_refusal(reply: &Reply<Global>, fault: &mut PlacedFault) -> u32
             *fault = PlacedFault::refused(*at, *why);
             REFUSED
         }
-        _ => DONE,
+        _ => OK,
     }
 }

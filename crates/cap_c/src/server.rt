@@ -1,14 +1,14 @@
 //! A server that C calls, with commands as text or by words and numbers.
 ghost use Rattle.std.specs.Prelude.{◌≡◌, ◌+◌, ◌<◌, ◌^◌};
-ghost use Rattle.cap_c.specs.Server.{IsAnswered, IsNew, Ran, RunsLine, reply_status};
+ghost use Rattle.cap_c.specs.Server.{IsAnswered, IsNew, RunsLine, RunsText, reply_status};
 ghost use Rattle.cap_c.specs.declared.status.TheConstants.{FULL};
 
 use crate::draft::Draft;
 use crate::fault::PlacedFault;
 use crate::one_line::one_line;
 use crate::printer::Printer;
-use crate::reading::Reading;
-use crate::status::{DONE, FULL, NO_COMMAND, NO_MEMORY, REFUSED};
+use crate::row_cursor::RowCursor;
+use crate::status::{COMMAND, FULL, NOMEM, OK, REFUSED};
 use cap_core::{Core, EVENTS_MAX, Reply};
 use cap_script::Line;
 use cap_value::Fault;
@@ -16,23 +16,23 @@ use std::alloc::Global;
 
 /// A server, the text of its last reply, the batch that is put together, and the rows that were read last.
 #[derive(Drop)]
-pub struct TextServer {
+pub struct OpenServer {
     pub(crate) core: Core<Global>,
     output: Vec<u8, Global>,
     pub(crate) draft: Draft,
-    pub(crate) reading: Reading,
+    pub(crate) cursor: RowCursor,
 }
 
-impl TextServer {
+impl OpenServer {
     /// An empty server.
     pub(crate) fn new(alloc: Global) -> Self
         ensures { IsNew result }
     {
-        TextServer {
+        OpenServer {
             core: Core::new(alloc),
             output: Vec::new(alloc),
             draft: Draft::new(alloc, None),
-            reading: Reading::before(Vec::new(alloc)),
+            cursor: RowCursor::new(Vec::new(alloc)),
         }
     }
 
@@ -45,7 +45,7 @@ impl TextServer {
 
     /// Carries out the command that the text is, and keeps the text of its reply.
     pub(crate) fn call(&mut self, alloc: Global, text: &[u8], fault: &mut PlacedFault) -> u32
-        ensures ran { IsAnswered result → Ran self.old self.new text.now result }
+        ensures ran { IsAnswered result → RunsText self.old self.new text.now result }
         ensures kept { ¬ (IsAnswered result) → self.new ≡ self.old }
         ensures full { result ≡ FULL → ¬ (self.old.core.events + 1 < 2 ^ 63) }
     {
@@ -53,9 +53,9 @@ impl TextServer {
             Ok(line) => line,
             Err(Fault::Refused(why)) => {
                 *fault = why;
-                return NO_COMMAND;
+                return COMMAND;
             }
-            Err(Fault::OutOfMemory) => return NO_MEMORY,
+            Err(Fault::OutOfMemory) => return NOMEM,
         };
         if self.core.events() >= EVENTS_MAX {
             return FULL;
@@ -76,7 +76,7 @@ impl TextServer {
         };
         match self.core.step(&line.command, &mut printer) {
             Ok(reply) => reply_status(&reply),
-            Err(_) => NO_MEMORY,
+            Err(_) => NOMEM,
         }
     }
 }
@@ -87,6 +87,6 @@ fn reply_status(reply: &Reply<Global>) -> u32
 {
     match reply {
         Reply::Refused { .. } => REFUSED,
-        _ => DONE,
+        _ => OK,
     }
 }

@@ -1,32 +1,32 @@
-//! The calls on a server that takes commands as text.
+//! The calls that open and end a server, and that give it a command as text.
 ghost use Rattle.std.specs.Prelude.{◌≡◌, ◌+◌, ◌<◌, ◌^◌, None, Some, IsSome, length};
-ghost use Rattle.cap_c.specs.Server.{IsAnswered, IsNew, Ran};
+ghost use Rattle.cap_c.specs.Server.{IsAnswered, IsNew, RunsText};
 ghost use Rattle.cap_c.specs.Status.{room_status};
 ghost use Rattle.cap_c.specs.Outputs.{Writes};
-ghost use Rattle.cap_c.specs.declared.server.TextServer.{TextServer as Text};
-ghost use Rattle.cap_c.specs.declared.status.TheConstants.{DONE, FULL, NO_MEMORY};
+ghost use Rattle.cap_c.specs.declared.server.OpenServer.{OpenServer as Server};
+ghost use Rattle.cap_c.specs.declared.status.TheConstants.{FULL, NOMEM, OK};
 
 use crate::fault::PlacedFault;
 use crate::output::write_bytes;
-use crate::server::TextServer;
+use crate::server::OpenServer;
 use crate::server_handle::{ServerHandle, put, take};
-use crate::status::{DONE, NO_MEMORY};
+use crate::status::{NOMEM, OK};
 use std::alloc::Global;
 
 /// Opens an empty server.
 #[unsafe(no_mangle)]
 pub extern "C" fn changecap_server_open(alloc: Global, handle: &mut ServerHandle) -> u32
     requires closed { handle.old.value ≡ None }
-    ensures opened { result ≡ DONE → (server : Text) × (handle.new.value ≡ Some server)
+    ensures opened { result ≡ OK → (server : Server) × (handle.new.value ≡ Some server)
         × IsNew server }
-    ensures kept { ¬ (result ≡ DONE) → (result ≡ NO_MEMORY) × (handle.new.value ≡ None) }
+    ensures kept { ¬ (result ≡ OK) → (result ≡ NOMEM) × (handle.new.value ≡ None) }
 {
-    match Box::new(alloc, TextServer::new(alloc)) {
+    match Box::new(alloc, OpenServer::new(alloc)) {
         Ok(server) => {
             put(handle, server);
-            DONE
+            OK
         }
-        Err(_) => NO_MEMORY,
+        Err(_) => NOMEM,
     }
 }
 
@@ -40,11 +40,11 @@ pub extern "C" fn changecap_server_call(
 ) -> u32
     requires opened { IsSome handle.old.value }
     // The next state and the reply are those of the sequential server.
-    ensures ran { IsAnswered result → (old : Text) × (new : Text) × (handle.old.value ≡ Some old)
-        × (handle.new.value ≡ Some new) × Ran old new text.now result }
+    ensures ran { IsAnswered result → (old : Server) × (new : Server) × (handle.old.value ≡ Some old)
+        × (handle.new.value ≡ Some new) × RunsText old new text.now result }
     ensures kept { ¬ (IsAnswered result) → handle.new.value ≡ handle.old.value }
     // The history is full only where it is.
-    ensures full { (old : Text) → handle.old.value ≡ Some old → result ≡ FULL →
+    ensures full { (old : Server) → handle.old.value ≡ Some old → result ≡ FULL →
         ¬ (old.core.events + 1 < 2 ^ 63) }
 {
     let mut server = take(alloc, handle);
@@ -62,10 +62,10 @@ pub extern "C" fn changecap_server_reply(
     len: &mut usize,
 ) -> u32
     requires opened { IsSome handle.old.value }
-    ensures same { handle.new.value ≡ handle.old.value }
-    ensures status { (server : Text) → handle.old.value ≡ Some server →
+    ensures kept { handle.new.value ≡ handle.old.value }
+    ensures status { (server : Server) → handle.old.value ≡ Some server →
         result ≡ room_status (length server.output.items) (length out.old) }
-    ensures written { (server : Text) → handle.old.value ≡ Some server →
+    ensures written { (server : Server) → handle.old.value ≡ Some server →
         Writes server.output.items result out.old out.new len.new }
 {
     let server = take(alloc, handle);

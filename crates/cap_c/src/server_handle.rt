@@ -2,10 +2,10 @@
 ghost use Rattle.std.specs.Coded.{coded_option};
 ghost use Rattle.std.specs.Prelude.{◌≡◌, IsSome, None, Option, Some};
 ghost use Rattle.cap_c.specs.ServerHandle.{code};
-ghost use Rattle.cap_c.specs.declared.server.TextServer.{TextServer as Text};
+ghost use Rattle.cap_c.specs.declared.server.OpenServer.{OpenServer as Server};
 
 use crate::parts::Parts;
-use crate::server::TextServer;
+use crate::server::OpenServer;
 use crate::travels::server_travels;
 use std::alloc::Global;
 use std::marker::Model;
@@ -17,7 +17,7 @@ use std::{mem, ptr};
 pub struct ServerHandle {
     at: *mut u8,
     alloc: Global,
-    pub ghost value: { Option Text } by { coded_option code },
+    pub ghost value: { Option Server } by { coded_option code },
 }
 
 impl Model for ServerHandle {
@@ -27,7 +27,7 @@ impl Model for ServerHandle {
 }
 
 /// Takes the server out of an open handle, which is closed until it is put back.
-pub(crate) fn take(alloc: Global, handle: &mut ServerHandle) -> Box<TextServer>
+pub(crate) fn take(alloc: Global, handle: &mut ServerHandle) -> Box<OpenServer>
     requires { IsSome handle.old.value }
     ensures value { handle.old.value ≡ Some result.value }
     ensures closed { handle.new.value ≡ None }
@@ -36,7 +36,7 @@ pub(crate) fn take(alloc: Global, handle: &mut ServerHandle) -> Box<TextServer>
 }
 
 /// Puts the server into the handle.
-pub(crate) fn put(handle: &mut ServerHandle, server: Box<TextServer>)
+pub(crate) fn put(handle: &mut ServerHandle, server: Box<OpenServer>)
     requires { handle.old.value ≡ None }
     ensures { handle.new.value ≡ Some server.value }
 {
@@ -44,18 +44,18 @@ pub(crate) fn put(handle: &mut ServerHandle, server: Box<TextServer>)
     *handle = of_parts(Parts::of(server));
 }
 
-fn into_parts(handle: ServerHandle) -> Parts<TextServer, Global>
+fn into_parts(handle: ServerHandle) -> Parts<OpenServer, Global>
     requires { IsSome handle.value }
     ensures { handle.value ≡ Some result.value }
 {
     let ServerHandle { at, alloc } = handle;
     Parts {
-        ptr: at as *mut TextServer,
+        ptr: at as *mut OpenServer,
         alloc,
     }
 }
 
-fn of_parts(parts: Parts<TextServer, Global>) -> ServerHandle
+fn of_parts(parts: Parts<OpenServer, Global>) -> ServerHandle
     ensures { result.value ≡ Some parts.value }
 {
     let Parts { ptr, alloc } = parts;

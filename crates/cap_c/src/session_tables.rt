@@ -6,18 +6,18 @@ ghost use Rattle.cap_filter.specs.Rule.{Rule};
 ghost use Rattle.cap_core.specs.Answer.{answer};
 ghost use Rattle.cap_core.specs.declared.command.Command.TheVariants as command;
 ghost use Rattle.cap_c.specs.Between.{Between, Holds};
-ghost use Rattle.cap_c.specs.Commands.{NoReply, Runs};
+ghost use Rattle.cap_c.specs.Commands.{NoReply, RunsCommand};
 ghost use Rattle.cap_c.specs.Filter.{filter_fault};
 ghost use Rattle.cap_c.specs.Names.{IsName};
 ghost use Rattle.cap_c.specs.Replies.{fault_output};
 ghost use Rattle.cap_c.specs.Server.{IsAnswered};
-ghost use Rattle.cap_c.specs.declared.status.TheConstants.{MISUSE, NO_FILTER};
+ghost use Rattle.cap_c.specs.declared.status.TheConstants.{FILTER, MISUSE};
 
 use crate::fault::PlacedFault;
 use crate::names::name_text;
-use crate::server::TextServer;
+use crate::server::OpenServer;
 use crate::server_handle::{ServerHandle, put, take};
-use crate::status::{FULL, MISUSE, NO_FILTER, NO_MEMORY};
+use crate::status::{FILTER, FULL, MISUSE, NOMEM};
 use cap_core::Command;
 use cap_filter::TableFilter;
 use cap_value::{Fault, Name, Refusal};
@@ -37,20 +37,20 @@ pub extern "C" fn changecap_session_filter(
     // The filter is the one that the text spells.
     ensures ran { (filter : Rule) → filter_of text.now ≡ Ok filter → IsAnswered result →
         Between handle.old.value handle.new.value
-        (λ old new. Runs old new (command.SetFilter session filter) result) }
+        (λ old new. RunsCommand old new (command.SetFilter session filter) result) }
     ensures spelled { IsAnswered result → (filter : Rule) × (filter_of text.now ≡ Ok filter) }
     ensures fault { (filter : Rule) → filter_of text.now ≡ Ok filter → IsAnswered result →
         Holds handle.old.value
         (λ old. fault.new ≡ fault_output (answer old.core (command.SetFilter session filter)) fault.old) }
-    ensures no_filter { result ≡ NO_FILTER →
+    ensures no_filter { result ≡ FILTER →
         (why : Why) × (filter_of text.now ≡ Err why) × (fault.new ≡ filter_fault why) }
     // Exactly bytes that are not UTF-8 are misuse.
     ensures misuse { result ≡ MISUSE → ¬ (IsUtf8 text.now) }
     ensures utf8 { ¬ (result ≡ MISUSE) → IsUtf8 text.now }
-    ensures why { ¬ (IsAnswered result) → ¬ (result ≡ NO_FILTER) → ¬ (result ≡ MISUSE) →
+    ensures why { ¬ (IsAnswered result) → ¬ (result ≡ FILTER) → ¬ (result ≡ MISUSE) →
         Holds handle.old.value (λ old. NoReply old result) }
     ensures kept { ¬ (IsAnswered result) → handle.new.value ≡ handle.old.value }
-    ensures unset { ¬ (IsAnswered result) → ¬ (result ≡ NO_FILTER) → fault.new ≡ fault.old }
+    ensures fault_kept { ¬ (IsAnswered result) → ¬ (result ≡ FILTER) → fault.new ≡ fault.old }
 {
     let mut server = take(alloc, handle);
     let status = filter(alloc, &mut server, session, text, fault);
@@ -60,24 +60,24 @@ pub extern "C" fn changecap_session_filter(
 
 fn filter(
     alloc: Global,
-    server: &mut TextServer,
+    server: &mut OpenServer,
     session: u64,
     text: &[u8],
     fault: &mut PlacedFault,
 ) -> u32
     ensures ran { (filter : Rule) → filter_of text.now ≡ Ok filter → IsAnswered result →
-        Runs server.old server.new (command.SetFilter session filter) result }
+        RunsCommand server.old server.new (command.SetFilter session filter) result }
     ensures spelled { IsAnswered result → (filter : Rule) × (filter_of text.now ≡ Ok filter) }
     ensures fault { (filter : Rule) → filter_of text.now ≡ Ok filter → IsAnswered result →
         fault.new ≡ fault_output (answer server.old.core (command.SetFilter session filter)) fault.old }
-    ensures no_filter { result ≡ NO_FILTER →
+    ensures no_filter { result ≡ FILTER →
         (why : Why) × (filter_of text.now ≡ Err why) × (fault.new ≡ filter_fault why) }
     ensures misuse { result ≡ MISUSE → ¬ (IsUtf8 text.now) }
     ensures utf8 { ¬ (result ≡ MISUSE) → IsUtf8 text.now }
-    ensures why { ¬ (IsAnswered result) → ¬ (result ≡ NO_FILTER) → ¬ (result ≡ MISUSE) →
+    ensures why { ¬ (IsAnswered result) → ¬ (result ≡ FILTER) → ¬ (result ≡ MISUSE) →
         NoReply server.old result }
     ensures kept { ¬ (IsAnswered result) → server.new ≡ server.old }
-    ensures unset { ¬ (IsAnswered result) → ¬ (result ≡ NO_FILTER) → fault.new ≡ fault.old }
+    ensures fault_kept { ¬ (IsAnswered result) → ¬ (result ≡ FILTER) → fault.new ≡ fault.old }
 {
     let Ok(text) = str::from_utf8(text) else {
         return MISUSE;
@@ -89,9 +89,9 @@ fn filter(
         Ok(filter) => server.set_refusal(&Command::SetFilter { session, filter }, fault),
         Err(Fault::Refused(why)) => {
             *fault = filter_fault(why);
-            NO_FILTER
+            FILTER
         }
-        Err(Fault::OutOfMemory) => NO_MEMORY,
+        Err(Fault::OutOfMemory) => NOMEM,
     }
 }
 
@@ -114,7 +114,7 @@ pub extern "C" fn changecap_save(
 ) -> u32
     requires opened { IsSome handle.old.value }
     ensures ran { IsAnswered result → Between handle.old.value handle.new.value
-        (λ old new. Runs old new (command.SaveAs database.now) result) }
+        (λ old new. RunsCommand old new (command.SaveAs database.now) result) }
     ensures fault { IsAnswered result → Holds handle.old.value
         (λ old. fault.new ≡ fault_output (answer old.core (command.SaveAs database.now)) fault.old) }
     // Exactly bytes that are no name are misuse.
@@ -123,7 +123,7 @@ pub extern "C" fn changecap_save(
     ensures why { ¬ (IsAnswered result) → ¬ (result ≡ MISUSE) → Holds handle.old.value
         (λ old. NoReply old result) }
     ensures kept { ¬ (IsAnswered result) → handle.new.value ≡ handle.old.value }
-    ensures unset { ¬ (IsAnswered result) → fault.new ≡ fault.old }
+    ensures fault_kept { ¬ (IsAnswered result) → fault.new ≡ fault.old }
 {
     let mut server = take(alloc, handle);
     let status = save(alloc, &mut server, database, fault);
@@ -131,14 +131,15 @@ pub extern "C" fn changecap_save(
     status
 }
 
-fn save(alloc: Global, server: &mut TextServer, database: &[u8], fault: &mut PlacedFault) -> u32
-    ensures ran { IsAnswered result → Runs server.old server.new (command.SaveAs database.now) result }
+fn save(alloc: Global, server: &mut OpenServer, database: &[u8], fault: &mut PlacedFault) -> u32
+    ensures ran { IsAnswered result → RunsCommand server.old server.new (command.SaveAs database.now) result }
     ensures fault { IsAnswered result →
         fault.new ≡ fault_output (answer server.old.core (command.SaveAs database.now)) fault.old }
     ensures misuse { result ≡ MISUSE → ¬ (IsName database.now) }
     ensures named { ¬ (result ≡ MISUSE) → IsName database.now }
     ensures why { ¬ (IsAnswered result) → ¬ (result ≡ MISUSE) → NoReply server.old result }
-    ensures kept { ¬ (IsAnswered result) → (server.new ≡ server.old) × (fault.new ≡ fault.old) }
+    ensures kept { ¬ (IsAnswered result) → server.new ≡ server.old }
+    ensures fault_kept { ¬ (IsAnswered result) → fault.new ≡ fault.old }
 {
     let Some(name) = name_text(database) else {
         return MISUSE;
@@ -147,7 +148,7 @@ fn save(alloc: Global, server: &mut TextServer, database: &[u8], fault: &mut Pla
         return FULL;
     }
     let Ok(database) = Name::new(alloc, name) else {
-        return NO_MEMORY;
+        return NOMEM;
     };
     server.set_refusal(&Command::SaveAs { database }, fault)
 }
@@ -164,7 +165,7 @@ pub extern "C" fn changecap_session_diff(
 ) -> u32
     requires opened { IsSome handle.old.value }
     ensures ran { IsAnswered result → Between handle.old.value handle.new.value
-        (λ old new. Runs old new (command.Diff session from.now table.now) result) }
+        (λ old new. RunsCommand old new (command.Diff session from.now table.now) result) }
     ensures fault { IsAnswered result → Holds handle.old.value
         (λ old. fault.new
         ≡ fault_output (answer old.core (command.Diff session from.now table.now)) fault.old) }
@@ -174,7 +175,7 @@ pub extern "C" fn changecap_session_diff(
     ensures why { ¬ (IsAnswered result) → ¬ (result ≡ MISUSE) → Holds handle.old.value
         (λ old. NoReply old result) }
     ensures kept { ¬ (IsAnswered result) → handle.new.value ≡ handle.old.value }
-    ensures unset { ¬ (IsAnswered result) → fault.new ≡ fault.old }
+    ensures fault_kept { ¬ (IsAnswered result) → fault.new ≡ fault.old }
 {
     let mut server = take(alloc, handle);
     let status = diff(alloc, &mut server, session, from, table, fault);
@@ -184,21 +185,22 @@ pub extern "C" fn changecap_session_diff(
 
 fn diff(
     alloc: Global,
-    server: &mut TextServer,
+    server: &mut OpenServer,
     session: u64,
     from: &[u8],
     table: &[u8],
     fault: &mut PlacedFault,
 ) -> u32
     ensures ran { IsAnswered result →
-        Runs server.old server.new (command.Diff session from.now table.now) result }
+        RunsCommand server.old server.new (command.Diff session from.now table.now) result }
     ensures fault { IsAnswered result →
         fault.new ≡ fault_output
         (answer server.old.core (command.Diff session from.now table.now)) fault.old }
     ensures misuse { result ≡ MISUSE → ¬ (IsName from.now × IsName table.now) }
     ensures named { ¬ (result ≡ MISUSE) → IsName from.now × IsName table.now }
     ensures why { ¬ (IsAnswered result) → ¬ (result ≡ MISUSE) → NoReply server.old result }
-    ensures kept { ¬ (IsAnswered result) → (server.new ≡ server.old) × (fault.new ≡ fault.old) }
+    ensures kept { ¬ (IsAnswered result) → server.new ≡ server.old }
+    ensures fault_kept { ¬ (IsAnswered result) → fault.new ≡ fault.old }
 {
     let Some(from) = name_text(from) else {
         return MISUSE;
@@ -210,10 +212,10 @@ fn diff(
         return FULL;
     }
     let Ok(from) = Name::new(alloc, from) else {
-        return NO_MEMORY;
+        return NOMEM;
     };
     let Ok(table) = Name::new(alloc, table) else {
-        return NO_MEMORY;
+        return NOMEM;
     };
     let command = Command::Diff {
         session,

@@ -3,7 +3,7 @@ ghost use Rattle.std.specs.Prelude.{◌≡◌, ◌↔◌, Bool, IsSome, None, Op
 ghost use Rattle.cap_core.specs.Answer.{answer};
 ghost use Rattle.cap_core.specs.declared.command.Command.TheVariants as command;
 ghost use Rattle.cap_c.specs.Between.{Between, Holds};
-ghost use Rattle.cap_c.specs.Commands.{NoReply, Runs, asked_of};
+ghost use Rattle.cap_c.specs.Commands.{NoReply, RunsCommand, asked_of};
 ghost use Rattle.cap_c.specs.Names.{IsName};
 ghost use Rattle.cap_c.specs.Replies.{fault_output, flag_output, number_output};
 ghost use Rattle.cap_c.specs.Server.{IsAnswered};
@@ -11,9 +11,9 @@ ghost use Rattle.cap_c.specs.declared.status.TheConstants.{MISUSE};
 
 use crate::fault::PlacedFault;
 use crate::names::name_text;
-use crate::server::TextServer;
+use crate::server::OpenServer;
 use crate::server_handle::{ServerHandle, put, take};
-use crate::status::{FULL, MISUSE, NO_MEMORY};
+use crate::status::{FULL, MISUSE, NOMEM};
 use cap_core::Command;
 use cap_value::Name;
 use std::alloc::Global;
@@ -28,14 +28,15 @@ pub extern "C" fn changecap_session_new(
 ) -> u32
     requires opened { IsSome handle.old.value }
     ensures ran { IsAnswered result → Between handle.old.value handle.new.value
-        (λ old new. Runs old new command.NewSession result) }
+        (λ old new. RunsCommand old new command.NewSession result) }
     ensures session { IsAnswered result → Holds handle.old.value
         (λ old. session.new ≡ number_output (answer old.core command.NewSession) session.old) }
     ensures fault { IsAnswered result → Holds handle.old.value
         (λ old. fault.new ≡ fault_output (answer old.core command.NewSession) fault.old) }
     ensures why { ¬ (IsAnswered result) → Holds handle.old.value (λ old. NoReply old result) }
     ensures kept { ¬ (IsAnswered result) → handle.new.value ≡ handle.old.value }
-    ensures unset { ¬ (IsAnswered result) → (session.new ≡ session.old) × (fault.new ≡ fault.old) }
+    ensures session_kept { ¬ (IsAnswered result) → session.new ≡ session.old }
+    ensures fault_kept { ¬ (IsAnswered result) → fault.new ≡ fault.old }
 {
     let mut server = take(alloc, handle);
     let status = server.set_number(&Command::NewSession, session, fault);
@@ -53,12 +54,12 @@ pub extern "C" fn changecap_session_drop(
 ) -> u32
     requires opened { IsSome handle.old.value }
     ensures ran { IsAnswered result → Between handle.old.value handle.new.value
-        (λ old new. Runs old new (command.DropSession session) result) }
+        (λ old new. RunsCommand old new (command.DropSession session) result) }
     ensures fault { IsAnswered result → Holds handle.old.value
         (λ old. fault.new ≡ fault_output (answer old.core (command.DropSession session)) fault.old) }
     ensures why { ¬ (IsAnswered result) → Holds handle.old.value (λ old. NoReply old result) }
     ensures kept { ¬ (IsAnswered result) → handle.new.value ≡ handle.old.value }
-    ensures unset { ¬ (IsAnswered result) → fault.new ≡ fault.old }
+    ensures fault_kept { ¬ (IsAnswered result) → fault.new ≡ fault.old }
 {
     let mut server = take(alloc, handle);
     let status = server.set_refusal(&Command::DropSession { session }, fault);
@@ -76,12 +77,12 @@ pub extern "C" fn changecap_session_attach_all(
 ) -> u32
     requires opened { IsSome handle.old.value }
     ensures ran { IsAnswered result → Between handle.old.value handle.new.value
-        (λ old new. Runs old new (command.AttachAll session) result) }
+        (λ old new. RunsCommand old new (command.AttachAll session) result) }
     ensures fault { IsAnswered result → Holds handle.old.value
         (λ old. fault.new ≡ fault_output (answer old.core (command.AttachAll session)) fault.old) }
     ensures why { ¬ (IsAnswered result) → Holds handle.old.value (λ old. NoReply old result) }
     ensures kept { ¬ (IsAnswered result) → handle.new.value ≡ handle.old.value }
-    ensures unset { ¬ (IsAnswered result) → fault.new ≡ fault.old }
+    ensures fault_kept { ¬ (IsAnswered result) → fault.new ≡ fault.old }
 {
     let mut server = take(alloc, handle);
     let status = server.set_refusal(&Command::AttachAll { session }, fault);
@@ -100,7 +101,7 @@ pub extern "C" fn changecap_session_attach(
 ) -> u32
     requires opened { IsSome handle.old.value }
     ensures ran { IsAnswered result → Between handle.old.value handle.new.value
-        (λ old new. Runs old new (command.Attach session table.now) result) }
+        (λ old new. RunsCommand old new (command.Attach session table.now) result) }
     ensures fault { IsAnswered result → Holds handle.old.value
         (λ old. fault.new ≡ fault_output (answer old.core (command.Attach session table.now)) fault.old) }
     // Exactly bytes that are no name are misuse.
@@ -109,7 +110,7 @@ pub extern "C" fn changecap_session_attach(
     ensures why { ¬ (IsAnswered result) → ¬ (result ≡ MISUSE) → Holds handle.old.value
         (λ old. NoReply old result) }
     ensures kept { ¬ (IsAnswered result) → handle.new.value ≡ handle.old.value }
-    ensures unset { ¬ (IsAnswered result) → fault.new ≡ fault.old }
+    ensures fault_kept { ¬ (IsAnswered result) → fault.new ≡ fault.old }
 {
     let mut server = take(alloc, handle);
     let status = attach(alloc, &mut server, session, table, fault);
@@ -119,18 +120,20 @@ pub extern "C" fn changecap_session_attach(
 
 fn attach(
     alloc: Global,
-    server: &mut TextServer,
+    server: &mut OpenServer,
     session: u64,
     table: &[u8],
     fault: &mut PlacedFault,
 ) -> u32
-    ensures ran { IsAnswered result → Runs server.old server.new (command.Attach session table.now) result }
+    ensures ran { IsAnswered result →
+        RunsCommand server.old server.new (command.Attach session table.now) result }
     ensures fault { IsAnswered result →
         fault.new ≡ fault_output (answer server.old.core (command.Attach session table.now)) fault.old }
     ensures misuse { result ≡ MISUSE → ¬ (IsName table.now) }
     ensures named { ¬ (result ≡ MISUSE) → IsName table.now }
     ensures why { ¬ (IsAnswered result) → ¬ (result ≡ MISUSE) → NoReply server.old result }
-    ensures kept { ¬ (IsAnswered result) → (server.new ≡ server.old) × (fault.new ≡ fault.old) }
+    ensures kept { ¬ (IsAnswered result) → server.new ≡ server.old }
+    ensures fault_kept { ¬ (IsAnswered result) → fault.new ≡ fault.old }
 {
     let Some(name) = name_text(table) else {
         return MISUSE;
@@ -139,7 +142,7 @@ fn attach(
         return FULL;
     }
     let Ok(table) = Name::new(alloc, name) else {
-        return NO_MEMORY;
+        return NOMEM;
     };
     server.set_refusal(&Command::Attach { session, table }, fault)
 }
@@ -157,7 +160,7 @@ pub extern "C" fn changecap_session_enable(
     requires opened { IsSome handle.old.value }
     ensures ran { (value : Option Bool) → asked_of asked ≡ Some value → IsAnswered result →
         Between handle.old.value handle.new.value
-        (λ old new. Runs old new (command.Enable session value) result) }
+        (λ old new. RunsCommand old new (command.Enable session value) result) }
     ensures flag { (value : Option Bool) → asked_of asked ≡ Some value → IsAnswered result →
         Holds handle.old.value
         (λ old. flag.new ≡ flag_output (answer old.core (command.Enable session value)) flag.old) }
@@ -169,7 +172,8 @@ pub extern "C" fn changecap_session_enable(
     ensures why { ¬ (IsAnswered result) → ¬ (result ≡ MISUSE) → Holds handle.old.value
         (λ old. NoReply old result) }
     ensures kept { ¬ (IsAnswered result) → handle.new.value ≡ handle.old.value }
-    ensures unset { ¬ (IsAnswered result) → (flag.new ≡ flag.old) × (fault.new ≡ fault.old) }
+    ensures flag_kept { ¬ (IsAnswered result) → flag.new ≡ flag.old }
+    ensures fault_kept { ¬ (IsAnswered result) → fault.new ≡ fault.old }
 {
     let Some(enabled) = asked_of(asked) else {
         return MISUSE;
@@ -193,7 +197,7 @@ pub extern "C" fn changecap_session_indirect(
     requires opened { IsSome handle.old.value }
     ensures ran { (value : Option Bool) → asked_of asked ≡ Some value → IsAnswered result →
         Between handle.old.value handle.new.value
-        (λ old new. Runs old new (command.Indirect session value) result) }
+        (λ old new. RunsCommand old new (command.Indirect session value) result) }
     ensures flag { (value : Option Bool) → asked_of asked ≡ Some value → IsAnswered result →
         Holds handle.old.value
         (λ old. flag.new ≡ flag_output (answer old.core (command.Indirect session value)) flag.old) }
@@ -205,7 +209,8 @@ pub extern "C" fn changecap_session_indirect(
     ensures why { ¬ (IsAnswered result) → ¬ (result ≡ MISUSE) → Holds handle.old.value
         (λ old. NoReply old result) }
     ensures kept { ¬ (IsAnswered result) → handle.new.value ≡ handle.old.value }
-    ensures unset { ¬ (IsAnswered result) → (flag.new ≡ flag.old) × (fault.new ≡ fault.old) }
+    ensures flag_kept { ¬ (IsAnswered result) → flag.new ≡ flag.old }
+    ensures fault_kept { ¬ (IsAnswered result) → fault.new ≡ fault.old }
 {
     let Some(indirect) = asked_of(asked) else {
         return MISUSE;
@@ -227,14 +232,15 @@ pub extern "C" fn changecap_session_isempty(
 ) -> u32
     requires opened { IsSome handle.old.value }
     ensures ran { IsAnswered result → Between handle.old.value handle.new.value
-        (λ old new. Runs old new (command.IsEmpty session) result) }
+        (λ old new. RunsCommand old new (command.IsEmpty session) result) }
     ensures flag { IsAnswered result → Holds handle.old.value
         (λ old. flag.new ≡ flag_output (answer old.core (command.IsEmpty session)) flag.old) }
     ensures fault { IsAnswered result → Holds handle.old.value
         (λ old. fault.new ≡ fault_output (answer old.core (command.IsEmpty session)) fault.old) }
     ensures why { ¬ (IsAnswered result) → Holds handle.old.value (λ old. NoReply old result) }
     ensures kept { ¬ (IsAnswered result) → handle.new.value ≡ handle.old.value }
-    ensures unset { ¬ (IsAnswered result) → (flag.new ≡ flag.old) × (fault.new ≡ fault.old) }
+    ensures flag_kept { ¬ (IsAnswered result) → flag.new ≡ flag.old }
+    ensures fault_kept { ¬ (IsAnswered result) → fault.new ≡ fault.old }
 {
     let mut server = take(alloc, handle);
     let status = server.set_flag(&Command::IsEmpty { session }, flag, fault);

@@ -1,13 +1,13 @@
 //! What a call answers. The numbers are in `changecap.h`, and never change.
 
 /// The call did what it says.
-pub(crate) const DONE: u32 = 0;
+pub(crate) const OK: u32 = 0;
 /// The bytes are no blob. The fault has why, and where.
 pub(crate) const MALFORMED: u32 = 1;
 /// The buffer is too short, and is as it was. The length is how many bytes it takes.
-pub(crate) const NO_ROOM: u32 = 2;
+pub(crate) const ROOM: u32 = 2;
 /// There was no memory. The call may be made again.
-pub(crate) const NO_MEMORY: u32 = 3;
+pub(crate) const NOMEM: u32 = 3;
 /// The bytes are a patchset, where only a changeset serves.
 pub(crate) const PATCHSET: u32 = 4;
 /// An argument is none that the call has a meaning for.
@@ -15,16 +15,16 @@ pub(crate) const MISUSE: u32 = 5;
 /// The server refuses the command. The reply, or the fault, says why.
 pub(crate) const REFUSED: u32 = 6;
 /// The text is not one command. The fault has why, and where.
-pub(crate) const NO_COMMAND: u32 = 7;
+pub(crate) const COMMAND: u32 = 7;
 /// The server has answered as many commands as it can.
 pub(crate) const FULL: u32 = 8;
 /// A changeset where the blob before it is a patchset, or the other way round.
-pub(crate) const OTHER_KIND: u32 = 9;
+pub(crate) const KIND: u32 = 9;
 /// A table that had other columns, or another key, before.
-pub(crate) const OTHER_COLUMNS: u32 = 10;
+pub(crate) const COLUMNS: u32 = 10;
 /// The text is no filter. The fault has why, and where.
-pub(crate) const NO_FILTER: u32 = 11;
+pub(crate) const FILTER: u32 = 11;
 /// The iterator is at a change, or the server at one of the rows that were read.
 pub(crate) const ROW: u32 = 100;
 /// The iterator is behind the last change, or the server behind the last row.
-pub(crate) const END: u32 = 101;
+pub(crate) const DONE: u32 = 101;

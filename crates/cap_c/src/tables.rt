@@ -3,7 +3,7 @@ ghost use Rattle.std.specs.Prelude.{◌≡◌, IsSome};
 ghost use Rattle.cap_core.specs.Answer.{answer};
 ghost use Rattle.cap_core.specs.declared.command.Command.TheVariants as command;
 ghost use Rattle.cap_c.specs.Between.{Between, Holds};
-ghost use Rattle.cap_c.specs.Commands.{NoReply, Runs, key_columns};
+ghost use Rattle.cap_c.specs.Commands.{NoReply, RunsCommand, key_columns};
 ghost use Rattle.cap_c.specs.Names.{IsTable};
 ghost use Rattle.cap_c.specs.Replies.{fault_output, number_output};
 ghost use Rattle.cap_c.specs.Server.{IsAnswered};
@@ -11,9 +11,9 @@ ghost use Rattle.cap_c.specs.declared.status.TheConstants.{MISUSE};
 
 use crate::fault::PlacedFault;
 use crate::names::{are_columns, name_text, schema_of};
-use crate::server::TextServer;
+use crate::server::OpenServer;
 use crate::server_handle::{ServerHandle, put, take};
-use crate::status::{FULL, MISUSE, NO_MEMORY};
+use crate::status::{FULL, MISUSE, NOMEM};
 use cap_core::Command;
 use cap_value::Name;
 use std::alloc::Global;
@@ -30,7 +30,7 @@ pub extern "C" fn changecap_create(
 ) -> u32
     requires opened { IsSome handle.old.value }
     ensures ran { IsAnswered result → Between handle.old.value handle.new.value
-        (λ old new. Runs old new (command.CreateTable table.now (key_columns key.now)) result) }
+        (λ old new. RunsCommand old new (command.CreateTable table.now (key_columns key.now)) result) }
     ensures version { IsAnswered result → Holds handle.old.value (λ old. version.new
         ≡ number_output (answer old.core (command.CreateTable table.now (key_columns key.now))) version.old) }
     ensures fault { IsAnswered result → Holds handle.old.value (λ old. fault.new
@@ -41,7 +41,8 @@ pub extern "C" fn changecap_create(
     ensures why { ¬ (IsAnswered result) → ¬ (result ≡ MISUSE) → Holds handle.old.value
         (λ old. NoReply old result) }
     ensures kept { ¬ (IsAnswered result) → handle.new.value ≡ handle.old.value }
-    ensures unset { ¬ (IsAnswered result) → (version.new ≡ version.old) × (fault.new ≡ fault.old) }
+    ensures version_kept { ¬ (IsAnswered result) → version.new ≡ version.old }
+    ensures fault_kept { ¬ (IsAnswered result) → fault.new ≡ fault.old }
 {
     let mut server = take(alloc, handle);
     let status = create(alloc, &mut server, table, key, version, fault);
@@ -51,14 +52,14 @@ pub extern "C" fn changecap_create(
 
 fn create(
     alloc: Global,
-    server: &mut TextServer,
+    server: &mut OpenServer,
     table: &[u8],
     key: &[u8],
     version: &mut u64,
     fault: &mut PlacedFault,
 ) -> u32
     ensures ran { IsAnswered result →
-        Runs server.old server.new (command.CreateTable table.now (key_columns key.now)) result }
+        RunsCommand server.old server.new (command.CreateTable table.now (key_columns key.now)) result }
     ensures version { IsAnswered result → version.new
         ≡ number_output
         (answer server.old.core (command.CreateTable table.now (key_columns key.now))) version.old }
@@ -69,7 +70,8 @@ fn create(
     ensures table { ¬ (result ≡ MISUSE) → IsTable table.now key.now }
     ensures why { ¬ (IsAnswered result) → ¬ (result ≡ MISUSE) → NoReply server.old result }
     ensures kept { ¬ (IsAnswered result) → server.new ≡ server.old }
-    ensures unset { ¬ (IsAnswered result) → (version.new ≡ version.old) × (fault.new ≡ fault.old) }
+    ensures version_kept { ¬ (IsAnswered result) → version.new ≡ version.old }
+    ensures fault_kept { ¬ (IsAnswered result) → fault.new ≡ fault.old }
 {
     if !are_columns(key) {
         return MISUSE;
@@ -81,10 +83,10 @@ fn create(
         return FULL;
     }
     let Ok(table) = Name::new(alloc, name) else {
-        return NO_MEMORY;
+        return NOMEM;
     };
     let Ok(schema) = schema_of(alloc, key) else {
-        return NO_MEMORY;
+        return NOMEM;
     };
     server.set_number(&Command::CreateTable { table, schema }, version, fault)
 }

@@ -2,7 +2,7 @@
 
 use crate::decoder::PieceDecoder;
 use crate::iter::BlobIter;
-use crate::server::TextServer;
+use crate::server::OpenServer;
 
 fn travels<T: Send>(_owned: &T) {}
 
@@ -10,7 +10,7 @@ pub(crate) fn iter_travels(it: &BlobIter) {
     travels(it);
 }
 
-pub(crate) fn server_travels(server: &TextServer) {
+pub(crate) fn server_travels(server: &OpenServer) {
     travels(server);
 }
 

@@ -1,5 +1,5 @@
 use Rattle.std.proofs.Common.{◌≡◌, ◌++◌}
-use Rattle.cap_c.specs.Reading.{id_rows}
+use Rattle.cap_c.specs.Query.{id_rows}
 use Rattle.cap_c.proofs.query.id_rows.Given as goal
 
 abbrev pub invariant-loop-name : goal.invariant-loop-name

@@ -1,6 +1,6 @@
 use Rattle.std.proofs.Common.{subst}
-use Rattle.cap_c.specs.Server.{Ran}
-use Rattle.cap_c.specs.declared.server.TextServer.{TextServer as Text}
+use Rattle.cap_c.specs.Server.{RunsText}
+use Rattle.cap_c.specs.declared.server.OpenServer.{OpenServer as Server}
 use Rattle.cap_c.proofs.server_calls.changecap_server_call.Goals as goal
 
 pub returns-clause-ran : goal.returns-clause-ran
@@ -11,5 +11,5 @@ returns-clause-ran c = λ answered.
       new,
       c.take-server.ensures.value,
       c.put.ensures,
-      subst (λ (old : Text). Ran old new c.args.text.now c.call-status.result) c.deref_mut.ensures.value ran,
+      subst (λ (old : Server). RunsText old new c.args.text.now c.call-status.result) c.deref_mut.ensures.value ran,
     )

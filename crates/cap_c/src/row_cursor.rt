@@ -1,41 +1,41 @@
-//! The rows that were read of a server, one after the other.
+//! A cursor over the rows that were read of a server.
 ghost use Rattle.std.specs.Prelude.{◌≡◌};
 ghost use Rattle.std.specs.Option.{option_copied};
-ghost use Rattle.cap_c.specs.Reading.{GoesOn, before, column_bytes, column_output, columns_output, id_output};
-ghost use Rattle.cap_c.specs.Reading.{row_at, value_at};
+ghost use Rattle.cap_c.specs.RowCursor.{Steps, begin, column_bytes, column_output, columns_output, id_output};
+ghost use Rattle.cap_c.specs.RowCursor.{row_of, value_of};
 ghost use Rattle.cap_c.specs.Outputs.{OutputsBytes, OutputsFound};
 
 use crate::change_info::{FieldValue, value_bytes, value_output};
 use crate::output::write_bytes;
 use crate::query::IdRows;
-use crate::status::{DONE, MISUSE};
+use crate::status::{MISUSE, OK};
 use cap_row::Row;
 use cap_value::Value;
 use std::alloc::Global;
 use std::marker::Model;
 
-/// Rows, the one at which the reading stands, and the next one.
+/// Rows, the one at which the cursor stands, and the next one.
 #[derive(Drop)]
-pub struct Reading {
+pub struct RowCursor {
     rows: IdRows,
     current: Option<usize>,
     next: usize,
 }
 
-impl Model for Reading {
-    ghost use Rattle.cap_c.specs.Reading.{ReadingState};
+impl Model for RowCursor {
+    ghost use Rattle.cap_c.specs.RowCursor.{RowCursorState};
 
-    ghost Value = { ReadingState };
+    ghost Value = { RowCursorState };
 
-    ghost view = { λ r. record { rows = r.rows.items; current = r.current; next = r.next } };
+    ghost view = { λ c. record { rows = c.rows.items; current = c.current; next = c.next } };
 }
 
-impl Reading {
-    /// The reading before the first of these rows.
-    pub(crate) fn before(rows: IdRows) -> Self
-        ensures { result ≡ before rows.items }
+impl RowCursor {
+    /// The cursor before the first of these rows.
+    pub(crate) fn new(rows: IdRows) -> Self
+        ensures { result ≡ begin rows.items }
     {
-        Reading {
+        RowCursor {
             rows,
             current: None,
             next: 0,
@@ -44,7 +44,7 @@ impl Reading {
 
     /// Goes to the next row, or behind the last.
     pub(crate) fn step(&mut self) -> bool
-        ensures { GoesOn self.old self.new result }
+        ensures { Steps self.old self.new result }
     {
         if self.next < self.rows.len() {
             self.current = Some(self.next);
@@ -58,7 +58,7 @@ impl Reading {
 
     // The row at which it stands, with its id.
     fn row(&self) -> Option<&(u64, Row<Global>)>
-        ensures { option_copied result ≡ row_at self.now }
+        ensures { option_copied result ≡ row_of self.now }
     {
         let at = self.current?;
         self.rows.as_slice().get(at)
@@ -66,46 +66,46 @@ impl Reading {
 
     // A value of that row.
     fn value(&self, column: usize) -> Option<&Value<Global>>
-        ensures { option_copied result ≡ value_at self.now column }
+        ensures { option_copied result ≡ value_of self.now column }
     {
         let row = self.row()?;
         row.1.fields().get(column)
     }
 
-    /// Outputs the row's id, or 0 where it has a key.
+    /// Sets `id` to that of the row, or to 0 where it has a key.
     pub(crate) fn set_id(&self, id: &mut u64) -> u32
         ensures { OutputsFound (id_output self.now) result id.old id.new }
     {
         match self.row() {
             Some(row) => {
                 *id = row.0;
-                DONE
+                OK
             }
             None => MISUSE,
         }
     }
 
-    /// Outputs how many columns the row has.
+    /// Sets `columns` to how many the row has.
     pub(crate) fn set_columns(&self, columns: &mut usize) -> u32
         ensures { OutputsFound (columns_output self.now) result columns.old columns.new }
     {
         match self.row() {
             Some(row) => {
                 *columns = row.1.width();
-                DONE
+                OK
             }
             None => MISUSE,
         }
     }
 
-    /// Outputs the value of a column.
+    /// Sets `value` to that of a column.
     pub(crate) fn set_column(&self, column: usize, value: &mut FieldValue) -> u32
         ensures { OutputsFound (column_output self.now column) result value.old value.new }
     {
         match self.value(column) {
             Some(found) => {
                 *value = value_output(Some(found));
-                DONE
+                OK
             }
             None => MISUSE,
         }
