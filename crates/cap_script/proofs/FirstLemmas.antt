@@ -72,10 +72,10 @@ module _ {A : Type 0} where
     before = line ∷ so.before;
     refused = so.refused;
     behind = so.behind;
-    are_lines = line_more so.before so.behind so.refused text line rest cut so.said so.are_lines;
+    are_lines = line_more so.before so.behind so.refused text line rest cut so.not_ignored so.are_lines;
     number = omega (arith, so.number);
     spelled = (so.spelled.0, ignored_more so.spelled.0 line so.before ignored so.spelled.1, so.spelled.2);
-    said = so.said;
+    not_ignored = so.not_ignored;
     none = so.none;
     why = so.why;
   }
@@ -85,10 +85,10 @@ module _ {A : Type 0} where
     before = line ∷ so.before;
     refused = so.refused;
     behind = so.behind;
-    are_lines = line_more so.before so.behind so.refused text line rest cut so.said so.are_lines;
+    are_lines = line_more so.before so.behind so.refused text line rest cut so.not_ignored so.are_lines;
     number = omega (arith, so.number);
     spelled = (made ∷ so.spelled.0, inr (spells, so.spelled.1), (within, so.spelled.2));
-    said = so.said;
+    not_ignored = so.not_ignored;
     none = so.none;
     why = so.why;
   }
@@ -106,7 +106,7 @@ module _ {A : Type 0} where
         are_lines = parts.1;
         number = omega (arith, number);
         spelled = ([], tt, tt);
-        said = said;
+        not_ignored = said;
         none = none;
         why = own;
       }

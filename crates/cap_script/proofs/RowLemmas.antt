@@ -8,7 +8,8 @@ use Rattle.cap_value.specs.declared.value.Value.{Value}
 use Rattle.cap_row.specs.Fields.{Fields}
 use Rattle.cap_table.specs.declared.row_ref.RowRef.{RowRef}
 use Rattle.cap_database.specs.Read.{Lends}
-use Rattle.cap_script.specs.RowText.{more_values, named_row_text, rows_text, value_text}
+use Rattle.cap_show.specs.ShowText.{value_text}
+use Rattle.cap_script.specs.RowText.{more_values, named_row_text, rows_text}
 
 -- the item at a place, and what comes after it
 pub drop-item : {X : Type 0} (xs : List X) (i : ℕ) (x : X) → i < length xs → x ≡ get_or xs i x → drop i xs ≡ x ∷ drop (i + 1) xs
@@ -22,11 +23,8 @@ one_more_at f xs i d old new all lt more so_far =
     ∙ ap (λ ys. old ++ flat_map f ys) (sym rest) ∙ so_far
 
 module _ {A : Type 0} where
-  pub one_more_value : (out comma more : List ℕ) (value : Value A) (rest : Fields A) → comma ≡ out ++ codes "," → more ≡ comma ++ value_text value → more ++ more_values rest ≡ out ++ more_values (value ∷ rest)
-  one_more_value out comma more value rest first second =
-      ap (λ (l : List ℕ). l ++ more_values rest) (second ∙ ap (λ (l : List ℕ). l ++ value_text value) first)
-      ∙ append_assoc (out ++ codes ",") (value_text value) (more_values rest)
-      ∙ append_assoc out (codes ",") (value_text value ++ more_values rest)
+  pub one_more_value : (out more : List ℕ) (value : Value A) (rest : Fields A) → more ≡ out ++ (codes "," ++ value_text value) → more ++ more_values rest ≡ out ++ more_values (value ∷ rest)
+  one_more_value out more value rest is = ap (λ (l : List ℕ). l ++ more_values rest) is ∙ append_assoc out (codes "," ++ value_text value) (more_values rest)
 
   pub one_more_row : (out more : List ℕ) (row : RowRef A × Fields A) (rest : List (RowRef A × Fields A)) → more ≡ out ++ 10 ∷ named_row_text row → more ++ rows_text rest ≡ out ++ rows_text (row ∷ rest)
   one_more_row out more row rest is = ap (λ (l : List ℕ). l ++ rows_text rest) is ∙ append_assoc out (10 ∷ named_row_text row) (rows_text rest)

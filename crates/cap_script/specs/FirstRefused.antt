@@ -33,7 +33,7 @@ module _ (A : Type 0) where
     pub are_lines : AreLines (before ++ refused ∷ behind) text
     pub number : line_of fault ≡ first + length before
     pub spelled : (lines : List (Line A)) × SpellsLines lines before × AreWithinLimits lines
-    pub said : is_ignored refused ≡ false
+    pub not_ignored : is_ignored refused ≡ false
     pub none :
         (line : Line A) → SpellsLine line refused → LeavesLines (Refused fault) (LineWithin line)
     pub why : option_map (in_line (line_of fault) refused) (line_fault A refused) ≡ Some (Refused fault)

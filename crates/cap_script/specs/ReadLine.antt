@@ -20,7 +20,7 @@ IsFound (Some line) text = (is_ignored text ≡ false) × SpellsLine line text �
 -- The line with this number is not ignored, and spells no command, or at a limit none within the limits. The
 -- fault is its own.
 pub record HasFault (A : Type 0) (number : ℕ) (fault : Fault ScriptFault) (text : List ℕ) : Type 0 where
-  pub said : is_ignored text ≡ false
+  pub not_ignored : is_ignored text ≡ false
   pub numbered : MatchFault fault ⊤ (λ why. line_of why ≡ number)
   pub none : (line : Line A) → SpellsLine line text → LeavesLines fault (LineWithin line)
   pub why :

@@ -101,7 +101,7 @@ on_natural judge _ = unfit
 abbrev pub natural : Reading
 natural = next (on_natural (λ n. fits))
 
--- by whether this sign begins here
+-- where this sign begins here, the first reading behind it, and else the other
 abbrev pub by_sign : ℕ → Reading → Reading → Reading
 by_sign s next other [] = other []
 by_sign s next other (byte ∷ rest) = if byte == s then next rest else other (byte ∷ rest)

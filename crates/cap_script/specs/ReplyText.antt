@@ -25,8 +25,7 @@ abbrev pub hex_or_dash : List ℕ → List ℕ
 hex_or_dash [] = codes "-"
 hex_or_dash (byte ∷ bytes) = encode_lower (byte ∷ bytes)
 
--- the version that was made, and how many changes were made, how many were left out, and how many groups were
--- skipped
+-- the version that was made, and how many changes were made and omitted, and how many groups were skipped
 abbrev pub applied_text : ℕ → ReportState → List ℕ
 applied_text version report =
     codes "ok version " ++ (decimal version
@@ -44,8 +43,7 @@ conflict_text conflict =
 abbrev pub number_text : List ℕ → ℕ → List ℕ
 number_text word number = 10 ∷ (word ++ (codes " " ++ decimal number))
 
--- the conflicts, the changes that were left out, and the groups that were skipped, each on a line of its own,
--- after the line before
+-- the conflicts, the omitted changes and the skipped groups, each on a line of its own, after the line before
 abbrev pub report_text : ReportState → List ℕ
 report_text report =
     flat_map conflict_text report.conflicts

@@ -1,33 +1,18 @@
 -- The text of rows.
 use Rattle.std.specs.Prelude.{ℕ, List, [], ◌∷◌, ◌++◌, Option, Some, None, Result, Ok, Err, codes, decimal}
 use Rattle.std.specs.Prelude.{length}
-use Rattle.std.specs.Fmt.{signed_decimal}
-use Rattle.hex.specs.Hex.{encode_lower}
-use Rattle.cap_filter.specs.Printed.{quoted}
 use Rattle.cap_value.specs.declared.refusal.Refusal.{Refusal}
-use Rattle.cap_value.specs.declared.value.Value.{Value}
-use Rattle.cap_value.specs.declared.value.Value.TheVariants.{Null, Int, Text, Blob}
 use Rattle.cap_row.specs.Fields.{Fields}
 use Rattle.cap_table.specs.declared.row_ref.RowRef.{RowRef}
 use Rattle.cap_table.specs.declared.row_ref.RowRef.TheVariants.{Key, Loose}
 use Rattle.cap_database.specs.Snapshot.{SnapshotState}
 use Rattle.cap_database.specs.Read.{read, rows_of}
+use Rattle.cap_show.specs.ShowText.{value_text}
 use Rattle.cap_script.specs.RefusalText.{refusal_text}
 use Rattle.cap_script.specs.declared.line.Show.{Show}
 use Rattle.cap_script.specs.declared.line.Show.TheVariants.{Get, Scan}
 
--- hex digits between quotes, after an `x`
-abbrev pub blob_text : List ℕ → List ℕ
-blob_text bytes = codes "x'" ++ encode_lower bytes ++ codes "'"
-
 module _ {A : Type 0} where
-  -- a value as a workload has it
-  abbrev pub value_text : Value A → List ℕ
-  value_text Null = codes "null"
-  value_text (Int number) = signed_decimal number
-  value_text (Text text) = quoted text
-  value_text (Blob blob) = blob_text blob
-
   -- with a comma before each
   abbrev pub more_values : Fields A → List ℕ
   more_values [] = []

@@ -28,8 +28,7 @@ pub enum Show<A: AllocHandle> {
     Changeset(KeyFlags),
     /// The patchset of a capture, with these key flags.
     Patchset(KeyFlags),
-    /// The outcome of an apply, with its conflicts, the changes that were left out and the groups that were
-    /// skipped.
+    /// The outcome of an apply, with its conflicts, the omitted changes and the skipped groups.
     Report,
 }
 

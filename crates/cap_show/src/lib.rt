@@ -1,4 +1,4 @@
-//! Prints the content of a changeset or a patchset as text, as SQL and as JSON.
+//! Prints values as text, and the content of a changeset or a patchset as text, as SQL and as JSON.
 #![tactic(auto)]
 
 mod json_text;
@@ -9,3 +9,4 @@ mod text;
 pub use json_text::{changeset_json, patchset_json};
 pub use list::{write_changeset, write_patchset};
 pub use sql::{write_changeset_sql, write_patchset_sql};
+pub use text::ValueText;

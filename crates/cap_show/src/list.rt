@@ -1,11 +1,11 @@
 //! Prints changesets and patchsets.
-ghost use Rattle.std.specs.Prelude.{◌≡◌, ◌∷◌, ◌++◌, [], ℕ, List, OnOk, codes};
+ghost use Rattle.std.specs.Prelude.{◌≡◌, ℕ, List, OnOk};
 ghost use Rattle.std.specs.Io.KnownBytes.{Appends};
 ghost use Rattle.std.specs.List.{flat_map};
 ghost use Rattle.cap_show.specs.ShowText as spec;
 
 use crate::text::{DefinedText, RecordText, SchemaText};
-use cap_changes::{ChangeList, Entry, Patch, PatchList, RowChange, TableGroup};
+use cap_changes::{ChangeList, Entry, GroupList, Patch, PatchList, RowChange, TableGroup};
 use cap_value::AllocHandle;
 use std::io;
 use std::io::Write;
@@ -21,18 +21,11 @@ pub fn write_changeset<A: AllocHandle, W: Write>(
     changes: &ChangeList<A>,
     output: &mut W,
 ) -> io::Result<()>
-    // A list without groups is one line.
-    ensures empty { changes.now ≡ [] → OnOk result (Appends (W.contents output.old) (W.contents output.new)
-        (codes "empty" ++ 10 ∷ [])) }
     // Where it is known what the writer holds, it is followed by the text of the list.
     ensures text { OnOk result (Appends (W.contents output.old) (W.contents output.new)
         (spec.changeset_text changes.now)) }
 {
-    if changes.groups().is_empty() {
-        return output.write_all(EMPTY);
-    }
-    writeln!(output, "changeset")?;
-    write_groups::<RowChange<A>, A, W>(changes.groups(), output)
+    write_list::<RowChange<A>, A, W>("changeset", changes, output)
 }
 
 /// Writes a patchset: a line for it, for each group and for each change, or `empty` where it has no group.
@@ -43,18 +36,11 @@ pub fn write_patchset<A: AllocHandle, W: Write>(
     patches: &PatchList<A>,
     output: &mut W,
 ) -> io::Result<()>
-    // A list without groups is one line.
-    ensures empty { patches.now ≡ [] → OnOk result (Appends (W.contents output.old) (W.contents output.new)
-        (codes "empty" ++ 10 ∷ [])) }
     // Where it is known what the writer holds, it is followed by the text of the list.
     ensures text { OnOk result (Appends (W.contents output.old) (W.contents output.new)
         (spec.patchset_text patches.now)) }
 {
-    if patches.groups().is_empty() {
-        return output.write_all(EMPTY);
-    }
-    writeln!(output, "patchset")?;
-    write_groups::<Patch<A>, A, W>(patches.groups(), output)
+    write_list::<Patch<A>, A, W>("patchset", patches, output)
 }
 
 // What a group holds, as a line.
@@ -141,6 +127,22 @@ fn flag_text(indirect: bool) -> &'static str
     ensures { result.now ≡ spec.flag_text indirect }
 {
     if indirect { "indirect" } else { "direct" }
+}
+
+// Writes the line of the list's kind and its groups, or `empty` where it has no group.
+fn write_list<C: TextEntry, A: AllocHandle, W: Write>(
+    kind: &str,
+    list: &GroupList<C, A>,
+    output: &mut W,
+) -> io::Result<()>
+    ensures { OnOk result (Appends (W.contents output.old) (W.contents output.new)
+        (spec.list_text C.text kind.now list.now)) }
+{
+    if list.groups().is_empty() {
+        return output.write_all(EMPTY);
+    }
+    writeln!(output, "{kind}")?;
+    write_groups(list.groups(), output)
 }
 
 fn write_groups<C: TextEntry, A: AllocHandle, W: Write>(

@@ -12,9 +12,10 @@ use cap_value::{AllocHandle, Value};
 use std::fmt;
 use std::fmt::{Display, Formatter, Write};
 
-// A value as text: `null`, decimal digits, a quoted text, or the hex digits of a blob.
+/// A value as text: `null`, decimal digits, a text between `'` with each `'` in it doubled, or the lower case
+/// hex digits of a blob between `x'` and `'`. The error is the writer's.
 #[derive(Drop)]
-pub(crate) struct ValueText<'a, A: AllocHandle>(pub(crate) &'a Value<A>);
+pub struct ValueText<'a, A: AllocHandle>(pub &'a Value<A>);
 
 impl<'a, A: AllocHandle> Display for ValueText<'a, A> {
     ghost use Rattle.std.specs.Prelude.{Some};
