@@ -26,8 +26,8 @@ MadeWhere P None Q = P → ⊥
 MadeWhere P (Some made) Q = P × Q made
 
 module _ {A : Type 0} where
-  -- what a legal history leaves, each blob of which fits its tables
-  pub record Stands (h : List (Event A)) (core : State A) : Type 0 where
+  -- The history is legal, each of its blobs fits its tables, and it leaves this core.
+  pub record IsLeftBy (h : List (Event A)) (core : State A) : Type 0 where
     pub legal : IsLegal h
     pub fits : BlobsFit h
     pub is : state h ≡ core
