@@ -35,7 +35,7 @@ use Rattle.cap_core.proofs.NextLemmas.{events-state}
 use Rattle.cap_core.proofs.NumberLemmas.{same_number}
 use Rattle.cap_captures.specs.Captures.{AreUnrestarted, HasCaptureOver, capture_over, session_over, without_restart}
 use Rattle.cap_captures.specs.declared.parts.Part.{Part}
-use Rattle.cap_captures.specs.Parts.{AreAccepted, CanBeInParts, IsCommit, IsInParts, IsLeftBy, MadeWhere}
+use Rattle.cap_captures.specs.Parts.{AreAccepted, CanBeInParts, IsCapture, IsCommit, IsInParts, IsLeftBy, MadeWhere}
 use Rattle.cap_captures.proofs.AcceptedLemmas.{after-two, all-accepted, can-be, first-accepted, in_one, in_two_parts, later-accepted, two-of, with-two}
 
 -- ---- what is made, where something is
@@ -91,6 +91,10 @@ module _ {A : Type 0} where
   no-room h core stands events is many room = let same = events-are h core stands in omega arith
 
   -- ---- a commit, and a command after it
+
+  pub if-capture : {T E : Type 0} (command : Command A) (Q : T → Type 0) (r : Result T E) → IfOk r (λ made. IsCapture command → Q made) → IsCapture command → IfOk r Q
+  if-capture command Q (Ok made) all is = all is
+  if-capture command Q (Err why) all is = tt
 
   pub with-commit : {T E : Type 0} (core left : State A) (commit command : Command A) (Q : List (Event A) → T → Type 0) (r : Result (Option T) E)
       → ((h : List (Event A)) → IsLeftBy h core → (IsCommit commit × AreAccepted h (commit ∷ [])) × ((version : ℕ) × IsLeftBy (h ++ event_by 0 commit (reply.Written version) ∷ []) left))

@@ -12,8 +12,8 @@ ghost use Rattle.cap_core.specs.declared.event.Event.{Event};
 ghost use Rattle.cap_core.specs.declared.reply.Reply.TheVariants as reply;
 ghost use Rattle.cap_core.specs.Answer.{State, event_by};
 ghost use Rattle.cap_core.specs.Past.{HasRoom};
-ghost use Rattle.cap_captures.specs.Parts.{AreAccepted, CanBeInParts, IsCommit, IsInParts, IsLeftBy};
-ghost use Rattle.cap_captures.specs.Parts.{MadeWhere};
+ghost use Rattle.cap_captures.specs.Parts.{AreAccepted, CanBeInParts, IsCapture, IsCommit, IsInParts};
+ghost use Rattle.cap_captures.specs.Parts.{IsLeftBy, MadeWhere};
 
 use crate::laws::{
     captures_in_a_row_are_the_one_capture, the_concatenation_applies_as_its_captures,
@@ -116,28 +116,16 @@ fn carried_out<A: AllocHandle>(
     answered_by(core, &command)
 }
 
-// Captures a session.
-fn captured<A: AllocHandle>(core: &Core<A>, session: u64) -> Result<Option<Part<A>>, OutOfMemory>
-    ensures { IfOk result (λ made. (h : List (Event A)) → IsLeftBy h core.now →
-        MadeWhere (AreAccepted h (command.Capture session ∷ [])) made
-        (λ p. IsLeftBy (h ++ event_by 0 (command.Capture session) (reply.Capture p.capture) ∷ []) p.core)) }
+// Carries out a capture or a restart of a session.
+fn captured_by<A: AllocHandle>(
+    core: &Core<A>,
+    command: Command<A>,
+) -> Result<Option<Part<A>>, OutOfMemory>
+    ensures { IfOk result (λ made. IsCapture command → (h : List (Event A)) → IsLeftBy h core.now →
+        MadeWhere (AreAccepted h (command ∷ [])) made
+        (λ p. IsLeftBy (h ++ event_by 0 command (reply.Capture p.capture) ∷ []) p.core)) }
 {
-    let Some(Answered { core, reply }) = carried_out(core, Command::Capture { session })? else {
-        return Ok(None);
-    };
-    match reply {
-        Reply::Capture(capture) => Ok(Some(Part { core, capture })),
-        _ => Ok(None),
-    }
-}
-
-// Restarts a session.
-fn restarted<A: AllocHandle>(core: &Core<A>, session: u64) -> Result<Option<Part<A>>, OutOfMemory>
-    ensures { IfOk result (λ made. (h : List (Event A)) → IsLeftBy h core.now →
-        MadeWhere (AreAccepted h (command.Restart session ∷ [])) made
-        (λ p. IsLeftBy (h ++ event_by 0 (command.Restart session) (reply.Capture p.capture) ∷ []) p.core)) }
-{
-    let Some(Answered { core, reply }) = carried_out(core, Command::Restart { session })? else {
+    let Some(Answered { core, reply }) = carried_out(core, command)? else {
         return Ok(None);
     };
     match reply {
@@ -198,7 +186,7 @@ fn enabled<A: AllocHandle>(core: &Core<A>, session: u64) -> Result<Option<Core<A
     let Some(core) = switched_on(core, session)? else {
         return Ok(None);
     };
-    match restarted(&core, session)? {
+    match captured_by(&core, Command::Restart { session })? {
         Some(Part { core, capture: _ }) => Ok(Some(core)),
         None => Ok(None),
     }
@@ -216,7 +204,7 @@ fn restarted_part<A: AllocHandle>(
         ++ event_by 0 (command.Restart session) (reply.Capture p.capture) ∷ []) p.core)) }
 {
     match committed(core, commit)? {
-        Some(core) => restarted(&core, session),
+        Some(core) => captured_by(&core, Command::Restart { session }),
         None => Ok(None),
     }
 }
@@ -233,7 +221,7 @@ fn captured_part<A: AllocHandle>(
         ++ event_by 0 (command.Capture session) (reply.Capture p.capture) ∷ []) p.core)) }
 {
     match committed(core, commit)? {
-        Some(core) => captured(&core, session),
+        Some(core) => captured_by(&core, Command::Capture { session }),
         None => Ok(None),
     }
 }
@@ -261,7 +249,7 @@ fn captured_whole<A: AllocHandle>(
     let Some(two) = captured_part(&one.core, session, second)? else {
         return Ok(None);
     };
-    match captured(&two.core, session)? {
+    match captured_by(&two.core, Command::Capture { session })? {
         Some(Part { core: _, capture }) => Ok(Some(capture)),
         None => Ok(None),
     }
