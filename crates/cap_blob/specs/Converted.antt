@@ -10,36 +10,36 @@ use Rattle.cap_codec.specs.declared.fault.BlobFault.{BlobFault}
 use Rattle.cap_codec.specs.declared.key_flags.KeyFlags.{KeyFlags}
 use Rattle.cap_codec.specs.declared.read.Contents.{Contents}
 use Rattle.cap_codec.specs.declared.read.Contents.TheVariants.{Changes, Patches}
-use Rattle.cap_blob.specs.Conversion.{converted_list}
-use Rattle.cap_blob.specs.declared.conversion.Conversion.{Conversion}
-use Rattle.cap_blob.specs.declared.refusal.BytesRefusal.{BytesRefusal}
-use Rattle.cap_blob.specs.declared.refusal.BytesRefusal.TheVariants.{Malformed, Patchset}
+use Rattle.cap_blob.specs.Target.{converted_list}
+use Rattle.cap_blob.specs.declared.target.Target.{Target}
+use Rattle.cap_blob.specs.declared.refusal.ChangesetRefusal.{ChangesetRefusal}
+use Rattle.cap_blob.specs.declared.refusal.ChangesetRefusal.TheVariants.{Malformed, Patchset}
 
 module _ (A : Type 0) where
   -- the list of a changeset that was read
-  abbrev pub changes_in : Result (Contents A) BlobFault → Result (List (TableChanges A)) BytesRefusal
+  abbrev pub changes_in : Result (Contents A) BlobFault → Result (List (TableChanges A)) ChangesetRefusal
   changes_in (Ok (Changes list)) = Ok list
   changes_in (Ok (Patches list)) = Err Patchset
   changes_in (Err fault) = Err (Malformed fault)
 
-  abbrev pub changes_at : List ℕ → Result (List (TableChanges A)) BytesRefusal
+  abbrev pub changes_at : List ℕ → Result (List (TableChanges A)) ChangesetRefusal
   changes_at bytes = changes_in (blob_at bytes)
 
-  abbrev pub written : (List (TableChanges A) → List ℕ) → Result (List (TableChanges A)) BytesRefusal →
-      Result (List ℕ) BytesRefusal
+  abbrev pub written : (List (TableChanges A) → List ℕ) → Result (List (TableChanges A)) ChangesetRefusal →
+      Result (List ℕ) ChangesetRefusal
   written bytes (Ok list) = Ok (bytes list)
   written bytes (Err why) = Err why
 
-  -- what is made of the changeset that these bytes are
-  abbrev pub converted_at : KeyFlags → Conversion → List ℕ → Result (List ℕ) BytesRefusal
-  converted_at key_flags conversion bytes = written (converted_list key_flags conversion) (changes_at bytes)
+  -- the bytes that the changeset with these bytes is converted to
+  abbrev pub target_at : Target → KeyFlags → List ℕ → Result (List ℕ) ChangesetRefusal
+  target_at target key_flags bytes = written (converted_list key_flags target) (changes_at bytes)
 
   -- the bytes of the inverse of the changeset that these are
-  abbrev pub inverse_at : KeyFlags → List ℕ → Result (List ℕ) BytesRefusal
+  abbrev pub inverse_at : KeyFlags → List ℕ → Result (List ℕ) ChangesetRefusal
   inverse_at key_flags bytes =
       written (λ list. list_bytes_with key_flags (inverse_list_of list)) (changes_at bytes)
 
   -- the bytes of its patchset
-  abbrev pub patchset_at : KeyFlags → List ℕ → Result (List ℕ) BytesRefusal
+  abbrev pub patchset_at : KeyFlags → List ℕ → Result (List ℕ) ChangesetRefusal
   patchset_at key_flags bytes =
       written (λ list. patch_list_bytes_with key_flags (patch_list_of list)) (changes_at bytes)

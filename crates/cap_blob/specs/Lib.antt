@@ -1,3 +1,3 @@
-pub mod Conversion
+pub mod Target
 pub mod Converted
 pub mod Passing

@@ -10,64 +10,33 @@ ghost use Rattle.cap_codec.specs.FirstByte.{first_fault};
 ghost use Rattle.cap_codec.specs.Patchset.{patch_list_bytes_with};
 ghost use Rattle.cap_codec.specs.Spelling.{Spells};
 ghost use Rattle.cap_codec.specs.declared.read.Contents.TheVariants.{Changes};
-ghost use Rattle.cap_blob.specs.Converted.{changes_at, converted_at, inverse_at, patchset_at};
+ghost use Rattle.cap_blob.specs.Converted.{changes_at, inverse_at, patchset_at, target_at};
 ghost use Rattle.cap_blob.specs.Passing.{begins_changeset};
-ghost use Rattle.cap_blob.specs.declared.refusal.BytesRefusal.TheVariants.{Malformed};
+ghost use Rattle.cap_blob.specs.Target.{converted_list};
+ghost use Rattle.cap_blob.specs.declared.refusal.ChangesetRefusal.TheVariants.{Malformed};
 
-use crate::BytesRefusal;
-use crate::conversion::Conversion;
 use crate::group::convert_groups;
+use crate::{ChangesetRefusal, Target};
 use cap_changes::ChangeList;
 use cap_codec::{CHANGESET, Contents, KeyFlags, read_blob};
 use cap_value::{AllocHandle, Fault};
 
-/// The bytes of the inverse of a changeset, written with these key flags (The Session Extension,
-/// "sqlite3changeset_invert"). SQLite applies a group with a key of several columns only where they are
-/// `KeyFlags::Places`.
+/// The bytes of what a changeset is converted to, its inverse or its patchset, written with these key flags.
+/// SQLite applies a group with a key of several columns only where they are `KeyFlags::Places`.
 ///
 /// Refused with `Malformed` where the bytes are no blob, and with `Patchset` where they are a patchset.
-pub fn invert_bytes<A: AllocHandle>(
+pub fn convert_bytes<A: AllocHandle>(
     alloc: A,
+    target: Target,
     key_flags: KeyFlags,
     bytes: &[u8],
-) -> Result<Vec<u8, A>, Fault<BytesRefusal>>
-    // The inverse of the list that the bytes spell is written.
-    ensures inverse { IfOk result (λ out. (list : List (TableChanges A)) × Spells (Changes list) bytes.now
-        × (out.items ≡ list_bytes_with key_flags (inverse_list_of list))) }
+) -> Result<Vec<u8, A>, Fault<ChangesetRefusal>>
+    // The list that the bytes spell is converted.
+    ensures written { IfOk result (λ out. (list : List (TableChanges A)) × Spells (Changes list) bytes.now
+        × (out.items ≡ converted_list key_flags target list)) }
     // Which bytes, or which refusal.
-    ensures answers { ShowsUnlessMemory (λ out. out.items) result (inverse_at A key_flags bytes.now) }
+    ensures answers { ShowsUnlessMemory (λ out. out.items) result (target_at A target key_flags bytes.now) }
     // A first byte that begins no group is refused without memory.
-    ensures first { RefusesFirst (option_map Malformed (first_fault bytes.now)) result }
-{
-    convert(alloc, Conversion::Inverse, key_flags, bytes)
-}
-
-/// The bytes of the patchset of a changeset, written with these key flags (The Session Extension,
-/// "sqlite3session_patchset"), with the refusals of `invert_bytes`.
-pub fn patchset_bytes<A: AllocHandle>(
-    alloc: A,
-    key_flags: KeyFlags,
-    bytes: &[u8],
-) -> Result<Vec<u8, A>, Fault<BytesRefusal>>
-    // The patchset of the list that the bytes spell is written.
-    ensures patchset { IfOk result (λ out. (list : List (TableChanges A)) × Spells (Changes list) bytes.now
-        × (out.items ≡ patch_list_bytes_with key_flags (patch_list_of list))) }
-    // Which bytes, or which refusal.
-    ensures answers { ShowsUnlessMemory (λ out. out.items) result (patchset_at A key_flags bytes.now) }
-    // A first byte that begins no group is refused without memory.
-    ensures first { RefusesFirst (option_map Malformed (first_fault bytes.now)) result }
-{
-    convert(alloc, Conversion::Patchset, key_flags, bytes)
-}
-
-fn convert<A: AllocHandle>(
-    alloc: A,
-    conversion: Conversion,
-    key_flags: KeyFlags,
-    bytes: &[u8],
-) -> Result<Vec<u8, A>, Fault<BytesRefusal>>
-    ensures answers { ShowsUnlessMemory (λ out. out.items) result
-        (converted_at A key_flags conversion bytes.now) }
     ensures first { RefusesFirst (option_map Malformed (first_fault bytes.now)) result }
 {
     if !begins_changeset(bytes) {
@@ -77,11 +46,47 @@ fn convert<A: AllocHandle>(
     }
     // What is written is at most as long as what is read.
     let mut out = Vec::with_capacity(alloc, bytes.len())?;
-    match convert_groups(alloc, &mut out, conversion, key_flags, bytes.len(), bytes) {
+    match convert_groups(alloc, &mut out, target, key_flags, bytes.len(), bytes) {
         Ok(()) => Ok(out),
-        Err(Fault::Refused(fault)) => Err(Fault::Refused(BytesRefusal::Malformed(fault))),
+        Err(Fault::Refused(fault)) => Err(Fault::Refused(ChangesetRefusal::Malformed(fault))),
         Err(Fault::OutOfMemory) => Err(Fault::OutOfMemory),
     }
+}
+
+/// The bytes of the inverse of a changeset, with the key flags and the refusals of `convert_bytes` (The
+/// Session Extension, "sqlite3changeset_invert").
+pub fn invert_bytes<A: AllocHandle>(
+    alloc: A,
+    key_flags: KeyFlags,
+    bytes: &[u8],
+) -> Result<Vec<u8, A>, Fault<ChangesetRefusal>>
+    // The inverse of the list that the bytes spell is written.
+    ensures inverse { IfOk result (λ out. (list : List (TableChanges A)) × Spells (Changes list) bytes.now
+        × (out.items ≡ list_bytes_with key_flags (inverse_list_of list))) }
+    // Which bytes, or which refusal.
+    ensures answers { ShowsUnlessMemory (λ out. out.items) result (inverse_at A key_flags bytes.now) }
+    // A first byte that begins no group is refused without memory.
+    ensures first { RefusesFirst (option_map Malformed (first_fault bytes.now)) result }
+{
+    convert_bytes(alloc, Target::Inverse, key_flags, bytes)
+}
+
+/// The bytes of the patchset of a changeset, with the key flags and the refusals of `convert_bytes` (The
+/// Session Extension, "sqlite3session_patchset").
+pub fn patchset_bytes<A: AllocHandle>(
+    alloc: A,
+    key_flags: KeyFlags,
+    bytes: &[u8],
+) -> Result<Vec<u8, A>, Fault<ChangesetRefusal>>
+    // The patchset of the list that the bytes spell is written.
+    ensures patchset { IfOk result (λ out. (list : List (TableChanges A)) × Spells (Changes list) bytes.now
+        × (out.items ≡ patch_list_bytes_with key_flags (patch_list_of list))) }
+    // Which bytes, or which refusal.
+    ensures answers { ShowsUnlessMemory (λ out. out.items) result (patchset_at A key_flags bytes.now) }
+    // A first byte that begins no group is refused without memory.
+    ensures first { RefusesFirst (option_map Malformed (first_fault bytes.now)) result }
+{
+    convert_bytes(alloc, Target::Patchset, key_flags, bytes)
 }
 
 // Whether these bytes begin with a group of a changeset.
@@ -98,14 +103,14 @@ fn begins_changeset(bytes: &[u8]) -> bool
 fn read_changes<A: AllocHandle>(
     alloc: A,
     bytes: &[u8],
-) -> Result<ChangeList<A>, Fault<BytesRefusal>>
+) -> Result<ChangeList<A>, Fault<ChangesetRefusal>>
     ensures answers { ShowsUnlessMemory (λ list. list) result (changes_at A bytes.now) }
     ensures first { RefusesFirst (option_map Malformed (first_fault bytes.now)) result }
 {
     match read_blob(alloc, bytes) {
         Ok(Contents::Changes(list)) => Ok(list),
-        Ok(Contents::Patches(_)) => Err(Fault::Refused(BytesRefusal::Patchset)),
-        Err(Fault::Refused(why)) => Err(Fault::Refused(BytesRefusal::Malformed(why))),
+        Ok(Contents::Patches(_)) => Err(Fault::Refused(ChangesetRefusal::Patchset)),
+        Err(Fault::Refused(why)) => Err(Fault::Refused(ChangesetRefusal::Malformed(why))),
         Err(Fault::OutOfMemory) => Err(Fault::OutOfMemory),
     }
 }

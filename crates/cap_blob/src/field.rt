@@ -10,8 +10,8 @@ use cap_changes::FieldRequirement;
 use cap_codec::{BlobFault, place_of, take_field, take_varint};
 use cap_value::AllocHandle;
 
-/// The type byte of a field that is not defined.
-pub const UNDEFINED: u8 = 0x00;
+// The type byte of a field that is not defined.
+pub(crate) const UNDEFINED: u8 = 0x00;
 // The type bytes of the fields that have more than that byte.
 const INTEGER: u8 = 0x01;
 
@@ -19,16 +19,16 @@ const TEXT: u8 = 0x03;
 
 const BLOB: u8 = 0x04;
 
-/// The bytes before `rest`, the last ones of these.
-pub fn before<'a>(bytes: &'a [u8], rest: &[u8]) -> &'a [u8]
+// The bytes before `rest`, the last ones of these.
+pub(crate) fn before<'a>(bytes: &'a [u8], rest: &[u8]) -> &'a [u8]
     requires { length rest.now ≤ length bytes.now }
     ensures { result.now ≡ take (length bytes.now - length rest.now) bytes.now }
 {
     &bytes[..bytes.len() - rest.len()]
 }
 
-/// The bytes behind a field with this requirement.
-pub fn pass_field<'a, A: AllocHandle>(
+// The bytes behind a field with this requirement.
+pub(crate) fn pass_field<'a, A: AllocHandle>(
     total: usize,
     requirement: FieldRequirement,
     bytes: &'a [u8],
@@ -73,8 +73,8 @@ fn behind_content<'a, A: AllocHandle>(
     }
 }
 
-/// The bytes behind a field that is known to be there. A text is not looked at again.
-pub fn behind_field<'a, A: AllocHandle>(total: usize, bytes: &'a [u8]) -> &'a [u8]
+// The bytes behind a field that is known to be there. A text is not looked at again.
+pub(crate) fn behind_field<'a, A: AllocHandle>(total: usize, bytes: &'a [u8]) -> &'a [u8]
     requires { IsOk (field_at {A = A} total Any bytes.now) }
     ensures reads { behind (field_at {A = A} total Any bytes.now) ≡ Ok result.now }
     ensures behind { length result.now ≤ length bytes.now }

@@ -1,12 +1,14 @@
 //! Whole blobs, from bytes to bytes: the inverse and the patchset of a changeset.
 #![tactic(auto)]
 
-mod conversion;
+mod change;
 mod convert;
 mod field;
 mod group;
 mod record;
 mod refusal;
+mod target;
 
-pub use convert::{invert_bytes, patchset_bytes};
-pub use refusal::BytesRefusal;
+pub use convert::{convert_bytes, invert_bytes, patchset_bytes};
+pub use refusal::ChangesetRefusal;
+pub use target::Target;

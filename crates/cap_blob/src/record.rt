@@ -20,8 +20,8 @@ use cap_changes::{FieldRequirement, RecordKind};
 use cap_codec::BlobFault;
 use cap_value::{AllocHandle, Fault, OutOfMemory};
 
-/// The bytes behind a record of this kind.
-pub fn pass_record<'a, A: AllocHandle>(
+// The bytes behind a record of this kind.
+pub(crate) fn pass_record<'a, A: AllocHandle>(
     total: usize,
     record_kind: RecordKind,
     flags: &[u8],
@@ -45,8 +45,8 @@ fn push<A: AllocHandle>(out: &mut Vec<u8, A>, bytes: &[u8]) -> Result<(), OutOfM
     Ok(())
 }
 
-/// Appends a record in which every field is defined, and answers the bytes behind it.
-pub fn push_full<'a, A: AllocHandle>(
+// Appends a record in which every field is defined, and answers the bytes behind it.
+pub(crate) fn push_full<'a, A: AllocHandle>(
     out: &mut Vec<u8, A>,
     total: usize,
     flags: &[u8],
@@ -69,8 +69,8 @@ fn by_key<'a>(key: bool, first: &'a [u8], second: &'a [u8]) -> &'a [u8]
     if key { first } else { second }
 }
 
-/// Appends the key fields of a record in which every field is defined, and answers the bytes behind it.
-pub fn push_key<'a, A: AllocHandle>(
+// Appends the key fields of a record in which every field is defined, and answers the bytes behind it.
+pub(crate) fn push_key<'a, A: AllocHandle>(
     out: &mut Vec<u8, A>,
     total: usize,
     flags: &[u8],
@@ -114,9 +114,9 @@ fn requirement_beside<A: AllocHandle>(total: usize, key: bool, old: &[u8]) -> Fi
     }
 }
 
-/// Appends the key fields of the old record of an UPDATE, and the other fields of its new record. Answers the
-/// bytes behind the new record.
-pub fn push_merged<'a, A: AllocHandle>(
+// Appends the key fields of the old record of an UPDATE, and the other fields of its new record. Answers the
+// bytes behind the new record.
+pub(crate) fn push_merged<'a, A: AllocHandle>(
     out: &mut Vec<u8, A>,
     total: usize,
     flags: &[u8],
@@ -142,8 +142,8 @@ pub fn push_merged<'a, A: AllocHandle>(
     Ok(rest)
 }
 
-/// Appends the old record of an UPDATE without its key fields.
-pub fn push_others<A: AllocHandle>(
+// Appends the old record of an UPDATE without its key fields.
+pub(crate) fn push_others<A: AllocHandle>(
     out: &mut Vec<u8, A>,
     total: usize,
     flags: &[u8],

@@ -1,10 +1,10 @@
-//! Why bytes have no inverse and no patchset.
+//! Why bytes are no changeset.
 use cap_codec::BlobFault;
 use thiserror::Error;
 
-/// Why bytes have no inverse and no patchset.
+/// Why bytes are no changeset.
 #[derive(Clone, Copy, Debug, PartialEq, Eq, Drop, Error)]
-pub enum BytesRefusal {
+pub enum ChangesetRefusal {
     /// The bytes are no blob.
     #[error("{0}")]
     Malformed(BlobFault),

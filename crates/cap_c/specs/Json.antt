@@ -1,8 +1,8 @@
 -- Blobs as JSON, from bytes to bytes.
 use Rattle.std.specs.Prelude.{ℕ, List, Result}
 use Rattle.std.specs.Result.{result_map_both}
-use Rattle.cap_blob.specs.declared.refusal.BytesRefusal.{BytesRefusal}
-use Rattle.cap_blob.specs.declared.refusal.BytesRefusal.TheVariants.{Malformed}
+use Rattle.cap_blob.specs.declared.refusal.ChangesetRefusal.{ChangesetRefusal}
+use Rattle.cap_blob.specs.declared.refusal.ChangesetRefusal.TheVariants.{Malformed}
 use Rattle.cap_codec.specs.BlobReading.{blob_at}
 use Rattle.cap_codec.specs.declared.read.Contents.{Contents}
 use Rattle.cap_codec.specs.declared.read.Contents.TheVariants.{Changes, Patches}
@@ -14,5 +14,5 @@ module _ (A : Type 0) where
   json_of (Patches groups) = list_text patch groups
 
   -- the text of the blob that these bytes are
-  abbrev pub json_at : List ℕ → Result (List ℕ) BytesRefusal
+  abbrev pub json_at : List ℕ → Result (List ℕ) ChangesetRefusal
   json_at bytes = result_map_both json_of Malformed (blob_at {A = A} bytes)

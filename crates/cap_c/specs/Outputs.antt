@@ -3,8 +3,8 @@ use Rattle.std.specs.Prelude.{◌≡◌, ◌≤◌, ◌<◌, ℕ, pos, List, [],
 use Rattle.std.specs.Prelude.{Option, Some, None, Result, Ok, Err}
 use Rattle.cap_value.specs.declared.value.Value.{Value}
 use Rattle.cap_value.specs.declared.value.Value.TheVariants.{Null, Int, Text, Blob}
-use Rattle.cap_blob.specs.declared.refusal.BytesRefusal.{BytesRefusal}
-use Rattle.cap_blob.specs.declared.refusal.BytesRefusal.TheVariants.{Malformed, Patchset}
+use Rattle.cap_blob.specs.declared.refusal.ChangesetRefusal.{ChangesetRefusal}
+use Rattle.cap_blob.specs.declared.refusal.ChangesetRefusal.TheVariants.{Malformed, Patchset}
 use Rattle.cap_group.specs.declared.refusal.BlobRefusal.{BlobRefusal}
 use Rattle.cap_group.specs.declared.refusal.BlobRefusal.TheVariants as not_added
 use Rattle.cap_group.specs.declared.refusal.ConcatRefusal.{ConcatRefusal}
@@ -25,7 +25,7 @@ pub record Writes (bytes : List ℕ) (status : ℕ) (old new : List ℕ) (len : 
   pub kept : ¬ (status ≡ OK) → new ≡ old
 
 -- The same of an answer that may be a refusal: nothing is written for it, and the fault is set.
-abbrev pub Outputs : Result (List ℕ) BytesRefusal → ℕ → List ℕ → List ℕ → ℕ → PlacedFault → Type 0
+abbrev pub Outputs : Result (List ℕ) ChangesetRefusal → ℕ → List ℕ → List ℕ → ℕ → PlacedFault → Type 0
 Outputs (Ok bytes) status old new len fault = Writes bytes status old new len
 Outputs (Err (Malformed wrong)) status old new len fault = (new ≡ old) × (fault ≡ placed wrong)
 Outputs (Err Patchset) status old new len fault = new ≡ old

@@ -1,7 +1,7 @@
 -- The status of each answer.
 use Rattle.std.specs.Prelude.{◌≡◌, ℕ, List, length, nat_lt, Result, Ok, Err, if◌then◌else◌}
-use Rattle.cap_blob.specs.declared.refusal.BytesRefusal.{BytesRefusal}
-use Rattle.cap_blob.specs.declared.refusal.BytesRefusal.TheVariants as refused
+use Rattle.cap_blob.specs.declared.refusal.ChangesetRefusal.{ChangesetRefusal}
+use Rattle.cap_blob.specs.declared.refusal.ChangesetRefusal.TheVariants as refused
 use Rattle.cap_codec.specs.declared.fault.BlobFault.{BlobFault}
 use Rattle.cap_group.specs.declared.refusal.BlobRefusal.{BlobRefusal}
 use Rattle.cap_group.specs.declared.refusal.BlobRefusal.TheVariants as not_added
@@ -20,7 +20,7 @@ abbrev pub room_status : ℕ → ℕ → ℕ
 room_status len room = if nat_lt room len then ROOM else OK
 
 -- of bytes asked for, or of their refusal
-abbrev pub bytes_status : Result (List ℕ) BytesRefusal → ℕ → ℕ
+abbrev pub bytes_status : Result (List ℕ) ChangesetRefusal → ℕ → ℕ
 bytes_status (Ok bytes) room = room_status (length bytes) room
 bytes_status (Err (refused.Malformed fault)) room = MALFORMED
 bytes_status (Err refused.Patchset) room = PATCHSET

@@ -8,7 +8,7 @@ ghost use Rattle.cap_c.specs.declared.status.TheConstants.{NOMEM, OK};
 
 use crate::fault::PlacedFault;
 use crate::output::set_bytes;
-use cap_blob::BytesRefusal;
+use cap_blob::ChangesetRefusal;
 use cap_codec::{Contents, read_blob};
 use cap_show::{changeset_json, patchset_json};
 use cap_value::{Fault, OutOfMemory};
@@ -35,12 +35,12 @@ pub extern "C" fn changecap_json(
     set_bytes(json_bytes(alloc, blob), out, len, fault)
 }
 
-fn json_bytes(alloc: Global, blob: &[u8]) -> Result<Vec<u8, Global>, Fault<BytesRefusal>>
+fn json_bytes(alloc: Global, blob: &[u8]) -> Result<Vec<u8, Global>, Fault<ChangesetRefusal>>
     ensures { ShowsUnlessMemory (λ text. text.items) result (json_at Global blob.now) }
 {
     match read_blob(alloc, blob) {
         Ok(contents) => Ok(contents_json(alloc, &contents)?),
-        Err(Fault::Refused(wrong)) => Err(Fault::Refused(BytesRefusal::Malformed(wrong))),
+        Err(Fault::Refused(wrong)) => Err(Fault::Refused(ChangesetRefusal::Malformed(wrong))),
         Err(Fault::OutOfMemory) => Err(Fault::OutOfMemory),
     }
 }

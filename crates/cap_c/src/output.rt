@@ -1,14 +1,14 @@
 //! Bytes, written to the caller's buffer.
 ghost use Rattle.std.specs.Prelude.{◌≡◌, ℕ, List, Result, length};
 ghost use Rattle.cap_value.specs.Memory.{ShowsUnlessMemory};
-ghost use Rattle.cap_blob.specs.declared.refusal.BytesRefusal.{BytesRefusal as Refused};
+ghost use Rattle.cap_blob.specs.declared.refusal.ChangesetRefusal.{ChangesetRefusal as Refused};
 ghost use Rattle.cap_c.specs.Status.{IsUnlessMemory, bytes_status, room_status};
 ghost use Rattle.cap_c.specs.Outputs.{Outputs, Writes, begins_with};
 ghost use Rattle.cap_c.specs.declared.status.TheConstants.{NOMEM, OK};
 
 use crate::fault::PlacedFault;
 use crate::status::{MALFORMED, NOMEM, OK, PATCHSET, ROOM};
-use cap_blob::BytesRefusal;
+use cap_blob::ChangesetRefusal;
 use cap_value::Fault;
 use std::alloc::Global;
 
@@ -29,7 +29,7 @@ pub(crate) fn write_bytes(bytes: &[u8], out: &mut [u8], len: &mut usize) -> u32
 
 /// Writes the bytes that were asked for, or sets the fault where there are none.
 pub(crate) fn set_bytes(
-    answer: Result<Vec<u8, Global>, Fault<BytesRefusal>>,
+    answer: Result<Vec<u8, Global>, Fault<ChangesetRefusal>>,
     out: &mut [u8],
     len: &mut usize,
     fault: &mut PlacedFault,
@@ -45,11 +45,11 @@ pub(crate) fn set_bytes(
 {
     match answer {
         Ok(bytes) => write_bytes(bytes.as_slice(), out, len),
-        Err(Fault::Refused(BytesRefusal::Malformed(wrong))) => {
+        Err(Fault::Refused(ChangesetRefusal::Malformed(wrong))) => {
             *fault = PlacedFault::of(wrong);
             MALFORMED
         }
-        Err(Fault::Refused(BytesRefusal::Patchset)) => PATCHSET,
+        Err(Fault::Refused(ChangesetRefusal::Patchset)) => PATCHSET,
         Err(Fault::OutOfMemory) => NOMEM,
     }
 }

@@ -1,6 +1,6 @@
 -- When all commands of captures in two parts are accepted: where the session is there, the two commits are
 -- accepted one after the other, and seven events have room.
-use Rattle.std.proofs.Common.{◌≡◌, ℕ, ◌+◌, ◌<◌, ◌^◌, Bool, true, false, cond, Option, Some, None, Result, Ok, Err, List, [], ◌∷◌, ◌++◌, refl, sym, ap, subst, ◌∙◌, arith, nat_eq}
+use Rattle.std.proofs.Common.{◌≡◌, ◌⊎◌, inl, inr, ℕ, ◌+◌, ◌<◌, ◌^◌, Bool, true, false, cond, Option, Some, None, Result, Ok, Err, List, [], ◌∷◌, ◌++◌, refl, sym, ap, subst, ◌∙◌, arith, nat_eq}
 use Rattle.std.specs.Prelude.{is_some, length, map, reverse}
 use Rattle.std.specs.Map.{lookup}
 use Rattle.std.proofs.lemmas.List.{length-reverse, reverse-append}
@@ -26,7 +26,7 @@ use Rattle.cap_core.specs.Outcome.{commit_unless, made}
 use Rattle.cap_core.specs.Past.{HasRoom, Past, is_accepted}
 use Rattle.cap_core.specs.Session.{session_of}
 use Rattle.cap_core.proofs.CommitLemmas.{was-answered, was-legal}
-use Rattle.cap_captures.specs.Parts.{AreAccepted, CanBeInParts, IsCommit}
+use Rattle.cap_captures.specs.Parts.{AreAccepted, CanBeInParts, IsCapture, IsCommit}
 
 module _ {A : Type 0} where
   -- the commands that give the two captures
@@ -139,13 +139,18 @@ module _ {A : Type 0} where
 
   -- the same after a history
   module _ (h : List (Event A)) (session : ℕ) where
-    pub a-capture : is_accepted (reply_of h (Capture session)) ≡ true → (list : List (TableChanges A)) × (reply_of h (Capture session) ≡ reply.Capture list)
+    one-capture : is_accepted (reply_of h (Capture session)) ≡ true → (list : List (TableChanges A)) × (reply_of h (Capture session) ≡ reply.Capture list)
     unfolding reply_of
-    a-capture accepted = captures (state h) session (there-captured (state h) session accepted)
+    one-capture accepted = captures (state h) session (there-captured (state h) session accepted)
 
-    pub a-restart : is_accepted (reply_of h (Restart session)) ≡ true → (list : List (TableChanges A)) × (reply_of h (Restart session) ≡ reply.Capture list)
+    one-restart : is_accepted (reply_of h (Restart session)) ≡ true → (list : List (TableChanges A)) × (reply_of h (Restart session) ≡ reply.Capture list)
     unfolding reply_of
-    a-restart accepted = restarts (state h) session (there-restarted (state h) session accepted)
+    one-restart accepted = restarts (state h) session (there-restarted (state h) session accepted)
+
+    by-capture : (command : Command A) → (command ≡ Capture session) ⊎ (command ≡ Restart session) → is_accepted (reply_of h command) ≡ true
+        → (list : List (TableChanges A)) × (reply_of h command ≡ reply.Capture list)
+    by-capture command (inl is) = subst (λ (c : Command A). is_accepted (reply_of h c) ≡ true → (list : List (TableChanges A)) × (reply_of h c ≡ reply.Capture list)) (sym is) one-capture
+    by-capture command (inr is) = subst (λ (c : Command A). is_accepted (reply_of h c) ≡ true → (list : List (TableChanges A)) × (reply_of h c ≡ reply.Capture list)) (sym is) one-restart
 
     pub a-flag : is_accepted (reply_of h (Enable session (Some true))) ≡ true → reply_of h (Enable session (Some true)) ≡ reply.Flag true
     unfolding reply_of
@@ -154,6 +159,9 @@ module _ {A : Type 0} where
   a-written : (h : List (Event A)) (batch : BatchState A) → is_accepted (reply_of h (Commit batch)) ≡ true → (version : ℕ) × (reply_of h (Commit batch) ≡ reply.Written version)
   unfolding reply_of
   a-written h batch accepted = writes (state h) batch accepted
+
+  pub a-capture : (h : List (Event A)) (command : Command A) → IsCapture command → is_accepted (reply_of h command) ≡ true → (list : List (TableChanges A)) × (reply_of h command ≡ reply.Capture list)
+  a-capture h command (session, is) = by-capture h session command is
 
   pub a-commit : (h : List (Event A)) (commit : Command A) → IsCommit commit → is_accepted (reply_of h commit) ≡ true → (version : ℕ) × (reply_of h commit ≡ reply.Written version)
   a-commit h commit (batch, is) =

@@ -129,8 +129,8 @@ module _ {A : Type 0} where
   none-rows : (ts : List (Touch A)) (name : List ℕ) (key : Fields A) → first_touched ts name key ≡ None → rows-in ts name key ≡ []
   none-rows ts name key none = none-in key (touches_of name ts) none
 
-  abbrev mark-in : List (Touch A) → List ℕ → Fields A → Bool
-  mark-in ts name key = list_all (λ touch. touch.1.indirect) (rows-in ts name key)
+  abbrev flag-in : List (Touch A) → List ℕ → Fields A → Bool
+  flag-in ts name key = list_all (λ touch. touch.1.indirect) (rows-in ts name key)
 
   all-both : (xs ys : List (Fields A × Touch A)) → list_all (λ touch. touch.1.indirect) (xs ++ ys) ≡ (list_all (λ touch. touch.1.indirect) xs && list_all (λ touch. touch.1.indirect) ys)
   all-both [] ys = refl
@@ -221,9 +221,9 @@ module _ {A : Type 0} where
               ∙ ap (sooner (Closed later name key)) (sym (first-append since here name key))
         ] refl
 
-    mark-both : (later : List (Event A)) → IsSteady session later start → BlobsFitPast (later ++ start) → (name : List ℕ) (key : Fields A)
-        → mark-in (touches_over session later start) name key ≡ (mark-in (before_restart later) name key && mark-in (touches session (later ++ start)) name key)
-    mark-both later steady fits name key =
+    flag-both : (later : List (Event A)) → IsSteady session later start → BlobsFitPast (later ++ start) → (name : List ℕ) (key : Fields A)
+        → flag-in (touches_over session later start) name key ≡ (flag-in (before_restart later) name key && flag-in (touches session (later ++ start)) name key)
+    flag-both later steady fits name key =
         ap (list_all (λ touch. touch.1.indirect)) (split-rows later steady fits name key) ∙ all-both (rows-in (before_restart later) name key) (rows-in (touches session (later ++ start)) name key)
 
     -- ---- the changes of a row together, so far
@@ -231,7 +231,7 @@ module _ {A : Type 0} where
     record Counts (later : List (Event A)) (name : List ℕ) (key : Fields A) : Type 0 where
       none : Closed later name key ≡ None → Led later name key ≡ []
       some : (flags : List Bool) (image : Option (Fields A)) → schema_of (main (later ++ start)) name ≡ Some flags → Closed later name key ≡ Some image
-          → (together combined flags (Led later name key) ≡ change_of flags (mark-in (before_restart later) name key) (First later name key) (At later name key))
+          → (together combined flags (Led later name key) ≡ change_of flags (flag-in (before_restart later) name key) (First later name key) (At later name key))
           × (First later name key ≡ At later name key → ⊥)
 
     module _ (event : Event A) (later : List (Event A)) (steady : IsSteady session (event ∷ later) start) (fits : BlobsFitPast (event ∷ later ++ start)) (name : List ℕ) (key : Fields A) (before : Counts later name key) where
@@ -257,7 +257,7 @@ module _ {A : Type 0} where
                 let first_same = period.first-same runs_keep creates_keep rises session start fresh event later steady rise rise_now leads_before kept_on name key image over in
                 let at_same = period.at-same runs_keep creates_keep rises session start fresh event later steady rise rise_now leads_before kept_on name key image over in
                 let so = before.some flags image known_before at_closed in (
-                  ap (together combined flags) same ∙ so.0 ∙ (λ i. change_of flags (mark-in (sym closed i) name key) (first_same i) (at_same i)),
+                  ap (together combined flags) same ∙ so.0 ∙ (λ i. change_of flags (flag-in (sym closed i) name key) (first_same i) (at_same i)),
                   λ equal. so.1 (first_same ∙ equal ∙ sym at_same),
                 );
           }
@@ -293,16 +293,16 @@ module _ {A : Type 0} where
 
         -- a row that was touched since
         told-since : (flags : List Bool) → schema_of (main (later ++ start)) name ≡ Some flags → (image : Option (Fields A)) → Since later name key ≡ Some image
-            → Led (event ∷ later) name key ≡ Led later name key ++ cons_option (change_of flags (mark-in (touches session (later ++ start)) name key) image (Now later name key)) []
+            → Led (event ∷ later) name key ≡ Led later name key ++ cons_option (change_of flags (flag-in (touches session (later ++ start)) name key) image (Now later name key)) []
         told-since flags known image since =
             told flags known
             ∙ ap (λ (l : List (RowChange A)). Led later name key ++ l) (by_touch (get fields_cmp (touches_of name (touches session (later ++ start))) key) since)
           where
             by_touch : (found : Option (Touch A)) → option_map (λ touch. touch.image) found ≡ Some image
                 → cons_option (option_and_then (λ (r : Record A). change_of flags r.indirect r.image (Now later name key)) (option_map (λ touch. record { image = touch.image; indirect = all_indirect (touches_of name (touches session (later ++ start))) key }) found)) []
-                ≡ cons_option (change_of flags (mark-in (touches session (later ++ start)) name key) image (Now later name key)) []
+                ≡ cons_option (change_of flags (flag-in (touches session (later ++ start)) name key) image (Now later name key)) []
             by_touch None is = cc
-            by_touch (Some touch) is = ap (λ row. cons_option (change_of flags (mark-in (touches session (later ++ start)) name key) row (Now later name key)) []) (some_same is)
+            by_touch (Some touch) is = ap (λ row. cons_option (change_of flags (flag-in (touches session (later ++ start)) name key) row (Now later name key)) []) (some_same is)
 
         -- and one that was not
         told-none : (flags : List Bool) → schema_of (main (later ++ start)) name ≡ Some flags → Since later name key ≡ None → Led (event ∷ later) name key ≡ Led later name key
@@ -316,48 +316,48 @@ module _ {A : Type 0} where
             by_touch None is = refl
             by_touch (Some touch) is = cc
 
-        mark-is : mark-in (touches_over session later start) name key ≡ (mark-in (before_restart later) name key && mark-in (touches session (later ++ start)) name key)
-        mark-is = mark-both later steady.2 fits.1 name key
+        flag-is : flag-in (touches_over session later start) name key ≡ (flag-in (before_restart later) name key && flag-in (touches session (later ++ start)) name key)
+        flag-is = flag-both later steady.2 fits.1 name key
 
         -- the flag of all touches, where one of the two parts has none
-        mark-since : Closed later name key ≡ None → mark-in (touches session (later ++ start)) name key ≡ mark-in (touches_over session later start) name key
-        mark-since none = sym (mark-is ∙ ap (λ l. list_all (λ touch. touch.1.indirect) l && mark-in (touches session (later ++ start)) name key) (none-rows (before_restart later) name key none))
+        flag-since : Closed later name key ≡ None → flag-in (touches session (later ++ start)) name key ≡ flag-in (touches_over session later start) name key
+        flag-since none = sym (flag-is ∙ ap (λ l. list_all (λ touch. touch.1.indirect) l && flag-in (touches session (later ++ start)) name key) (none-rows (before_restart later) name key none))
 
-        mark-closed : Since later name key ≡ None → mark-in (before_restart later) name key ≡ mark-in (touches_over session later start) name key
-        mark-closed none =
-            sym (mark-is ∙ ap (λ l. mark-in (before_restart later) name key && list_all (λ touch. touch.1.indirect) l) (none-rows (touches session (later ++ start)) name key none) ∙ and-true (mark-in (before_restart later) name key))
+        flag-closed : Since later name key ≡ None → flag-in (before_restart later) name key ≡ flag-in (touches_over session later start) name key
+        flag-closed none =
+            sym (flag-is ∙ ap (λ l. flag-in (before_restart later) name key && list_all (λ touch. touch.1.indirect) l) (none-rows (touches session (later ++ start)) name key none) ∙ and-true (flag-in (before_restart later) name key))
 
         under-now : (flags : List Bool) → schema_of (main (later ++ start)) name ≡ Some flags → ForSome (Now later name key) (IsRowUnder flags key)
         under-now flags known = row-under (main (later ++ start)) rise name flags key known
 
         -- the changes are the one from the first row to the row now
         whole : (flags : List Bool) → schema_of (main (later ++ start)) name ≡ Some flags → (image : Option (Fields A)) → Over later name key ≡ Some image
-            → together combined flags (Led (event ∷ later) name key) ≡ change_of flags (mark-in (touches_over session later start) name key) (First later name key) (Now later name key)
+            → together combined flags (Led (event ∷ later) name key) ≡ change_of flags (flag-in (touches_over session later start) name key) (First later name key) (Now later name key)
         whole flags known image over = by_parts (Closed later name key) (Since later name key) refl refl
           where
             by_parts : (closed since : Option (Option (Fields A))) → Closed later name key ≡ closed → Since later name key ≡ since
-                → together combined flags (Led (event ∷ later) name key) ≡ change_of flags (mark-in (touches_over session later start) name key) (First later name key) (Now later name key)
+                → together combined flags (Led (event ∷ later) name key) ≡ change_of flags (flag-in (touches_over session later start) name key) (First later name key) (Now later name key)
             by_parts None None c s = let clash : None ≡ Some image = sym (split-first later steady.2 fits.1 name key ∙ (λ i. sooner (c i) (s i))) ∙ over in cc
             by_parts None (Some first) c s =
-                ap (together combined flags) (told-since flags known first s ∙ ap (λ (l : List (RowChange A)). l ++ cons_option (change_of flags (mark-in (touches session (later ++ start)) name key) first (Now later name key)) []) (before.none c))
-                ∙ alone flags (change_of flags (mark-in (touches session (later ++ start)) name key) first (Now later name key))
-                ∙ (λ i. change_of flags (mark-since c i) (sym (over-image first (split-first later steady.2 fits.1 name key ∙ (λ j. sooner (c j) (s j)))) i) (Now later name key))
+                ap (together combined flags) (told-since flags known first s ∙ ap (λ (l : List (RowChange A)). l ++ cons_option (change_of flags (flag-in (touches session (later ++ start)) name key) first (Now later name key)) []) (before.none c))
+                ∙ alone flags (change_of flags (flag-in (touches session (later ++ start)) name key) first (Now later name key))
+                ∙ (λ i. change_of flags (flag-since c i) (sym (over-image first (split-first later steady.2 fits.1 name key ∙ (λ j. sooner (c j) (s j)))) i) (Now later name key))
             by_parts (Some first) None c s =
                 ap (together combined flags) (told-none flags known s)
                 ∙ (before.some flags first known c).0
-                ∙ (λ i. change_of flags (mark-closed s i) (First later name key) (unwrap_or (s i) (Now later name key)))
+                ∙ (λ i. change_of flags (flag-closed s i) (First later name key) (unwrap_or (s i) (Now later name key)))
             by_parts (Some first) (Some second) c s =
                 let so = before.some flags first known c in
                 let at : At later name key ≡ second = ap (λ o. unwrap_or o (Now later name key)) s in
-                let added = cons_option (change_of flags (mark-in (touches session (later ++ start)) name key) (At later name key) (Now later name key)) [] in
-                ap (together combined flags) (told-since flags known second s ∙ ap (λ row. Led later name key ++ cons_option (change_of flags (mark-in (touches session (later ++ start)) name key) row (Now later name key)) []) (sym at))
+                let added = cons_option (change_of flags (flag-in (touches session (later ++ start)) name key) (At later name key) (Now later name key)) [] in
+                ap (together combined flags) (told-since flags known second s ∙ ap (λ row. Led later name key ++ cons_option (change_of flags (flag-in (touches session (later ++ start)) name key) row (Now later name key)) []) (sym at))
                 ∙ fold-append (change_after combined flags) None (Led later name key) added
                 ∙ ap (λ o. fold (change_after combined flags) o added) so.0
-                ∙ joined flags key (mark-in (before_restart later) name key) (mark-in (touches session (later ++ start)) name key) (First later name key) (At later name key) (Now later name key)
+                ∙ joined flags key (flag-in (before_restart later) name key) (flag-in (touches session (later ++ start)) name key) (First later name key) (At later name key) (Now later name key)
                 ((leads_before name key).under flags known)
                 (last_under flags key (First later name key) (Led later name key) (At later name key) ((leads_before name key).under flags known) ((leads_before name key).led flags known))
                 (under-now flags known) so.1 (λ equal. changed.0 second s (sym at ∙ equal))
-                ∙ ap (λ i. change_of flags i (First later name key) (Now later name key)) (sym mark-is)
+                ∙ ap (λ i. change_of flags i (First later name key) (Now later name key)) (sym flag-is)
 
         restart-counts : Counts (event ∷ later) name key
         restart-counts = record {
@@ -367,7 +367,7 @@ module _ {A : Type 0} where
           some = λ flags image known is.
               let over : Over later name key ≡ Some image = ap (λ ts. first_touched ts name key) (sym closed-is) ∙ is in
               let known_before : schema_of (main (later ++ start)) name ≡ Some flags = ap (λ tables. schema_of tables name) (sym main-is) ∙ known in (
-                whole flags known_before image over ∙ (λ i. change_of flags (mark-in (sym closed-is i) name key) (first-kept i) (at-now i)),
+                whole flags known_before image over ∙ (λ i. change_of flags (flag-in (sym closed-is i) name key) (first-kept i) (at-now i)),
                 λ equal. first-apart image over (first-kept ∙ equal ∙ sym at-now),
               );
         }
@@ -392,10 +392,10 @@ module _ {A : Type 0} where
         let at_now : At all name key ≡ Now all name key = ap (λ o. unwrap_or o (Now all name key)) (period.since-restart runs_keep creates_keep rises session start fresh event later name key restarted) in
         let over_closed : Over all name key ≡ Closed all name key =
         split-first all steady fits name key ∙ ap (sooner (Closed all name key)) (period.since-restart runs_keep creates_keep rises session start fresh event later name key restarted) ∙ sooner-later (Closed all name key) in
-        let marks : mark-in (before_restart all) name key ≡ mark-in (touches_over session all start) name key =
-        sym (mark-both all steady fits name key
-        ∙ ap (λ l. mark-in (before_restart all) name key && list_all (λ touch. touch.1.indirect) l) (none-rows (touches session (all ++ start)) name key (period.since-restart runs_keep creates_keep rises session start fresh event later name key restarted))
-        ∙ and-true (mark-in (before_restart all) name key)) in
+        let flag-same : flag-in (before_restart all) name key ≡ flag-in (touches_over session all start) name key =
+        sym (flag-both all steady fits name key
+        ∙ ap (λ l. flag-in (before_restart all) name key && list_all (λ touch. touch.1.indirect) l) (none-rows (touches session (all ++ start)) name key (period.since-restart runs_keep creates_keep rises session start fresh event later name key restarted))
+        ∙ and-true (flag-in (before_restart all) name key)) in
         elim (get fields_cmp (touches_of name (touches_over session all start)) key) as (λ o. get fields_cmp (touches_of name (touches_over session all start)) key ≡ o → together combined flags (Led all name key)
         ≡ change_of flags (period.flag_or runs_keep creates_keep rises session start fresh true (option_map (λ touch. record { image = touch.image; indirect = all_indirect (touches_of name (touches_over session all start)) key }) o)) (First all name key) (Now all name key)) [
           | None ↦ λ is.
@@ -404,5 +404,5 @@ module _ {A : Type 0} where
               ∙ sym (ap (λ o. change_of flags true (unwrap_or o (Now all name key)) (Now all name key)) none ∙ none-same flags true (Now all name key))
           | Some touch ↦ λ is.
               let over : Over all name key ≡ Some touch.image = ap (option_map (λ touch. touch.image)) is in
-              (counts.some flags touch.image known (sym over_closed ∙ over)).0 ∙ (λ i. change_of flags (marks i) (First all name key) (at_now i))
+              (counts.some flags touch.image known (sym over_closed ∙ over)).0 ∙ (λ i. change_of flags (flag-same i) (First all name key) (at_now i))
         ] refl

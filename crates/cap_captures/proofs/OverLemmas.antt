@@ -12,7 +12,7 @@ use Rattle.cap_changes.specs.Group.{TableChanges}
 use Rattle.cap_changes.specs.declared.row_change.RowChange.{RowChange}
 use Rattle.cap_codec.specs.declared.read.Contents.TheVariants.{Changes}
 use Rattle.cap_session.specs.declared.record.Record.{Record}
-use Rattle.cap_group.proofs.JoinLemmas.{followed, followed_marked}
+use Rattle.cap_group.proofs.JoinLemmas.{followed, followed_one_flag}
 use Rattle.cap_group.specs.ChangeGroup.{concat_of}
 use Rattle.cap_core.specs.declared.event.Event.{Event}
 use Rattle.cap_core.specs.History.{main}
@@ -67,13 +67,13 @@ module _ {A : Type 0} where
                   ∙ direct-same flags whole.0 (period.flag_or runs_keep creates_keep rises session start fresh false (over-record all name key)) (First all name key) (Now all name key)
                   ∙ ap (map as_direct) (sym (period.over-row runs_keep creates_keep rises session start fresh all steady fits name flags key false known))
             ] refl;
-            marks = λ name key marked. elim (columns name) as (λ o. columns name ≡ o → row_changes name key made.0 ≡ row_changes name key (capture_over session all start)) [
+            flags = λ name key one. elim (columns name) as (λ o. columns name ≡ o → row_changes name key made.0 ≡ row_changes name key (capture_over session all start)) [
               | None ↦ λ is. none name key is
               | Some flags ↦ λ known.
                   made.2.rows name flags key known
-                  ∙ ap (λ o. cons_option o []) (followed_marked flags key marked.0 (First all name key) (Led all name key) (Now all name key) (in_a_row.under name flags key known) (in_a_row.rows name flags key known) (period.led-marked runs_keep creates_keep rises session start fresh all steady fits name key marked.0 marked.1))
-                  ∙ ap (λ i. cons_option (change_of flags i (First all name key) (Now all name key)) []) (sym (period.over-marked runs_keep creates_keep rises session start fresh all name key marked.0 marked.1))
-                  ∙ sym (period.over-row runs_keep creates_keep rises session start fresh all steady fits name flags key marked.0 known)
+                  ∙ ap (λ o. cons_option o []) (followed_one_flag flags key one.0 (First all name key) (Led all name key) (Now all name key) (in_a_row.under name flags key known) (in_a_row.rows name flags key known) (period.led-flag runs_keep creates_keep rises session start fresh all steady fits name key one.0 one.1))
+                  ∙ ap (λ i. cons_option (change_of flags i (First all name key) (Now all name key)) []) (sym (period.over-flag runs_keep creates_keep rises session start fresh all name key one.0 one.1))
+                  ∙ sym (period.over-row runs_keep creates_keep rises session start fresh all steady fits name flags key one.0 known)
             ] refl;
             changed = λ name key changed. elim (columns name) as (λ o. columns name ≡ o → row_changes name key made.0 ≡ row_changes name key (capture_over session all start)) [
               | None ↦ λ is. none name key is

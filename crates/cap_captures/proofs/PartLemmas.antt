@@ -35,7 +35,7 @@ use Rattle.cap_core.proofs.NextLemmas.{events-state}
 use Rattle.cap_core.proofs.NumberLemmas.{same_number}
 use Rattle.cap_captures.specs.Captures.{AreUnrestarted, HasCaptureOver, capture_over, session_over, without_restart}
 use Rattle.cap_captures.specs.declared.parts.Part.{Part}
-use Rattle.cap_captures.specs.Parts.{AreAccepted, CanBeInParts, IsCommit, IsInParts, MadeWhere, Stands}
+use Rattle.cap_captures.specs.Parts.{AreAccepted, CanBeInParts, IsCapture, IsCommit, IsInParts, IsLeftBy, MadeWhere}
 use Rattle.cap_captures.proofs.AcceptedLemmas.{after-two, all-accepted, can-be, first-accepted, in_one, in_two_parts, later-accepted, two-of, with-two}
 
 -- ---- what is made, where something is
@@ -81,21 +81,25 @@ AppliesAsCaptures A = (policy : Policy) (session : ℕ) (start : Past A) (later 
 module _ {A : Type 0} where
   -- ---- room in the history
 
-  events-are : (h : List (Event A)) (core : State A) → Stands h core → core.events ≡ length h
+  events-are : (h : List (Event A)) (core : State A) → IsLeftBy h core → core.events ≡ length h
   events-are h core stands = ap (λ (s : State A). s.events) (sym stands.is) ∙ events-state h
 
-  pub has-room : (h : List (Event A)) (core : State A) → Stands h core → (events : ℕ) → events ≡ core.events → events < 2 ^ 63 - 1 → HasRoom (length h)
+  pub has-room : (h : List (Event A)) (core : State A) → IsLeftBy h core → (events : ℕ) → events ≡ core.events → events < 2 ^ 63 - 1 → HasRoom (length h)
   has-room h core stands events is few = let same = events-are h core stands in omega arith
 
-  pub no-room : (h : List (Event A)) (core : State A) → Stands h core → (events : ℕ) → events ≡ core.events → 2 ^ 63 - 1 ≤ events → HasRoom (length h) → ⊥
+  pub no-room : (h : List (Event A)) (core : State A) → IsLeftBy h core → (events : ℕ) → events ≡ core.events → 2 ^ 63 - 1 ≤ events → HasRoom (length h) → ⊥
   no-room h core stands events is many room = let same = events-are h core stands in omega arith
 
   -- ---- a commit, and a command after it
 
+  pub if-capture : {T E : Type 0} (command : Command A) (Q : T → Type 0) (r : Result T E) → IfOk r (λ made. IsCapture command → Q made) → IsCapture command → IfOk r Q
+  if-capture command Q (Ok made) all is = all is
+  if-capture command Q (Err why) all is = tt
+
   pub with-commit : {T E : Type 0} (core left : State A) (commit command : Command A) (Q : List (Event A) → T → Type 0) (r : Result (Option T) E)
-      → ((h : List (Event A)) → Stands h core → (IsCommit commit × AreAccepted h (commit ∷ [])) × ((version : ℕ) × Stands (h ++ event_by 0 commit (reply.Written version) ∷ []) left))
-      → IfOk r (λ made. (h : List (Event A)) → Stands h left → MadeWhere (AreAccepted h (command ∷ [])) made (Q h))
-      → IfOk r (λ made. (h : List (Event A)) → Stands h core → MadeWhere (IsCommit commit × AreAccepted h (commit ∷ command ∷ [])) made (λ p. (version : ℕ) × Q (h ++ event_by 0 commit (reply.Written version) ∷ []) p))
+      → ((h : List (Event A)) → IsLeftBy h core → (IsCommit commit × AreAccepted h (commit ∷ [])) × ((version : ℕ) × IsLeftBy (h ++ event_by 0 commit (reply.Written version) ∷ []) left))
+      → IfOk r (λ made. (h : List (Event A)) → IsLeftBy h left → MadeWhere (AreAccepted h (command ∷ [])) made (Q h))
+      → IfOk r (λ made. (h : List (Event A)) → IsLeftBy h core → MadeWhere (IsCommit commit × AreAccepted h (commit ∷ command ∷ [])) made (λ p. (version : ℕ) × Q (h ++ event_by 0 commit (reply.Written version) ∷ []) p))
   with-commit core left commit command Q (Err why) first last = tt
   with-commit {T = T} core left commit command Q (Ok made) first last =
       λ h stands.
@@ -148,7 +152,7 @@ module _ {A : Type 0} where
         turned (captured-once ++ e ∷ []) f (later ++ start)
         (turned captured-once e (d ∷ c ∷ start) (turned (begun ++ c ∷ []) d (c ∷ start) (turned begun c start (turned (h ++ a ∷ []) b (a ∷ reverse h) (turned h a (reverse h) refl)))))
 
-    module _ (core : State A) (stands : Stands whole core) where
+    module _ (core : State A) (stands : IsLeftBy whole core) where
       legal : IsLegalPast (f ∷ later ++ start)
       unfolding IsLegal
       legal = subst IsLegalPast backwards stands.legal
@@ -205,7 +209,7 @@ module _ {A : Type 0} where
 
       -- the same commands, with captures in place of the last two restarts, and a capture behind them
       module _ (x y made : List (TableChanges A)) (v' w' : ℕ) (other : State A)
-          (others : Stands (((((begun ++ event_by 0 (Commit first) (reply.Written v') ∷ []) ++ event_by 0 (Capture session) (reply.Capture x) ∷ []) ++ event_by 0 (Commit second) (reply.Written w') ∷ [])
+          (others : IsLeftBy (((((begun ++ event_by 0 (Commit first) (reply.Written v') ∷ []) ++ event_by 0 (Capture session) (reply.Capture x) ∷ []) ++ event_by 0 (Commit second) (reply.Written w') ∷ [])
           ++ event_by 0 (Capture session) (reply.Capture y) ∷ []) ++ event_by 0 (Capture session) (reply.Capture made) ∷ []) other) where
         abbrev c' : Event A
         c' = event_by 0 (Commit first) (reply.Written v')
@@ -324,8 +328,8 @@ module _ {A : Type 0} where
 
   abbrev pub ComesOut : Command A → Command A → Type 0
   ComesOut first second =
-      (h : List (Event A)) (session : ℕ) (flag : Bool) (old one two : List (TableChanges A)) (v w : ℕ) (core : State A) → Stands (second-part h session first second flag old one two v w) core
-      → (x y made : List (TableChanges A)) (v' w' : ℕ) (other : State A) → Stands (unrestarted-whole (enabled h session flag old) session first second x y made v' w') other
+      (h : List (Event A)) (session : ℕ) (flag : Bool) (old one two : List (TableChanges A)) (v w : ℕ) (core : State A) → IsLeftBy (second-part h session first second flag old one two v w) core
+      → (x y made : List (TableChanges A)) (v' w' : ℕ) (other : State A) → IsLeftBy (unrestarted-whole (enabled h session flag old) session first second x y made v' w') other
       → ReadsBack A → IsOneCapture A → AppliesAsCaptures A → IsWithoutRestarts A → IsWritable (Changes one) → IsWritable (Changes two) → (blob : Contents A)
       → ((p q : Contents A) → blob_at (list_bytes one) ≡ Ok p → blob_at (list_bytes two) ≡ Ok q → Some blob ≡ result_ok (concat_of (p ∷ q ∷ [])))
       → CanBeInParts h session first second → IsInParts h session first second (record { together = blob; whole = made })
@@ -337,7 +341,7 @@ module _ {A : Type 0} where
 
   abbrev pub NeverNone : Command A → Command A → Type 0
   NeverNone first second =
-      (h : List (Event A)) (session : ℕ) (flag : Bool) (old one two : List (TableChanges A)) (v w : ℕ) (core : State A) → Stands (second-part h session first second flag old one two v w) core
+      (h : List (Event A)) (session : ℕ) (flag : Bool) (old one two : List (TableChanges A)) (v w : ℕ) (core : State A) → IsLeftBy (second-part h session first second flag old one two v w) core
       → ReadsBack A → IsOneCapture A → IsWritable (Changes one) → IsWritable (Changes two) → (made : Option (Contents A))
       → ((p q : Contents A) → blob_at (list_bytes one) ≡ Ok p → blob_at (list_bytes two) ≡ Ok q → made ≡ result_ok (concat_of (p ∷ q ∷ []))) → made ≡ None → ⊥
 
@@ -352,21 +356,21 @@ module _ {A : Type 0} where
     -- what enabling and restarting the session gives
     abbrev pub Starts : State A → Option (State A) → Type 0
     Starts core made =
-        (h : List (Event A)) → Stands h core → MadeWhere (AreAccepted h (Enable session (Some true) ∷ Restart session ∷ [])) made (λ left. (flag : Bool) × (old : List (TableChanges A)) × Stands (enabled h session flag old) left)
+        (h : List (Event A)) → IsLeftBy h core → MadeWhere (AreAccepted h (Enable session (Some true) ∷ Restart session ∷ [])) made (λ left. (flag : Bool) × (old : List (TableChanges A)) × IsLeftBy (enabled h session flag old) left)
 
     -- what a commit and a restart give
     abbrev pub GivesPart : State A → Command A → Option (Part A) → Type 0
     GivesPart core commit made =
-        (h : List (Event A)) → Stands h core → MadeWhere (IsCommit commit × AreAccepted h (commit ∷ Restart session ∷ [])) made
-        (λ p. (version : ℕ) × Stands ((h ++ event_by 0 commit (reply.Written version) ∷ []) ++ event_by 0 (Restart session) (reply.Capture p.capture) ∷ []) p.core)
+        (h : List (Event A)) → IsLeftBy h core → MadeWhere (IsCommit commit × AreAccepted h (commit ∷ Restart session ∷ [])) made
+        (λ p. (version : ℕ) × IsLeftBy ((h ++ event_by 0 commit (reply.Written version) ∷ []) ++ event_by 0 (Restart session) (reply.Capture p.capture) ∷ []) p.core)
 
     -- what both commits give without restarts
     abbrev pub GivesWhole : State A → Command A → Command A → Option (List (TableChanges A)) → Type 0
     GivesWhole core first second made =
-        (h : List (Event A)) → Stands h core → MadeWhere ((IsCommit first × IsCommit second) × AreAccepted h (first ∷ Capture session ∷ second ∷ Capture session ∷ Capture session ∷ [])) made
-        (λ whole. (x y : List (TableChanges A)) × ((v w : ℕ) × (left : State A) × Stands (unrestarted-whole h session first second x y whole v w) left))
+        (h : List (Event A)) → IsLeftBy h core → MadeWhere ((IsCommit first × IsCommit second) × AreAccepted h (first ∷ Capture session ∷ second ∷ Capture session ∷ Capture session ∷ [])) made
+        (λ whole. (x y : List (TableChanges A)) × ((v w : ℕ) × (left : State A) × IsLeftBy (unrestarted-whole h session first second x y whole v w) left))
 
-  module _ (h : List (Event A)) (core : State A) (session : ℕ) (first second : Command A) (stands : Stands h core) where
+  module _ (h : List (Event A)) (core : State A) (session : ℕ) (first second : Command A) (stands : IsLeftBy h core) where
     pub none-started : Starts session core None → CanBeInParts h session first second → ⊥
     none-started none can = none h stands (start-accepted h session first second can)
 

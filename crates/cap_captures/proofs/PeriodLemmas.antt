@@ -53,7 +53,7 @@ use Rattle.cap_group.specs.Combined.{combined}
 use Rattle.cap_core.specs.AppliedCapture.{GivesRows, but_keyed}
 use Rattle.cap_captures.proofs.ApplyLemmas.{IsLeft, IsTurned, Turns, turned, turned-fits}
 use Rattle.cap_captures.proofs.ConcatLemmas.{IsMade, IsWhole, concatenated-whole, last_under, some_same}
-use Rattle.cap_captures.proofs.RecordLemmas.{AllMarked, AreMarked, all-append, all-first, all-last, all-turn, flat-append, follow-next, image-touched, made-marked, none-same, record-marked, record_from, restarts-write, rows-append, rows-in, session-record, sooner-none, unchanged, with-columns}
+use Rattle.cap_captures.proofs.RecordLemmas.{TouchesHaveFlag, ChangesHaveFlag, all-append, all-first, all-last, all-turn, flat-append, follow-next, image-touched, made-flag, none-same, record-flag, record_from, restarts-write, rows-append, rows-in, session-record, sooner-none, unchanged, with-columns}
 
 module _ {A : Type 0} where
   module _ (runs_keep : (tables : Tables A) (ops : List (Op A)) → IfOk (run tables ops) (λ left. (other : List ℕ) → schema_of left.database other ≡ schema_of tables other))
@@ -318,17 +318,17 @@ module _ {A : Type 0} where
             gone (Some r) is = cc
 
         -- its flag is that of the touches since, where they all have one
-        list-marked : (name : List ℕ) (key : Fields A) (indirect : Bool) → AllMarked indirect (rows-in (touches session (later ++ start)) name key) → AreMarked indirect (row_changes name key list)
-        list-marked name key indirect all =
-            elim (schema_of (main (later ++ start)) name) as (λ o. schema_of (main (later ++ start)) name ≡ o → AreMarked indirect (row_changes name key list)) [
-              | None ↦ λ is. subst (AreMarked indirect) (sym (no-table-row (main (later ++ start)) name key tables_now (session-distinct (later ++ start) session) is)) tt
-              | Some flags ↦ λ known. elim (record_of tables_now name key) as (λ o. record_of tables_now name key ≡ o → AreMarked indirect (row_changes name key list)) [
-                | None ↦ λ is. subst (AreMarked indirect) (sym (list-row name flags key known ∙ ap (λ o. cons_option (option_and_then (λ r. change_of flags r.indirect r.image (Now later name key)) o) []) is)) tt
+        list-flag : (name : List ℕ) (key : Fields A) (indirect : Bool) → TouchesHaveFlag indirect (rows-in (touches session (later ++ start)) name key) → ChangesHaveFlag indirect (row_changes name key list)
+        list-flag name key indirect all =
+            elim (schema_of (main (later ++ start)) name) as (λ o. schema_of (main (later ++ start)) name ≡ o → ChangesHaveFlag indirect (row_changes name key list)) [
+              | None ↦ λ is. subst (ChangesHaveFlag indirect) (sym (no-table-row (main (later ++ start)) name key tables_now (session-distinct (later ++ start) session) is)) tt
+              | Some flags ↦ λ known. elim (record_of tables_now name key) as (λ o. record_of tables_now name key ≡ o → ChangesHaveFlag indirect (row_changes name key list)) [
+                | None ↦ λ is. subst (ChangesHaveFlag indirect) (sym (list-row name flags key known ∙ ap (λ o. cons_option (option_and_then (λ r. change_of flags r.indirect r.image (Now later name key)) o) []) is)) tt
                 | Some r ↦ λ is.
-                    let flag = record-marked (touches session (later ++ start)) name key indirect r (sym (session-record (later ++ start) session name key) ∙ is) all in
-                    subst (AreMarked indirect) (sym (list-row name flags key known ∙ ap (λ o. cons_option (option_and_then (λ r. change_of flags r.indirect r.image (Now later name key)) o) []) is))
-                    (subst (λ i. AreMarked i (cons_option (change_of flags r.indirect r.image (Now later name key)) [])) flag
-                    (made-marked flags r.indirect r.image (Now later name key) (change_of flags r.indirect r.image (Now later name key)) refl))
+                    let flag = record-flag (touches session (later ++ start)) name key indirect r (sym (session-record (later ++ start) session name key) ∙ is) all in
+                    subst (ChangesHaveFlag indirect) (sym (list-row name flags key known ∙ ap (λ o. cons_option (option_and_then (λ r. change_of flags r.indirect r.image (Now later name key)) o) []) is))
+                    (subst (λ i. ChangesHaveFlag i (cons_option (change_of flags r.indirect r.image (Now later name key)) [])) flag
+                    (made-flag flags r.indirect r.image (Now later name key) (change_of flags r.indirect r.image (Now later name key)) refl))
               ] refl
             ] refl
 
@@ -379,39 +379,39 @@ module _ {A : Type 0} where
           | false ↦ λ kept_on. other-leads event later steady (rises (later ++ start) fits.1) (rises (event ∷ later ++ start) fits) before kept_on name key
         ] refl
 
-    -- ---- marks
+    -- ---- flags
 
     -- the touches since the last restart are among all
-    since-marked : (later : List (Event A)) (name : List ℕ) (key : Fields A) (indirect : Bool) → AllMarked indirect (rows-in (touches_over session later start) name key) → AllMarked indirect (rows-in (touches session (later ++ start)) name key)
-    since-marked [] name key indirect all = subst (λ ts. AllMarked indirect (rows-in ts name key)) (sym fresh) tt
-    since-marked (event ∷ later) name key indirect all =
+    since-flag : (later : List (Event A)) (name : List ℕ) (key : Fields A) (indirect : Bool) → TouchesHaveFlag indirect (rows-in (touches_over session later start) name key) → TouchesHaveFlag indirect (rows-in (touches session (later ++ start)) name key)
+    since-flag [] name key indirect all = subst (λ ts. TouchesHaveFlag indirect (rows-in ts name key)) (sym fresh) tt
+    since-flag (event ∷ later) name key indirect all =
         let here = event_touches session event (later ++ start) in
-        let parts = subst (AllMarked indirect) (rows-append (touches_over session later start) here name key) all in
-        elim (is_accepted event.reply && restarts session event.command) as (λ b. AllMarked indirect (rows-in (cond b [] (touches session (later ++ start) ++ here)) name key)) [
+        let parts = subst (TouchesHaveFlag indirect) (rows-append (touches_over session later start) here name key) all in
+        elim (is_accepted event.reply && restarts session event.command) as (λ b. TouchesHaveFlag indirect (rows-in (cond b [] (touches session (later ++ start) ++ here)) name key)) [
           | true ↦ tt
           | false ↦
-              subst (AllMarked indirect) (sym (rows-append (touches session (later ++ start)) here name key))
+              subst (TouchesHaveFlag indirect) (sym (rows-append (touches session (later ++ start)) here name key))
               (all-append _ (rows-in (touches session (later ++ start)) name key) (rows-in here name key)
-              (since-marked later name key indirect (all-first _ (rows-in (touches_over session later start) name key) (rows-in here name key) parts))
+              (since-flag later name key indirect (all-first _ (rows-in (touches_over session later start) name key) (rows-in here name key) parts))
               (all-last _ (rows-in (touches_over session later start) name key) (rows-in here name key) parts))
         ]
 
-    pub led-marked : (later : List (Event A)) → IsSteady session later start → BlobsFitPast (later ++ start) → (name : List ℕ) (key : Fields A) (indirect : Bool)
-        → AllMarked indirect (rows-in (touches_over session later start) name key) → AreMarked indirect (Led later name key)
-    led-marked [] steady fits name key indirect all = tt
-    led-marked (event ∷ later) steady fits name key indirect all =
+    pub led-flag : (later : List (Event A)) → IsSteady session later start → BlobsFitPast (later ++ start) → (name : List ℕ) (key : Fields A) (indirect : Bool)
+        → TouchesHaveFlag indirect (rows-in (touches_over session later start) name key) → ChangesHaveFlag indirect (Led later name key)
+    led-flag [] steady fits name key indirect all = tt
+    led-flag (event ∷ later) steady fits name key indirect all =
         let here = event_touches session event (later ++ start) in
-        let first = all-first _ (rows-in (touches_over session later start) name key) (rows-in here name key) (subst (AllMarked indirect) (rows-append (touches_over session later start) here name key) all) in
+        let first = all-first _ (rows-in (touches_over session later start) name key) (rows-in here name key) (subst (TouchesHaveFlag indirect) (rows-append (touches_over session later start) here name key) all) in
         let before = leads-after later steady.2 fits.1 in
         let rise = rises (later ++ start) fits.1 in
         let rise_now = rises (event ∷ later ++ start) fits in
-        let more = led-marked later steady.2 fits.1 name key indirect first in
-        elim (is_accepted event.reply && restarts session event.command) as (λ b. (is_accepted event.reply && restarts session event.command) ≡ b → AreMarked indirect (Led (event ∷ later) name key)) [
+        let more = led-flag later steady.2 fits.1 name key indirect first in
+        elim (is_accepted event.reply && restarts session event.command) as (λ b. (is_accepted event.reply && restarts session event.command) ≡ b → ChangesHaveFlag indirect (Led (event ∷ later) name key)) [
           | true ↦ λ restarted.
-              subst (AreMarked indirect) (sym (led-more event later steady rise rise_now before restarted name key))
+              subst (ChangesHaveFlag indirect) (sym (led-more event later steady rise rise_now before restarted name key))
               (all-append _ (Led later name key) (row_changes name key (list event later steady rise rise_now before restarted)) more
-              (list-marked event later steady rise rise_now before restarted name key indirect (since-marked later name key indirect first)))
-          | false ↦ λ kept_on. subst (AreMarked indirect) (sym (led-same event later steady rise rise_now before kept_on name key)) more
+              (list-flag event later steady rise rise_now before restarted name key indirect (since-flag later name key indirect first)))
+          | false ↦ λ kept_on. subst (ChangesHaveFlag indirect) (sym (led-same event later steady rise rise_now before kept_on name key)) more
         ] refl
 
     -- ---- the columns of the captured groups
@@ -497,10 +497,10 @@ module _ {A : Type 0} where
           | Some r ↦ λ is. ap (λ row. cons_option (change_of flags r.indirect row (Now later name key)) []) (sym (image key r is))
         ] refl
 
-    pub over-marked : (later : List (Event A)) (name : List ℕ) (key : Fields A) (indirect : Bool) → AllMarked indirect (rows-in (touches_over session later start) name key) → flag_or indirect (over-record later name key) ≡ indirect
-    over-marked later name key indirect all = elim (over-record later name key) as (λ o. over-record later name key ≡ o → flag_or indirect o ≡ indirect) [
+    pub over-flag : (later : List (Event A)) (name : List ℕ) (key : Fields A) (indirect : Bool) → TouchesHaveFlag indirect (rows-in (touches_over session later start) name key) → flag_or indirect (over-record later name key) ≡ indirect
+    over-flag later name key indirect all = elim (over-record later name key) as (λ o. over-record later name key ≡ o → flag_or indirect o ≡ indirect) [
       | None ↦ λ _. refl
-      | Some r ↦ λ is. record-marked (touches_over session later start) name key indirect r is all
+      | Some r ↦ λ is. record-flag (touches_over session later start) name key indirect r is all
     ] refl
 
     -- ---- the concatenation, applied to a database with the first images

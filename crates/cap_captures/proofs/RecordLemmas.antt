@@ -143,16 +143,16 @@ module _ {A : Type 0} where
         | Some touch ↦ refl
       ]
 
-  -- ---- touches with one all_indirect
+  -- ---- touches with one flag
 
-  abbrev pub AllMarked : Bool → List (Fields A × Touch A) → Type 0
-  AllMarked indirect pairs = AllByRecursion (λ touch. touch.1.indirect ≡ indirect) pairs
+  abbrev pub TouchesHaveFlag : Bool → List (Fields A × Touch A) → Type 0
+  TouchesHaveFlag indirect pairs = AllByRecursion (λ touch. touch.1.indirect ≡ indirect) pairs
 
-  pub all-true : (pairs : List (Fields A × Touch A)) → AllMarked true pairs → list_all (λ touch. touch.1.indirect) pairs ≡ true
+  pub all-true : (pairs : List (Fields A × Touch A)) → TouchesHaveFlag true pairs → list_all (λ touch. touch.1.indirect) pairs ≡ true
   all-true [] all = refl
   all-true (pair ∷ pairs) all = ap (λ b. b && list_all (λ touch. touch.1.indirect) pairs) all.0 ∙ all-true pairs all.1
 
-  pub with-more : (indirect : Bool) (pairs : List (Fields A × Touch A)) → AllMarked indirect pairs → (indirect && list_all (λ touch. touch.1.indirect) pairs) ≡ indirect
+  pub with-more : (indirect : Bool) (pairs : List (Fields A × Touch A)) → TouchesHaveFlag indirect pairs → (indirect && list_all (λ touch. touch.1.indirect) pairs) ≡ indirect
   with-more true pairs all = all-true pairs all
   with-more false pairs all = refl
 
@@ -163,26 +163,26 @@ module _ {A : Type 0} where
   pub rows-append : (xs ys : List (Touch A)) (name : List ℕ) (key : Fields A) → rows-in (xs ++ ys) name key ≡ rows-in xs name key ++ rows-in ys name key
   rows-append xs ys name key = ap (filter (λ touch. eq_by_cmp fields_cmp key touch.0)) (touches_of-append name xs ys) ∙ filter-append (λ touch. eq_by_cmp fields_cmp key touch.0) (touches_of name xs) (touches_of name ys)
 
-  pub mark-is : (key : Fields A) (indirect : Bool) (pairs : List (Fields A × Touch A)) (touch : Touch A) → get fields_cmp pairs key ≡ Some touch → AllMarked indirect (filter (λ t. eq_by_cmp fields_cmp key t.0) pairs) → all_indirect pairs key ≡ indirect
-  mark-is key indirect [] touch is all = cc
-  mark-is key indirect (pair ∷ pairs) touch is all =
+  pub flag-is : (key : Fields A) (indirect : Bool) (pairs : List (Fields A × Touch A)) (touch : Touch A) → get fields_cmp pairs key ≡ Some touch → TouchesHaveFlag indirect (filter (λ t. eq_by_cmp fields_cmp key t.0) pairs) → all_indirect pairs key ≡ indirect
+  flag-is key indirect [] touch is all = cc
+  flag-is key indirect (pair ∷ pairs) touch is all =
       let others = filter (λ t. eq_by_cmp fields_cmp key t.0) pairs in
-      elim (eq_by_cmp fields_cmp key pair.0) as (λ b. cond b (Some pair.1) (get fields_cmp pairs key) ≡ Some touch → AllMarked indirect (cond b (pair ∷ others) others) → list_all (λ t. t.1.indirect) (cond b (pair ∷ others) others) ≡ indirect) [
+      elim (eq_by_cmp fields_cmp key pair.0) as (λ b. cond b (Some pair.1) (get fields_cmp pairs key) ≡ Some touch → TouchesHaveFlag indirect (cond b (pair ∷ others) others) → list_all (λ t. t.1.indirect) (cond b (pair ∷ others) others) ≡ indirect) [
         | true ↦ λ _ every. ap (λ b. b && list_all (λ t. t.1.indirect) others) every.0 ∙ with-more indirect others every.1
-        | false ↦ λ e every. mark-is key indirect pairs touch e every
+        | false ↦ λ e every. flag-is key indirect pairs touch e every
       ] is all
 
   -- the flag of a record whose touches have one
-  pub record-marked : (ts : List (Touch A)) (name : List ℕ) (key : Fields A) (indirect : Bool) (r : Record A) → record_from ts name key ≡ Some r → AllMarked indirect (rows-in ts name key) → r.indirect ≡ indirect
-  record-marked ts name key indirect r is all =
+  pub record-flag : (ts : List (Touch A)) (name : List ℕ) (key : Fields A) (indirect : Bool) (r : Record A) → record_from ts name key ≡ Some r → TouchesHaveFlag indirect (rows-in ts name key) → r.indirect ≡ indirect
+  record-flag ts name key indirect r is all =
       elim (get fields_cmp (touches_of name ts) key) as (λ o. get fields_cmp (touches_of name ts) key ≡ o → option_map (λ touch. record { image = touch.image; indirect = all_indirect (touches_of name ts) key }) o ≡ Some r → r.indirect ≡ indirect) [
         | None ↦ λ _ e. cc
-        | Some touch ↦ λ at e. ap (λ (kept : Record A). kept.indirect) (sym (some_same e)) ∙ mark-is key indirect (touches_of name ts) touch at all
+        | Some touch ↦ λ at e. ap (λ (kept : Record A). kept.indirect) (sym (some_same e)) ∙ flag-is key indirect (touches_of name ts) touch at all
       ] refl is
 
-  abbrev pub AreMarked : Bool → List (RowChange A) → Type 0
-  AreMarked indirect changes = AllByRecursion (λ change. is_indirect change ≡ indirect) changes
+  abbrev pub ChangesHaveFlag : Bool → List (RowChange A) → Type 0
+  ChangesHaveFlag indirect changes = AllByRecursion (λ change. is_indirect change ≡ indirect) changes
 
-  pub made-marked : (flags : List Bool) (indirect : Bool) (first last : Option (Fields A)) (made : Option (RowChange A)) → change_of flags indirect first last ≡ made → AreMarked indirect (cons_option made [])
-  made-marked flags indirect first last None is = tt
-  made-marked flags indirect first last (Some change) is = (flag-of flags indirect first last change is, tt)
+  pub made-flag : (flags : List Bool) (indirect : Bool) (first last : Option (Fields A)) (made : Option (RowChange A)) → change_of flags indirect first last ≡ made → ChangesHaveFlag indirect (cons_option made [])
+  made-flag flags indirect first last None is = tt
+  made-flag flags indirect first last (Some change) is = (flag-of flags indirect first last change is, tt)

@@ -35,17 +35,17 @@ module _ {A : Type 0} (session : ℕ) where
     writes : is_write c ≡ is_write d
     names : name_saved c ≡ name_saved d
     enables : asks_enabled session c ≡ asks_enabled session d
-    marks : asks_indirect session c ≡ asks_indirect session d
+    indirects : asks_indirect session c ≡ asks_indirect session d
     filters : filter_set session c ≡ filter_set session d
     wants : asks_for_all session c ≡ asks_for_all session d
     attaches : names_attached session c ≡ names_attached session d
     diffs : (past : Past A) → diff_by session c past ≡ diff_by session d past
 
   itself : (c : Command A) → IsAlike c c
-  itself c = record { made = λ now. refl; writes = refl; names = refl; enables = refl; marks = refl; filters = refl; wants = refl; attaches = refl; diffs = λ past. refl }
+  itself c = record { made = λ now. refl; writes = refl; names = refl; enables = refl; indirects = refl; filters = refl; wants = refl; attaches = refl; diffs = λ past. refl }
 
   captured : (number : ℕ) → IsAlike (command.Restart number) (command.Capture number)
-  captured number = record { made = λ now. refl; writes = refl; names = refl; enables = refl; marks = refl; filters = refl; wants = refl; attaches = refl; diffs = λ past. refl }
+  captured number = record { made = λ now. refl; writes = refl; names = refl; enables = refl; indirects = refl; filters = refl; wants = refl; attaches = refl; diffs = λ past. refl }
 
   alike : (c : Command A) → IsAlike c (without_restart session c)
   alike (command.Restart number) = elim (nat_eq number session) as (λ b. IsAlike (command.Restart number) (cond b (command.Capture number) (command.Restart number))) [
@@ -135,7 +135,7 @@ module _ {A : Type 0} (session : ℕ) where
       versions = λ i. cond (told i && does.writes i) (same.versions i + 1) (same.versions i);
       databases = λ i. cond (told i) (save_under (does.names i) (same.tables i) (same.databases i)) (same.databases i);
       enabled = λ i. cond (told i) (unwrap_or (does.enables i) (same.enabled i)) (same.enabled i);
-      indirect = λ i. cond (told i) (unwrap_or (does.marks i) (same.indirect i)) (same.indirect i);
+      indirect = λ i. cond (told i) (unwrap_or (does.indirects i) (same.indirect i)) (same.indirect i);
       filters = λ i. cond (told i) (later (does.filters i) (same.filters i)) (same.filters i);
       all = λ i. (told i && does.wants i) || same.all i;
       moments = all-moments;

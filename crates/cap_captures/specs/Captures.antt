@@ -64,8 +64,8 @@ module _ {A : Type 0} where
   as_direct (Delete indirect old) = Delete false old
 
   -- all touches of the key are indirect, or all are direct
-  abbrev pub HaveOneMark : List (Touch A) → List ℕ → Fields A → Type 0
-  HaveOneMark touches name key =
+  abbrev pub HaveOneFlag : List (Touch A) → List ℕ → Fields A → Type 0
+  HaveOneFlag touches name key =
       (indirect : Bool) × AllByRecursion (λ touch. touch.1.indirect ≡ indirect)
       (filter (λ touch. eq_by_cmp fields_cmp key touch.0) (touches_of name touches))
 
@@ -91,8 +91,8 @@ module _ {A : Type 0} where
       (groups : List (TableChanges A)) : Type 0 where
     pub rows : (name : List ℕ) (key : Fields A) → map as_direct (row_changes name key groups)
         ≡ map as_direct (row_changes name key (capture_over session later start))
-    pub marks : (name : List ℕ) (key : Fields A)
-        → HaveOneMark (touches_over session later start) name key
+    pub flags : (name : List ℕ) (key : Fields A)
+        → HaveOneFlag (touches_over session later start) name key
         → row_changes name key groups ≡ row_changes name key (capture_over session later start)
     pub changed : (name : List ℕ) (key : Fields A) → IsChangedEachTime session later start name key
         → row_changes name key groups ≡ row_changes name key (capture_over session later start)

@@ -1,5 +1,5 @@
 -- A session that is captured in two parts.
-use Rattle.std.specs.Prelude.{◌≡◌, ℕ, ◌+◌, ◌<◌, ◌^◌, true, Option, Some, None, List, [], ◌∷◌, ◌++◌, Ok}
+use Rattle.std.specs.Prelude.{◌≡◌, ◌⊎◌, ℕ, ◌+◌, ◌<◌, ◌^◌, true, Option, Some, None, List, [], ◌∷◌, ◌++◌, Ok}
 use Rattle.std.specs.Prelude.{length, map, reverse}
 use Rattle.std.specs.Option.{IsSome}
 use Rattle.cap_database.specs.Tables.{AreRising, Tables}
@@ -11,7 +11,7 @@ use Rattle.cap_apply.specs.Applied.{AppliedState}
 use Rattle.cap_apply.specs.Apply.{apply}
 use Rattle.cap_apply.specs.declared.policy.Policy.{Policy}
 use Rattle.cap_core.specs.declared.command.Command.{Command}
-use Rattle.cap_core.specs.declared.command.Command.TheVariants.{Commit, Enable, Restart}
+use Rattle.cap_core.specs.declared.command.Command.TheVariants.{Capture, Commit, Enable, Restart}
 use Rattle.cap_core.specs.declared.event.Event.{Event}
 use Rattle.cap_core.specs.Answer.{IsLegal, IsLegalPast, State, event_by, reply_of, state}
 use Rattle.cap_core.specs.Past.{HasRoom, Past, is_accepted}
@@ -26,8 +26,8 @@ MadeWhere P None Q = P → ⊥
 MadeWhere P (Some made) Q = P × Q made
 
 module _ {A : Type 0} where
-  -- what a legal history leaves, each blob of which fits its tables
-  pub record Stands (h : List (Event A)) (core : State A) : Type 0 where
+  -- The history is legal, each of its blobs fits its tables, and it leaves this core.
+  pub record IsLeftBy (h : List (Event A)) (core : State A) : Type 0 where
     pub legal : IsLegal h
     pub fits : BlobsFit h
     pub is : state h ≡ core
@@ -37,6 +37,10 @@ module _ {A : Type 0} where
 
   abbrev pub IsCommit : Command A → Type 0
   IsCommit command = (batch : BatchState A) × (command ≡ Commit batch)
+
+  -- a capture of a session, or a restart, which captures it too
+  abbrev pub IsCapture : Command A → Type 0
+  IsCapture command = (session : ℕ) × ((command ≡ Capture session) ⊎ (command ≡ Restart session))
 
   -- Each of the commands, one after the other after the history, has room in it and is not refused.
   unfoldable pub AreAccepted : List (Event A) → List (Command A) → Type 0

@@ -12,7 +12,8 @@ ghost use Rattle.cap_core.specs.declared.event.Event.{Event};
 ghost use Rattle.cap_core.specs.declared.reply.Reply.TheVariants as reply;
 ghost use Rattle.cap_core.specs.Answer.{State, event_by};
 ghost use Rattle.cap_core.specs.Past.{HasRoom};
-ghost use Rattle.cap_captures.specs.Parts.{AreAccepted, CanBeInParts, IsCommit, IsInParts, MadeWhere, Stands};
+ghost use Rattle.cap_captures.specs.Parts.{AreAccepted, CanBeInParts, IsCapture, IsCommit, IsInParts};
+ghost use Rattle.cap_captures.specs.Parts.{IsLeftBy, MadeWhere};
 
 use crate::laws::{
     captures_in_a_row_are_the_one_capture, the_concatenation_applies_as_its_captures,
@@ -58,9 +59,9 @@ pub fn captured_in_two_parts<A: AllocHandle>(
     first: &Command<A>,
     second: &Command<A>,
 ) -> Result<Option<InParts<A>>, OutOfMemory>
-    ensures parts { (h : List (Event A)) → Stands h core.now →
+    ensures parts { (h : List (Event A)) → IsLeftBy h core.now →
         IfOk result (λ made. IfSome made (IsInParts h session first.now second.now)) }
-    ensures none { (h : List (Event A)) → Stands h core.now →
+    ensures none { (h : List (Event A)) → IsLeftBy h core.now →
         IfOk result (λ made. IfNone made (CanBeInParts h session first.now second.now → ⊥)) }
 {
     bytes_of_a_capture_give_the_rows_now::<A>();
@@ -92,9 +93,9 @@ fn answered_by<A: AllocHandle>(
     core: &Core<A>,
     command: &Command<A>,
 ) -> Result<Option<Answered<A>>, OutOfMemory>
-    ensures { IfOk result (λ made. (h : List (Event A)) → Stands h core.now →
+    ensures { IfOk result (λ made. (h : List (Event A)) → IsLeftBy h core.now →
         MadeWhere (HasRoom (length h)) made
-        (λ a. Stands (h ++ event_by 0 command.now a.reply ∷ []) a.core)) }
+        (λ a. IsLeftBy (h ++ event_by 0 command.now a.reply ∷ []) a.core)) }
 {
     if core.events() >= EVENTS_MAX {
         return Ok(None);
@@ -108,35 +109,23 @@ fn carried_out<A: AllocHandle>(
     core: &Core<A>,
     command: Command<A>,
 ) -> Result<Option<Answered<A>>, OutOfMemory>
-    ensures { IfOk result (λ made. (h : List (Event A)) → Stands h core.now →
+    ensures { IfOk result (λ made. (h : List (Event A)) → IsLeftBy h core.now →
         MadeWhere (HasRoom (length h)) made
-        (λ a. Stands (h ++ event_by 0 command a.reply ∷ []) a.core)) }
+        (λ a. IsLeftBy (h ++ event_by 0 command a.reply ∷ []) a.core)) }
 {
     answered_by(core, &command)
 }
 
-// Captures a session.
-fn captured<A: AllocHandle>(core: &Core<A>, session: u64) -> Result<Option<Part<A>>, OutOfMemory>
-    ensures { IfOk result (λ made. (h : List (Event A)) → Stands h core.now →
-        MadeWhere (AreAccepted h (command.Capture session ∷ [])) made
-        (λ p. Stands (h ++ event_by 0 (command.Capture session) (reply.Capture p.capture) ∷ []) p.core)) }
+// Carries out a capture or a restart of a session.
+fn captured_by<A: AllocHandle>(
+    core: &Core<A>,
+    command: Command<A>,
+) -> Result<Option<Part<A>>, OutOfMemory>
+    ensures { IfOk result (λ made. IsCapture command → (h : List (Event A)) → IsLeftBy h core.now →
+        MadeWhere (AreAccepted h (command ∷ [])) made
+        (λ p. IsLeftBy (h ++ event_by 0 command (reply.Capture p.capture) ∷ []) p.core)) }
 {
-    let Some(Answered { core, reply }) = carried_out(core, Command::Capture { session })? else {
-        return Ok(None);
-    };
-    match reply {
-        Reply::Capture(capture) => Ok(Some(Part { core, capture })),
-        _ => Ok(None),
-    }
-}
-
-// Restarts a session.
-fn restarted<A: AllocHandle>(core: &Core<A>, session: u64) -> Result<Option<Part<A>>, OutOfMemory>
-    ensures { IfOk result (λ made. (h : List (Event A)) → Stands h core.now →
-        MadeWhere (AreAccepted h (command.Restart session ∷ [])) made
-        (λ p. Stands (h ++ event_by 0 (command.Restart session) (reply.Capture p.capture) ∷ []) p.core)) }
-{
-    let Some(Answered { core, reply }) = carried_out(core, Command::Restart { session })? else {
+    let Some(Answered { core, reply }) = carried_out(core, command)? else {
         return Ok(None);
     };
     match reply {
@@ -147,9 +136,9 @@ fn restarted<A: AllocHandle>(core: &Core<A>, session: u64) -> Result<Option<Part
 
 // Enables a session.
 fn switched_on<A: AllocHandle>(core: &Core<A>, session: u64) -> Result<Option<Core<A>>, OutOfMemory>
-    ensures { IfOk result (λ made. (h : List (Event A)) → Stands h core.now →
+    ensures { IfOk result (λ made. (h : List (Event A)) → IsLeftBy h core.now →
         MadeWhere (AreAccepted h (command.Enable session (Some true) ∷ [])) made (λ left. (flag : Bool)
-        × Stands (h ++ event_by 0 (command.Enable session (Some true)) (reply.Flag flag) ∷ []) left)) }
+        × IsLeftBy (h ++ event_by 0 (command.Enable session (Some true)) (reply.Flag flag) ∷ []) left)) }
 {
     let command = Command::Enable {
         session,
@@ -169,9 +158,9 @@ fn committed<A: AllocHandle>(
     core: &Core<A>,
     commit: &Command<A>,
 ) -> Result<Option<Core<A>>, OutOfMemory>
-    ensures { IfOk result (λ made. (h : List (Event A)) → Stands h core.now →
+    ensures { IfOk result (λ made. (h : List (Event A)) → IsLeftBy h core.now →
         MadeWhere (IsCommit commit.now × AreAccepted h (commit.now ∷ [])) made (λ left. (version : ℕ)
-        × Stands (h ++ event_by 0 commit.now (reply.Written version) ∷ []) left)) }
+        × IsLeftBy (h ++ event_by 0 commit.now (reply.Written version) ∷ []) left)) }
 {
     match commit {
         Command::Commit(_) => {}
@@ -188,16 +177,16 @@ fn committed<A: AllocHandle>(
 
 // Enables a session and restarts it.
 fn enabled<A: AllocHandle>(core: &Core<A>, session: u64) -> Result<Option<Core<A>>, OutOfMemory>
-    ensures { IfOk result (λ made. (h : List (Event A)) → Stands h core.now → MadeWhere
+    ensures { IfOk result (λ made. (h : List (Event A)) → IsLeftBy h core.now → MadeWhere
         (AreAccepted h (command.Enable session (Some true) ∷ command.Restart session ∷ [])) made
         (λ left. (flag : Bool) × (old : List (TableChanges A))
-        × Stands ((h ++ event_by 0 (command.Enable session (Some true)) (reply.Flag flag) ∷ [])
+        × IsLeftBy ((h ++ event_by 0 (command.Enable session (Some true)) (reply.Flag flag) ∷ [])
         ++ event_by 0 (command.Restart session) (reply.Capture old) ∷ []) left)) }
 {
     let Some(core) = switched_on(core, session)? else {
         return Ok(None);
     };
-    match restarted(&core, session)? {
+    match captured_by(&core, Command::Restart { session })? {
         Some(Part { core, capture: _ }) => Ok(Some(core)),
         None => Ok(None),
     }
@@ -209,13 +198,13 @@ fn restarted_part<A: AllocHandle>(
     session: u64,
     commit: &Command<A>,
 ) -> Result<Option<Part<A>>, OutOfMemory>
-    ensures { IfOk result (λ made. (h : List (Event A)) → Stands h core.now → MadeWhere
+    ensures { IfOk result (λ made. (h : List (Event A)) → IsLeftBy h core.now → MadeWhere
         (IsCommit commit.now × AreAccepted h (commit.now ∷ command.Restart session ∷ [])) made
-        (λ p. (version : ℕ) × Stands ((h ++ event_by 0 commit.now (reply.Written version) ∷ [])
+        (λ p. (version : ℕ) × IsLeftBy ((h ++ event_by 0 commit.now (reply.Written version) ∷ [])
         ++ event_by 0 (command.Restart session) (reply.Capture p.capture) ∷ []) p.core)) }
 {
     match committed(core, commit)? {
-        Some(core) => restarted(&core, session),
+        Some(core) => captured_by(&core, Command::Restart { session }),
         None => Ok(None),
     }
 }
@@ -226,13 +215,13 @@ fn captured_part<A: AllocHandle>(
     session: u64,
     commit: &Command<A>,
 ) -> Result<Option<Part<A>>, OutOfMemory>
-    ensures { IfOk result (λ made. (h : List (Event A)) → Stands h core.now → MadeWhere
+    ensures { IfOk result (λ made. (h : List (Event A)) → IsLeftBy h core.now → MadeWhere
         (IsCommit commit.now × AreAccepted h (commit.now ∷ command.Capture session ∷ [])) made
-        (λ p. (version : ℕ) × Stands ((h ++ event_by 0 commit.now (reply.Written version) ∷ [])
+        (λ p. (version : ℕ) × IsLeftBy ((h ++ event_by 0 commit.now (reply.Written version) ∷ [])
         ++ event_by 0 (command.Capture session) (reply.Capture p.capture) ∷ []) p.core)) }
 {
     match committed(core, commit)? {
-        Some(core) => captured(&core, session),
+        Some(core) => captured_by(&core, Command::Capture { session }),
         None => Ok(None),
     }
 }
@@ -244,10 +233,10 @@ fn captured_whole<A: AllocHandle>(
     first: &Command<A>,
     second: &Command<A>,
 ) -> Result<Option<Capture<A>>, OutOfMemory>
-    ensures { IfOk result (λ made. (h : List (Event A)) → Stands h core.now → MadeWhere
+    ensures { IfOk result (λ made. (h : List (Event A)) → IsLeftBy h core.now → MadeWhere
         ((IsCommit first.now × IsCommit second.now) × AreAccepted h (first.now ∷ command.Capture session
         ∷ second.now ∷ command.Capture session ∷ command.Capture session ∷ [])) made
-        (λ whole. (one two : List (TableChanges A)) × ((v w : ℕ) × (left : State A) × Stands (((((h
+        (λ whole. (one two : List (TableChanges A)) × ((v w : ℕ) × (left : State A) × IsLeftBy (((((h
         ++ event_by 0 first.now (reply.Written v) ∷ [])
         ++ event_by 0 (command.Capture session) (reply.Capture one) ∷ [])
         ++ event_by 0 second.now (reply.Written w) ∷ [])
@@ -260,7 +249,7 @@ fn captured_whole<A: AllocHandle>(
     let Some(two) = captured_part(&one.core, session, second)? else {
         return Ok(None);
     };
-    match captured(&two.core, session)? {
+    match captured_by(&two.core, Command::Capture { session })? {
         Some(Part { core: _, capture }) => Ok(Some(capture)),
         None => Ok(None),
     }

@@ -217,14 +217,14 @@ module _ {A : Type 0} where
   -- ---- one change after another
 
   module _ (flags : List Bool) (m m' : Bool) where
-    -- the mark of two changes, where the first step has a change or has none
-    abbrev marked : Option (RowChange A) → Bool
-    marked None = m'
-    marked (Some present) = m && m'
+    -- the flag of two changes, where the first step has a change or has none
+    abbrev flag_of_both : Option (RowChange A) → Bool
+    flag_of_both None = m'
+    flag_of_both (Some present) = m && m'
 
     module _ (key : Fields A) (added : RowChange A) where
       from_none : (next last : Option (Fields A)) → ForSome next (IsRowUnder flags key) → ForSome last (IsRowUnder flags key) → touched.change_of flags m' next last ≡ Some added →
-          change_after combined flags (touched.change_of flags m None next) added ≡ touched.change_of flags (marked (touched.change_of flags m None next)) None last
+          change_after combined flags (touched.change_of flags m None next) added ≡ touched.change_of flags (flag_of_both (touched.change_of flags m None next)) None last
       from_none None None h h' is = absurd cc
       from_none None (Some now) h h' is = sym is
       from_none (Some row) None h h' is = ap (λ (c : RowChange A). combined flags (Insert m (full_record row)) c) (sym (some_same is))
@@ -249,7 +249,7 @@ module _ {A : Type 0} where
           ] is
 
       from_some : (image : Fields A) (next last : Option (Fields A)) → IsRowUnder flags key image → ForSome next (IsRowUnder flags key) → ForSome last (IsRowUnder flags key) → touched.change_of flags m' next last ≡ Some added →
-          change_after combined flags (touched.change_of flags m (Some image) next) added ≡ touched.change_of flags (marked (touched.change_of flags m (Some image) next)) (Some image) last
+          change_after combined flags (touched.change_of flags m (Some image) next) added ≡ touched.change_of flags (flag_of_both (touched.change_of flags m (Some image) next)) (Some image) last
       from_some image None None g h h' is = absurd cc
       from_some image None (Some now) g h h' is =
           ap (λ (c : RowChange A). combined flags (Delete m (full_record image)) c) (sym (some_same is))
@@ -257,7 +257,7 @@ module _ {A : Type 0} where
       from_some image (Some row) None g h h' is =
           elim (fields_eq image row) as (λ b. fields_eq image row ≡ b →
           change_after combined flags (cond b None (Some (Update m (by_column touched.old_field flags image row) (by_column touched.new_field flags image row)))) added
-          ≡ Some (Delete (marked (cond b None (Some (Update m (by_column touched.old_field flags image row) (by_column touched.new_field flags image row))))) (full_record image))) [
+          ≡ Some (Delete (flag_of_both (cond b None (Some (Update m (by_column touched.old_field flags image row) (by_column touched.new_field flags image row))))) (full_record image))) [
             | true ↦ λ e. sym is ∙ ap (λ (r : Fields A). Some (Delete m' (full_record r))) (sym ((fields_eq_decides image row).0 e))
             | false ↦ λ e.
                 ap (λ (c : RowChange A). combined flags (Update m (by_column touched.old_field flags image row) (by_column touched.new_field flags image row)) c) (sym (some_same is))
@@ -266,52 +266,52 @@ module _ {A : Type 0} where
       from_some image (Some row) (Some now) g h h' is =
           elim (fields_eq image row) as (λ b. fields_eq image row ≡ b →
           change_after combined flags (cond b None (Some (Update m (by_column touched.old_field flags image row) (by_column touched.new_field flags image row)))) added
-          ≡ touched.change_of flags (marked (cond b None (Some (Update m (by_column touched.old_field flags image row) (by_column touched.new_field flags image row))))) (Some image) (Some now)) [
+          ≡ touched.change_of flags (flag_of_both (cond b None (Some (Update m (by_column touched.old_field flags image row) (by_column touched.new_field flags image row))))) (Some image) (Some now)) [
             | true ↦ λ e. sym is ∙ ap (λ (r : Fields A). touched.change_of flags m' (Some r) (Some now)) (sym ((fields_eq_decides image row).0 e))
             | false ↦ λ e. updates image row now g (h row refl) (h' now refl) is
           ] refl
 
       step : (first next last : Option (Fields A)) → ForSome first (IsRowUnder flags key) → ForSome next (IsRowUnder flags key) → ForSome last (IsRowUnder flags key) → touched.change_of flags m' next last ≡ Some added →
-          change_after combined flags (touched.change_of flags m first next) added ≡ touched.change_of flags (marked (touched.change_of flags m first next)) first last
+          change_after combined flags (touched.change_of flags m first next) added ≡ touched.change_of flags (flag_of_both (touched.change_of flags m first next)) first last
       step None next last f h h' is = from_none next last h h' is
       step (Some image) next last f h h' is = from_some image next last (f image refl) h h' is
 
   -- changes that follow each other are the change from the first row to the last
   follow_from : (flags : List Bool) (key : Fields A) (m : Bool) (first next : Option (Fields A)) (changes : List (RowChange A)) (last : Option (Fields A)) →
       ForSome first (IsRowUnder flags key) → ForSome next (IsRowUnder flags key) → Follow flags key next changes last →
-      (mark : Bool) × (fold (change_after combined flags) (touched.change_of flags m first next) changes ≡ touched.change_of flags mark first last)
+      (flag : Bool) × (fold (change_after combined flags) (touched.change_of flags m first next) changes ≡ touched.change_of flags flag first last)
   follow_from flags key m first next [] last f h is = (m, ap (λ (row : Option (Fields A)). touched.change_of flags m first row) is)
   follow_from flags key m first next (change ∷ changes) last f h (row, under, is, more) =
-      let mark = marked flags m (is_indirect change) (touched.change_of flags m first next) in
-      let so = follow_from flags key mark first row changes last f under more in
+      let flag = flag_of_both flags m (is_indirect change) (touched.change_of flags m first next) in
+      let so = follow_from flags key flag first row changes last f under more in
       (so.0, ap (λ (o : Option (RowChange A)). fold (change_after combined flags) o changes) (step flags m (is_indirect change) key change first next row f h under is) ∙ so.1)
 
-  marked_same : (flags : List Bool) (m : Bool) (o : Option (RowChange A)) → marked flags m m o ≡ m
-  marked_same flags m None = refl
-  marked_same flags m (Some present) = and_self m
+  same_flag : (flags : List Bool) (m : Bool) (o : Option (RowChange A)) → flag_of_both flags m m o ≡ m
+  same_flag flags m None = refl
+  same_flag flags m (Some present) = and_self m
 
-  -- the mark that all of them have
-  follow_marked : (flags : List Bool) (key : Fields A) (m : Bool) (first next : Option (Fields A)) (changes : List (RowChange A)) (last : Option (Fields A)) →
+  -- the flag that all of them have
+  follow_one_flag : (flags : List Bool) (key : Fields A) (m : Bool) (first next : Option (Fields A)) (changes : List (RowChange A)) (last : Option (Fields A)) →
       ForSome first (IsRowUnder flags key) → ForSome next (IsRowUnder flags key) → Follow flags key next changes last → AllByRecursion (λ change. is_indirect change ≡ m) changes →
       fold (change_after combined flags) (touched.change_of flags m first next) changes ≡ touched.change_of flags m first last
-  follow_marked flags key m first next [] last f h is marks = ap (λ (row : Option (Fields A)). touched.change_of flags m first row) is
-  follow_marked flags key m first next (change ∷ changes) last f h (row, under, is, more) marks =
+  follow_one_flag flags key m first next [] last f h is same = ap (λ (row : Option (Fields A)). touched.change_of flags m first row) is
+  follow_one_flag flags key m first next (change ∷ changes) last f h (row, under, is, more) same =
       ap (λ (o : Option (RowChange A)). fold (change_after combined flags) o changes)
-      (step flags m m key change first next row f h under (ap (λ (i : Bool). touched.change_of flags i next row) (sym marks.0) ∙ is)
-      ∙ ap (λ (i : Bool). touched.change_of flags i first row) (marked_same flags m (touched.change_of flags m first next)))
-      ∙ follow_marked flags key m first row changes last f under more marks.1
+      (step flags m m key change first next row f h under (ap (λ (i : Bool). touched.change_of flags i next row) (sym same.0) ∙ is)
+      ∙ ap (λ (i : Bool). touched.change_of flags i first row) (same_flag flags m (touched.change_of flags m first next)))
+      ∙ follow_one_flag flags key m first row changes last f under more same.1
 
   none_yet : (flags : List Bool) (m : Bool) (row : Option (Fields A)) → touched.change_of flags m row row ≡ None
   none_yet flags m None = refl
   none_yet flags m (Some row) = ap (λ b. cond b None (Some (Update m (by_column touched.old_field flags row row) (by_column touched.new_field flags row row)))) ((fields_eq_decides row row).1 refl)
 
   pub followed : (flags : List Bool) (key : Fields A) (first : Option (Fields A)) (changes : List (RowChange A)) (last : Option (Fields A)) →
-      ForSome first (IsRowUnder flags key) → Follow flags key first changes last → (mark : Bool) × (together combined flags changes ≡ touched.change_of flags mark first last)
+      ForSome first (IsRowUnder flags key) → Follow flags key first changes last → (flag : Bool) × (together combined flags changes ≡ touched.change_of flags flag first last)
   followed flags key first changes last f h =
       let so = follow_from flags key false first first changes last f f h in
       (so.0, ap (λ (o : Option (RowChange A)). fold (change_after combined flags) o changes) (sym (none_yet flags false first)) ∙ so.1)
 
-  pub followed_marked : (flags : List Bool) (key : Fields A) (m : Bool) (first : Option (Fields A)) (changes : List (RowChange A)) (last : Option (Fields A)) →
+  pub followed_one_flag : (flags : List Bool) (key : Fields A) (m : Bool) (first : Option (Fields A)) (changes : List (RowChange A)) (last : Option (Fields A)) →
       ForSome first (IsRowUnder flags key) → Follow flags key first changes last → AllByRecursion (λ change. is_indirect change ≡ m) changes → together combined flags changes ≡ touched.change_of flags m first last
-  followed_marked flags key m first changes last f h marks =
-      ap (λ (o : Option (RowChange A)). fold (change_after combined flags) o changes) (sym (none_yet flags m first)) ∙ follow_marked flags key m first first changes last f f h marks
+  followed_one_flag flags key m first changes last f h same =
+      ap (λ (o : Option (RowChange A)). fold (change_after combined flags) o changes) (sym (none_yet flags m first)) ∙ follow_one_flag flags key m first first changes last f f h same

@@ -14,9 +14,10 @@ ghost use Rattle.cap_group.specs.ChangeGroup.{added, added_unless, all_added, co
 ghost use Rattle.cap_group.specs.ChangeGroup.{empty_group, has_changes, refused_kind};
 ghost use Rattle.cap_group.specs.Bytes.{bytes_added, contents_at};
 
+use crate::combine::Combine;
 use crate::keyed_changes::KeyedChanges;
 use crate::tables::{groups_of, with_groups};
-use crate::{BlobRefusal, Combine, GroupRefusal};
+use crate::{BlobRefusal, GroupRefusal};
 use cap_changes::{ChangeList, Patch, PatchList, RowChange, TableGroup};
 use cap_codec::{Contents, KeyFlags, read_blob, write_changes_with, write_patches_with};
 use cap_value::{AllocHandle, Fault, OutOfMemory};

@@ -8,7 +8,7 @@ use cap_row::{Key, Schema};
 use cap_value::{AllocHandle, OutOfMemory};
 
 /// A change of a changeset or of a patchset, which combines with a later one of the same row.
-pub trait Combine<A: AllocHandle>: Entry {
+pub(crate) trait Combine<A: AllocHandle>: Entry {
     // The key of its row, by the key flags of its table.
     ghost key: { List Bool → Self → Fields A };
     // What becomes of the present change when one is added.

@@ -3,8 +3,8 @@ ghost use Rattle.std.specs.Prelude.{◌≡◌, IfOk};
 ghost use Rattle.cap_changes.specs.declared.row_change.RowChange.TheVariants.{Insert, Update, Delete};
 ghost use Rattle.cap_group.specs.Combined.{combined};
 
-use crate::Combine;
 use crate::change_key::record_key;
+use crate::combine::Combine;
 use crate::record::{copy_record, record_over, update_between};
 use cap_changes::{FieldRecord, RowChange};
 use cap_row::{Key, Schema};

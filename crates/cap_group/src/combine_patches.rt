@@ -3,8 +3,8 @@ ghost use Rattle.std.specs.Prelude.{◌≡◌, IfOk};
 ghost use Rattle.cap_changes.specs.declared.patch.Patch.TheVariants.{Insert, Update, Delete};
 ghost use Rattle.cap_group.specs.Combined.{patches_combined};
 
-use crate::Combine;
 use crate::change_key::record_key;
+use crate::combine::Combine;
 use crate::record::{copy_record, record_over};
 use cap_changes::{FieldRecord, Patch};
 use cap_row::{Key, Schema};

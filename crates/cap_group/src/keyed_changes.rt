@@ -8,7 +8,7 @@ ghost use Rattle.cap_codec.specs.Writable.{has_some};
 ghost use Rattle.cap_group.specs.KeyedChanges.{change_after, entries_of, no_changes};
 ghost use Rattle.cap_group.specs.KeyedChanges.{with_change, with_changes};
 
-use crate::Combine;
+use crate::combine::Combine;
 use crate::shared::Shared;
 use cap_changes::TableGroup;
 use cap_row::{Key, Schema};

@@ -17,6 +17,5 @@ mod tables;
 
 pub use bytes::concat_bytes;
 pub use change_group::{ChangeGroup, concat};
-pub use combine::Combine;
 pub use laws::{changes_that_follow, each_row_by_itself, one_list_alone};
 pub use refusal::{BlobRefusal, ConcatRefusal, GroupRefusal};

@@ -8,8 +8,9 @@ ghost use Rattle.cap_group.specs.ChangeGroup.{groups_of, with_group, with_groups
 ghost use Rattle.cap_group.specs.KeyedChanges as keyed;
 ghost use Rattle.cap_group.specs.KeyedChanges.{no_changes, table_at, with_changes, with_table};
 
+use crate::GroupRefusal;
+use crate::combine::Combine;
 use crate::keyed_changes::KeyedChanges;
-use crate::{Combine, GroupRefusal};
 use cap_changes::{GroupList, TableGroup};
 use cap_value::{AllocHandle, Fault, Name, OutOfMemory};
 
@@ -121,6 +122,7 @@ fn has_columns_of<C: Combine<A> + Drop, A: AllocHandle>(
     ensures columns { result ≡ flags_eq table.now.schema group.now.schema }
     ensures fit { IsTrue result → AllFit C.fits_in table.now.schema group.now.changes }
 {
+    // For the proof: a clause of `changes` says that they fit the columns of their group.
     let _changes = group.changes();
     table.schema() == group.schema()
 }

@@ -12,7 +12,7 @@ use Rattle.cap_script.specs.declared.line.Line.{Line}
 use Rattle.cap_server.specs.declared.fault.CallFault.{CallFault}
 use Rattle.cap_server.specs.declared.fault.CallFault.TheVariants as call
 use Rattle.cap_run.specs.BlobList.{HasLines}
-use Rattle.cap_run.specs.Code.Shell.{HasAnswered, Leaves, MatchEnd, MayEnd}
+use Rattle.cap_run.specs.Code.Shell.{HasAnswered, IsLeftBy, MatchEnd, MayEnd}
 use Rattle.cap_run.specs.Code.Unread.{Counted, CutsLine, Failed, HasLine, HasPart}
 use Rattle.cap_run.specs.Reads.{EndsAtFault, LimitReached}
 use Rattle.cap_run.specs.Run.{AppendsFront, Ended, ending, events_max, on_a_line}
@@ -99,7 +99,7 @@ module _ {A : Type 0} where
 
   -- ---- the server
 
-  pub leaves_none : (core : State A) → core ≡ state [] → Leaves [] core
+  pub leaves_none : (core : State A) → core ≡ state [] → IsLeftBy [] core
   leaves_none core is = record {
     legal = IsLegal-none A;
     blobs = fits-none A;
@@ -108,19 +108,19 @@ module _ {A : Type 0} where
   }
 
   -- the history as the core has it
-  pub leaves_events : (h : List (Event A)) (core : State A) → Leaves h core → core.events ≡ length h
+  pub leaves_events : (h : List (Event A)) (core : State A) → IsLeftBy h core → core.events ≡ length h
   leaves_events h core so = ap (λ (s : State A). s.events) (sym so.state_is) ∙ events-state h
 
   -- no command was run
   pub no_command : {P E : Type 0} (reply fault : P → List ℕ) (number : ℕ) (text : List ℕ) (line : ReadLine A) (shown : List ℕ) (result : Result P E) (h : List (Event A)) (core : State A)
-      → after_line h line ≡ h → reply_to h line ≡ [] → fault_of number line ≡ shown → IsReadAs number text line → Leaves h core → IfOk result (λ p. (reply p ≡ []) × (fault p ≡ shown))
+      → after_line h line ≡ h → reply_to h line ≡ [] → fault_of number line ≡ shown → IsReadAs number text line → IsLeftBy h core → IfOk result (λ p. (reply p ≡ []) × (fault p ≡ shown))
       → IfOk result (λ p. HasAnswered number text h core (reply p) (fault p))
   no_command reply fault number text line shown (Ok p) h core same none fault_is is so (no_reply, fault_shown) =
-      (line, is, subst (λ (k : List (Event A)). Leaves k core) (sym same) so, no_reply ∙ sym none, fault_shown ∙ sym fault_is)
+      (line, is, subst (λ (k : List (Event A)). IsLeftBy k core) (sym same) so, no_reply ∙ sym none, fault_shown ∙ sym fault_is)
   no_command reply fault number text line shown (Err e) h core same none fault_is is so met = tt
 
   -- the line's command was run
-  pub answered_command : (number : ℕ) (text : List ℕ) (line : Line A) (h : List (Event A)) (core next : State A) (reply fault : List ℕ) → Leaves h core → BlobFits line.command → core.events < events_max
+  pub answered_command : (number : ℕ) (text : List ℕ) (line : Line A) (h : List (Event A)) (core next : State A) (reply fault : List ℕ) → IsLeftBy h core → BlobFits line.command → core.events < events_max
       → IsUtf8 text → IsFound (Some line) text → next ≡ state (h ++ event_by 0 line.command (reply_of h line.command) ∷ []) → reply ≡ on_a_line (reply_text line (reply_of h line.command)) → fault ≡ []
       → HasAnswered number text h next reply fault
   answered_command number text line h core next reply fault so fits room utf8 found after is none =
@@ -147,7 +147,7 @@ module _ {A : Type 0} where
     pub parts : (others : List (List ℕ)) → HasLines left others → HasLines input (texts ++ others)
     pub read : AreReadAs 1 texts lines
     pub counted : number ≡ length texts
-    pub leaves : Leaves (after_lines [] lines) core
+    pub leaves : IsLeftBy (after_lines [] lines) core
     pub printed : Appends old.replies new.replies (replies_to [] lines)
     pub reported : Appends old.faults new.faults (faults_of 1 lines)
 
@@ -185,7 +185,7 @@ module _ {A : Type 0} where
     parts = λ others has. subst (λ (l : List (List ℕ)). HasLines input l) (sym (append_assoc so.texts (text ∷ []) others)) (so.parts (text ∷ others) (lines_cut text left rest others cut has));
     read = read_counted so.texts so.lines text line number count so.read so.counted is one;
     counted = omega (arith, is, so.counted, length-append so.texts (text ∷ []));
-    leaves = subst (λ (h : List (Event A)). Leaves h next) (sym (after_push so.lines line [])) leaves;
+    leaves = subst (λ (h : List (Event A)). IsLeftBy h next) (sym (after_push so.lines line [])) leaves;
     printed = subst (Appends a.replies c.replies) (ap (λ (t : List ℕ). replies_to [] so.lines ++ t) reply_is ∙ sym (replies_push so.lines line [])) (Appends-trans a.replies b.replies c.replies (replies_to [] so.lines) reply so.printed printed);
     reported = subst (Appends a.faults c.faults) (ap (λ (t : List ℕ). faults_of 1 so.lines ++ t) fault_is ∙ sym (fault_counted so.texts so.lines line number count so.read so.counted is)) (Appends-trans a.faults b.faults c.faults (faults_of 1 so.lines) fault so.reported reported);
   }
@@ -218,7 +218,7 @@ module _ {A : Type 0} where
       )
 
   -- out of memory for a line, or the history is full
-  pub ends_before : (fault : CallFault) (h : List (Event A)) (core : State A) (others : List (List ℕ)) → Leaves h core → MayEnd fault core → 0 < length others → EndsBefore fault h others
+  pub ends_before : (fault : CallFault) (h : List (Event A)) (core : State A) (others : List (List ℕ)) → IsLeftBy h core → MayEnd fault core → 0 < length others → EndsBefore fault h others
   ends_before call.OutOfMemory h core others so may some = some
   ends_before (call.Overtaken front) h core others so may some = absurd may
   ends_before call.HistoryFull h core others so may some = (some, omega (arith, may, so.few, leaves_events h core so))

@@ -2,9 +2,8 @@
 ghost use Rattle.std.specs.Prelude.{IfOk};
 ghost use Rattle.cap_run.specs.Options.{IsInRange};
 
-use crate::{
-    Concatenation, Conversion, Encoding, Form, Options, OptionsFault, THREADS_MAX, Target,
-};
+use crate::{Concatenation, Conversion, Encoding, Form, Options, OptionsFault, THREADS_MAX};
+use cap_blob::Target;
 use cap_codec::KeyFlags;
 use clap::builder::ValueParser;
 use clap::error::ErrorKind;

@@ -1,15 +1,7 @@
 //! What is made of a changeset, or of several blobs.
 use crate::Encoding;
+use cap_blob::Target;
 use cap_codec::KeyFlags;
-
-/// What a changeset is converted to.
-#[derive(Clone, Copy, Debug, PartialEq, Eq, Drop)]
-pub enum Target {
-    /// Its inverse.
-    Inverse,
-    /// Its patchset.
-    Patchset,
-}
 
 /// What a changeset is converted to, and how that is written.
 #[derive(Clone, Copy, Debug, PartialEq, Eq, Drop)]

@@ -1,15 +1,15 @@
 //! Converts a changeset to its inverse or to its patchset.
 ghost use Rattle.std.specs.Prelude.{◌≡◌, ◌⊎◌, Err, false, IfSome, IfErr, IfOk, IsErrAnd};
 ghost use Rattle.cap_value.specs.Memory.{ShowsUnlessMemory};
-ghost use Rattle.cap_run.specs.Conversion.{converted_at, output_of, target_at, WritesOutput};
+ghost use Rattle.cap_run.specs.Conversion.{converted_at, output_of, WritesOutput};
 ghost use Rattle.cap_run.specs.Reads.{EndsReads, ShowsUnlessUnread};
 ghost use Rattle.cap_run.specs.RunFault.{exit_status, input_fault, is_read, IsUnread, RunsNothing};
 ghost use Rattle.cap_run.specs.Writes.{EndsWrites};
 
 use crate::encoding::{encode, read_bytes};
 use crate::output::write_output;
-use crate::{Conversion, RunFault, RunOutput, Target};
-use cap_blob::{BytesRefusal, invert_bytes, patchset_bytes};
+use crate::{Conversion, RunFault, RunOutput};
+use cap_blob::{ChangesetRefusal, convert_bytes};
 use cap_codec::Source;
 use cap_value::{AllocHandle, Fault};
 
@@ -70,27 +70,12 @@ fn convert<A: AllocHandle>(
     ensures no_failed_read { IfErr result (λ fault. is_read (input_fault fault) ≡ false) }
     ensures early { IfErr result (λ fault. RunsNothing (input_fault fault)) }
 {
-    match target_bytes(alloc, conversion, bytes) {
+    match convert_bytes(alloc, conversion.target, conversion.key_flags, bytes) {
         Ok(bytes) => Ok(encode(alloc, conversion.encoding, bytes)?),
-        Err(Fault::Refused(BytesRefusal::Malformed(fault))) => {
+        Err(Fault::Refused(ChangesetRefusal::Malformed(fault))) => {
             Err(Fault::Refused(RunFault::Blob(fault)))
         }
-        Err(Fault::Refused(BytesRefusal::Patchset)) => Err(Fault::Refused(RunFault::Patchset)),
+        Err(Fault::Refused(ChangesetRefusal::Patchset)) => Err(Fault::Refused(RunFault::Patchset)),
         Err(Fault::OutOfMemory) => Err(Fault::OutOfMemory),
-    }
-}
-
-// The bytes of what the changeset is converted to.
-fn target_bytes<A: AllocHandle>(
-    alloc: A,
-    conversion: Conversion,
-    bytes: &[u8],
-) -> Result<Vec<u8, A>, Fault<BytesRefusal>>
-    ensures { ShowsUnlessMemory (λ out. out.items) result
-        (target_at A conversion.target conversion.key_flags bytes.now) }
-{
-    match conversion.target {
-        Target::Inverse => invert_bytes(alloc, conversion.key_flags, bytes),
-        Target::Patchset => patchset_bytes(alloc, conversion.key_flags, bytes),
     }
 }

@@ -28,7 +28,7 @@ mod workload;
 
 pub use command_line::options;
 pub use concat::concat_blobs;
-pub use conversion::{Concatenation, Conversion, Target};
+pub use conversion::{Concatenation, Conversion};
 pub use convert::convert_blob;
 pub use encoding::Encoding;
 pub use fault::{ConcatFault, ListedFault, RunFault};

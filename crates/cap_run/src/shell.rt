@@ -4,7 +4,7 @@ ghost use Rattle.std.specs.Prelude.{false};
 ghost use Rattle.std.specs.Prelude.{string_bytes};
 ghost use Rattle.std.specs.Io.KnownBytes.{Appends};
 ghost use Rattle.cap_core.specs.declared.event.Event.{Event};
-ghost use Rattle.cap_run.specs.Code.Shell.{HasAnswered, Leaves, MatchEnd, MayEnd};
+ghost use Rattle.cap_run.specs.Code.Shell.{HasAnswered, IsLeftBy, MatchEnd, MayEnd};
 ghost use Rattle.cap_run.specs.Reads.{EndsReads};
 ghost use Rattle.cap_run.specs.Run.{AppendsFront, ending, on_a_line};
 ghost use Rattle.cap_run.specs.RunFault.{exit_status, is_read};
@@ -124,7 +124,7 @@ fn answer_line<A: AllocHandle>(
     number: u64,
     line: &[u8],
 ) -> Result<Printed<A>, CallFault>
-    ensures answered { (h : List (Event A)) → Leaves h core.old → IfOk result (λ printed.
+    ensures answered { (h : List (Event A)) → IsLeftBy h core.old → IfOk result (λ printed.
         HasAnswered number line.now h core.new (string_bytes printed.reply) (string_bytes printed.fault)) }
     ensures ended { IfErr result (λ fault. MayEnd fault core.old) }
 {
@@ -141,7 +141,7 @@ fn answer_text<A: AllocHandle>(
     number: u64,
     text: &str,
 ) -> Result<Printed<A>, CallFault>
-    ensures answered { (h : List (Event A)) → Leaves h core.old → IfOk result (λ printed.
+    ensures answered { (h : List (Event A)) → IsLeftBy h core.old → IfOk result (λ printed.
         HasAnswered number text.now h core.new (string_bytes printed.reply) (string_bytes printed.fault)) }
     ensures ended { IfErr result (λ fault. MayEnd fault core.old) }
 {
@@ -161,7 +161,7 @@ fn answer_command<A: AllocHandle>(
     line: &Line<A>,
 ) -> Result<Printed<A>, CallFault>
     requires found { IsFound (Some line.now) text.now }
-    ensures answered { (h : List (Event A)) → Leaves h core.old → IfOk result (λ printed.
+    ensures answered { (h : List (Event A)) → IsLeftBy h core.old → IfOk result (λ printed.
         HasAnswered number text.now h core.new (string_bytes printed.reply) (string_bytes printed.fault)) }
     ensures ended { IfErr result (λ fault. MayEnd fault core.old) }
 {
@@ -185,7 +185,7 @@ fn answer_refused<A: AllocHandle>(
     fault: Fault<ScriptFault>,
 ) -> Result<Printed<A>, CallFault>
     requires fault { HasFault A number fault text.now }
-    ensures answered { (h : List (Event A)) → Leaves h core.now → IfOk result (λ printed.
+    ensures answered { (h : List (Event A)) → IsLeftBy h core.now → IfOk result (λ printed.
         HasAnswered number text.now h core.now (string_bytes printed.reply) (string_bytes printed.fault)) }
     ensures ended { IfErr result (λ fault. fault ≡ CallFault.OutOfMemory) }
 {

@@ -1,5 +1,5 @@
 //! The inverse and the patchset of a changeset, and the concatenation of blobs, from bytes to bytes.
-use cap_blob::{BytesRefusal, invert_bytes, patchset_bytes};
+use cap_blob::{ChangesetRefusal, invert_bytes, patchset_bytes};
 use cap_codec::KeyFlags;
 use cap_group::{BlobRefusal, ConcatRefusal, GroupRefusal, concat_bytes};
 use cap_value::{AllocHandle, Fault};
@@ -15,7 +15,7 @@ const PATCHSET: &str = "500301020074001701010000000000000001030161030163";
 // Whether the bytes are these.
 fn are<A: AllocHandle>(
     alloc: A,
-    bytes: Result<Vec<u8, A>, Fault<BytesRefusal>>,
+    bytes: Result<Vec<u8, A>, Fault<ChangesetRefusal>>,
     digits: &str,
 ) -> bool {
     match (bytes, hex::decode(alloc, digits)) {
@@ -50,7 +50,7 @@ fn has_no_inverse<A: AllocHandle>(alloc: A, digits: &str) -> bool {
     match hex::decode(alloc, digits) {
         Ok(bytes) => matches!(
             invert_bytes(alloc, KeyFlags::Ones, bytes.as_slice()),
-            Err(Fault::Refused(BytesRefusal::Patchset))
+            Err(Fault::Refused(ChangesetRefusal::Patchset))
         ),
         Err(_) => false,
     }

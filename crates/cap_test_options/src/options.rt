@@ -1,6 +1,7 @@
 //! The words of a command line: what they ask for, and those that are refused.
+use cap_blob::Target;
 use cap_codec::KeyFlags;
-use cap_run::{Concatenation, Conversion, Encoding, Form, Options, OptionsFault, Target, options};
+use cap_run::{Concatenation, Conversion, Encoding, Form, Options, OptionsFault, options};
 use std::alloc::{AllocError, Global};
 use std::test::Fail;
 

@@ -1,6 +1,7 @@
 //! Workloads with what they print, and a blob with what is shown of it and what it is converted to.
+use cap_blob::Target;
 use cap_codec::KeyFlags;
-use cap_run::{Concatenation, Conversion, Encoding, Target};
+use cap_run::{Concatenation, Conversion, Encoding};
 
 // A session captures an insert.
 const INSERT: (&str, &str) = (

@@ -19,7 +19,7 @@ MatchEnd fault Called written = ⊥
 
 module _ {A : Type 0} where
   -- the history leaves this server
-  pub record Leaves (history : List (Event A)) (core : State A) : Type 0 where
+  pub record IsLeftBy (history : List (Event A)) (core : State A) : Type 0 where
     pub legal : IsLegal history
     pub blobs : BlobsFit history
     pub few : length history ≤ events_max
@@ -28,7 +28,7 @@ module _ {A : Type 0} where
   -- what the line was, the server after it, and the reply and the fault that are printed for it
   abbrev pub HasAnswered : ℕ → List ℕ → List (Event A) → State A → List ℕ → List ℕ → Type 0
   HasAnswered number text history core reply fault =
-      (line : ReadLine A) × IsReadAs number text line × Leaves (after_line history line) core
+      (line : ReadLine A) × IsReadAs number text line × IsLeftBy (after_line history line) core
       × (reply ≡ reply_to history line) × (fault ≡ fault_of number line)
 
   -- out of memory, or a full history; on one thread no call is overtaken

@@ -1,4 +1,4 @@
-use Rattle.std.proofs.Common.{[], ◌∷◌, ◌++◌}
+use Rattle.std.proofs.Common.{[], ◌∷◌, ◌++◌, inl, refl}
 use Rattle.cap_core.specs.declared.command.Command.TheVariants as command
 use Rattle.cap_core.specs.declared.reply.Reply.TheVariants as reply
 use Rattle.cap_core.specs.Answer.{event_by}
@@ -15,7 +15,7 @@ returns-in-Some-3 g c =
     let middle = (h ++ event_by 0 first (reply.Written one.1.0) ∷ []) ++ event_by 0 capture (reply.Capture c.in-Some.one.capture) ∷ [] in
     let two = rw c.in-Some-2.is at c.in_ok-two.ensures middle one.1.1 in
     let end = (middle ++ event_by 0 second (reply.Written two.1.0) ∷ []) ++ event_by 0 capture (reply.Capture c.in-Some-2.two.capture) ∷ [] in
-    let last = rw c.in-Some-3.is at c.in_ok-capture.ensures end two.1.1 in (
+    let last = rw c.in-Some-3.is at c.in_ok-capture.ensures (c.args.session, inl refl) end two.1.1 in (
       (
         (one.0.0, two.0.0),
         with-two h first capture (reply.Written one.1.0) (reply.Capture c.in-Some.one.capture) (second ∷ capture ∷ capture ∷ []) one.1.1.legal one.0.1
@@ -52,6 +52,6 @@ returns g c =
     let middle = (h ++ event_by 0 first (reply.Written one.1.0) ∷ []) ++ event_by 0 capture (reply.Capture c.in-Some.one.capture) ∷ [] in
     let two = rw c.in-Some-2.is at c.in_ok-two.ensures middle one.1.1 in
     let end = (middle ++ event_by 0 second (reply.Written two.1.0) ∷ []) ++ event_by 0 capture (reply.Capture c.in-Some-2.two.capture) ∷ [] in
-    let none = rw c.in-None.is at c.in_ok-capture.ensures end two.1.1 in
+    let none = rw c.in-None.is at c.in_ok-capture.ensures (c.args.session, inl refl) end two.1.1 in
     none (after-two middle second capture (reply.Written two.1.0) (reply.Capture c.in-Some-2.two.capture) (capture ∷ []) two.1.1.legal
     (after-two h first capture (reply.Written one.1.0) (reply.Capture c.in-Some.one.capture) (second ∷ capture ∷ capture ∷ []) one.1.1.legal all.1))

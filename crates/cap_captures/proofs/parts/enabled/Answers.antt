@@ -1,4 +1,4 @@
-use Rattle.std.proofs.Common.{Some, true, [], ◌∷◌, ◌++◌}
+use Rattle.std.proofs.Common.{Some, true, [], ◌∷◌, ◌++◌, inr, refl}
 use Rattle.cap_core.specs.declared.command.Command.TheVariants as command
 use Rattle.cap_core.specs.declared.reply.Reply.TheVariants as reply
 use Rattle.cap_core.specs.Answer.{event_by}
@@ -10,7 +10,7 @@ returns-in-Some-2 g c =
     λ h stands.
     let on = rw c.in-Some.is at c.in_ok-core.ensures h stands in
     let enable = command.Enable c.args.session (Some true) in
-    let old = rw c.in-Some-2.is at c.in_ok-core-2.ensures (h ++ event_by 0 enable (reply.Flag on.1.0) ∷ []) on.1.1 in (
+    let old = rw c.in-Some-2.is at c.in_ok-core-2.ensures (c.args.session, inr refl) (h ++ event_by 0 enable (reply.Flag on.1.0) ∷ []) on.1.1 in (
       first-accepted h enable (reply.Flag on.1.0) (command.Restart c.args.session ∷ []) on.1.1.legal on.0 old.0,
       (on.1.0, c.in-Some-2.field-0.capture, old.1),
     )
@@ -20,7 +20,7 @@ returns g c =
     λ h stands all.
     let on = rw c.in-Some.is at c.in_ok-core.ensures h stands in
     let enable = command.Enable c.args.session (Some true) in
-    let none = rw c.in-None.is at c.in_ok-core-2.ensures (h ++ event_by 0 enable (reply.Flag on.1.0) ∷ []) on.1.1 in
+    let none = rw c.in-None.is at c.in_ok-core-2.ensures (c.args.session, inr refl) (h ++ event_by 0 enable (reply.Flag on.1.0) ∷ []) on.1.1 in
     none (later-accepted h enable (reply.Flag on.1.0) (command.Restart c.args.session ∷ []) on.1.1.legal all)
 
 pub returns-in_default : goal.returns-in_default

@@ -1,18 +1,18 @@
-use Rattle.std.proofs.Common.{[], ◌∷◌, ◌++◌}
+use Rattle.std.proofs.Common.{[], ◌∷◌, ◌++◌, inr, refl}
 use Rattle.cap_core.specs.declared.command.Command.TheVariants as command
 use Rattle.cap_core.specs.declared.reply.Reply.TheVariants as reply
 use Rattle.cap_core.specs.Answer.{event_by}
-use Rattle.cap_captures.specs.Parts.{Stands}
+use Rattle.cap_captures.specs.Parts.{IsLeftBy}
 use Rattle.cap_captures.specs.declared.parts.Part.{Part}
 use Rattle.cap_captures.proofs.AcceptedLemmas.{one-of}
-use Rattle.cap_captures.proofs.PartLemmas.{with-commit}
+use Rattle.cap_captures.proofs.PartLemmas.{if-capture, with-commit}
 use Rattle.cap_captures.proofs.parts.restarted_part.Goals as goal
 
 pub returns-in-Some : goal.returns-in-Some
 returns-in-Some g c =
     with-commit c.args.core.now c.in-Some.core c.args.commit.now (command.Restart c.args.session)
-    (λ h (p : Part g.row.A.Denot). Stands (h ++ event_by 0 (command.Restart c.args.session) (reply.Capture p.capture) ∷ []) p.core) c.restarted.result
-    (λ h stands. rw c.in-Some.is at c.in_ok-core.ensures h stands) c.restarted.ensures
+    (λ h (p : Part g.row.A.Denot). IsLeftBy (h ++ event_by 0 (command.Restart c.args.session) (reply.Capture p.capture) ∷ []) p.core) c.captured_by.result
+    (λ h stands. rw c.in-Some.is at c.in_ok-core.ensures h stands) (if-capture (command.Restart c.args.session) _ c.captured_by.result c.captured_by.ensures (c.args.session, inr refl))
 
 pub returns-in-None : goal.returns-in-None
 returns-in-None g c =

@@ -9,32 +9,32 @@ use Rattle.cap_codec.specs.Patchset.{patch_bytes, patch_group_bytes, patch_list_
 use Rattle.cap_codec.specs.Reading.{◌>>=◌}
 use Rattle.cap_codec.specs.declared.fault.BlobFault.{BlobFault}
 use Rattle.cap_codec.specs.declared.key_flags.KeyFlags.{KeyFlags}
-use Rattle.cap_blob.specs.declared.conversion.Conversion.{Conversion}
-use Rattle.cap_blob.specs.declared.conversion.Conversion.TheVariants.{Inverse, Patchset}
+use Rattle.cap_blob.specs.declared.target.Target.{Target}
+use Rattle.cap_blob.specs.declared.target.Target.TheVariants.{Inverse, Patchset}
 
 -- the first byte of a group
-abbrev pub kind_byte : Conversion → ℕ
+abbrev pub kind_byte : Target → ℕ
 kind_byte Inverse = 0x54
 kind_byte Patchset = 0x50
 
 module _ {A : Type 0} where
   -- the bytes of a change, in a group of these columns
-  abbrev pub converted : Conversion → List Bool → RowChange A → List ℕ
+  abbrev pub converted : Target → List Bool → RowChange A → List ℕ
   converted Inverse flags change = change_bytes (inverse_of flags change)
   converted Patchset flags change = patch_bytes (patch_of flags change)
 
   -- the bytes of a group
-  abbrev pub converted_group : KeyFlags → Conversion → TableChanges A → List ℕ
+  abbrev pub converted_group : KeyFlags → Target → TableChanges A → List ℕ
   converted_group key_flags Inverse group = group_bytes key_flags (inverses_of group)
   converted_group key_flags Patchset group = patch_group_bytes key_flags (patches_of group)
 
   -- the bytes of a list
-  abbrev pub converted_list : KeyFlags → Conversion → List (TableChanges A) → List ℕ
+  abbrev pub converted_list : KeyFlags → Target → List (TableChanges A) → List ℕ
   converted_list key_flags Inverse groups = list_bytes_with key_flags (inverse_list_of groups)
   converted_list key_flags Patchset groups = patch_list_bytes_with key_flags (patch_list_of groups)
 
   -- these bytes, and behind them those of the list that is read
-  abbrev pub listed : KeyFlags → Conversion → List ℕ → Result (List (TableChanges A)) BlobFault →
+  abbrev pub listed : KeyFlags → Target → List ℕ → Result (List (TableChanges A)) BlobFault →
       Result (List ℕ) BlobFault
-  listed key_flags conversion out read =
-      read >>= (λ groups. Ok (out ++ converted_list key_flags conversion groups))
+  listed key_flags target out read =
+      read >>= (λ groups. Ok (out ++ converted_list key_flags target groups))

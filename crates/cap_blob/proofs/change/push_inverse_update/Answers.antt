@@ -2,7 +2,7 @@ use Rattle.std.proofs.Common.{◌∷◌, [], map}
 use Rattle.cap_codec.specs.Changeset.{flag_byte}
 use Rattle.cap_codec.specs.HeaderReading.{is_set}
 use Rattle.cap_blob.proofs.ChangeLemmas.{inverse_written}
-use Rattle.cap_blob.proofs.conversion.push_inverse_update.Goals as goal
+use Rattle.cap_blob.proofs.change.push_inverse_update.Goals as goal
 
 pub returns-clause-reads : goal.returns-clause-reads
 returns-clause-reads g c =

@@ -11,34 +11,14 @@ ghost use Rattle.cap_codec.specs.Field.{record_bytes, key_bytes};
 ghost use Rattle.cap_codec.specs.HeaderReading.{is_set};
 ghost use Rattle.cap_codec.specs.Operation.{operation_byte};
 ghost use Rattle.cap_codec.specs.RecordReading.{record_at};
-ghost use Rattle.cap_blob.specs.Conversion.{kind_byte, converted};
+ghost use Rattle.cap_blob.specs.Target.{converted};
 ghost use Rattle.cap_blob.specs.Passing.{appended, records_at};
 
 use crate::record::{pass_record, push_full, push_key, push_merged, push_others};
+use crate::target::Target;
 use cap_changes::RecordKind;
-use cap_codec::{BlobFault, CHANGESET, Operation, PATCHSET, take_byte};
+use cap_codec::{BlobFault, Operation, take_byte};
 use cap_value::{AllocHandle, Fault, OutOfMemory};
-
-/// What is made of a changeset.
-#[derive(Clone, Copy)]
-pub enum Conversion {
-    /// Its inverse.
-    Inverse,
-    /// Its patchset.
-    Patchset,
-}
-
-impl Conversion {
-    /// The first byte of a group that is written.
-    pub fn kind_byte(self) -> u8
-        ensures { result ≡ kind_byte self }
-    {
-        match self {
-            Conversion::Inverse => CHANGESET,
-            Conversion::Patchset => PATCHSET,
-        }
-    }
-}
 
 // Appends an operation byte, and the indirect flag by the byte that is read for it.
 fn push_start<A: AllocHandle>(
@@ -136,18 +116,18 @@ fn push_inverse_update<'a, A: AllocHandle>(
     Ok(rest)
 }
 
-/// Appends what is written for the change behind its operation byte, and answers the bytes behind it.
+// Appends what is written for the change behind its operation byte, and answers the bytes behind it.
 #[tactic(auto, unfolding(cap_codec::specs::BlobReading::change_at))]
-pub fn convert_change<'a, A: AllocHandle>(
+pub(crate) fn convert_change<'a, A: AllocHandle>(
     out: &mut Vec<u8, A>,
-    conversion: Conversion,
+    target: Target,
     operation: Operation,
     flags: &[u8],
     total: usize,
     bytes: &'a [u8],
 ) -> Result<&'a [u8], Fault<BlobFault>>
     ensures reads { ShowsUnlessMemory (λ rest. (out.new.items, rest.now)) result
-        (appended (converted conversion (map is_set flags.now)) out.old.items
+        (appended (converted target (map is_set flags.now)) out.old.items
         (change_at {A = A} total (map is_set flags.now) (operation_byte operation) bytes.now)) }
     ensures behind { IfOk result (λ rest. length rest.now ≤ length bytes.now) }
 {
@@ -158,12 +138,12 @@ pub fn convert_change<'a, A: AllocHandle>(
         indirect,
         bytes,
     };
-    match (conversion, operation) {
-        (Conversion::Inverse, Operation::Insert) => push_whole(out, Operation::Delete, given),
-        (Conversion::Inverse, Operation::Update) => push_inverse_update(out, given),
-        (Conversion::Inverse, Operation::Delete) => push_whole(out, Operation::Insert, given),
-        (Conversion::Patchset, Operation::Insert) => push_whole(out, Operation::Insert, given),
-        (Conversion::Patchset, Operation::Update) => push_patch_update(out, given),
-        (Conversion::Patchset, Operation::Delete) => push_patch_delete(out, given),
+    match (target, operation) {
+        (Target::Inverse, Operation::Insert) => push_whole(out, Operation::Delete, given),
+        (Target::Inverse, Operation::Update) => push_inverse_update(out, given),
+        (Target::Inverse, Operation::Delete) => push_whole(out, Operation::Insert, given),
+        (Target::Patchset, Operation::Insert) => push_whole(out, Operation::Insert, given),
+        (Target::Patchset, Operation::Update) => push_patch_update(out, given),
+        (Target::Patchset, Operation::Delete) => push_patch_delete(out, given),
     }
 }
