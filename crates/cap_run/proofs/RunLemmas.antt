@@ -10,6 +10,7 @@ use Rattle.cap_server.specs.declared.fault.CallFault.{CallFault}
 use Rattle.cap_server.specs.declared.fault.CallFault.TheVariants as call
 use Rattle.cap_core.specs.declared.reply.Reply.{Reply}
 use Rattle.cap_core.specs.Answer.{State, IsLegal, IsLegalPast, answer, event_by, history_of, reply_of, state}
+use Rattle.cap_core.specs.Past.{HasRoom}
 use Rattle.cap_core.specs.Table.{BlobFits, BlobsFit, BlobsFitPast}
 use Rattle.cap_core.specs.Transition.{next}
 use Rattle.cap_script.specs.declared.line.Line.{Line}
@@ -42,7 +43,7 @@ front_sooner a b bytes after (front, rest, parts, wrote) =
     (front, rest ++ after, ap (λ (r : List ℕ). r ++ after) parts ∙ append_assoc front rest after, wrote)
 
 -- the line that has no reply
-pub ends_at : (fault : CallFault) (lines count events : ℕ) → events ≡ count → count < lines → count ≤ events_max → MatchCallFault fault (events < events_max) (λ front. ⊥) (events_max ≤ events)
+pub ends_at : (fault : CallFault) (lines count events : ℕ) → events ≡ count → count < lines → count ≤ events_max → MatchCallFault fault (HasRoom events) (λ front. ⊥) (events_max ≤ events)
     → EndsAt (Err fault) lines count
 ends_at call.OutOfMemory lines count events same less few met = (less, omega arith)
 ends_at (call.Overtaken front) lines count events same less few met = absurd met
@@ -313,7 +314,7 @@ module _ {A : Type 0} where
 
   -- at a line that has no reply
   pub at_fault : (lines : List (Line A)) (rest : List ℕ) (core : State A) (pending left : List ℕ) (a b : Option (List ℕ)) (fault : CallFault) (so : IsAt lines rest core pending a b) → 0 < length so.others
-      → MatchCallFault fault (core.events < events_max) (λ front. ⊥) (events_max ≤ core.events) → left ≡ pending → HasEnded lines (Err fault) left a b
+      → MatchCallFault fault (HasRoom core.events) (λ front. ⊥) (events_max ≤ core.events) → left ≡ pending → HasEnded lines (Err fault) left a b
   at_fault lines rest core pending left a b fault so more met same =
       let less : length so.done < length lines = omega (arith, at_within lines so.done so.others so.parts, more) in (
         length so.done,
@@ -329,7 +330,7 @@ module _ {A : Type 0} where
 
   -- the line has its reply
   pub at_next : (lines : List (Line A)) (rest left : List ℕ) (core next : State A) (pending more : List ℕ) (a b : Option (List ℕ)) (line : Line A) (so : IsAt lines rest core pending a b)
-      → TakesFirst (Some line) so.others left → IsStep core line pending next more → BlobFits line.command → core.events < events_max → IsAt lines left next more a b
+      → TakesFirst (Some line) so.others left → IsStep core line pending next more → BlobFits line.command → HasRoom core.events → IsAt lines left next more a b
   at_next lines rest left core next pending more a b line so (others, is, spelled) step fits room =
       let parts : lines ≡ so.done ++ line ∷ others = so.parts ∙ ap (λ (ls : List (Line A)). so.done ++ ls) is in
       let here : line ≡ get_or lines (length so.done) line = get_or-here so.done line others ∙ ap (λ (ls : List (Line A)). get_or ls (length so.done) line) (sym parts) in

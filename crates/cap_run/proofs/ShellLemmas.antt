@@ -4,6 +4,7 @@ use Rattle.std.specs.Io.KnownBytes.{Appends, IsAtEnd, prepend_known}
 use Rattle.std.proofs.KnownBytes.{Appends-nil, Appends-trans}
 use Rattle.cap_codec.specs.StreamCalls.{AllWent, Calls, LastFailed}
 use Rattle.cap_core.specs.Answer.{State, IsLegal, event_by, reply_of, state}
+use Rattle.cap_core.specs.Past.{HasRoom}
 use Rattle.cap_core.specs.Table.{BlobFits, BlobsFit}
 use Rattle.cap_core.specs.declared.event.Event.{Event}
 use Rattle.cap_script.specs.ReadLine.{IsFound}
@@ -15,7 +16,7 @@ use Rattle.cap_run.specs.BlobList.{HasLines}
 use Rattle.cap_run.specs.Code.Shell.{HasAnswered, IsLeftBy, MatchEnd, MayEnd}
 use Rattle.cap_run.specs.Code.Unread.{Counted, CutsLine, Failed, HasLine, HasPart}
 use Rattle.cap_run.specs.Reads.{EndsAtFault, LimitReached}
-use Rattle.cap_run.specs.Run.{AppendsFront, Ended, ending, events_max, on_a_line}
+use Rattle.cap_run.specs.Run.{AppendsFront, Ended, ending, on_a_line}
 use Rattle.cap_run.specs.Shell.{AreReadAs, EndsBefore, HasRun, Ignored, IsReadAs, NoText, Outputs, Prints, PrintsPart, ReadLine, Refused, Spelled, WritesShell, after_line, after_lines, fault_of, faults_of, outputs, replies_to, reply_to}
 use Rattle.cap_run.specs.Writes.{EndsAtWriteFault, EndsBoth, EndsWrites}
 use Rattle.cap_run.specs.declared.fault.RunFault.{RunFault}
@@ -120,7 +121,7 @@ module _ {A : Type 0} where
   no_command reply fault number text line shown (Err e) h core same none fault_is is so met = tt
 
   -- the line's command was run
-  pub answered_command : (number : ℕ) (text : List ℕ) (line : Line A) (h : List (Event A)) (core next : State A) (reply fault : List ℕ) → IsLeftBy h core → BlobFits line.command → core.events < events_max
+  pub answered_command : (number : ℕ) (text : List ℕ) (line : Line A) (h : List (Event A)) (core next : State A) (reply fault : List ℕ) → IsLeftBy h core → BlobFits line.command → HasRoom core.events
       → IsUtf8 text → IsFound (Some line) text → next ≡ state (h ++ event_by 0 line.command (reply_of h line.command) ∷ []) → reply ≡ on_a_line (reply_text line (reply_of h line.command)) → fault ≡ []
       → HasAnswered number text h next reply fault
   answered_command number text line h core next reply fault so fits room utf8 found after is none =

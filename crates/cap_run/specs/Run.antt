@@ -7,6 +7,7 @@ use Rattle.cap_server.specs.declared.fault.CallFault.{CallFault}
 use Rattle.cap_server.specs.declared.fault.CallFault.TheVariants as call
 use Rattle.cap_core.specs.declared.reply.Reply.{Reply}
 use Rattle.cap_core.specs.Answer.{IsLegal, history_of}
+use Rattle.cap_core.specs.Past.{HasRoom}
 use Rattle.cap_core.specs.Table.{BlobsFit}
 use Rattle.cap_run.specs.declared.fault.RunFault.{RunFault}
 use Rattle.cap_run.specs.declared.fault.RunFault.TheVariants.{Call, Write}
@@ -54,7 +55,7 @@ run_outcome (Err fault) = Err (Call fault)
 -- history ends it before the line that would exceed it.
 abbrev pub EndsAt : Ended → ℕ → ℕ → Type 0
 EndsAt (Ok done) lines count = count ≡ lines
-EndsAt (Err call.OutOfMemory) lines count = (count < lines) × (count < events_max)
+EndsAt (Err call.OutOfMemory) lines count = (count < lines) × HasRoom count
 EndsAt (Err (call.Overtaken front)) lines count = ⊥
 EndsAt (Err call.HistoryFull) lines count = (count < lines) × (count ≡ events_max)
 

@@ -1,8 +1,9 @@
 //! Runs a workload on one thread.
-ghost use Rattle.std.specs.Prelude.{◌≡◌, ◌⊎◌, ◌++◌, ◌∷◌, ◌<◌, ◌≤◌, ℕ, List, [], length, IfSome, IfOk, IfErr};
+ghost use Rattle.std.specs.Prelude.{◌≡◌, ◌⊎◌, ◌++◌, ◌∷◌, ◌≤◌, ℕ, List, [], length, IfSome, IfOk, IfErr};
 ghost use Rattle.std.specs.Prelude.{false, OnOk, OnErr, IsErrAnd, IsUtf8, string_bytes};
 ghost use Rattle.std.specs.Io.KnownBytes.{Appends};
 ghost use Rattle.cap_core.specs.Answer.{IsLegal, answer, event_by, reply_of, state};
+ghost use Rattle.cap_core.specs.Past.{HasRoom};
 ghost use Rattle.cap_core.specs.Transition.{next};
 ghost use Rattle.cap_core.specs.declared.event.Event.{Event};
 ghost use Rattle.cap_run.specs.Run.{AppendsFront, BeginsRun, EndsAt, IsRun, Writes, WritesInput};
@@ -181,7 +182,7 @@ fn write_replies<A: AllocHandle, W: RunOutput>(
 
 // The fault of a line that is out of memory. A full history comes first, and no call is overtaken.
 fn line_fault<A: AllocHandle>(core: &Core<A>) -> CallFault
-    ensures { MatchCallFault result (core.now.events < events_max) (λ _. ⊥) (events_max ≤ core.now.events) }
+    ensures { MatchCallFault result (HasRoom core.now.events) (λ _. ⊥) (events_max ≤ core.now.events) }
 {
     if core.events() >= EVENTS_MAX {
         CallFault::HistoryFull
@@ -201,9 +202,9 @@ pub(crate) fn run_line<A: AllocHandle>(
         (core.new ≡ state (h ++ event_by 0 line.now.command (reply_of h line.now.command) ∷ []))
         × (string_bytes pending.new
         ≡ string_bytes pending.old ++ on_a_line (reply_text line.now (reply_of h line.now.command)))) }
-    ensures room { OnOk result (core.old.events < events_max) }
+    ensures room { OnOk result (HasRoom core.old.events) }
     ensures full { IfErr result (λ fault.
-        MatchCallFault fault (core.old.events < events_max) (λ _. ⊥) (events_max ≤ core.old.events)) }
+        MatchCallFault fault (HasRoom core.old.events) (λ _. ⊥) (events_max ≤ core.old.events)) }
     ensures same { OnErr result (string_bytes pending.new ≡ string_bytes pending.old) }
 {
     legal_histories_grow::<A>();
@@ -223,7 +224,7 @@ fn run_command<A: AllocHandle>(
     core: &mut Core<A>,
     command: &Command<A>,
 ) -> Result<Reply<A>, CallFault>
-    requires room { core.old.events < events_max }
+    requires room { HasRoom core.old.events }
     ensures ok { IfOk result (λ reply. (core.new ≡ next core.old command.now)
         × (reply ≡ answer core.old command.now)) }
     ensures err { IfErr result (λ fault. fault ≡ CallFault.OutOfMemory) }
