@@ -1,9 +1,7 @@
 -- The bytes that are written for a whole blob.
 use Rattle.std.proofs.Common.{◌≡◌, ℕ, ◌==◌, Bool, true, false, List, [], ◌∷◌, length, Result, Ok, Err, refl, sym, ap, cond}
-use Rattle.std.specs.Prelude.{IfOk, None}
+use Rattle.std.specs.Prelude.{None}
 use Rattle.std.proofs.lemmas.Bool.{eqb-true}
-use Rattle.cap_value.specs.declared.memory.Fault.{Fault}
-use Rattle.cap_value.specs.Memory.{ShowsUnlessMemory}
 use Rattle.cap_changes.specs.Group.{TableChanges}
 use Rattle.cap_codec.specs.declared.fault.BlobFault.{BlobFault}
 use Rattle.cap_codec.specs.declared.fault.FaultKind.TheVariants.{BadHeader}
