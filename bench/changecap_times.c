@@ -142,6 +142,25 @@ static void inserts(const char *name, const char *of_capture, int count, int scr
     changecap_server_close(&server);
 }
 
+static void save(changecap_server *server) {
+    changecap_fault fault;
+    must(changecap_save(server, SAVED, sizeof SAVED - 1, &fault), "save");
+}
+
+/* Commits of one inserted row under a session, and the tables saved in place of those before at intervals. */
+static void inserts_saved(const char *name, int scrambled) {
+    changecap_server server = table();
+    session(&server);
+    double start = now();
+    for (long number = 0; number < COMMITS; number++) {
+        insert(&server, key_of(number, scrambled));
+        commit(&server);
+        if ((number + 1) % ONE_IN == 0) save(&server);
+    }
+    report(name, start, COMMITS);
+    changecap_server_close(&server);
+}
+
 /* Commits of one update, of this many rows in turn, under this many sessions. */
 static void updates(const char *name, long rows, int count) {
     changecap_server server = table();
@@ -312,13 +331,16 @@ static void diff(void) {
     changecap_server server = table();
     changecap_fault fault;
     insert_together(&server, COMMITS, 0);
-    must(changecap_save(&server, SAVED, sizeof SAVED - 1, &fault), "save");
+    save(&server);
     for (long number = 0; number < COMMITS / ONE_IN; number++) update(&server, number * ONE_IN, number);
     commit(&server);
     uint64_t made = session(&server);
     double start = now();
     must(changecap_session_diff(&server, made, SAVED, sizeof SAVED - 1, TABLE, 1, &fault), "diff");
     report("diff", start, COMMITS);
+    uint32_t is_empty;
+    must(changecap_session_isempty(&server, made, &is_empty, &fault), "isempty");
+    check(!is_empty, "diff");
     changecap_server_close(&server);
 }
 
@@ -374,6 +396,8 @@ static void load(const char *name) {
     if (!strcmp(name, "commits")) {
         inserts("inserts", "capture", 1, 0);
         inserts("inserts_scrambled", "capture_scrambled", 1, 1);
+        inserts_saved("inserts_saved", 0);
+        inserts_saved("inserts_saved_scrambled", 1);
         updates("updates_of_1000", UPDATED, 1);
         updates("updates_of_1", 1, 1);
     } else if (!strcmp(name, "texts")) {

@@ -268,6 +268,7 @@ static void diff(void) {
     double start = now();
     check(sqlite3session_diff(made, "saved", "t", 0) == SQLITE_OK, "diff");
     report("diff", start, COMMITS);
+    check(!sqlite3session_isempty(made), "diff");
     close_all(db, &made, 1);
 }
 
