@@ -1,12 +1,11 @@
 PROGRAM = crates/changecap/out/changecap
-TIMES = crates/cap_bench_times/out/cap_bench_times
 
 # How many random cases `make conformance` makes of each kind, and how often `make bench` runs each load.
 CASES = 500
 ROUNDS = 3
 
-# The code that the program may be made of: that of every crate but those that test or measure it, and the one for C.
-SOURCES = $(filter-out crates/cap_test_% crates/cap_bench_% crates/cap_c/%, $(wildcard crates/*/src))
+# The code that the program may be made of: that of every crate but those that test it, and the one for C.
+SOURCES = $(filter-out crates/cap_test_% crates/cap_c/%, $(wildcard crates/*/src))
 
 # Where `make lib` leaves the library for C, and where `make install` puts it and the program.
 OUT = bindings/out
@@ -56,9 +55,9 @@ clean:
 conformance:
 	@conformance/run $(PROGRAM) --cases $(CASES)
 
-# How long the libraries and the program take beside SQLite: a table of ratios.
+# How long the program, and the library for C that `make lib` leaves, take beside SQLite: a table of ratios.
 bench:
-	@bench/run $(PROGRAM) $(TIMES) $(ROUNDS)
+	@bench/run $(PROGRAM) $(OUT) $(ROUNDS)
 
 # The library for C, over what `make test` proved; cap_c itself is proved here.
 lib:
