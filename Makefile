@@ -1,5 +1,8 @@
 PROGRAM = crates/changecap/out/changecap
 
+# The program without proofs, with run-time checks in their place.
+UNPROVED = crates/changecap/out/unproved/changecap
+
 # How many random cases `make conformance` makes of each kind, and how often `make bench` runs each load.
 CASES = 500
 ROUNDS = 3
@@ -12,10 +15,10 @@ OUT = bindings/out
 PREFIX = /usr/local
 DESTDIR =
 
-.PHONY: run build test format clean conformance bench lib install uninstall test-bindings
+.PHONY: run check build test format clean conformance bench lib install uninstall test-bindings
 
-# The replies to the first example, by the optimised program where `make build` or `make test` left one. Else the
-# sources run before any proof, with checks in place of the proofs, and what `rt try` reports is shown where it fails.
+# The replies to the first example, by the optimised program where `make build` or `make test` left one. Else by the
+# program without proofs, which is built here unless `make check` left it.
 run:
 	@if [ -x $(PROGRAM) ]; then \
 	    if [ -n "$$(find $(SOURCES) -newer $(PROGRAM) -print -quit)" ]; then \
@@ -23,10 +26,12 @@ run:
 	    fi; \
 	    $(PROGRAM) run < examples/first.workload; \
 	else \
-	    log=$$(mktemp) && trap 'rm -f "$$log"' EXIT && cd crates/changecap && \
-	    { rt try -- run < ../../examples/first.workload 2> "$$log" || \
-	        { status=$$?; cat "$$log" >&2; exit $$status; }; }; \
+	    .ci/check --program $(UNPROVED) && $(UNPROVED) run < examples/first.workload; \
 	fi
+
+# Every test and every example in minutes, and no proof.
+check:
+	@.ci/check $(UNPROVED)
 
 # Proves every crate that the program stands on, makes the optimised program and runs it once.
 build:
