@@ -13,7 +13,7 @@ OUT = bindings/out
 PREFIX = /usr/local
 DESTDIR =
 
-.PHONY: run build test format clean conformance bench lib install uninstall test-bindings
+.PHONY: run build test format clean conformance bench lib shared install uninstall test-bindings
 
 # The replies to the first example, by the optimised program where `make build` or `make test` left one. Else the
 # sources run before any proof, with checks in place of the proofs, and what `rt try` reports is shown where it fails.
@@ -63,6 +63,10 @@ bench:
 # The library for C, over what `make test` proved; cap_c itself is proved here.
 lib:
 	@bindings/library $(OUT)
+
+# The shared object of that library, for Python.
+shared:
+	@bindings/shared $(OUT)
 
 # The program and the library where others find them.
 install:
