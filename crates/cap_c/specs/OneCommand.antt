@@ -47,8 +47,8 @@ pub record IsNotOne (text : List ℕ) (why : PlacedFault) : Type 0 where
   pub none : (line : Line Global) → ¬ (SpellsOne line text)
   pub reason : Reason text why
 
--- The status is `COMMAND` exactly where the text is not one command, unless memory ran out. Only then the fault
--- is set, and it says why.
+-- The status is `COMMAND` exactly where the text is not one command, unless memory ran out. Only then the
+-- fault is set, and it says why.
 pub record TellsText (text : List ℕ) (status : ℕ) (old fault : PlacedFault) : Type 0 where
   pub none : status ≡ COMMAND → IsNotOne text fault
   pub one : ¬ (status ≡ COMMAND) → ¬ (status ≡ NOMEM) → (line : Line Global) × SpellsOne line text

@@ -2,7 +2,8 @@
 ghost use Rattle.std.specs.Fmt.{WritesOnOk};
 ghost use Rattle.std.specs.Io.KnownBytes.{Appends};
 ghost use Rattle.std.specs.List.{flat_map};
-ghost use Rattle.std.specs.Prelude.{◌≡◌, ◌++◌, Bool, List, IfErr, IfOk, OnOk, false, option_copied, slice_get, ℕ};
+ghost use Rattle.std.specs.Prelude.{◌≡◌, ◌++◌, Bool, List, IfErr, IfOk, OnOk, false, option_copied, ℕ};
+ghost use Rattle.std.specs.Prelude.{slice_get};
 ghost use Rattle.cap_codec.specs.Stream.{EndsWrites, WritesFront};
 ghost use Rattle.cap_show.specs.Code.DefinedFields.{is_first_after, next_text};
 ghost use Rattle.cap_show.specs.Code.Equations.{asked_value, next_equation, separator_before};
