@@ -41,8 +41,8 @@ BadField, D7 Real, D8 BadText, D9 BadRecord and D10 Mixed are of the bytes of a 
 command, as E5 Duplicate; the refusal is its reply, and the next command runs.
 
 The exit status is 0 where the input was run or printed, 1 where it is refused, 2 where the command line
-is, and 3 where memory ran out or a read or a write failed. Of those nothing is printed, or with -v a line on
-standard error that says which it was.";
+is, and 3 where memory ran out or a read or a write failed. With -v a line on standard error then says what
+failed.";
 
 const RUN_ABOUT: &str = "Run the workload on standard input and print the reply to each command";
 
@@ -250,11 +250,13 @@ fn flag<'a>(alloc: Global, word: &'a str, help: &'a str) -> Arg<'a> {
 
 /// Parses the words after the program's name.
 ///
-/// `run` runs a workload, on N threads with `--threads N`, N from 1 to 63, and otherwise on one, with `--in-turn`
-/// one line after the other. `shell` runs each line as it is read. `show` shows a blob as text, with `--sql` as SQL, or with `--json` as JSON.
-/// `invert` and `patchset` convert one, and `concat` concatenates several, with key flags by places, or by
-/// ones with `--key-flags ones`. A blob is given and written as hex digits, or with `--binary` as its bytes.
-/// `-v` or `--verbose` among the words changes nothing of that. Other words are refused with a message. `--help` and `--version` give their text as a fault of status 0.
+/// `run` runs a workload, on N threads with `--threads N`, N from 1 to 63, and otherwise on one; with
+/// `--in-turn` its lines are called one after the other. `shell` runs each line as it is read. `show` shows a
+/// blob as text, with `--sql` as SQL, or with `--json` as JSON. `invert` and `patchset` convert one, and
+/// `concat` concatenates several, with key flags by places, or by ones with `--key-flags ones`. A blob is
+/// given and written as hex digits, or with `--binary` as its bytes. `-v` or `--verbose` among the words
+/// changes nothing of that. Other words are refused with a message. `--help` and `--version` give their text
+/// as a fault of status 0.
 pub fn options(alloc: Global, words: &[String]) -> Result<Options, OptionsFault>
     // The number of threads is in range.
     ensures range { IfOk result IsInRange }

@@ -1,7 +1,7 @@
 //! Whether the workers of a block wait for each other.
 
-/// Whether the workers of a block wait for each other. Whatever the pace, a run promises the same of the order
-/// of the calls.
+/// Whether the workers of a block wait for each other. Whatever the pace, a run promises the same of the
+/// order of the calls.
 #[derive(Clone, Copy, Debug, PartialEq, Eq, Drop)]
 pub enum Pace {
     /// No worker waits for another one, so their calls overlap, and come in any order.

@@ -102,8 +102,8 @@ pub(crate) fn answer_lines<J: Naming, A: AllocHandle, T: Wait, G: Gate>(
     Ok(())
 }
 
-// Where lines are called in turn, waits until this many lines of the block were called. A turn sleeps, so that
-// other workers run even where all processors are busy.
+// Where lines are called in turn, waits until this many lines of the block were called. A turn sleeps, so
+// that other workers run even where all processors are busy.
 fn wait_for_turn<T: Wait>(rt: &T, is_in_turn: bool, called: &AtomicU64, before: u64) {
     if !is_in_turn {
         return;

@@ -52,8 +52,8 @@ fn is_as_it_should(outcome: Result<(), RunFault>, output: &str, written: &[u8]) 
     }
 }
 
-// Makes it with the first request refused, then the second, until none is. How many were refused without a fault.
-// None where one does not end as it should, or few are refused.
+// Makes it with the first request refused, then the second, until none is. How many were refused without a
+// fault. None where one does not end as it should, or few are refused.
 fn spared(alloc: Global, made: Made, most: usize, given: &str, output: &str) -> Option<u64> {
     let memory = Memory::new(alloc);
     let mut spared = 0u64;

@@ -126,7 +126,8 @@ fn is_beginning(lines: &Lines, replies: &[u8], faults: &[u8]) -> bool {
     lines.replies.as_slice().starts_with(replies) && lines.faults.as_slice().starts_with(faults)
 }
 
-// Whether a shell reports each read that fails, until it makes fewer, and writes the first replies and faults.
+// Whether a shell reports each read that fails, until it makes fewer, and writes the first replies and
+// faults.
 fn reads_may_fail(alloc: Global, lines: &Lines) -> bool {
     for call in 1..CALLS_MAX {
         let mut reader = source(lines.text.as_slice(), 7, Failure::at(call));
@@ -188,8 +189,8 @@ fn ends_for_memory(outcome: Result<(), RunFault>, lines: &Lines, written: &[u8])
 }
 
 // Runs a shell with the first request for memory refused, then the second, until it meets none. How many were
-// refused without a fault. None where it does not end as it should, or few are refused. The reader gives so many
-// bytes at a time.
+// refused without a fault. None where it does not end as it should, or few are refused. The reader gives so
+// many bytes at a time.
 fn spared(alloc: Global, lines: &Lines, most: usize) -> Option<u64> {
     let memory = Memory::new(alloc);
     let mut spared = 0u64;

@@ -11,8 +11,8 @@ use std::thread::Threads;
 // More requests than any run makes.
 const REQUESTS_MAX: u64 = 100_000;
 
-// The most requests of a run that are refused without a fault: each reserves memory for a hint, where a blob is
-// applied.
+// The most requests of a run that are refused without a fault: each reserves memory for a hint, where a blob
+// is applied.
 const SPARED_MAX: u64 = 2;
 
 const NO_MEMORY: &[u8] = b"refused for memory\n";
@@ -58,8 +58,8 @@ fn is_as_it_should(outcome: Result<(), RunFault>, replies: &str, written: &[u8])
     }
 }
 
-// Runs a workload with the first request refused, then the second, until a run meets none. How many runs met one
-// and ended well. None where one does not end as it should, or few meet one.
+// Runs a workload with the first request refused, then the second, until a run meets none. How many runs met
+// one and ended well. None where one does not end as it should, or few meet one.
 fn spared<T: Threads + Wait + Sync>(
     rt: &T,
     alloc: Global,

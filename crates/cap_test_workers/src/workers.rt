@@ -63,8 +63,8 @@ fn run<T: Threads + Wait + Sync, G: Gate>(
     outcome
 }
 
-// Whether the text has each of the first replies to commits, behind those before, one line each, and ends with
-// this.
+// Whether the text has each of the first replies to commits, behind those before, one line each, and ends
+// with this.
 fn has_commits(text: &str, count: usize, last: &str) -> bool {
     for reply in COMMIT_REPLIES.iter().take(count) {
         if !text.contains(*reply) {

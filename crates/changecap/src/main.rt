@@ -25,8 +25,8 @@ const MISUSED: u8 = 2;
 
 const FAILED: u8 = 3;
 
-// Whether the words ask that the program says what failed. They are looked at themselves, since memory may run
-// out while they are parsed.
+// Whether the words ask that the program says what failed. They are looked at themselves, since memory may
+// run out while they are parsed.
 fn asks_what_failed(words: &[String]) -> bool {
     for word in words {
         if word.as_str() == "-v" || word.as_str() == "--verbose" {
