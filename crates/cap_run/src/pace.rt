@@ -12,3 +12,10 @@ pub enum Pace {
     /// until a later one is called.
     InTurn,
 }
+
+impl Pace {
+    // Whether each line waits for the lines of its block before it.
+    pub(crate) fn is_in_turn(self) -> bool {
+        matches!(self, Pace::InTurn)
+    }
+}

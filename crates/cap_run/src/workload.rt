@@ -153,7 +153,7 @@ fn serve_lines<
         server: &server,
         gate,
         threads,
-        is_in_turn: matches!(pace, Pace::InTurn),
+        is_in_turn: pace.is_in_turn(),
     };
     let (workers, outcome) = run_with_workers(&shared, lines, workers, writer);
     take_seats(workers, &mut back);
