@@ -1,5 +1,5 @@
-use Rattle.cap_test_workers.proofs.WatchLemmas.{first_reported, read_reported, second_reported}
-use Rattle.cap_test_workers.proofs.watched.shell_watched.Goals as goal
+use Rattle.cap_test_options.proofs.WatchLemmas.{first_reported, read_reported, second_reported}
+use Rattle.cap_test_options.proofs.watched.shell_watched.Goals as goal
 
 pub returns-clause-read : goal.returns-clause-read
 returns-clause-read g c = λ failed.

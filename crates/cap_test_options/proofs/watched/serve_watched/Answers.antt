@@ -1,6 +1,6 @@
 use Rattle.std.proofs.Crossing.{frees}
-use Rattle.cap_test_workers.proofs.WatchLemmas.{read_reported, write_reported}
-use Rattle.cap_test_workers.proofs.watched.serve_watched.Goals as goal
+use Rattle.cap_test_options.proofs.WatchLemmas.{read_reported, write_reported}
+use Rattle.cap_test_options.proofs.watched.serve_watched.Goals as goal
 
 -- any thread may give memory of the heap back
 pub run_workload-requires-clause-frees : goal.run_workload-requires-clause-frees

@@ -5,7 +5,7 @@ ghost use Rattle.std.specs.declared.io.ErrorKind.TheVariants.{Interrupted};
 
 use cap_codec::Source;
 use cap_run::{
-    Concatenation, Conversion, Encoding, Form, NoGate, RunFault, RunOutput, concat_blobs,
+    Concatenation, Conversion, Encoding, Form, NoGate, Pace, RunFault, RunOutput, concat_blobs,
     convert_blob, run_core, run_shell, run_workload, show_blob,
 };
 use std::alloc::Global;
@@ -126,7 +126,7 @@ pub fn serve_watched<T: Threads + Wait + Sync, R: Read, W: Write>(
     ensures read { reader.new.has_failed ≡ true → result ≡ Err RunFault.Read }
     ensures write { writer.new.has_failed ≡ true → result ≡ Err RunFault.Write }
 {
-    run_workload(rt, alloc, &NoGate, 1, reader, writer)
+    run_workload(rt, alloc, &NoGate, 1, Pace::Free, reader, writer)
 }
 
 /// Runs a shell. A call of the streams that failed is what the shell reports.

@@ -1,5 +1,5 @@
-use Rattle.cap_test_workers.proofs.WatchLemmas.{read_reported, write_reported}
-use Rattle.cap_test_workers.proofs.watched.concat_watched.Goals as goal
+use Rattle.cap_test_options.proofs.WatchLemmas.{read_reported, write_reported}
+use Rattle.cap_test_options.proofs.watched.concat_watched.Goals as goal
 
 pub returns-clause-read : goal.returns-clause-read
 returns-clause-read g c = λ failed.
