@@ -1,0 +1,142 @@
+"""A page: its text, its titles, its blocks, and the cells in which its names stand."""
+import os
+import re
+from typing import NamedTuple
+
+SPAN = re.compile(r"(?<!`)(`+)(?!`)(.+?)(?<!`)\1(?!`)")
+LINK = re.compile(r"\[(?:[^\[\]`]|`[^`]*`)*\]\(([^()\s]+)\)")
+TITLE = re.compile(r"(#+) +(.*?) *#*$")
+BOLD = re.compile(r"\*\*(.+?)\.?\*\*")
+REFERENCE = re.compile(r"(?<![\w./${}-])(?:\.\./)*([\w-][\w./-]*\.md)\b\)?(?:,? \(?\"([^\"]+)\")?")
+
+
+class Span(NamedTuple):
+    """What stands between backticks, with the text before it in its cell."""
+    text: str
+    before: str
+
+
+class Cell(NamedTuple):
+    """A paragraph, an item of a list or a cell of a table: its line, its text and its spans."""
+    line: int
+    text: str
+    spans: list
+
+
+class Block(NamedTuple):
+    """A block of code: the line behind its fence, its language and its lines."""
+    line: int
+    language: str
+    lines: list
+
+
+def plain(text):
+    """A text without marks, and with one space wherever there is space."""
+    return re.sub(r"\s+", " ", re.sub(r"[`*]", "", text)).strip()
+
+
+def anchor(title):
+    """The anchor by which a link leads to a title."""
+    return re.sub(r"[^\w\- ]", "", plain(re.sub(r"\[(.*?)\]\(.*?\)", r"\1", title)).lower()).replace(" ", "-")
+
+
+def unquoted(text):
+    """The text of a page of the manual for the terminal, without its marks, a paragraph a line."""
+    lines = []
+    for line in text.split("\n"):
+        line = re.sub(r"^\.[A-Z][A-Za-z]* ?", "", line).replace("\\-", "-").replace("\\e", "\\")
+        lines.append(line.strip('"'))
+    return "\n".join(lines)
+
+
+def references_in(number, line):
+    """The number of a line, and the file and the title of each page that it names."""
+    return [(number, file, title) for file, title in REFERENCE.findall(line)]
+
+
+class Page:
+    """A page that was read."""
+
+    def __init__(self, path, text):
+        self.path, self.text = path, text
+        self.folder = os.path.dirname(path)
+        self.cells, self.blocks, self.titles = [], [], []
+        self.prose = []  # number and text of each line outside blocks
+        if path.endswith(".md"):
+            self.split(text.split("\n"))
+        else:
+            self.prose = list(enumerate(unquoted(text).split("\n"), 1))
+        self.plain = plain(" ".join(line for _, line in self.prose))
+
+    def split(self, lines):
+        """Tells the blocks from the prose, and the prose into cells."""
+        fence, begun, kept, gathered = None, 0, [], []
+        for number, line in enumerate(lines, 1):
+            mark = re.match(r" *(```+|~~~+) *(\w*)", line)
+            if fence:
+                if mark and mark[1] == fence[1]:
+                    self.blocks.append(Block(begun, fence[2], kept))
+                    fence = None
+                else:
+                    kept.append(line)
+                continue
+            if mark:
+                fence, begun, kept = mark, number + 1, []
+                self.gather(gathered)
+                continue
+            is_indented = line.startswith("    ") and not gathered
+            if is_indented:
+                self.blocks.append(Block(number, "", [line]))
+            if not line.strip() or is_indented or re.match(r" *(?:[|#]|[-*] |\d+\. )", line):
+                self.gather(gathered)
+            if line.strip() and not is_indented:
+                gathered.append((number, line))
+        self.gather(gathered)
+
+    def gather(self, gathered):
+        """Makes cells of lines that belong together."""
+        if not gathered:
+            return
+        number, text = gathered[0][0], " ".join(line.strip() for _, line in gathered)
+        self.prose.extend(gathered)
+        gathered.clear()
+        title = TITLE.match(text)
+        if title:
+            self.titles.append(title[2])
+        self.titles.extend(BOLD.findall(text))
+        for part in re.split(r"(?<!\\)\|(?=(?:[^`]*`[^`]*`)*[^`]*$)", text) if text.startswith("|") else [text]:
+            spans, end = [], 0
+            for found in SPAN.finditer(part):
+                spans.append(Span(found[2].strip(), part[end:found.start()]))
+                end = found.end()
+            self.cells.append(Cell(number, part, spans))
+
+    def line_of(self, pattern):
+        """The first line that has what a pattern finds, else the first line of all."""
+        return next((number for number, line in self.prose if pattern.search(plain(line))), 1)
+
+    def anchors(self):
+        """The anchors of the titles, each with a number where it is not the first of its text."""
+        found, seen = set(), {}
+        for line in self.text.split("\n"):
+            title = TITLE.match(line)
+            if title:
+                it = anchor(title[2])
+                found.add(f"{it}-{seen[it]}" if it in seen else it)
+                seen[it] = seen.get(it, 0) + 1
+        return found
+
+    def has_title(self, title):
+        """Whether there is a title, or a text in bold, of these words."""
+        return any(plain(it).lower() == plain(title).lower() for it in self.titles)
+
+    def links(self):
+        """The line and the target of each link outside blocks."""
+        for number, line in self.prose:
+            for target in LINK.findall(re.sub(r"(?<!\])`[^`]*`(?!\])", "", line)):
+                yield number, target
+
+    def references(self):
+        """The line, the file and, where it is given, the title of each page that the prose names."""
+        for number, line in self.prose:
+            yield from references_in(number, re.sub(r"\]\([^()\s]+\)", "]", line).replace("`", ""))
