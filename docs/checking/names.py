@@ -9,6 +9,8 @@ IDENTIFIER = re.compile(r"[A-Za-z_][\w-]*$")
 PATH_WORDS = re.compile(r"[\w.+@*-]+(?:/[\w.+@*-]+)*/?$")
 FILE = re.compile(r"\.(?:rt|antt|md|py|h|c|rs|txt|toml|so|a|pc|in|out|err|status|edit|cases|workloads?|long|lines|hex"
                   r"|blobs|words|calls|threads|any-order)$")
+# What a page in a crate's folder means of that crate.
+OF_A_CRATE = re.compile(r"(?:src|specs|proofs|must-fail)(?:/|$)")
 # A word that stands for any other in a path, as NAME in crates/NAME/src.
 PLACEHOLDER = re.compile(r"\b[A-Z]{2,}|\b[A-Z]\b")
 # What may stand between two names of which both belong to what follows, or between two clauses.
@@ -49,17 +51,33 @@ class Names:
 
     def faults(self, page):
         """The line and the text of each fault of a page."""
+        line = state = None
         for cell in page.cells:
-            state = Cell(self, page)
+            row = state if line == cell.line and cell.column == "Clause" else None
+            line, state = cell.line, Cell(self, page, row)
             for span in cell.spans:
                 yield from ((cell.line, f"`{span.text}`: {why}") for why in state.look_up(span))
         for block in page.blocks:
             for number, line in enumerate(block.lines, block.line):
                 yield from ((number, why) for why in self.why_no_code(line, block.language))
+        if not page.path.endswith(".md"):
+            yield from self.faults_of_manual(page)
+
+    def faults_of_manual(self, page):
+        """Each option and command of the manual page that the program has not, and each that only the program has."""
+        options = {"--help"}
+        for number, line in page.prose:
+            options |= set(OPTION.findall(line))
+            for command in re.findall(r"(?:^|\| )changecap [^|<>]*", line):
+                yield from ((number, why) for why in self.why_no_command(re.sub(r"[][{}]", "", command).strip("| ")))
+            for option in OPTION.findall(line):
+                if option not in self.sources.options["program"] | {"--help"}:
+                    yield number, f"the program has no option {option}"
+        yield from ((1, f"there is no word of the option {it}") for it in self.sources.options["program"] - options)
 
     def why_no_code(self, line, language):
         """Why there is not what a line of code names, if so."""
-        if language in ("", "sh", "console"):
+        if language in ("", "sh"):
             for command in COMMAND.findall(line.strip()):
                 yield from self.why_no_command(command)
         for owner, member in MEMBER.findall(line):
@@ -74,7 +92,11 @@ class Names:
         word = word.rstrip("/")
         near = os.path.normpath(f"{page.folder}/{word}") if page.folder else word
         ends = self.sources.ends
-        if word in ends or near in ends or self.is_allowed(word):
+        if near in ends or self.is_allowed(word):
+            return True
+        if page.folder.startswith("crates/") and OF_A_CRATE.match(word) and not PLACEHOLDER.search(word):
+            return False
+        if word in ends:
             return True
         if word.startswith("."):
             return any(path.endswith(word) for path in self.sources.paths)
@@ -89,8 +111,8 @@ class Names:
     def why_no_command(self, text):
         """Why a command line cannot be given, if so."""
         words = text.split()
-        if words[0] == "make":
-            for word in words[1:]:
+        if words[0] == "make" or re.match(r"[A-Z]+=", words[0]):
+            for word in words[words[0] == "make":]:
                 name = word.split("=")[0]
                 if name not in (self.sources.variables if "=" in word else self.sources.targets):
                     yield f"the Makefile has no {name}"
@@ -126,10 +148,12 @@ class Names:
 class Cell:
     """What of a cell is known when a span of it is read."""
 
-    def __init__(self, names, page):
+    def __init__(self, names, page, row):
+        """A cell; in a column of clauses they are of the functions of the row before it."""
         self.names, self.page, self.sources = names, page, names.sources
-        self.functions, self.before = [], []  # those of the sentence, and the names that a crate may follow
-        self.in_clauses = self.is_open = False
+        self.functions = row.functions if row else []  # those of the sentence
+        self.before = []  # the names that a crate may follow
+        self.in_clauses, self.is_open = bool(row), False
         self.crate, self.last = None, ""
 
     def look_up(self, span):

@@ -5,6 +5,9 @@ from typing import NamedTuple
 
 SPAN = re.compile(r"(?<!`)(`+)(?!`)(.+?)(?<!`)\1(?!`)")
 LINK = re.compile(r"\[(?:[^\[\]`]|`[^`]*`)*\]\(([^()\s]+)\)")
+BAR = re.compile(r"(?<!\\)\|(?=(?:[^`]*`[^`]*`)*[^`]*$)")
+FENCE = re.compile(r"( *)(```+|~~~+) *(\w*)")
+ITEM = re.compile(r" *(?:[-*] |\d+\. )")
 TITLE = re.compile(r"(#+) +(.*?) *#*$")
 BOLD = re.compile(r"\*\*(.+?)\.?\*\*")
 REFERENCE = re.compile(r"(?<![\w./${}-])(?:\.\./)*([\w-][\w./-]*\.md)\b\)?(?:,? \(?\"([^\"]+)\")?")
@@ -17,10 +20,11 @@ class Span(NamedTuple):
 
 
 class Cell(NamedTuple):
-    """A paragraph, an item of a list or a cell of a table: its line, its text and its spans."""
+    """A paragraph, an item of a list or a cell of a table: its line, its text, its spans and its column's title."""
     line: int
     text: str
     spans: list
+    column: str
 
 
 class Block(NamedTuple):
@@ -60,7 +64,7 @@ class Page:
     def __init__(self, path, text):
         self.path, self.text = path, text
         self.folder = os.path.dirname(path)
-        self.cells, self.blocks, self.titles = [], [], []
+        self.cells, self.blocks, self.titles, self.columns = [], [], [], []
         self.prose = []  # number and text of each line outside blocks
         if path.endswith(".md"):
             self.split(text.split("\n"))
@@ -70,27 +74,31 @@ class Page:
 
     def split(self, lines):
         """Tells the blocks from the prose, and the prose into cells."""
-        fence, begun, kept, gathered = None, 0, [], []
+        fence, begun, kept, gathered, in_list = None, 0, [], [], False
         for number, line in enumerate(lines, 1):
-            mark = re.match(r" *(```+|~~~+) *(\w*)", line)
+            mark = FENCE.match(line)
             if fence:
-                if mark and mark[1] == fence[1]:
-                    self.blocks.append(Block(begun, fence[2], kept))
+                if mark and mark[2] == fence[2]:
+                    self.blocks.append(Block(begun, fence[3], kept))
                     fence = None
                 else:
-                    kept.append(line)
+                    kept.append(line[len(fence[1]):] if line.startswith(fence[1]) else line.lstrip())
                 continue
             if mark:
                 fence, begun, kept = mark, number + 1, []
                 self.gather(gathered)
                 continue
-            is_indented = line.startswith("    ") and not gathered
+            is_item = bool(ITEM.match(line))
+            in_list = is_item or (in_list and (line.startswith(" ") or not line.strip()))
+            is_indented = line.startswith("    ") and not gathered and not in_list
             if is_indented:
                 self.blocks.append(Block(number, "", [line]))
-            if not line.strip() or is_indented or re.match(r" *(?:[|#]|[-*] |\d+\. )", line):
+            if not line.strip() or is_indented or is_item or line.lstrip().startswith(("|", "#")):
                 self.gather(gathered)
             if line.strip() and not is_indented:
                 gathered.append((number, line))
+            elif not line.strip():
+                self.columns = []
         self.gather(gathered)
 
     def gather(self, gathered):
@@ -104,12 +112,14 @@ class Page:
         if title:
             self.titles.append(title[2])
         self.titles.extend(BOLD.findall(text))
-        for part in re.split(r"(?<!\\)\|(?=(?:[^`]*`[^`]*`)*[^`]*$)", text) if text.startswith("|") else [text]:
+        parts = BAR.split(text) if text.startswith("|") else [text]
+        self.columns = self.columns or [plain(it) for it in parts]
+        for part, column in zip(parts, self.columns + [""] * len(parts)):
             spans, end = [], 0
             for found in SPAN.finditer(part):
                 spans.append(Span(found[2].strip(), part[end:found.start()]))
                 end = found.end()
-            self.cells.append(Cell(number, part, spans))
+            self.cells.append(Cell(number, part, spans, column if len(parts) > 1 else ""))
 
     def line_of(self, pattern):
         """The first line that has what a pattern finds, else the first line of all."""

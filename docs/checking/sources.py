@@ -12,8 +12,8 @@ VARIANT = re.compile(r"    ([A-Z]\w*)\b")
 CLAUSE = re.compile(r"\b(?:ensures|requires) ([a-z_]\w*) \{")
 GHOST = re.compile(r"\bghosts?(?: |-)([A-Za-z_]\w*)")
 WORD = re.compile(r"\"([A-Za-z][A-Za-z_-]*)\"")
-DECLARED = re.compile(r"\s*(?:\| )?(?:pub |abbrev |opaque |private |instance |record |data |module |type )*"
-                      r"([^\s:(){}\[\],.;λ∷+|]+)(?= .*[:=↦]| where|$)")
+DECLARED = re.compile(r"^ *(?:\| )?(?:pub |abbrev |opaque |private |instance |record |data |module |type )*"
+                      r"([^\s:(){}\[\],.;λ∷+|]+)(?= .*[:=↦]| where|$)", re.M)
 EVALUATED = re.compile(r"const ([A-Z][A-Z_0-9]*): [a-z0-9]+ = ([0-9A-Z_ ()+*<-]+);")
 OPTION = re.compile(r"(?<![\w-])--[a-z][a-z-]*")
 # How the names of scripts end.
@@ -82,9 +82,10 @@ class Sources:
         """Notes a file, and the folders that it is in, by each end of their paths."""
         parts = path.split("/")
         for end in range(1, len(parts) + 1):
+            whole = "/".join(parts[:end])
             for begin in range(end):
                 it = "/".join(parts[begin:end])
-                self.ends.setdefault(it, set()).add("/".join(parts[:end]))
+                self.ends.setdefault(it, set()).add(whole)
                 if end == len(parts):
                     self.ends.setdefault(os.path.splitext(it)[0], set()).add(path)
 
@@ -138,12 +139,12 @@ class Sources:
                 if found:
                     self.add_member(within, found[1], crate)
             is_test = is_test or "#[test]" in line
-            for clause in CLAUSE.findall(line):
+            for clause in CLAUSE.findall(line) if " {" in line else ():
                 self.add(clause, crate)
                 for name in function or ():
                     self.clauses.setdefault(name, set()).add(clause)
-            for name in GHOST.findall(line):
-                self.add(name, crate)
+        for name in GHOST.findall(text):
+            self.add(name, crate)
         for name, value in EVALUATED.findall(text):
             self.constants.setdefault((crate, name), value)
         self.words |= set(WORD.findall(text))
@@ -174,12 +175,8 @@ class Sources:
 
     def read_definitions(self, text, crate):
         """Notes what a file of definitions or lemmas declares."""
-        for line in text.split("\n"):
-            if line.lstrip().startswith(("--", "use ")):
-                continue
-            found = DECLARED.match(line)
-            if found:
-                self.add(found[1], crate)
+        for name in set(DECLARED.findall(text)):
+            self.add(name, crate)
 
     def is_name(self, name, crate=None):
         """Whether the sources, or those of a crate, have a name."""
