@@ -6,6 +6,7 @@ from typing import NamedTuple
 SPAN = re.compile(r"(?<!`)(`+)(?!`)(.+?)(?<!`)\1(?!`)")
 LINK = re.compile(r"\[(?:[^\[\]`]|`[^`]*`)*\]\(([^()\s]+)\)")
 BAR = re.compile(r"(?<!\\)\|(?=(?:[^`]*`[^`]*`)*[^`]*$)")
+FROM = re.compile(r"^ *<!-- from (\S+) -->$")
 FENCE = re.compile(r"( *)(```+|~~~+) *(\w*)")
 ITEM = re.compile(r" *(?:[-*] |\d+\. )")
 TITLE = re.compile(r"(#+) +(.*?) *#*$")
@@ -28,10 +29,11 @@ class Cell(NamedTuple):
 
 
 class Block(NamedTuple):
-    """A block of code: the line behind its fence, its language and its lines."""
+    """A block of code: the line behind its fence, its language, its lines, and the file that it is from, if any."""
     line: int
     language: str
     lines: list
+    source: str
 
 
 def plain(text):
@@ -74,25 +76,26 @@ class Page:
 
     def split(self, lines):
         """Tells the blocks from the prose, and the prose into cells."""
-        fence, begun, kept, gathered, in_list = None, 0, [], [], False
+        fence, begun, kept, source, gathered, in_list = None, 0, [], "", [], False
         for number, line in enumerate(lines, 1):
             mark = FENCE.match(line)
             if fence:
                 if mark and mark[2] == fence[2]:
-                    self.blocks.append(Block(begun, fence[3], kept))
+                    self.blocks.append(Block(begun, fence[3], kept, source))
                     fence = None
                 else:
                     kept.append(line[len(fence[1]):] if line.startswith(fence[1]) else line.lstrip())
                 continue
             if mark:
                 fence, begun, kept = mark, number + 1, []
+                source = "".join(FROM.findall(lines[number - 2]))
                 self.gather(gathered)
                 continue
             is_item = bool(ITEM.match(line))
             in_list = is_item or (in_list and (line.startswith(" ") or not line.strip()))
             is_indented = line.startswith("    ") and not gathered and not in_list
             if is_indented:
-                self.blocks.append(Block(number, "", [line]))
+                self.blocks.append(Block(number, "", [line], ""))
             if not line.strip() or is_indented or is_item or line.lstrip().startswith(("|", "#")):
                 self.gather(gathered)
             if line.strip() and not is_indented:

@@ -14,7 +14,6 @@ OF_CRATE = re.compile(r"(`(\w+)` of `)cap_\w+(?=`)")
 LINK = re.compile(r"(\]\([^()#\s:]+)(?=\))")
 TITLE = re.compile(r"(\w\.md\)?,? \(?\"[^\"]+)(?=\")")
 MENTION = re.compile(r"(?<![\w/.(])([A-Z]+)(?=\.md)")
-BLOCK_MEMBER = re.compile(r"^ .*\b[A-Z]\w*::\w+", re.M)
 
 
 def span(is_one, change):
@@ -121,6 +120,7 @@ PLANTS = [
     ("a clause of another function", wrong_clause, "no such clause is of"),
     ("a name said to be of another crate", wrong_crate, "has no"),
     ("a member that a type in a block has not", member_of_block, "has no .*_anew"),
+    ("a block that its file has otherwise", behind(re.compile(r"^<!-- from .*\n```.*\n.*[\w;{]", re.M), "x"), "has not the lines"),
     ("a wrong limit", wrong_limit, "the limit is"),
     ("a file that moved", span(is_of("file"), lambda it: re.sub(r"([^/]+)$", r"moved/\1", it)), "no such file"),
     ("definitions that moved", span(is_of("definitions"), lambda it: re.sub(r"(\.antt)?$", "Anew\\1", it, count=1)),
