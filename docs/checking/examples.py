@@ -3,12 +3,16 @@
 In a block ```console each line that begins with '$ ' is a command, which goes on behind a line that ends with a
 backslash; the lines up to the next command are what it prints, on standard output and standard error. A block
 ```workload is the standard input of `changecap run`, and the block ```replies after it is what that prints; without
-one it is only run to its end.
+one it is only run to its end, with status 0. So are the commands of the manual page between .nf and .fi, but for those
+that read a file of a name that stands for others.
 """
 import os
+import re
 import subprocess
 import tempfile
 from typing import NamedTuple
+
+from pages import unquoted
 
 SECONDS = 60
 
@@ -23,6 +27,11 @@ class Example(NamedTuple):
 
 def examples_of(page):
     """The examples of a page, in order."""
+    for found in re.finditer(r"^\.nf\n(.*?)^\.fi", page.text, re.M | re.S) if not page.path.endswith(".md") else ():
+        begun = page.text[:found.start(1)].count("\n") + 1
+        for number, line in enumerate(unquoted(found[1]).splitlines(), begun):
+            if not re.search(r"< [A-Z]+\b", line):
+                yield Example(number, line, "", None)
     for at, block in enumerate(page.blocks):
         if block.language == "console":
             yield from commands_of(block)
@@ -78,7 +87,7 @@ class Shell:
         except subprocess.TimeoutExpired:
             return f"no end after {SECONDS} seconds"
         if example.printed is None:
-            return f"the workload ends with status {status}: {printed!r}"[:400] if status else None
+            return f"`{example.command}` ends with status {status}: {printed!r}"[:400] if status else None
         now, wanted = ([line.rstrip() for line in text.strip("\n").split("\n")] for text in (printed, example.printed))
         for is_now, should in zip(now + ["nothing"], wanted + ["nothing"]):
             if is_now != should:

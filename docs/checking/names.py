@@ -13,6 +13,8 @@ FILE = re.compile(r"\.(?:rt|antt|md|py|h|c|rs|txt|toml|so|a|pc|in|out|err|status
 OF_A_CRATE = re.compile(r"(?:src|specs|proofs|must-fail)(?:/|$)")
 # A word that stands for any other in a path, as NAME in crates/NAME/src.
 PLACEHOLDER = re.compile(r"\b[A-Z]{2,}|\b[A-Z]\b")
+# The names among several words: those of one or two letters stand for others, and texts are between quotes.
+IN_WORDS = re.compile(r"(?<![\w':.@/-])[A-Za-z_]\w{2,}(?:::\w+)*(?![\w'/-])")
 # What may stand between two names of which both belong to what follows, or between two clauses.
 JOINT = re.compile(r"(?:,|,? and|,? or|,? nor)? ?$")
 OF_CLAUSE = re.compile(r"\b(no )?clauses? $")
@@ -31,7 +33,7 @@ def bare(word):
 
 
 # What a block of code names: members of types, calls and constants for C, and crates.
-MEMBER = re.compile(r"\b([A-Z]\w*)::([A-Za-z_]\w*)")
+MEMBER = re.compile(r"\b([A-Z]\w*)(?:::<[^<>]*>)?::([A-Za-z_]\w*)")
 OF_C = re.compile(r"\b(?:changecap_|CHANGECAP_|cap_)\w+")
 COMMAND = re.compile(r"(?:^|[|;&]|\$ ) *((?:make|changecap) [^|;&#<>]*)")
 
@@ -57,6 +59,7 @@ class Names:
             line, state = cell.line, Cell(self, page, row)
             for span in cell.spans:
                 yield from ((cell.line, f"`{span.text}`: {why}") for why in state.look_up(span))
+            yield from ((cell.line, f"`{it}`: say whose it is, as `{it}` of `CRATE`") for it in state.far)
         for block in page.blocks:
             for number, line in enumerate(block.lines, block.line):
                 yield from ((number, why) for why in self.why_no_code(line, block.language))
@@ -153,6 +156,8 @@ class Cell:
         self.names, self.page, self.sources = names, page, names.sources
         self.functions = row.functions if row else []  # those of the sentence
         self.before = []  # the names that a crate may follow
+        self.far = []     # those that are of other crates than the page, and by which none was said
+        self.near = self.sources.near(page.folder)
         self.in_clauses, self.is_open = bool(row), False
         self.crate, self.last = None, ""
 
@@ -164,7 +169,9 @@ class Cell:
         if re.search(r"\bsame\b", span.before):
             self.is_open = True
         if text in self.sources.crates:
-            wrong = [self.names.why_no_name(it, text) for it in self.before if OF_CRATE.match(span.before)]
+            of_it = self.before if OF_CRATE.match(span.before) else []
+            wrong = [self.names.why_no_name(it, text) for it in of_it]
+            self.far = [it for it in self.far if it not in of_it]
             self.before, self.crate, self.in_clauses, self.last = [], None, False, text
             return [why for why in wrong if why]
         if self.last in self.sources.crates and span.before == ": ":
@@ -221,14 +228,12 @@ class Cell:
         words = text.split()
         yield from names.why_no_command(text)
         if len(words) > 1:
+            for word in IN_WORDS.findall(text) if words[0] not in ("make", "rt") else ():
+                why = word.upper() != word and not names.is_allowed(word) and names.why_no_name(word, None)
+                if why:
+                    yield why
             for word in words:
-                it = bare(word)
-                if "_" in it.strip("_") and IDENTIFIER.match(it.replace("::", "_").replace(".", "_")) or (
-                        "::" in it and re.match(r"[\w:]+$", it)):
-                    why = not names.is_allowed(it) and names.why_no_name(it, None)
-                    if why:
-                        yield why
-                elif is_path(word) and "/" in word and not names.is_path(self.page, word):
+                if is_path(word) and "/" in word and not names.is_path(self.page, word):
                     yield f"there is no file {word}"
             return
         if OPTION.match(text):
@@ -244,6 +249,8 @@ class Cell:
             why = not names.is_allowed(word) and names.why_no_name(word, self.crate)
             if why:
                 yield why
+            elif self.near and not self.crate and not self.sources.names.get(word, self.near) & self.near:
+                self.far.append(word)
 
     def look_up_ending(self, ending):
         """Why no name has the ending in place of that of the name before, if so."""

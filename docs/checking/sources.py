@@ -71,7 +71,8 @@ class Sources:
             self.read(path)
             self.add_path(path)
         crates = re.sub(r"#.*", "", text_of(root, "crates.txt"))
-        self.crates = set(re.findall(r"^(\w+)[^\n:]*:", crates, re.M))
+        self.below = {name: set(of.split()) for name, of in re.findall(r"^(\w+)[^\n:]*:(.*)", crates, re.M)}
+        self.crates = set(self.below)
         for name in re.findall(r"\w+", crates):  # the crates of the toolchain too
             self.add(name, "")
 
@@ -181,6 +182,14 @@ class Sources:
     def is_name(self, name, crate=None):
         """Whether the sources, or those of a crate, have a name."""
         return name in self.names and (crate is None or crate in self.names[name])
+
+    def near(self, folder):
+        """The crates whose names a page in a folder may have without saying whose they are; None where it is any."""
+        crate = folder.split("/")[1] if folder.startswith("crates/") else None
+        if crate not in self.crates:
+            return None
+        tests = {it for it, below in self.below.items() if it.startswith("cap_test_") and crate in below}
+        return {"", crate} | self.below[crate] | tests
 
     def value(self, crate, name):
         """The number that a constant is."""
