@@ -20,6 +20,11 @@ JOINT = re.compile(r"(?:,|,? and|,? or|,? nor)? ?$")
 OF_CLAUSE = re.compile(r"\b(no )?clauses? $")
 OF_CRATE = re.compile(r",? (?:of|in) (?:module |crate )?$")
 
+# What a block of code names: members of types; calls and constants for C, and crates; commands.
+MEMBER = re.compile(r"\b([A-Z]\w*)(?:::<[^<>]*>)?::([A-Za-z_]\w*)")
+OF_C = re.compile(r"\b(?:changecap_|CHANGECAP_|cap_)\w+")
+COMMAND = re.compile(r"(?:^|[|;&]|\$ ) *((?:make|changecap) [^|;&#<>]*)")
+
 
 def is_path(word):
     """Whether a word looks like a path, or like the ending of a file."""
@@ -30,12 +35,6 @@ def bare(word):
     """A name without what may stand around it: a call's parentheses, generics, a reference."""
     word = re.sub(r"<.*>|\(.*\)", "", word).replace("::::", "::")
     return word.lstrip("&").rstrip("!;,:").rstrip(".")
-
-
-# What a block of code names: members of types, calls and constants for C, and crates.
-MEMBER = re.compile(r"\b([A-Z]\w*)(?:::<[^<>]*>)?::([A-Za-z_]\w*)")
-OF_C = re.compile(r"\b(?:changecap_|CHANGECAP_|cap_)\w+")
-COMMAND = re.compile(r"(?:^|[|;&]|\$ ) *((?:make|changecap) [^|;&#<>]*)")
 
 
 class Names:
@@ -53,10 +52,10 @@ class Names:
 
     def faults(self, page):
         """The line and the text of each fault of a page."""
-        line = state = None
+        number = state = None
         for cell in page.cells:
-            row = state if line == cell.line and cell.column == "Clause" else None
-            line, state = cell.line, Cell(self, page, row)
+            row = state if number == cell.line and cell.column in ("Clause", "Clauses") else None
+            number, state = cell.line, Cell(self, page, row)
             for span in cell.spans:
                 yield from ((cell.line, f"`{span.text}`: {why}") for why in state.look_up(span))
             yield from ((cell.line, f"`{it}`: say whose it is, as `{it}` of `CRATE`") for it in state.far)
@@ -113,7 +112,7 @@ class Names:
 
     def why_no_command(self, text):
         """Why a command line cannot be given, if so."""
-        words = text.split()
+        words = text.split() or [""]
         if words[0] == "make" or re.match(r"[A-Z]+=", words[0]):
             for word in words[words[0] == "make":]:
                 name = word.split("=")[0]

@@ -5,6 +5,7 @@ from typing import NamedTuple
 
 SPAN = re.compile(r"(?<!`)(`+)(?!`)(.+?)(?<!`)\1(?!`)")
 LINK = re.compile(r"\[(?:[^\[\]`]|`[^`]*`)*\]\(([^()\s]+)\)")
+NAMED_LINK = re.compile(r"^ {0,3}\[[^\[\]]+\]: (\S+)")
 BAR = re.compile(r"(?<!\\)\|(?=(?:[^`]*`[^`]*`)*[^`]*$)")
 FROM = re.compile(r"^ *<!-- from (\S+) -->$")
 FENCE = re.compile(r"( *)(```+|~~~+) *(\w*)")
@@ -66,8 +67,9 @@ class Page:
     def __init__(self, path, text):
         self.path, self.text = path, text
         self.folder = os.path.dirname(path)
-        self.cells, self.blocks, self.titles, self.columns = [], [], [], []
+        self.cells, self.blocks, self.columns = [], [], []
         self.prose = []  # number and text of each line outside blocks
+        self.titles, self.marked = [], []  # the titles, and what is in bold
         if path.endswith(".md"):
             self.split(text.split("\n"))
         else:
@@ -114,7 +116,7 @@ class Page:
         title = TITLE.match(text)
         if title:
             self.titles.append(title[2])
-        self.titles.extend(BOLD.findall(text))
+        self.marked.extend(BOLD.findall(text))
         parts = BAR.split(text) if text.startswith("|") else [text]
         self.columns = self.columns or [plain(it) for it in parts]
         for part, column in zip(parts, self.columns + [""] * len(parts)):
@@ -131,22 +133,19 @@ class Page:
     def anchors(self):
         """The anchors of the titles, each with a number where it is not the first of its text."""
         found, seen = set(), {}
-        for line in self.text.split("\n"):
-            title = TITLE.match(line)
-            if title:
-                it = anchor(title[2])
-                found.add(f"{it}-{seen[it]}" if it in seen else it)
-                seen[it] = seen.get(it, 0) + 1
+        for it in map(anchor, self.titles):
+            found.add(f"{it}-{seen[it]}" if it in seen else it)
+            seen[it] = seen.get(it, 0) + 1
         return found
 
     def has_title(self, title):
         """Whether there is a title, or a text in bold, of these words."""
-        return any(plain(it).lower() == plain(title).lower() for it in self.titles)
+        return any(plain(it).lower() == plain(title).lower() for it in self.titles + self.marked)
 
     def links(self):
         """The line and the target of each link outside blocks."""
         for number, line in self.prose:
-            for target in LINK.findall(re.sub(r"(?<!\])`[^`]*`(?!\])", "", line)):
+            for target in LINK.findall(re.sub(r"(?<!\])`[^`]*`(?!\])", "", line)) + NAMED_LINK.findall(line):
                 yield number, target
 
     def references(self):

@@ -143,16 +143,18 @@ PLANTS = [
 OF_EXAMPLES = "prints"
 
 
-def found_by(check, path, text, wanted):
-    """The fault by which an error is found in the text of a page, if it is."""
+def found_by(check, path, text, wanted, before):
+    """The fault by which an error is found in the text of a page, if it is; before has those without it."""
     page = Page(path, text)
+    if path not in before:
+        before[path] = set(check.faults(check.pages[path]))
     faults = check.faults_of_examples(page)[1] if wanted == OF_EXAMPLES else check.faults(page)
-    before = set() if wanted == OF_EXAMPLES else set(check.faults(check.pages[path]))
-    return next((f"{path}:{it[0]}: {it[1]}" for it in faults if it not in before and re.search(wanted, it[1])), None)
+    new = (it for it in faults if it not in before[path] and re.search(wanted, it[1]))
+    return next((f"{path}:{number}: {why}" for number, why in new), None)
 
 
 def main(check):
-    passed = failed = 0
+    passed, failed, before = 0, 0, {}
     for label, plant, wanted in PLANTS:
         if wanted == OF_EXAMPLES and not check.program:
             print(f"{label}: no program was given")
@@ -160,7 +162,7 @@ def main(check):
         texts = ((path, plant(check, page.text)) for path, page in check.pages.items()
                  if path.endswith(".md") and path != "CHANGELOG.md")
         path, text = next((it for it in texts if it[1]), (None, None))
-        fault = found_by(check, path, text, wanted) if path else "no page has a place for it"
+        fault = found_by(check, path, text, wanted, before) if path else "no page has a place for it"
         passed, failed = passed + bool(path and fault), failed + (not path or not fault)
         print(f"{label}: {fault or f'NOT FOUND in {path}'}"[:200])
     print(f"{passed} passed, {failed} failed")
