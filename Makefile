@@ -15,7 +15,7 @@ OUT = bindings/out
 PREFIX = /usr/local
 DESTDIR =
 
-.PHONY: run check build test docs format clean conformance bench lib install uninstall test-bindings
+.PHONY: run check build test docs format clean conformance bench lib shared install uninstall test-bindings
 
 # The replies to the first example, by the optimised program where `make build` or `make test` left one. Else by the
 # program without proofs, which is built here unless `make check` left it.
@@ -74,6 +74,10 @@ bench:
 # The library for C, over what `make test` proved; cap_c itself is proved here.
 lib:
 	@bindings/library $(OUT)
+
+# The shared object of that library, for Python.
+shared:
+	@bindings/shared $(OUT)
 
 # The program and the library where others find them.
 install:

@@ -20,6 +20,7 @@ pub mod NextLemmas
 pub mod NumberLemmas
 pub mod OutcomeLemmas
 pub mod PrepareLemmas
+pub mod RefusedLemmas
 pub mod RestartLemmas
 pub mod SavedLemmas
 pub mod SessionLemmas

@@ -10,6 +10,7 @@ pub mod History
 pub mod Insert
 pub mod Outcome
 pub mod Past
+pub mod RefusedFirst
 pub mod Replies
 pub mod Restarts
 pub mod Session

@@ -9,6 +9,7 @@ mod diff;
 mod event;
 mod laws;
 mod limits;
+mod refused_first;
 mod reply;
 mod server;
 mod session_changes;

@@ -1,5 +1,5 @@
 //! The sequential server, `Core`. No module may be named `core`.
-ghost use Rattle.std.specs.Prelude.{◌≡◌, ℕ, ◌<◌, ◌^◌, ◌≤◌, [], ◌∷◌, ◌++◌, List, None, Ok, Err, IfOk, IfErr};
+ghost use Rattle.std.specs.Prelude.{◌≡◌, ℕ, ◌<◌, ◌^◌, ◌≤◌, [], ◌∷◌, ◌++◌, List, None, Some, Ok, Err, IfOk, IfErr};
 ghost use Rattle.std.specs.Prelude.{All, OnOk, OnErr, IsTrue, length};
 ghost use Rattle.cap_core.specs.declared.event.Event.{Event};
 ghost use Rattle.cap_core.specs.Answer.{State, state, reply_of, IsLegal, event_by, history_of, answer};
@@ -9,6 +9,7 @@ ghost use Rattle.cap_value.specs.Bytes.{bytes_cmp};
 ghost use Rattle.cap_value.specs.Memory.{MatchFault};
 ghost use Rattle.cap_core.specs.Code.CommandOutcome.{Reports};
 ghost use Rattle.cap_core.specs.Past.{HasRoom};
+ghost use Rattle.cap_core.specs.RefusedFirst.{RepliesFirst, refused_first};
 ghost use Rattle.cap_core.specs.Table.{BlobFits, BlobsFit};
 ghost use Rattle.cap_core.specs.Transition.{next, one_more, after_save};
 
@@ -81,7 +82,8 @@ impl<A: AllocHandle> Core<A> {
     }
 
     /// Carries out a command if the commit hook allows it. The hook is asked at most once, after all memory
-    /// is reserved. Where memory runs out, or the hook refuses, nothing changes.
+    /// is reserved. Where memory runs out, or the hook refuses, nothing changes. A refusal that is known
+    /// without memory is the reply also where memory is out.
     pub fn step<C: CommitHook<A>>(
         &mut self,
         command: &Command<A>,
@@ -95,11 +97,12 @@ impl<A: AllocHandle> Core<A> {
         ensures unchanged { OnErr result (self.new ≡ self.old) }
         ensures refused { IfErr result (λ fault. MatchFault fault (hook.new ≡ hook.old)
             (λ why. C.gives hook.old (answer self.old command.now) (Err why) hook.new)) }
+        ensures first { RepliesFirst (refused_first self.old command.now) result }
         ensures fits { (h : List (Event A)) (by : ℕ) → BlobsFit h →
             IfOk result (λ reply. BlobsFit (h ++ event_by by command.now reply ∷ [])) }
     {
         command.blob_fits();
-        self.carry_out(command, hook)
+        self.reply_to(command, hook)
     }
 
     /// The reply to a command, and a copy of the server after it. This server does not change.
@@ -140,6 +143,51 @@ impl<A: AllocHandle> Core<A> {
             replies.push(reply)?;
         }
         Ok((core, replies))
+    }
+
+    // Carries out a command. Where memory runs out, a refusal that is known without memory is the reply.
+    fn reply_to<C: CommitHook<A>>(
+        &mut self,
+        command: &Command<A>,
+        hook: &mut C,
+    ) -> Result<Reply<A>, Fault<C::Refusal>>
+        requires room { HasRoom self.old.events }
+        requires can_ask { C.can_ask hook.old (answer self.old command.now) }
+        ensures outcome { Reports C.gives (answer self.old command.now) (next self.old command.now)
+            self.old self.new hook.old hook.new result }
+        ensures first { RepliesFirst (refused_first self.old command.now) result }
+    {
+        match self.carry_out(command, hook) {
+            Ok(reply) => Ok(reply),
+            Err(Fault::Refused(why)) => Err(Fault::Refused(why)),
+            Err(Fault::OutOfMemory) => match self.refused_first(command) {
+                Some((at, why)) => self.refuse(at, why, hook),
+                None => Err(Fault::OutOfMemory),
+            },
+        }
+    }
+
+    // Refuses a command, if the hook allows it. It takes no memory.
+    fn refuse<C: CommitHook<A>>(
+        &mut self,
+        at: Option<u64>,
+        why: Refusal,
+        hook: &mut C,
+    ) -> Result<Reply<A>, Fault<C::Refusal>>
+        requires room { HasRoom self.old.events }
+        requires can_ask { C.can_ask hook.old (Reply.Refused at why) }
+        ensures outcome { Reports C.gives (Reply.Refused at why) (one_more self.old)
+            self.old self.new hook.old hook.new result }
+        ensures first { RepliesFirst (Some (at, why)) result }
+    {
+        let reply = Reply::Refused { at, why };
+        match hook.before_commit(&reply) {
+            Ok(()) => {
+                self.events += 1;
+                Ok(reply)
+            }
+            Err(why) => Err(Fault::Refused(why)),
+        }
     }
 
     // Dispatches a command to its function.
@@ -275,7 +323,10 @@ impl<A: AllocHandle> Core<A> {
 }
 
 // Whether a database can be saved under this name: the name is in use, or the limit is not reached.
-fn has_room_for<A: AllocHandle>(saved: &Tree<Name<A>, Database<A>, A>, name: &Name<A>) -> bool
+pub(crate) fn has_room_for<A: AllocHandle>(
+    saved: &Tree<Name<A>, Database<A>, A>,
+    name: &Name<A>,
+) -> bool
     ensures { result ≡ has_room_for saved.now name.now }
 {
     saved.get(name).is_some() || saved.len() < SAVED_MAX

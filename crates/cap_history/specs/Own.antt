@@ -1,6 +1,6 @@
 -- Lemmas on the events of one seat in histories.
-use Rattle.std.proofs.Common.{◌≡◌, ◌≢◌, ℕ, ◌≤◌, true, false, List, [], ◌∷◌, ◌++◌, length, ap, sym, ◌∙◌, arith}
-use Rattle.std.proofs.Common.{length-append, nat_eq}
+use Rattle.std.proofs.Common.{◌≡◌, ◌≢◌, ◌⊎◌, ℕ, ◌+◌, ◌<◌, ◌≤◌, true, false, List, [], ◌∷◌, ◌++◌, length, refl, ap}
+use Rattle.std.proofs.Common.{◌∙◌, sym, arith, inl, inr, length-append, nat_eq, nat_le}
 use Rattle.std.proofs.lemmas.List.{append-nil, nil_from_length}
 use Rattle.std.proofs.lemmas.List.Elements.{filter-append}
 use Rattle.std.proofs.lemmas.List.Sums.{count_by-le-length, length-filter}
@@ -10,7 +10,9 @@ use Rattle.cap_core.specs.declared.command.Command.{Command}
 use Rattle.cap_core.specs.declared.event.Event.{Event}
 use Rattle.cap_core.specs.declared.reply.Reply.{Reply}
 use Rattle.cap_core.specs.Answer.{event_by}
+use Rattle.cap_history.specs.Beginnings.{prefix-either, prefix-shorter}
 use Rattle.cap_history.specs.History.{own}
+use Rattle.cap_history.specs.Seat.{IsAnswered}
 
 nat_eq-same : (n : ℕ) → nat_eq n n ≡ true
 nat_eq-same n = grind (arith, nat_tests)
@@ -66,3 +68,39 @@ module _ {A : Type 0} where
         ap length (own-append number xs begins.0),
         length-append (own number xs) (own number begins.0),
       )
+
+  -- a list that ends before a seat's last call has fewer of its events
+  ends-before : (number : ℕ) (answered list : List (Event A)) → IsAnswered number answered
+      → IsPrefix list answered → length list < length answered
+      → length (own number list) < length (own number answered)
+  ends-before number answered list (inl none) begins less = absurd (omega (arith, ap length none, less))
+  ends-before number answered list (inr ends) begins less =
+      let e = event_by number ends.command ends.reply in
+      let long : length answered ≡ length ends.before + 1 =
+      ap length ends.is ∙ length-append ends.before (e ∷ []) in
+      let within : IsPrefix list ends.before =
+      prefix-shorter list ends.before
+      (prefix-either list ends.before answered begins (e ∷ [], sym ends.is)) (omega (arith, long, less)) in
+      let one : length (own number answered) ≡ length (own number ends.before) + 1 =
+      ap (λ l. length (own number l)) ends.is ∙ ap length (own-append number ends.before (e ∷ []))
+      ∙ ap (λ l. length (own number ends.before ++ l)) (own-one number ends.command ends.reply)
+      ∙ length-append (own number ends.before) (e ∷ []) in
+      omega (arith, one, own-fewer number list ends.before within)
+
+  swapped : (xs ys : List (Event A)) → IsPrefix xs ys ⊎ IsPrefix ys xs → IsPrefix ys xs ⊎ IsPrefix xs ys
+  swapped xs ys (inl p) = inr p
+  swapped xs ys (inr p) = inl p
+
+  -- a list with as many of a seat's events as it has made calls begins with what was seen after the last call
+  pub answered-in : (number : ℕ) (answered list : List (Event A)) → IsAnswered number answered
+      → IsPrefix answered list ⊎ IsPrefix list answered
+      → length (own number list) ≡ length (own number answered) → IsPrefix answered list
+  answered-in number answered list ends either same =
+      elim (nat_le (length answered) (length list))
+      as (λ b. nat_le (length answered) (length list) ≡ b → IsPrefix answered list) [
+        | true ↦ λ is. prefix-shorter answered list either (grind (arith, nat_tests))
+        | false ↦ λ is.
+            let less : length list < length answered = grind (arith, nat_tests) in
+            let begins = prefix-shorter list answered (swapped answered list either) (omega (arith, less)) in
+            absurd (omega (arith, same, ends-before number answered list ends begins less))
+      ] refl

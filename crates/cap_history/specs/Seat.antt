@@ -1,5 +1,5 @@
 -- What a seat has seen of the history, and its own calls.
-use Rattle.std.specs.Prelude.{◌≡◌, ℕ, List, [], ◌∷◌, ◌++◌, map}
+use Rattle.std.specs.Prelude.{◌≡◌, ◌⊎◌, ℕ, List, [], ◌∷◌, ◌++◌, map}
 use Rattle.std.specs.List.{range_with_len}
 use mathlib.Core.List.{IsPrefix}
 use Rattle.cap_core.specs.declared.command.Command.{Command}
@@ -19,6 +19,17 @@ module _ {A : Type 0} where
   -- the seat's answered calls, in order
   abbrev pub calls : SeatState A → List (Event A)
   calls seat = own seat.number seat.answered
+
+  -- a history whose last event is the seat's
+  pub record EndsWithOwn (number : ℕ) (history : List (Event A)) : Type 0 where
+    pub before : List (Event A)
+    pub command : Command A
+    pub reply : Reply A
+    pub is : history ≡ before ++ event_by number command reply ∷ []
+
+  -- what a seat had seen after its last call ends with that call; before the first call it is nothing
+  abbrev pub IsAnswered : ℕ → List (Event A) → Type 0
+  IsAnswered number answered = (answered ≡ []) ⊎ EndsWithOwn number answered
 
   -- a new seat
   abbrev pub newcomer : ℕ → SeatState A

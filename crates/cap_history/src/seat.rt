@@ -1,10 +1,10 @@
 //! Seats: the callers of the history.
 ghost use Rattle.std.specs.Prelude.{◌≡◌, ◌<◌, [], length};
 ghost use mathlib.Core.List.{IsPrefix};
-ghost use Rattle.cap_history.specs.History.{IsHistory, longer};
-ghost use Rattle.cap_history.specs.Seat.{SeesMore, calls, newcomer};
+ghost use Rattle.cap_history.specs.History.{IsHistory, longer, own};
+ghost use Rattle.cap_history.specs.Seat.{IsAnswered, SeesMore, calls, newcomer};
 
-use crate::{List, Naming};
+use crate::{List, Naming, one_begins_the_other};
 use cap_value::AllocHandle;
 use std::marker::Model;
 
@@ -25,7 +25,7 @@ impl<J: Naming, A: AllocHandle> Model for Seat<J, A> {
     ghost use Rattle.cap_filter.specs.Rule.{coded_rule};
     ghost use mathlib.Core.List.{IsPrefix};
     ghost use Rattle.cap_history.specs.History.{own};
-    ghost use Rattle.cap_history.specs.Seat.{SeatState};
+    ghost use Rattle.cap_history.specs.Seat.{IsAnswered, SeatState};
 
     ghost Value = { SeatState A };
 
@@ -34,7 +34,7 @@ impl<J: Naming, A: AllocHandle> Model for Seat<J, A> {
     ghost view = { λ s. record { number = s.number; seen = s.seen; answered = s.answered } };
 
     ghost invariant = { λ s. (s.number < J.seats) × (s.calls ≡ length (own s.number s.answered))
-        × IsPrefix s.answered s.seen };
+        × IsPrefix s.answered s.seen × IsAnswered s.number s.answered };
 }
 
 impl<J: Naming, A: AllocHandle> Seat<J, A> {
@@ -71,8 +71,18 @@ impl<J: Naming, A: AllocHandle> Seat<J, A> {
     pub fn calls(&self) -> u64
         ensures calls { result ≡ length (calls self.now) }
         ensures seen { IsPrefix self.now.answered self.now.seen }
+        ensures answered { IsAnswered self.now.number self.now.answered }
     {
         self.calls
+    }
+
+    /// A law: a list with as many events of the seat as the seat has made calls begins with what the seat had
+    /// seen after its last call. The call does nothing.
+    pub fn calls_are_in(&self, list: &List<J, A>)
+        ensures { length (own self.now.number list.now) ≡ length (calls self.now)
+            → IsPrefix self.now.answered list.now }
+    {
+        one_begins_the_other(&self.answered, list);
     }
 
     /// Sees what the list has seen.

@@ -9,14 +9,16 @@ returns g c =
     let now = c.args.self.now in
     let reply = answer now c.args.command.now in
     let left = next now c.args.command.now in
-    let new = c.carry_out.new in
+    let new = c.reply_to.new in
     let before = c.args.hook.now in
-    let told = c.carry_out.result in
+    let told = c.reply_to.result in
+    let outcome = c.reply_to.ensures.outcome in
     record {
-      reply = reports-reply g.C.CommitHook.gives reply left now new.self before new.hook c.carry_out.result c.carry_out.ensures;
-      state = reports-state g.C.CommitHook.gives reply left now new.self before new.hook c.carry_out.result c.carry_out.ensures;
-      allowed = reports-allowed g.C.CommitHook.gives reply left now new.self before new.hook c.carry_out.result c.carry_out.ensures;
-      unchanged = reports-unchanged g.C.CommitHook.gives reply left now new.self before new.hook c.carry_out.result c.carry_out.ensures;
-      refused = reports-refused g.C.CommitHook.gives reply left now new.self before new.hook c.carry_out.result c.carry_out.ensures;
+      reply = reports-reply g.C.CommitHook.gives reply left now new.self before new.hook told outcome;
+      state = reports-state g.C.CommitHook.gives reply left now new.self before new.hook told outcome;
+      allowed = reports-allowed g.C.CommitHook.gives reply left now new.self before new.hook told outcome;
+      unchanged = reports-unchanged g.C.CommitHook.gives reply left now new.self before new.hook told outcome;
+      refused = reports-refused g.C.CommitHook.gives reply left now new.self before new.hook told outcome;
+      first = c.reply_to.ensures.first;
       fits = λ h by fits. each-ok told (λ reply. fits-push h by c.args.command.now reply fits c.blob_fits.ensures);
     }

@@ -1,0 +1,172 @@
+-- A refusal that is known without memory is the reply, and leaves the server as it is but for the count of events.
+use Rattle.std.proofs.Common.{◌≡◌, ◌∙◌, ◌+◌, ◌++◌, ℕ, Bool, true, false, cond, Option, Some, None, Result, Ok, Err, List, [], ◌∷◌, length, nat_le, refl, sym, ap, subst}
+use Rattle.std.specs.Option.{option_map}
+use Rattle.std.specs.Prelude.{IfSome}
+use Rattle.std.specs.Result.{result_err}
+use Rattle.cap_value.specs.declared.memory.Fault.{Fault}
+use Rattle.cap_value.specs.declared.memory.Fault.TheVariants as fault
+use Rattle.cap_value.specs.Bytes.{bytes_cmp}
+use Rattle.cap_value.specs.declared.refusal.Refusal.{Refusal}
+use Rattle.cap_value.specs.declared.refusal.Refusal.TheVariants.{TooMany}
+use Rattle.cap_tree.specs.Tree.{put_entry}
+use Rattle.cap_apply.specs.Report.{ReportState}
+use Rattle.cap_compare.specs.declared.difference.Difference.{Difference}
+use Rattle.cap_table.specs.Table.{TableState}
+use Rattle.cap_database.specs.Operation.{and_then, changes, in_place, refused_in, refused_step, run, step, stepped}
+use Rattle.cap_database.specs.Tables.{Tables, created, create, refused_create, table_of}
+use Rattle.cap_database.specs.declared.op.Op.{Op}
+use Rattle.cap_database.proofs.StepLemmas.{refused_act_is}
+use Rattle.cap_session.specs.Session.{SessionState, new_session}
+use Rattle.cap_session.specs.Sessions.{session_numbered}
+use Rattle.cap_txn.specs.Stale.{stale}
+use Rattle.cap_core.specs.declared.command.Command.{Command}
+use Rattle.cap_core.specs.declared.command.Command.TheVariants as command
+use Rattle.cap_core.specs.declared.reply.Reply.{Reply}
+use Rattle.cap_core.specs.declared.reply.Reply.TheVariants.{Done, Refused, Session}
+use Rattle.cap_core.specs.Answer.{State, answer, diffed, has_room_for, refusal, session_answer, session_reply, snapshot_of, version_reply, write_reply}
+use Rattle.cap_core.specs.Code.CommandOutcome.{Reports}
+use Rattle.cap_core.specs.Diff.{diff}
+use Rattle.cap_core.specs.Outcome.{Effect, Refused as Why, commit_unless, created as effect_created, made, outcome}
+use Rattle.cap_core.specs.RefusedFirst.{RepliesFirst, no_session, refusal_in, refused_batch, refused_first, refused_op, whole}
+use Rattle.cap_core.specs.Transition.{after_session, after_write, compared, next, one_more, session_left, with_left, with_sessions}
+use Rattle.cap_core.proofs.SessionStandLemmas.{with-same}
+
+version-accepted : (A : Type 0) (number : ℕ) (report : Option ReportState) (why : Why) → refusal_in {A = A} (version_reply number report) ≡ Some why → ⊥
+version-accepted A number None why is = cc
+version-accepted A number (Some report) why is = cc
+
+-- the hook refuses
+pub vetoed-first : (A : Type 0) {E : Type 0} (known : Option Why) (e : E) → RepliesFirst {A = A} known (Err (fault.Refused e))
+vetoed-first A None e = tt
+vetoed-first A (Some why) e = tt
+
+-- no refusal is known without memory
+pub memory-first : (A E : Type 0) (known : Option Why) → known ≡ None → RepliesFirst {A = A} {E = E} known (Err fault.OutOfMemory)
+memory-first A E known none = subst (λ (k : Option Why). RepliesFirst {A = A} {E = E} k (Err fault.OutOfMemory)) (sym none) tt
+
+module _ {A : Type 0} where
+  -- ---- the reply
+
+  refused-is : (reply : Reply A) (why : Why) → refusal_in reply ≡ Some why → reply ≡ Refused why.0 why.1
+  refused-is (Refused at why) known is = let same : (at, why) ≡ known = cc in ap (λ (w : Why). Refused w.0 w.1) same
+  refused-is _ known is = cc
+
+  step-refused : (tables : Tables A) (op : Op A) (why : Refusal) → refused_step tables op ≡ Some why → step tables op ≡ Err why
+  step-refused tables op why is = inner (table_of tables op.table) is
+    where
+      inner : (found : Option (TableState A)) → refused_in found op.action ≡ Some why → stepped tables found op ≡ Err why
+      inner None is = cc
+      inner (Some table) is = ap (in_place tables op.table) (refused_act_is table op.action why is)
+
+  op-refused : (s : State A) (ops : List (Op A)) (why : Why) → refused_op s.main ops ≡ Some why → write_reply s (made (run s.main ops)) ≡ Refused why.0 why.1
+  op-refused s [] why is = cc
+  op-refused s (op ∷ ops) why is = inner (refused_step s.main op) refl is
+    where
+      inner : (o : Option Refusal) → refused_step s.main op ≡ o → option_map (λ w. (Some 0, w)) o ≡ Some why → write_reply s (made (run s.main (op ∷ ops))) ≡ Refused why.0 why.1
+      inner None known is = cc
+      inner (Some w) known is =
+          let same : (Some 0, w) ≡ why = cc in
+          ap (λ (r : Result (Tables A) Refusal). write_reply s (made (and_then (changes s.main op) r (λ next. run next ops)))) (step-refused s.main op w known)
+          ∙ ap (λ (v : Why). let told : Reply A = Refused v.0 v.1 in told) same
+
+  batch-refused : (s : State A) (ops : List (Op A)) (o : Option Refusal) (why : Why) → refused_batch o s.main ops ≡ Some why → write_reply s (commit_unless o s.main ops) ≡ Refused why.0 why.1
+  batch-refused s ops (Some w) why is = let same : (None, w) ≡ why = cc in ap (λ (v : Why). let told : Reply A = Refused v.0 v.1 in told) same
+  batch-refused s ops None why is = op-refused s ops why is
+
+  pub first-answer : (s : State A) (c : Command A) (why : Why) → refused_first s c ≡ Some why → answer s c ≡ Refused why.0 why.1
+  first-answer s (command.Commit batch) why is = batch-refused s batch.ops (stale batch.base batch.seen (snapshot_of s)) why is
+  first-answer s (command.Apply blob policy) why is = cc
+  first-answer s c why is = refused-is (answer s c) why is
+
+  -- ---- the state after it
+
+  write-next : (s : State A) (r : Result (Effect A) Why) (why : Why) → refusal_in (write_reply s r) ≡ Some why → after_write s r ≡ one_more s
+  write-next s (Ok effect) why is = absurd (version-accepted A (s.version + 1) effect.report why is)
+  write-next s (Err w) why is = refl
+
+  either-next : (b : Bool) (accepted refused : Reply A) (left after : State A) (why : Why) → refusal_in accepted ≡ None → refusal_in (cond b accepted refused) ≡ Some why → cond b left after ≡ after
+  either-next true accepted refused left after why none is = absurd (cc (none, is))
+  either-next false accepted refused left after why none is = refl
+
+  room-next : (b : Bool) (refused accepted : Reply A) (after left : State A) (why : Why) → refusal_in accepted ≡ None → refusal_in (cond b refused accepted) ≡ Some why → cond b after left ≡ after
+  room-next true refused accepted after left why none is = refl
+  room-next false refused accepted after left why none is = absurd (cc (none, is))
+
+  session-next : (s : State A) (number : ℕ) (reply : SessionState A → Reply A) (left : SessionState A → Option (SessionState A)) (why : Why)
+      → ((session : SessionState A) → session_numbered s.sessions number ≡ Some session → refusal_in (reply session) ≡ Some why → with_sessions s (with_left s.sessions number (left session)) ≡ one_more s)
+      → refusal_in (session_answer (session_numbered s.sessions number) reply) ≡ Some why
+      → after_session s number (session_numbered s.sessions number) left ≡ one_more s
+  session-next s number reply left why there is = inner (session_numbered s.sessions number) refl is
+    where
+      inner : (found : Option (SessionState A)) → session_numbered s.sessions number ≡ found → refusal_in (session_answer found reply) ≡ Some why → after_session s number found left ≡ one_more s
+      inner None known is = refl
+      inner (Some session) known is = there session known is
+
+  diff-next : (s : State A) (number : ℕ) (name : List ℕ) (session : SessionState A) (r : Result (Option (List (Difference A))) Refusal) (why : Why) → session_numbered s.sessions number ≡ Some session
+      → refusal_in (diffed r) ≡ Some why → with_sessions s (with_left s.sessions number (Some (compared name r session))) ≡ one_more s
+  diff-next s number name session (Ok found) why there is = cc
+  diff-next s number name session (Err w) why there is = ap (with_sessions s) (with-same number s.sessions session there)
+
+  plain-next : (s : State A) (number : ℕ) (c : Command A) (why : Why) → ((session : SessionState A) → refusal_in (session_reply s c session) ≡ None)
+      → refusal_in (session_answer (session_numbered s.sessions number) (session_reply s c)) ≡ Some why
+      → after_session s number (session_numbered s.sessions number) (session_left s c) ≡ one_more s
+  plain-next s number c why none is = session-next s number (session_reply s c) (session_left s c) why (λ session there is. absurd (cc (none session, is))) is
+
+  pub first-next : (s : State A) (c : Command A) (why : Why) → refused_first s c ≡ Some why → next s c ≡ one_more s
+  first-next s (command.CreateTable name schema) why is = write-next s (outcome (snapshot_of s) (command.CreateTable name schema)) why is
+  first-next s (command.Commit batch) why is =
+      write-next s (outcome (snapshot_of s) (command.Commit batch)) why (ap refusal_in (first-answer s (command.Commit batch) why is))
+  first-next s (command.Apply blob policy) why is = cc
+  first-next s command.Read why is = cc
+  first-next s (command.SaveAs name) why is =
+      either-next (has_room_for s.saved name) Done (refusal TooMany) (record (one_more s) { saved = put_entry bytes_cmp s.saved name s.main }) (one_more s) why refl is
+  first-next s command.NewSession why is =
+      room-next (nat_le 64 (length s.sessions)) (refusal TooMany) (Session (s.sessions_made + 1)) (one_more s)
+      (record (one_more s) { sessions_made = s.sessions_made + 1; sessions = s.sessions ++ (s.sessions_made + 1, new_session) ∷ [] }) why refl is
+  first-next s (command.Diff number from name) why is =
+      session-next s number (session_reply s (command.Diff number from name)) (session_left s (command.Diff number from name)) why
+      (λ session there is. diff-next s number name session (diff s.main s.saved from name) why there is) is
+  first-next s (command.DropSession number) why is = plain-next s number (command.DropSession number) why (λ _. refl) is
+  first-next s (command.Attach number name) why is = plain-next s number (command.Attach number name) why (λ _. refl) is
+  first-next s (command.AttachAll number) why is = plain-next s number (command.AttachAll number) why (λ _. refl) is
+  first-next s (command.SetFilter number filter) why is = plain-next s number (command.SetFilter number filter) why (λ _. refl) is
+  first-next s (command.Enable number asked) why is = plain-next s number (command.Enable number asked) why (λ _. refl) is
+  first-next s (command.Indirect number asked) why is = plain-next s number (command.Indirect number asked) why (λ _. refl) is
+  first-next s (command.IsEmpty number) why is = plain-next s number (command.IsEmpty number) why (λ _. refl) is
+  first-next s (command.Capture number) why is = plain-next s number (command.Capture number) why (λ _. refl) is
+  first-next s (command.Restart number) why is = plain-next s number (command.Restart number) why (λ _. refl) is
+
+  -- ---- what a step answers
+
+  pub ok-first : (E : Type 0) (s : State A) (c : Command A) (told : Reply A) → told ≡ answer s c → RepliesFirst {E = E} (refused_first s c) (Ok told)
+  ok-first E s c told is = inner (refused_first s c) refl
+    where
+      inner : (known : Option Why) → refused_first s c ≡ known → IfSome known (λ why. told ≡ Refused why.0 why.1)
+      inner None refuses = tt
+      inner (Some why) refuses = is ∙ first-answer s c why refuses
+
+  -- ---- what is known of each command
+
+  pub create-known : (s : State A) (name : List ℕ) (schema : List Bool) → whole (refused_create s.main name) ≡ refusal_in (write_reply s (effect_created (create s.main name schema)))
+  create-known s name schema = inner (refused_create s.main name)
+    where
+      inner : (o : Option Refusal) → whole o ≡ refusal_in (write_reply s (effect_created (created o s.main name schema)))
+      inner None = refl
+      inner (Some why) = refl
+
+  pub session-known : (s : State A) (found : Option (SessionState A)) (reply : SessionState A → Reply A) → ((session : SessionState A) → refusal_in (reply session) ≡ None) → whole (no_session found) ≡ refusal_in (session_answer found reply)
+  session-known s None reply none = refl
+  session-known s (Some session) reply none = sym (none session)
+
+  pub diff-known : (found : Option (SessionState A)) (r : Result (Option (List (Difference A))) Refusal) → no_session found ≡ None → whole (result_err r) ≡ refusal_in (session_answer found (λ session. diffed r))
+  diff-known None r none = cc
+  diff-known (Some session) (Ok found) none = refl
+  diff-known (Some session) (Err why) none = refl
+
+module _ {A S E : Type 0} (gives : S → Reply A → Result Unit E → S → Type 0) where
+  -- a command that is refused so has that reply, and leaves that
+  pub refused-reports : (s new : State A) (c : Command A) (before after : S) (why : Why) (r : Result (Reply A) (Fault E)) → Some why ≡ refused_first s c
+      → Reports gives (Refused why.0 why.1) (one_more s) s new before after r → Reports gives (answer s c) (next s c) s new before after r
+  refused-reports s new c before after why r is told =
+      subst (λ (n : State A). Reports gives (answer s c) n s new before after r) (sym (first-next s c why (sym is)))
+      (subst (λ (reply : Reply A). Reports gives reply (one_more s) s new before after r) (sym (first-answer s c why (sym is))) told)
