@@ -75,7 +75,7 @@ class Shell:
 
     def printed(self, example):
         """What the command of an example prints, and its status."""
-        ran = subprocess.run(["bash", "-c", example.command], input=example.given, cwd=self.folder, check=False,
+        ran = subprocess.run(["sh", "-c", example.command], input=example.given, cwd=self.folder, check=False,
                              env=self.environment, stdout=subprocess.PIPE, stderr=subprocess.STDOUT, text=True,
                              errors="replace", timeout=SECONDS)
         return ran.stdout, ran.returncode
