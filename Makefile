@@ -15,7 +15,7 @@ OUT = bindings/out
 PREFIX = /usr/local
 DESTDIR =
 
-.PHONY: run check build test format clean conformance bench lib shared install uninstall test-bindings
+.PHONY: run check build test docs format clean conformance bench lib shared install uninstall test-bindings
 
 # The replies to the first example, by the optimised program where `make build` or `make test` left one. Else by the
 # program without proofs, which is built here unless `make check` left it.
@@ -39,15 +39,22 @@ build:
 	@touch -c $(PROGRAM)
 	@echo 'The program is $(PROGRAM).'
 
-# Every proof from nothing, every must-fail edit, every test, and then the examples through the optimised program. What
-# each crate cost stands before the last line, which counts them all.
+# Every proof from nothing, every must-fail edit, every test, and then the examples through the optimised program, and
+# what the pages say. What each crate cost stands before the last line, which counts them all.
 test:
 	@log=$$(mktemp) && trap 'rm -f "$$log"' EXIT && \
 	.ci/gate 2>&1 | tee "$$log" && proofs=$$(tail -n 1 "$$log") && \
 	examples/check $(PROGRAM) | tee "$$log" && examples=$$(tail -n 1 "$$log") && \
-	printf '%s\n%s\n' "$$proofs" "$$examples" | awk ' \
+	docs/check $(PROGRAM) | tee "$$log" && pages=$$(tail -n 1 "$$log") && \
+	printf '%s\n%s\n%s\n' "$$proofs" "$$examples" "$$pages" | awk ' \
 	    /^[0-9]+ passed, [0-9]+ failed$$/ { parts++; passed += $$1; failed += $$3 } \
-	    END { if (parts != 2) failed++; print passed + 0 " passed, " failed + 0 " failed"; exit failed != 0 }'
+	    END { if (parts != 3) failed++; print passed + 0 " passed, " failed + 0 " failed"; exit failed != 0 }'
+
+# What the pages say: names, links, limits and examples, these through a program where there is one; and that errors
+# planted in the pages are found.
+docs:
+	@docs/check $(firstword $(wildcard $(PROGRAM) $(UNPROVED)))
+	@docs/check --planted $(firstword $(wildcard $(PROGRAM) $(UNPROVED)))
 
 # Lays out every crate's sources as `make test` wants them: it proves no crate that is not laid out so.
 format:
