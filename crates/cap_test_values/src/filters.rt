@@ -192,11 +192,15 @@ fn nodes(rt: HostRuntime) -> Result<(), Fail> {
 }
 
 fn words(alloc: Global) -> Result<Filter<Global>, OutOfMemory> {
-    let mut members = Vec::with_capacity(alloc, 3)?;
-    members.push(Filter::StartsWith(Word::new(alloc, "ord")?))?;
-    members.push(Filter::EndsWith(Word::new(alloc, "ers")?))?;
-    members.push(Filter::Is(Word::new(alloc, "orders")?))?;
-    Ok(Filter::And(members))
+    let front = Word::new(alloc, "ord")?;
+    let end = Word::new(alloc, "ers")?;
+    let whole = Word::new(alloc, "orders")?;
+    let members = [
+        Filter::StartsWith(front),
+        Filter::EndsWith(end),
+        Filter::Is(whole),
+    ];
+    Ok(Filter::And(Vec::from_array(alloc, members)?))
 }
 
 // Whether a copy of the filter prints this text.

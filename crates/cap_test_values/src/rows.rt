@@ -41,7 +41,12 @@ fn schemas_have_1_to_2000_columns(rt: HostRuntime) -> Result<(), Fail> {
 }
 
 // Whether the key of the row is of these values; of none where there is no key.
-fn has_key(alloc: Global, flags: &[bool], row: &Row<Global>, values: &[i64]) -> Result<bool, Fail> {
+fn has_key(
+    alloc: Global,
+    flags: &[bool],
+    row: &Row<Global>,
+    values: &[i64],
+) -> Result<bool, Fault<Refusal>> {
     let schema = Schema::new(alloc, flags)?;
     if row.width() != schema.width() {
         return Ok(false);
@@ -50,24 +55,34 @@ fn has_key(alloc: Global, flags: &[bool], row: &Row<Global>, values: &[i64]) -> 
     Ok(found == key(alloc, values)?)
 }
 
-// Whether the key is the same as its copy, and has no value past its last.
-fn is_copied(key: Option<Key<Global>>) -> Result<bool, OutOfMemory> {
-    match key {
+// Whether the key is the same as its copy, and has no value past its last. There is none of no values.
+fn is_copied(alloc: Global, values: &[i64]) -> Result<bool, OutOfMemory> {
+    match key(alloc, values)? {
         None => Ok(false),
         Some(key) => Ok(key.same(&key.copy()?) && key.get(key.width()).is_none()),
     }
 }
 
+fn is_less(alloc: Global, values: &[i64], others: &[i64]) -> Result<bool, OutOfMemory> {
+    Ok(key(alloc, values)? < key(alloc, others)?)
+}
+
+// A row of 1 and NULL.
+fn unset(alloc: Global) -> Result<Row<Global>, OutOfMemory> {
+    Row::new(vec![in alloc; Value::Int(1), Value::Null]?)
+}
+
 #[test]
 fn keys_are_the_values_of_key_columns(rt: HostRuntime) -> Result<(), Fail> {
-    let row = row(rt.alloc(), &[1, 2, 3, 4])?;
-    assert!(rt; has_key(rt.alloc(), &[true, false, true, true], &row, &[1, 3, 4])?);
-    assert!(rt; has_key(rt.alloc(), &[false; 4], &row, &[])?);
-    assert!(rt; key(rt.alloc(), &[])? == None);
-    assert!(rt; key(rt.alloc(), &[1, 3])? < key(rt.alloc(), &[1, 3, 4])?);
-    assert!(rt; is_copied(key(rt.alloc(), &[1, 3])?)? && is_copied(key(rt.alloc(), &[1, 3, 4])?)?);
-    let unset = Row::new(vec![in rt.alloc(); Value::Int(1), Value::Null]?)?;
-    assert!(rt; has_key(rt.alloc(), &[true, true], &unset, &[])?);
+    let (row, unset) = (row(rt.alloc(), &[1, 2, 3, 4])?, unset(rt.alloc())?);
+    let flags = [true, false, true, true];
+    assert!(rt; has_key(rt.alloc(), &flags, &row, &[1, 3, 4]) == Ok(true));
+    assert!(rt; has_key(rt.alloc(), &[false; 4], &row, &[]) == Ok(true));
+    assert!(rt; has_key(rt.alloc(), &[true, true], &unset, &[]) == Ok(true));
+    assert!(rt; is_less(rt.alloc(), &[1, 3], &[1, 3, 4]) == Ok(true));
+    assert!(rt; is_copied(rt.alloc(), &[1, 3]) == Ok(true));
+    assert!(rt; is_copied(rt.alloc(), &[1, 3, 4]) == Ok(true));
+    assert!(rt; is_copied(rt.alloc(), &[]) == Ok(false));
     Ok(())
 }
 
@@ -81,7 +96,7 @@ fn set(alloc: Global, fields: &[(usize, Value<Global>)]) -> Result<Row<Global>, 
     row.with_fields(alloc, &schema, fields)
 }
 
-fn is_bad_column(alloc: Global, columns: &[usize]) -> Result<bool, Fail> {
+fn is_bad_column(alloc: Global, columns: &[usize]) -> Result<bool, OutOfMemory> {
     let mut fields = Vec::new(alloc);
     for column in columns {
         fields.push((*column, Value::Int(0)))?;
@@ -92,15 +107,21 @@ fn is_bad_column(alloc: Global, columns: &[usize]) -> Result<bool, Fail> {
     }
 }
 
+// Whether the row is printed so, is the same as its copy, and has three values.
+fn is_row(alloc: Global, row: &Row<Global>, text: &str) -> Result<bool, Fail> {
+    let printed = format!(in alloc; "{row:?}")?;
+    let is_copied = row.copy()?.same(row);
+    Ok(printed.as_str() == text && is_copied && row.width() == 3 && row.get(3).is_none())
+}
+
 #[test]
 fn updates_set_just_their_fields(rt: HostRuntime) -> Result<(), Fail> {
-    let fields = [(2, Value::Int(9)), (0, Value::Null)];
-    let row = set(rt.alloc(), &fields)?;
-    assert!(rt; format!(in rt.alloc(); "{row:?}")?.as_str() == "Row([Null, Int(2), Int(9)])");
+    let changed = set(rt.alloc(), &[(2, Value::Int(9)), (0, Value::Null)])?;
+    assert!(rt; is_row(rt.alloc(), &changed, "Row([Null, Int(2), Int(9)])")?);
     let same = set(rt.alloc(), &[])?;
-    assert!(rt; format!(in rt.alloc(); "{same:?}")?.as_str() == "Row([Int(1), Int(2), Int(3)])");
-    assert!(rt; same.copy()?.same(&same) && same.width() == 3 && same.get(3).is_none());
-    assert!(rt; is_bad_column(rt.alloc(), &[3])? && is_bad_column(rt.alloc(), &[1, 0, 1])?);
+    assert!(rt; is_row(rt.alloc(), &same, "Row([Int(1), Int(2), Int(3)])")?);
+    assert!(rt; is_bad_column(rt.alloc(), &[3]) == Ok(true));
+    assert!(rt; is_bad_column(rt.alloc(), &[1, 0, 1]) == Ok(true));
     Ok(())
 }
 

@@ -13,7 +13,7 @@ type Numbers<A> = Tree<u64, u64, A>;
 fn rising<A: AllocHandle>(alloc: A, count: u64) -> Result<Numbers<A>, OutOfMemory> {
     let mut tree = Tree::empty(alloc);
     for n in 1..=count {
-        tree.insert(n, n.wrapping_mul(10))?;
+        tree = tree.put(n, n.wrapping_mul(10))?;
     }
     Ok(tree)
 }
@@ -57,11 +57,11 @@ fn each_call_succeeds_with_ample_memory(rt: HostRuntime) -> Result<(), Fail> {
     let tree: Numbers<Global> = Tree::empty(rt.alloc());
     assert!(rt; tree.is_empty() && tree.height() == 0 && tree.iter().next() == None);
     let mut tree = tree.put(7, 70)?;
-    assert!(rt; tree.insert(7, 71)? == Some(70));
-    assert!(rt; tree.insert(8, 80)? == None);
+    assert!(rt; tree.insert(7, 71) == Ok(Some(70)));
+    assert!(rt; tree.insert(8, 80) == Ok(None));
     assert!(rt; tree.get(&7) == Some(&71));
-    assert!(rt; tree.remove(&7)? == Some(71));
-    assert!(rt; tree.remove(&7)? == None);
+    assert!(rt; tree.remove(&7) == Ok(Some(71)));
+    assert!(rt; tree.remove(&7) == Ok(None));
     assert!(rt; tree.len() == 1);
     Ok(())
 }
@@ -240,7 +240,7 @@ fn a_snapshot_makes_no_request(rt: HostRuntime) -> Result<(), Fail> {
     memory.refuse(0);
     let snapshot = tree.snapshot()?;
     assert!(rt; memory.requests() == 0);
-    tree.insert(1001, 10010)?;
+    assert!(rt; tree.insert(1001, 10010) == Ok(None));
     assert!(rt; 0 < memory.requests() && memory.requests() < 20);
     assert!(rt; is_rising(&tree, 1001) && is_rising(&snapshot, 1000));
     Ok(())
@@ -296,7 +296,7 @@ fn ten_thousand_changes_beside_a_map_and_snapshots(rt: HostRuntime) -> Result<()
     let mut seed = 88_172_645_463_325_252u64;
     for n in 0..10_000u64 {
         seed = next_random(seed);
-        assert!(rt; change_both(&mut tree, &mut map, seed, n)?);
+        assert!(rt; change_both(&mut tree, &mut map, seed, n) == Ok(true));
         if n % 500 == 0 {
             snapshots.push((tree.snapshot()?, entries_of(rt.alloc(), &map)?))?;
         }
@@ -328,12 +328,12 @@ fn a_change_waits_for_one_answer(rt: HostRuntime) -> Result<(), Fail> {
 fn put_and_taken_in_each_direction(rt: HostRuntime) -> Result<(), Fail> {
     let mut tree: Numbers<Global> = Tree::empty(rt.alloc());
     for n in 0..3000u64 {
-        assert!(rt; tree.insert(3000 - n, n)? == None);
+        assert!(rt; tree.insert(3000 - n, n) == Ok(None));
     }
     assert!(rt; tree.height() <= 5);
     for n in 0..1500u64 {
-        assert!(rt; tree.remove(&(n + 1))? == Some(2999 - n));
-        assert!(rt; tree.remove(&(3000 - n))? == Some(n));
+        assert!(rt; tree.remove(&(n + 1)) == Ok(Some(2999 - n)));
+        assert!(rt; tree.remove(&(3000 - n)) == Ok(Some(n)));
         assert!(rt; tree.len() as u64 == 2998 - 2 * n);
     }
     assert!(rt; tree.is_empty() && tree.height() == 0);

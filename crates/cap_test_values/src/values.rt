@@ -42,17 +42,18 @@ fn value(alloc: Global, plain: Plain) -> Result<Value<Global>, Fault<Refusal>> {
 }
 
 // Whether the values compare as their places do.
-fn compare_as(alloc: Global, a: (usize, Plain), b: (usize, Plain)) -> Result<bool, Fail> {
+fn compare_as(alloc: Global, a: (usize, Plain), b: (usize, Plain)) -> Result<bool, Fault<Refusal>> {
     let order = a.0.cmp(&b.0);
     let a = value(alloc, a.1)?;
     let b = value(alloc, b.1)?;
     Ok(a.order(&b) == order && a.cmp(&b) == order && a.same(&b) == order.is_eq())
 }
 
-fn is_copied(alloc: Global, plain: Plain) -> Result<bool, Fail> {
+// Whether the value is the same as its copy, and NULL where it should be.
+fn is_copied(alloc: Global, plain: Plain, is_null: bool) -> Result<bool, Fault<Refusal>> {
     let value = value(alloc, plain)?;
     value.keeps_limits();
-    Ok(value.copy()? == value.copy()?)
+    Ok(value.copy()? == value.copy()? && value.is_null() == is_null)
 }
 
 fn prints(alloc: Global, plain: Plain, text: &str) -> Result<bool, Fail> {
@@ -64,11 +65,10 @@ fn prints(alloc: Global, plain: Plain, text: &str) -> Result<bool, Fail> {
 fn values_are_in_the_order_of_sqlite(rt: HostRuntime) -> Result<(), Fail> {
     for a in ASCENDING.iter().enumerate() {
         for b in ASCENDING.iter().enumerate() {
-            let is_so = compare_as(rt.alloc(), (a.0, *a.1), (b.0, *b.1))?;
-            assert!(rt; is_so, "{} and {}", a.0, b.0);
+            let is_so = compare_as(rt.alloc(), (a.0, *a.1), (b.0, *b.1));
+            assert!(rt; is_so == Ok(true), "{} and {}", a.0, b.0);
         }
-        assert!(rt; is_copied(rt.alloc(), *a.1)?);
-        assert!(rt; value(rt.alloc(), *a.1)?.is_null() == (a.0 == 0));
+        assert!(rt; is_copied(rt.alloc(), *a.1, a.0 == 0) == Ok(true));
     }
     assert!(rt; prints(rt.alloc(), Plain::Text("10"), "Text(\"10\")")?);
     assert!(rt; prints(rt.alloc(), Plain::Blob(b"a"), "Blob([97])")?);
@@ -76,11 +76,11 @@ fn values_are_in_the_order_of_sqlite(rt: HostRuntime) -> Result<(), Fail> {
 }
 
 // Whether the text is a name, which is the same as a copy of it.
-fn is_name(alloc: Global, text: &str) -> Result<bool, Fail> {
+fn is_name(alloc: Global, text: &str) -> Result<bool, Fault<Refusal>> {
     match Name::new(alloc, text) {
         Ok(name) => Ok(name.as_str() == text && name.copy()?.same(&name)),
         Err(Fault::Refused(Refusal::BadName)) => Ok(false),
-        Err(fault) => Err(fault.into()),
+        Err(fault) => Err(fault),
     }
 }
 
@@ -89,9 +89,9 @@ fn names_have_1_to_255_bytes(rt: HostRuntime) -> Result<(), Fail> {
     let bytes = [b'n'; 256];
     let long = std::str::from_utf8(&bytes)?;
     assert!(rt; (NAME_MAX, long.len()) == (255, 256));
-    assert!(rt; is_name(rt.alloc(), &long[1..])?);
+    assert!(rt; is_name(rt.alloc(), &long[1..]) == Ok(true));
     for refused in [long, "", "a\0"] {
-        assert!(rt; !is_name(rt.alloc(), refused)?);
+        assert!(rt; is_name(rt.alloc(), refused) == Ok(false));
     }
     assert!(rt; Name::new(rt.alloc(), "T")? < Name::new(rt.alloc(), "t")?);
     Ok(())
