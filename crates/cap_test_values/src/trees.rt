@@ -1,16 +1,16 @@
 //! Trees against an ordered map, beside snapshots, and in memory of which each request is refused.
 use cap_test_support::{CountingHook, Memory};
 use cap_tree::Tree;
-use cap_value::{AllocHandle, Fault};
+use cap_value::{AllocHandle, Fault, OutOfMemory};
 use linked_list_allocator::LocalHeap;
-use std::alloc::{AllocError, Allocator, Global};
+use std::alloc::{AllocError, Global};
 use std::collections::BTreeMap;
 use std::test::Fail;
 
 type Numbers<A> = Tree<u64, u64, A>;
 
 // The numbers from 1 up to `count`, each with ten times itself.
-fn rising<A: AllocHandle>(alloc: A, count: u64) -> Result<Numbers<A>, AllocError> {
+fn rising<A: AllocHandle>(alloc: A, count: u64) -> Result<Numbers<A>, OutOfMemory> {
     let mut tree = Tree::empty(alloc);
     for n in 1..=count {
         tree = tree.put(n, n.wrapping_mul(10))?;
@@ -18,11 +18,23 @@ fn rising<A: AllocHandle>(alloc: A, count: u64) -> Result<Numbers<A>, AllocError
     Ok(tree)
 }
 
-// Whether the tree has just those numbers.
+// Whether the tree has just those numbers, but for `gap`.
+fn is_rising_but_for<A: AllocHandle>(tree: &Numbers<A>, count: u64, gap: u64) -> bool {
+    let mut last = 0u64;
+    for (key, value) in tree.iter() {
+        last = last.wrapping_add(1);
+        if last == gap {
+            last = last.wrapping_add(1);
+        }
+        if *key != last || *value != last.wrapping_mul(10) {
+            return false;
+        }
+    }
+    last == count
+}
+
 fn is_rising<A: AllocHandle>(tree: &Numbers<A>, count: u64) -> bool {
-    tree.len() == count as usize
-        && tree.iter().zip(1..=count).all(|((key, value), n)| *key == n
-            && *value == n.wrapping_mul(10))
+    tree.len() == count as usize && is_rising_but_for(tree, count, 0)
 }
 
 #[test]
@@ -32,39 +44,40 @@ fn even_numbers_taken_beside_a_snapshot(rt: HostRuntime) -> Result<(), Fail> {
     for n in 1..=500u64 {
         tree = tree.take(&(n * 2))?;
     }
-    assert_eq!(rt; tree.len(), 500);
-    assert_eq!(rt; tree.seek(&500).next(), Some((&501, &5010)));
-    assert_eq!(rt; tree.seek(&500).len(), 250);
-    assert!(rt; tree.height() <= 4, "height {}", tree.height());
-    assert!(rt; is_rising(&snapshot, 1000));
-    assert!(rt; snapshot.height() <= 3, "height {}", snapshot.height());
-    assert_eq!(rt; tree.first(), Some((&1, &10)));
-    assert_eq!(rt; tree.last(), Some((&999, &9990)));
+    assert!(rt; tree.len() == 500 && tree.height() <= 4);
+    assert!(rt; tree.seek(&500).next() == Some((&501, &5010)));
+    assert!(rt; tree.seek(&500).len() == 250);
+    assert!(rt; tree.first() == Some((&1, &10)) && tree.last() == Some((&999, &9990)));
+    assert!(rt; is_rising(&snapshot, 1000) && snapshot.height() <= 3);
     Ok(())
 }
 
 #[test]
 fn each_call_succeeds_with_ample_memory(rt: HostRuntime) -> Result<(), Fail> {
     let tree: Numbers<Global> = Tree::empty(rt.alloc());
-    assert!(rt; tree.is_empty() && tree.height() == 0);
-    assert_eq!(rt; tree.iter().next(), None);
+    assert!(rt; tree.is_empty() && tree.height() == 0 && tree.iter().next() == None);
     let mut tree = tree.put(7, 70)?;
-    assert_eq!(rt; tree.insert(7, 71)?, Some(70));
-    assert_eq!(rt; tree.insert(8, 80)?, None);
-    assert_eq!(rt; tree.get(&7), Some(&71));
-    assert_eq!(rt; tree.remove(&7)?, Some(71));
-    assert_eq!(rt; tree.remove(&7)?, None);
-    assert_eq!(rt; tree.len(), 1);
+    assert!(rt; tree.insert(7, 71) == Ok(Some(70)));
+    assert!(rt; tree.insert(8, 80) == Ok(None));
+    assert!(rt; tree.get(&7) == Some(&71));
+    assert!(rt; tree.remove(&7) == Ok(Some(71)));
+    assert!(rt; tree.remove(&7) == Ok(None));
+    assert!(rt; tree.len() == 1);
     Ok(())
+}
+
+fn entries(alloc: Global, count: u64) -> Result<Vec<(u64, u64)>, AllocError> {
+    let mut entries = Vec::new(alloc);
+    for n in 1..=count {
+        entries.push((n, n.wrapping_mul(10)))?;
+    }
+    Ok(entries)
 }
 
 #[test]
 fn a_tree_of_a_sorted_list(rt: HostRuntime) -> Result<(), Fail> {
     for count in [0u64, 1, 2, 3, 100, 1000] {
-        let entries: Vec<(u64, u64)> = (1..=count)
-            .map(|n| (n, n.wrapping_mul(10)))
-            .collect(rt.alloc())?;
-        let Some(tree) = Tree::from_sorted(rt.alloc(), entries)? else {
+        let Some(tree) = Tree::from_sorted(rt.alloc(), entries(rt.alloc(), count)?)? else {
             return Err(Fail::from("a rising list is refused"));
         };
         assert!(rt; is_rising(&tree, count));
@@ -76,7 +89,7 @@ fn a_tree_of_a_sorted_list(rt: HostRuntime) -> Result<(), Fail> {
 }
 
 // The changes that are refused their memory in turn: each of the tree of the numbers up to 100.
-#[derive(Clone, Copy, Debug, Drop)]
+#[derive(Clone, Copy, Drop)]
 enum Change {
     Insert,
     InsertHooked,
@@ -134,13 +147,11 @@ fn is_made<A: AllocHandle>(
 
 // Whether the tree has the numbers up to 100 but for 50.
 fn lacks_50<A: AllocHandle>(tree: &Numbers<A>) -> bool {
-    tree.len() == 99
-        && tree.iter().zip((1..=100).filter(|n| *n != 50)).all(|((key, value), n)| *key == n
-            && *value == n.wrapping_mul(10))
+    tree.len() == 99 && is_rising_but_for(tree, 100, 50)
 }
 
 // Takes the change back.
-fn undo_change<A: AllocHandle>(tree: &mut Numbers<A>, change: Change) -> Result<(), AllocError> {
+fn undo_change<A: AllocHandle>(tree: &mut Numbers<A>, change: Change) -> Result<(), OutOfMemory> {
     match change {
         Change::Insert | Change::InsertHooked | Change::Put => tree.remove(&101)?,
         Change::Remove | Change::RemoveHooked | Change::Take => tree.insert(50, 500)?,
@@ -151,9 +162,9 @@ fn undo_change<A: AllocHandle>(tree: &mut Numbers<A>, change: Change) -> Result<
 // Makes the change with the request of this number refused. Where it is refused it leaves the tree as it was,
 // and is made again on the same tree. Answers whether it was refused, or nothing where something else
 // happened.
-fn refuse_in_turn<'a, B: Allocator>(
-    memory: &'a Memory<B>,
-    tree: &mut Numbers<&'a Memory<B>>,
+fn refuse_in_turn<A: AllocHandle>(
+    memory: &Memory<&LocalHeap>,
+    tree: &mut Numbers<A>,
     change: Change,
     number: u64,
 ) -> Option<bool> {
@@ -171,30 +182,53 @@ fn refuse_in_turn<'a, B: Allocator>(
     is_made(tree, change, answer).then_some(true)
 }
 
+// The same beside a snapshot, which stays as it is; the change is taken back.
+fn refuse_beside_a_snapshot<A: AllocHandle>(
+    memory: &Memory<&LocalHeap>,
+    tree: &mut Numbers<A>,
+    change: Change,
+    number: u64,
+) -> Option<bool> {
+    let snapshot = tree.snapshot().ok()?;
+    let is_refused = refuse_in_turn(memory, tree, change, number)?;
+    if !is_rising(&snapshot, 100) || undo_change(tree, change).is_err() {
+        return None;
+    }
+    Some(is_refused)
+}
+
+// How many requests the change makes, each of which is refused in turn.
+fn requests_refused<A: AllocHandle>(
+    memory: &Memory<&LocalHeap>,
+    tree: &mut Numbers<A>,
+    change: Change,
+) -> Option<u64> {
+    for number in 1..100u64 {
+        if !refuse_beside_a_snapshot(memory, tree, change, number)? {
+            return Some(number - 1);
+        }
+    }
+    None
+}
+
+// Whether each change makes more than two requests, each of which is refused in turn.
+fn each_change_refused<A: AllocHandle>(alloc: A, memory: &Memory<&LocalHeap>) -> Option<bool> {
+    let mut tree = rising(alloc, 100).ok()?;
+    for change in CHANGES {
+        if requests_refused(memory, &mut tree, change)? <= 2 {
+            return Some(false);
+        }
+    }
+    Some(true)
+}
+
 // Every node is shared, so that each change needs memory.
 #[test]
 fn each_request_of_a_change_is_refused_in_turn(rt: HostRuntime) -> Result<(), Fail> {
     let heap = LocalHeap::new(rt.alloc(), 32768)?;
     let memory = Memory::new(&heap);
-    let mut tree = rising(&memory, 100)?;
-    for change in CHANGES {
-        let mut refused = 0u64;
-        for number in 1..100 {
-            let snapshot = tree.snapshot()?;
-            let is_refused = refuse_in_turn(&memory, &mut tree, change, number);
-            assert!(rt; is_refused.is_some(), "{change:?} {number}");
-            assert!(rt; is_rising(&snapshot, 100), "{change:?} {number}");
-            drop(snapshot);
-            undo_change(&mut tree, change)?;
-            if is_refused == Some(false) {
-                break;
-            }
-            refused = number;
-        }
-        assert!(rt; 2 < refused && refused < 99, "{change:?} {refused}");
-    }
-    drop(tree);
-    assert_eq!(rt; heap.used(), 0);
+    assert!(rt; each_change_refused(&memory, &memory) == Some(true));
+    assert!(rt; heap.used() == 0);
     Ok(())
 }
 
@@ -205,10 +239,9 @@ fn a_snapshot_makes_no_request(rt: HostRuntime) -> Result<(), Fail> {
     let mut tree = rising(&memory, 1000)?;
     memory.refuse(0);
     let snapshot = tree.snapshot()?;
-    assert_eq!(rt; memory.requests(), 0);
-    tree.insert(1001, 10010)?;
-    let requests = memory.requests();
-    assert!(rt; 0 < requests && requests < 20, "{requests}");
+    assert!(rt; memory.requests() == 0);
+    assert!(rt; tree.insert(1001, 10010) == Ok(None));
+    assert!(rt; 0 < memory.requests() && memory.requests() < 20);
     assert!(rt; is_rising(&tree, 1001) && is_rising(&snapshot, 1000));
     Ok(())
 }
@@ -220,13 +253,38 @@ fn next_random(seed: u64) -> u64 {
     mixed ^ (mixed << 17)
 }
 
+fn entries_of(alloc: Global, map: &BTreeMap<u64, u64>) -> Result<Vec<(u64, u64)>, AllocError> {
+    let mut entries = Vec::new(alloc);
+    for (key, value) in map.iter() {
+        entries.push((*key, *value))?;
+    }
+    Ok(entries)
+}
+
 // Whether the tree has just those entries.
 fn has_just(tree: &Numbers<Global>, entries: &[(u64, u64)]) -> bool {
-    tree.len() == entries.len()
-        && tree
-            .iter()
-            .zip(entries.iter())
-            .all(|((key, value), entry)| *entry == (*key, *value))
+    let mut rest = tree.iter();
+    for (key, value) in entries {
+        if rest.next() != Some((key, value)) {
+            return false;
+        }
+    }
+    rest.next() == None
+}
+
+// Changes both in the same way, and answers whether what was there before is the same.
+fn change_both(
+    tree: &mut Numbers<Global>,
+    map: &mut BTreeMap<u64, u64>,
+    seed: u64,
+    value: u64,
+) -> Result<bool, AllocError> {
+    let key = seed % 512;
+    if seed % 3 == 0 {
+        Ok(tree.remove(&key)? == map.remove(&key))
+    } else {
+        Ok(tree.insert(key, value)? == map.insert(key, value)?)
+    }
 }
 
 // Nothing else holds a node that was made a tree's own, so no call wants for memory that is there.
@@ -238,24 +296,15 @@ fn ten_thousand_changes_beside_a_map_and_snapshots(rt: HostRuntime) -> Result<()
     let mut seed = 88_172_645_463_325_252u64;
     for n in 0..10_000u64 {
         seed = next_random(seed);
-        let key = seed % 512;
-        if seed % 3 == 0 {
-            assert_eq!(rt; tree.remove(&key)?, map.remove(&key));
-        } else {
-            assert_eq!(rt; tree.insert(key, n)?, map.insert(key, n)?);
-        }
+        assert!(rt; change_both(&mut tree, &mut map, seed, n) == Ok(true));
         if n % 500 == 0 {
-            let entries: Vec<(u64, u64)> = map
-                .iter()
-                .map(|(key, value)| (*key, *value))
-                .collect(rt.alloc())?;
-            snapshots.push((tree.snapshot()?, entries))?;
+            snapshots.push((tree.snapshot()?, entries_of(rt.alloc(), &map)?))?;
         }
     }
     for (snapshot, entries) in &snapshots {
         assert!(rt; has_just(snapshot, entries.as_slice()));
     }
-    assert_eq!(rt; snapshots.len(), 20);
+    assert!(rt; snapshots.len() == 20);
     Ok(())
 }
 
@@ -263,21 +312,15 @@ fn ten_thousand_changes_beside_a_map_and_snapshots(rt: HostRuntime) -> Result<()
 fn a_change_waits_for_one_answer(rt: HostRuntime) -> Result<(), Fail> {
     let mut tree = rising(rt.alloc(), 100)?;
     let (mut no, mut yes) = (CountingHook::new(false), CountingHook::new(true));
-    assert!(rt;
-        matches!(
-            tree.insert_hooked(101, 1010, &mut no),
-            Err(Fault::Refused(()))
-        )
-    );
-    assert!(rt; matches!(tree.remove_hooked(&50, &mut no), Err(Fault::Refused(()))));
-    assert_eq!(rt; no.asked, 2);
-    assert!(rt; is_rising(&tree, 100));
-    assert!(rt; matches!(tree.insert_hooked(101, 1010, &mut yes), Ok(None)));
+    let refused = Err(Fault::Refused(()));
+    assert!(rt; tree.insert_hooked(101, 1010, &mut no) == refused);
+    assert!(rt; tree.remove_hooked(&50, &mut no) == refused);
+    assert!(rt; no.asked == 2 && is_rising(&tree, 100));
+    assert!(rt; tree.insert_hooked(101, 1010, &mut yes) == Ok(None));
     assert!(rt; is_rising(&tree, 101));
-    assert!(rt; matches!(tree.remove_hooked(&101, &mut yes), Ok(Some(1010))));
-    assert!(rt; matches!(tree.remove_hooked(&101, &mut yes), Ok(None)));
-    assert_eq!(rt; yes.asked, 3);
-    assert!(rt; is_rising(&tree, 100));
+    assert!(rt; tree.remove_hooked(&101, &mut yes) == Ok(Some(1010)));
+    assert!(rt; tree.remove_hooked(&101, &mut yes) == Ok(None));
+    assert!(rt; yes.asked == 3 && is_rising(&tree, 100));
     Ok(())
 }
 
@@ -285,19 +328,16 @@ fn a_change_waits_for_one_answer(rt: HostRuntime) -> Result<(), Fail> {
 fn put_and_taken_in_each_direction(rt: HostRuntime) -> Result<(), Fail> {
     let mut tree: Numbers<Global> = Tree::empty(rt.alloc());
     for n in 0..3000u64 {
-        assert_eq!(rt; tree.insert(3000 - n, n)?, None);
+        assert!(rt; tree.insert(3000 - n, n) == Ok(None));
     }
-    assert!(rt; tree.height() <= 5, "height {}", tree.height());
+    assert!(rt; tree.height() <= 5);
     for n in 0..1500u64 {
-        assert_eq!(rt; tree.remove(&(n + 1))?, Some(2999 - n));
-        assert_eq!(rt; tree.remove(&(3000 - n))?, Some(n));
-        assert_eq!(rt; tree.len() as u64, 2998 - 2 * n);
+        assert!(rt; tree.remove(&(n + 1)) == Ok(Some(2999 - n)));
+        assert!(rt; tree.remove(&(3000 - n)) == Ok(Some(n)));
+        assert!(rt; tree.len() as u64 == 2998 - 2 * n);
     }
-    assert!(rt; tree.is_empty());
-    assert_eq!(rt;
-        (tree.height(), tree.first(), tree.iter().len()),
-        (0, None, 0)
-    );
+    assert!(rt; tree.is_empty() && tree.height() == 0);
+    assert!(rt; tree.first() == None && tree.iter().len() == 0);
     Ok(())
 }
 
