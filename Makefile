@@ -1,22 +1,24 @@
 PROGRAM = crates/changecap/out/changecap
-TIMES = crates/cap_bench_times/out/cap_bench_times
+
+# The program without proofs, with run-time checks in their place.
+UNPROVED = crates/changecap/out/unproved/changecap
 
 # How many random cases `make conformance` makes of each kind, and how often `make bench` runs each load.
 CASES = 500
 ROUNDS = 3
 
-# The code that the program may be made of: that of every crate but those that test or measure it, and the one for C.
-SOURCES = $(filter-out crates/cap_test_% crates/cap_bench_% crates/cap_c/%, $(wildcard crates/*/src))
+# The code that the program may be made of: that of every crate but those that test it, and the one for C.
+SOURCES = $(filter-out crates/cap_test_% crates/cap_c/%, $(wildcard crates/*/src))
 
 # Where `make lib` leaves the library for C, and where `make install` puts it and the program.
 OUT = bindings/out
 PREFIX = /usr/local
 DESTDIR =
 
-.PHONY: run build test format clean conformance bench lib install uninstall test-bindings
+.PHONY: run check build test docs format clean conformance bench lib shared install uninstall test-bindings
 
-# The replies to the first example, by the optimised program where `make build` or `make test` left one. Else the
-# sources run before any proof, with checks in place of the proofs, and what `rt try` reports is shown where it fails.
+# The replies to the first example, by the optimised program where `make build` or `make test` left one. Else by the
+# program without proofs, which is built here unless `make check` left it.
 run:
 	@if [ -x $(PROGRAM) ]; then \
 	    if [ -n "$$(find $(SOURCES) -newer $(PROGRAM) -print -quit)" ]; then \
@@ -24,10 +26,12 @@ run:
 	    fi; \
 	    $(PROGRAM) run < examples/first.workload; \
 	else \
-	    log=$$(mktemp) && trap 'rm -f "$$log"' EXIT && cd crates/changecap && \
-	    { rt try -- run < ../../examples/first.workload 2> "$$log" || \
-	        { status=$$?; cat "$$log" >&2; exit $$status; }; }; \
+	    .ci/check --program $(UNPROVED) && $(UNPROVED) run < examples/first.workload; \
 	fi
+
+# Every test and every example in minutes, and no proof.
+check:
+	@.ci/check $(UNPROVED)
 
 # Proves every crate that the program stands on, makes the optimised program and runs it once.
 build:
@@ -35,15 +39,22 @@ build:
 	@touch -c $(PROGRAM)
 	@echo 'The program is $(PROGRAM).'
 
-# Every proof from nothing, every must-fail edit, every test, and then the examples through the optimised program. What
-# each crate cost stands before the last line, which counts them all.
+# Every proof from nothing, every must-fail edit, every test, and then the examples through the optimised program, and
+# what the pages say. What each crate cost stands before the last line, which counts them all.
 test:
 	@log=$$(mktemp) && trap 'rm -f "$$log"' EXIT && \
 	.ci/gate 2>&1 | tee "$$log" && proofs=$$(tail -n 1 "$$log") && \
 	examples/check $(PROGRAM) | tee "$$log" && examples=$$(tail -n 1 "$$log") && \
-	printf '%s\n%s\n' "$$proofs" "$$examples" | awk ' \
+	docs/check $(PROGRAM) | tee "$$log" && pages=$$(tail -n 1 "$$log") && \
+	printf '%s\n%s\n%s\n' "$$proofs" "$$examples" "$$pages" | awk ' \
 	    /^[0-9]+ passed, [0-9]+ failed$$/ { parts++; passed += $$1; failed += $$3 } \
-	    END { if (parts != 2) failed++; print passed + 0 " passed, " failed + 0 " failed"; exit failed != 0 }'
+	    END { if (parts != 3) failed++; print passed + 0 " passed, " failed + 0 " failed"; exit failed != 0 }'
+
+# What the pages say: names, links, limits and examples, these through a program where there is one; and that errors
+# planted in the pages are found.
+docs:
+	@docs/check $(firstword $(wildcard $(PROGRAM) $(UNPROVED)))
+	@docs/check --planted $(firstword $(wildcard $(PROGRAM) $(UNPROVED)))
 
 # Lays out every crate's sources as `make test` wants them: it proves no crate that is not laid out so.
 format:
@@ -56,13 +67,17 @@ clean:
 conformance:
 	@conformance/run $(PROGRAM) --cases $(CASES)
 
-# How long the libraries and the program take beside SQLite: a table of ratios.
+# How long the program, and the library for C that `make lib` leaves, take beside SQLite: a table of ratios.
 bench:
-	@bench/run $(PROGRAM) $(TIMES) $(ROUNDS)
+	@bench/run $(PROGRAM) $(OUT) $(ROUNDS)
 
 # The library for C, over what `make test` proved; cap_c itself is proved here.
 lib:
 	@bindings/library $(OUT)
+
+# The shared object of that library, for Python.
+shared:
+	@bindings/shared $(OUT)
 
 # The program and the library where others find them.
 install:

@@ -25,7 +25,7 @@ def updated():
 
 
 def scrambled(number):
-    """A key far from its neighbours, as cap_bench_loads has them."""
+    """A key far from its neighbours, as times.h has them."""
     mask = 2**64 - 1
     mixed = number * 0x9E3779B97F4A7C15 & mask
     mixed = (mixed ^ mixed >> 30) * 0xBF58476D1CE4E5B9 & mask

@@ -1,39 +1,14 @@
-/* The loads of cap_bench_times on SQLite with its session extension: in memory, on one connection, with prepared
-** statements and, but for the load `texts`, without any text. A load is timed by the processor time of the thread, as
-** there.
+/* The loads on SQLite with its session extension: in memory, on one connection, with prepared statements and, but for
+** the load `texts`, without any text.
 **
 ** Use: sqlite_times LOAD ..
-** Each load prints lines 'NAME NANOSECONDS', those of one commit, change, row or transaction. The load `version` prints
-** SQLite's version. */
+** Each load prints lines 'NAME NANOSECONDS', those of one commit, change, row or transaction. The load `version`
+** prints SQLite's version. changecap_times.c has the same loads on changecap, under the same names. */
 #define SQLITE_ENABLE_SESSION
 #define SQLITE_ENABLE_PREUPDATE_HOOK
 #include <sqlite3.h>
-#include <stdint.h>
-#include <stdio.h>
-#include <stdlib.h>
-#include <string.h>
-#include <time.h>
 
-enum { COMMITS = 100000, BATCH = 10000, SESSIONS = 64, UPDATED = 1000, ONE_IN = 100 };
-enum { BIG_TABLE = 1000000, TRANSACTIONS = 10000, ROWS_A_TRANSACTION = 10 };
-
-static double now(void) {
-    struct timespec time;
-    clock_gettime(CLOCK_THREAD_CPUTIME_ID, &time);
-    return time.tv_sec * 1e9 + time.tv_nsec;
-}
-
-static void report(const char *name, double start, long count) {
-    printf("%s %.1f\n", name, (now() - start) / count);
-    fflush(stdout);
-}
-
-static void check(int holds, const char *what) {
-    if (!holds) {
-        fprintf(stderr, "sqlite_times: %s\n", what);
-        exit(3);
-    }
-}
+#include "times.h"
 
 static void run(sqlite3 *db, const char *sql) { check(sqlite3_exec(db, sql, 0, 0, 0) == SQLITE_OK, sql); }
 
@@ -77,16 +52,6 @@ static void update(sqlite3_stmt *statement, int64_t key, int64_t number) {
 
 static const char INSERT[] = "INSERT INTO t VALUES(?1, ?2)";
 static const char UPDATE[] = "UPDATE t SET c1 = ?2 WHERE c0 = ?1";
-
-/* The keys of cap_bench_loads: rising, or far apart. */
-static int64_t key_of(int64_t number, int scrambled) {
-    uint64_t mixed = (uint64_t)number;
-    if (!scrambled) return number;
-    mixed *= 0x9e3779b97f4a7c15u;
-    mixed = (mixed ^ (mixed >> 30)) * 0xbf58476d1ce4e5b9u;
-    mixed = (mixed ^ (mixed >> 27)) * 0x94d049bb133111ebu;
-    return (int64_t)(mixed ^ (mixed >> 31));
-}
 
 static void insert_all(sqlite3 *db, long count, int scrambled) {
     sqlite3_stmt *statement = prepared(db, INSERT);
@@ -171,6 +136,26 @@ static void scan(void) {
     close_all(db, 0, 0);
 }
 
+/* Rows that are read by their keys. */
+static void get(void) {
+    sqlite3 *db = table();
+    insert_together(db, COMMITS, 0);
+    sqlite3_stmt *statement = prepared(db, "SELECT c0, c1 FROM t WHERE c0 = ?1");
+    double start = now();
+    long rows = 0, bytes = 0;
+    for (long number = 0; number < COMMITS; number++) {
+        sqlite3_bind_int64(statement, 1, key_to_read(number));
+        check(sqlite3_step(statement) == SQLITE_ROW, "get");
+        rows += sqlite3_column_int64(statement, 0) >= 0;
+        bytes += sqlite3_column_bytes(statement, 1);
+        sqlite3_reset(statement);
+    }
+    check(rows == COMMITS && bytes == COMMITS, "get");
+    report("get", start, COMMITS);
+    sqlite3_finalize(statement);
+    close_all(db, 0, 0);
+}
+
 static int abort_all(void *context, int kind, sqlite3_changeset_iter *at) {
     (void)context, (void)kind, (void)at;
     return SQLITE_CHANGESET_ABORT;
@@ -182,12 +167,9 @@ static void apply(const char *name, sqlite3 *db, int length, void *content) {
     report(name, start, COMMITS);
 }
 
-static void read_blob(int length, void *content) {
-    sqlite3_changeset_iter *at;
+static void read_changes(sqlite3_changeset_iter *at) {
     sqlite3_value *value;
     long changes = 0, sum = 0;
-    double start = now();
-    check(sqlite3changeset_start(&at, length, content) == SQLITE_OK, "start");
     for (; sqlite3changeset_next(at) == SQLITE_ROW; changes++) {
         sqlite3changeset_new(at, 0, &value);
         sum += sqlite3_value_int64(value) >= 0;
@@ -195,7 +177,40 @@ static void read_blob(int length, void *content) {
         sum += sqlite3_value_bytes(value);
     }
     check(sqlite3changeset_finalize(at) == SQLITE_OK && changes == COMMITS && sum == 2 * COMMITS, "read");
+}
+
+static void read_blob(int length, void *content) {
+    sqlite3_changeset_iter *at;
+    double start = now();
+    check(sqlite3changeset_start(&at, length, content) == SQLITE_OK, "start");
+    read_changes(at);
     report("read", start, COMMITS);
+}
+
+/* What is left of a blob that is read in pieces. */
+typedef struct {
+    const char *content;
+    int length;
+} rest;
+
+static int next_piece(void *context, void *to, int *length) {
+    rest *of = context;
+    if (*length > of->length) *length = of->length;
+    memcpy(to, of->content, (size_t)*length);
+    of->content += *length;
+    of->length -= *length;
+    return SQLITE_OK;
+}
+
+static void read_pieces(int length, void *content) {
+    sqlite3_changeset_iter *at;
+    rest of = {content, length};
+    int piece = PIECE;
+    check(sqlite3session_config(SQLITE_SESSION_CONFIG_STRMSIZE, &piece) == SQLITE_OK, "config");
+    double start = now();
+    check(sqlite3changeset_start_strm(&at, next_piece, &of) == SQLITE_OK, "start");
+    read_changes(at);
+    report("read_pieces", start, COMMITS);
 }
 
 static void invert(int length, void *content) {
@@ -217,8 +232,8 @@ static void concat(int length, void *content, int later_length, void *later) {
     sqlite3_free(joined);
 }
 
-/* A changeset of inserts is read, inverted and applied to an empty table, and one of updates to the rows. The two are
-** concatenated. */
+/* A changeset of inserts is read, whole and in pieces, inverted and applied to an empty table, and one of updates to
+** the rows. The two are concatenated. */
 static void blobs(void) {
     sqlite3 *db = table();
     sqlite3_session *first = session(db);
@@ -230,6 +245,7 @@ static void blobs(void) {
     void *updated = changeset(second, &update_length);
     close_all(db, (sqlite3_session *[]){first, second}, 2);
     read_blob(length, inserted);
+    read_pieces(length, inserted);
     invert(length, inserted);
     concat(length, inserted, update_length, updated);
     db = table();
@@ -252,6 +268,7 @@ static void diff(void) {
     double start = now();
     check(sqlite3session_diff(made, "saved", "t", 0) == SQLITE_OK, "diff");
     report("diff", start, COMMITS);
+    check(!sqlite3session_isempty(made), "diff");
     close_all(db, &made, 1);
 }
 
@@ -263,7 +280,7 @@ static void transactions(const char *name, int is_read) {
     sqlite3_stmt *get = prepared(db, "SELECT c1 FROM t WHERE c0 = ?1"), *set = prepared(db, UPDATE);
     double start = now();
     for (int64_t number = 0; number < TRANSACTIONS; number++) {
-        int64_t first = number * 7919 % (BIG_TABLE / ROWS_A_TRANSACTION) * ROWS_A_TRANSACTION;
+        int64_t first = first_of(number);
         done(begin);
         for (int64_t key = first; key < first + ROWS_A_TRANSACTION; key++) {
             if (is_read) {
@@ -320,6 +337,7 @@ static void load(const char *name) {
         batch("batch", 0);
         batch("batch_scrambled", 1);
         scan();
+        get();
     } else if (!strcmp(name, "blobs")) {
         blobs();
     } else if (!strcmp(name, "transactions")) {

@@ -1,8 +1,9 @@
 """Standard inputs and outputs that fail, inputs that come in small pieces, and threads that cannot be started, for
 examples/check.
 
-A read or a write that fails is status 3 with nothing on standard error. A read that fails leaves nothing on standard
-output, and a write that fails a beginning of the output.
+A read or a write that fails is status 3 with nothing on standard error, or with -v a line that says which. A read
+that fails leaves nothing on standard output, and a write that fails a beginning of the output. A part that this
+machine cannot show is named and left out.
 """
 import contextlib
 import os
@@ -19,6 +20,11 @@ PATCHED = b"5002010074001200010000000000000001030178\n"
 
 # More bytes than a program has addresses for.
 STACK = 1 << 47
+
+# What -v prints of a write and of a read that failed, and where memory ran out.
+NO_MEMORY = b"refused for memory\n"
+WRITE_FAILED = b"a write failed\n"
+READ_FAILED = b"a read failed\n"
 
 
 def started(suite, words, **streams):
@@ -47,9 +53,10 @@ def error_and_status(suite, words, given, output):
 
 def full_output(suite, words, given, label):
     """Standard output takes no byte."""
-    with open("/dev/full", "wb") as full:
-        found = error_and_status(suite, words, given, full)
-    suite.note(found == (b"", 3), f"{label} > /dev/full", f"{found}")
+    for more, error in (([], b""), (["-v"], WRITE_FAILED), (["--verbose"], WRITE_FAILED)):
+        with open("/dev/full", "wb") as full:
+            found = error_and_status(suite, [*words, *more], given, full)
+        suite.note(found == (error, 3), f"{' '.join([label, *more])} > /dev/full", f"{found}")
 
 
 def closed_output(suite, words, given, label):
@@ -74,11 +81,12 @@ def output_that_closes(suite, words, given, whole, label):
 
 def unread_input(suite, words, label):
     """Standard input is a folder, which cannot be read."""
-    folder = os.open(os.path.dirname(os.path.abspath(__file__)), os.O_RDONLY)
-    ran = subprocess.run([suite.program, *words], stdin=folder, capture_output=True, check=False)
-    os.close(folder)
-    found = ran.stdout, ran.stderr, ran.returncode
-    suite.note(found == (b"", b"", 3), f"{label} < a folder", f"{found}")
+    for front, error in (([], b""), (["-v"], READ_FAILED)):
+        folder = os.open(os.path.dirname(os.path.abspath(__file__)), os.O_RDONLY)
+        ran = subprocess.run([suite.program, *front, *words], stdin=folder, capture_output=True, check=False)
+        os.close(folder)
+        found = ran.stdout, ran.stderr, ran.returncode
+        suite.note(found == (b"", error, 3), f"{' '.join([*front, label])} < a folder", f"{found}")
 
 
 def full_error(suite, words, given, label):
@@ -135,12 +143,15 @@ def threads_that_cannot_be_started(suite, words, label):
     """The stack of each thread is too large, where the hard limit lets it be, so no worker calls its lines."""
     hard = resource.getrlimit(resource.RLIMIT_STACK)[1]
     if hard != resource.RLIM_INFINITY and hard < STACK:
+        print(f"left out: {label} without threads, since the hard limit of a stack is {hard} bytes here", flush=True)
         return
     given = b"create t kv\n@0 commit insert t (1,'a')\n@1 commit insert t (2,'b')\nscan t\n"
-    ran = subprocess.run([suite.program, *words], input=given, capture_output=True, check=False,
-                         preexec_fn=lambda: resource.setrlimit(resource.RLIMIT_STACK, (STACK, hard)))
-    found = ran.stdout, ran.stderr, ran.returncode
-    suite.note(found == (b"ok version 1\nrefused for memory\n", b"", 3), f"{label} without threads", f"{found}")
+    for more, error in (([], b""), (["--in-turn"], b""), (["-v"], NO_MEMORY)):
+        ran = subprocess.run([suite.program, *words, *more], input=given, capture_output=True, check=False,
+                             preexec_fn=lambda: resource.setrlimit(resource.RLIMIT_STACK, (STACK, hard)))
+        found = ran.stdout, ran.stderr, ran.returncode
+        suite.note(found == (b"ok version 1\n" + NO_MEMORY, error, 3),
+                   f"{' '.join([label, *more])} without threads", f"{found}")
 
 
 def check_workloads(suite, words, workload, replies):

@@ -10,7 +10,7 @@
  *   - may answer CHANGECAP_NOMEM: then it has changed nothing, unless said otherwise, and may be made again.
  *
  * A caller sees to it that
- *   - no pointer is NULL, also where a length is 0: changecap_bytes() gives a pointer that is not;
+ *   - no pointer is NULL, but that of bytes, or of a buffer, may be where their number, or its room, is 0;
  *   - what a call writes overlaps nothing else that the call is given;
  *   - no thread changes what a call reads, or reads what a call writes, while the call runs;
  *   - the calls are not made in a signal handler, nor in the forked child of a process that has threads.
@@ -83,7 +83,8 @@ typedef struct changecap_fault {
 
 /* ---- Bytes ---- */
 
-/* The pointer, or one that is not NULL. SQLite gives NULL for a changeset of no bytes. */
+/* The pointer, or one that is not NULL. SQLite gives NULL for a changeset of no bytes, and every call that takes bytes
+ * takes NULL for none. */
 static inline const uint8_t *changecap_bytes(const void *bytes){
   return bytes ? (const uint8_t *)bytes : (const uint8_t *)"";
 }
@@ -204,7 +205,7 @@ uint32_t changecap_iter_new(changecap_iter *it, size_t column, changecap_value *
 uint32_t changecap_iter_old_bytes(changecap_iter *it, size_t column, uint8_t *out, size_t room, size_t *len);
 uint32_t changecap_iter_new_bytes(changecap_iter *it, size_t column, uint8_t *out, size_t room, size_t *len);
 
-/* Closes the iterator and frees what it has. */
+/* Closes the iterator and frees what it has. A closed one stays closed. */
 void changecap_iter_close(changecap_iter *it);
 
 /* ---- A blob in pieces ---- */
@@ -239,7 +240,7 @@ uint32_t changecap_decoder_feed(changecap_decoder *decoder, const uint8_t *piece
  *   OK, MALFORMED (*fault), NOMEM (the pieces are lost). Unless the status is OK the iterator stays closed. */
 uint32_t changecap_decoder_finish(changecap_decoder *decoder, changecap_iter *it, changecap_fault *fault);
 
-/* Closes the decoder and frees what it has. */
+/* Closes the decoder and frees what it has. A closed one stays closed. */
 void changecap_decoder_close(changecap_decoder *decoder);
 
 /* ---- A server ---- */
@@ -465,8 +466,180 @@ uint32_t changecap_columns(changecap_server *server, size_t *columns);
 uint32_t changecap_column(changecap_server *server, size_t column, changecap_value *value);
 uint32_t changecap_column_bytes(changecap_server *server, size_t column, uint8_t *out, size_t room, size_t *len);
 
-/* Ends the server and frees what it has. */
+/* Ends the server and frees what it has. A closed one stays closed. */
 void changecap_server_close(changecap_server *server);
+
+/* ---- NULL ---- */
+
+/* The library itself takes no NULL, and closes no closed handle. These functions stand before it: the name of each call
+ * that takes bytes, a buffer or a handle to close is a macro for one of them. Who calls the library without this header
+ * sees to it as they do. */
+
+/* The buffer, or one of no bytes that is not NULL. */
+static inline uint8_t *changecap_room(uint8_t *out){
+  static uint8_t none;
+  return out ? out : &none;
+}
+
+static inline uint32_t changecap_null_check(const uint8_t *blob, size_t n, changecap_fault *fault){
+  return changecap_check(changecap_bytes(blob), n, fault);
+}
+static inline uint32_t changecap_null_invert(const uint8_t *blob, size_t n, uint32_t key_flags, uint8_t *out,
+                                             size_t room, size_t *len, changecap_fault *fault){
+  return changecap_invert(changecap_bytes(blob), n, key_flags, changecap_room(out), room, len, fault);
+}
+static inline uint32_t changecap_null_patchset(const uint8_t *blob, size_t n, uint32_t key_flags, uint8_t *out,
+                                               size_t room, size_t *len, changecap_fault *fault){
+  return changecap_patchset(changecap_bytes(blob), n, key_flags, changecap_room(out), room, len, fault);
+}
+static inline uint32_t changecap_null_concat(const uint8_t *first, size_t n, const uint8_t *second, size_t m,
+                                             uint32_t key_flags, uint8_t *out, size_t room, size_t *len,
+                                             changecap_fault *fault, size_t *blob){
+  return changecap_concat(changecap_bytes(first), n, changecap_bytes(second), m, key_flags, changecap_room(out),
+                          room, len, fault, blob);
+}
+static inline uint32_t changecap_null_json(const uint8_t *blob, size_t n, uint8_t *out, size_t room, size_t *len,
+                                           changecap_fault *fault){
+  return changecap_json(changecap_bytes(blob), n, changecap_room(out), room, len, fault);
+}
+static inline uint32_t changecap_null_iter_open(const uint8_t *blob, size_t n, changecap_iter *it,
+                                                changecap_fault *fault){
+  return changecap_iter_open(changecap_bytes(blob), n, it, fault);
+}
+static inline uint32_t changecap_null_iter_table(changecap_iter *it, uint8_t *out, size_t room, size_t *len){
+  return changecap_iter_table(it, changecap_room(out), room, len);
+}
+static inline uint32_t changecap_null_iter_old_bytes(changecap_iter *it, size_t column, uint8_t *out, size_t room,
+                                                     size_t *len){
+  return changecap_iter_old_bytes(it, column, changecap_room(out), room, len);
+}
+static inline uint32_t changecap_null_iter_new_bytes(changecap_iter *it, size_t column, uint8_t *out, size_t room,
+                                                     size_t *len){
+  return changecap_iter_new_bytes(it, column, changecap_room(out), room, len);
+}
+static inline void changecap_null_iter_close(changecap_iter *it){
+  if( it->at ) changecap_iter_close(it);
+}
+static inline uint32_t changecap_null_decoder_feed(changecap_decoder *decoder, const uint8_t *piece, size_t n,
+                                                   changecap_fault *fault){
+  return changecap_decoder_feed(decoder, changecap_bytes(piece), n, fault);
+}
+static inline void changecap_null_decoder_close(changecap_decoder *decoder){
+  if( decoder->at ) changecap_decoder_close(decoder);
+}
+static inline uint32_t changecap_null_server_call(changecap_server *server, const uint8_t *text, size_t n,
+                                                  changecap_fault *fault){
+  return changecap_server_call(server, changecap_bytes(text), n, fault);
+}
+static inline uint32_t changecap_null_server_reply(changecap_server *server, uint8_t *out, size_t room, size_t *len){
+  return changecap_server_reply(server, changecap_room(out), room, len);
+}
+static inline uint32_t changecap_null_create(changecap_server *server, const uint8_t *table, size_t n,
+                                             const uint8_t *key, size_t columns, uint64_t *version,
+                                             changecap_fault *fault){
+  return changecap_create(server, changecap_bytes(table), n, changecap_bytes(key), columns, version, fault);
+}
+static inline uint32_t changecap_null_save(changecap_server *server, const uint8_t *database, size_t n,
+                                           changecap_fault *fault){
+  return changecap_save(server, changecap_bytes(database), n, fault);
+}
+static inline uint32_t changecap_null_apply(changecap_server *server, const uint8_t *blob, size_t n, uint32_t data,
+                                            uint32_t notfound, uint32_t conflict, changecap_report *report,
+                                            changecap_fault *fault){
+  return changecap_apply(server, changecap_bytes(blob), n, data, notfound, conflict, report, fault);
+}
+static inline uint32_t changecap_null_session_attach(changecap_server *server, uint64_t session,
+                                                     const uint8_t *table, size_t n, changecap_fault *fault){
+  return changecap_session_attach(server, session, changecap_bytes(table), n, fault);
+}
+static inline uint32_t changecap_null_session_filter(changecap_server *server, uint64_t session, const uint8_t *text,
+                                                     size_t n, changecap_fault *fault){
+  return changecap_session_filter(server, session, changecap_bytes(text), n, fault);
+}
+static inline uint32_t changecap_null_session_diff(changecap_server *server, uint64_t session, const uint8_t *from,
+                                                   size_t n, const uint8_t *table, size_t m, changecap_fault *fault){
+  return changecap_session_diff(server, session, changecap_bytes(from), n, changecap_bytes(table), m, fault);
+}
+static inline uint32_t changecap_null_session_changeset(changecap_server *server, uint64_t session,
+                                                        uint32_t key_flags, uint8_t *out, size_t room, size_t *len,
+                                                        changecap_fault *fault){
+  return changecap_session_changeset(server, session, key_flags, changecap_room(out), room, len, fault);
+}
+static inline uint32_t changecap_null_session_patchset(changecap_server *server, uint64_t session,
+                                                       uint32_t key_flags, uint8_t *out, size_t room, size_t *len,
+                                                       changecap_fault *fault){
+  return changecap_session_patchset(server, session, key_flags, changecap_room(out), room, len, fault);
+}
+static inline uint32_t changecap_null_session_restart(changecap_server *server, uint64_t session, uint32_t key_flags,
+                                                      uint8_t *out, size_t room, size_t *len, changecap_fault *fault){
+  return changecap_session_restart(server, session, key_flags, changecap_room(out), room, len, fault);
+}
+static inline uint32_t changecap_null_bind_text(changecap_server *server, const uint8_t *text, size_t n){
+  return changecap_bind_text(server, changecap_bytes(text), n);
+}
+static inline uint32_t changecap_null_bind_blob(changecap_server *server, const uint8_t *blob, size_t n){
+  return changecap_bind_blob(server, changecap_bytes(blob), n);
+}
+static inline uint32_t changecap_null_insert(changecap_server *server, const uint8_t *table, size_t n,
+                                             uint32_t cause, changecap_fault *fault){
+  return changecap_insert(server, changecap_bytes(table), n, cause, fault);
+}
+static inline uint32_t changecap_null_update(changecap_server *server, const uint8_t *table, size_t n, uint64_t id,
+                                             uint32_t cause, changecap_fault *fault){
+  return changecap_update(server, changecap_bytes(table), n, id, cause, fault);
+}
+static inline uint32_t changecap_null_delete(changecap_server *server, const uint8_t *table, size_t n, uint64_t id,
+                                             uint32_t cause, changecap_fault *fault){
+  return changecap_delete(server, changecap_bytes(table), n, id, cause, fault);
+}
+static inline uint32_t changecap_null_get(changecap_server *server, const uint8_t *table, size_t n, uint64_t id,
+                                          changecap_fault *fault){
+  return changecap_get(server, changecap_bytes(table), n, id, fault);
+}
+static inline uint32_t changecap_null_scan(changecap_server *server, const uint8_t *table, size_t n,
+                                           changecap_fault *fault){
+  return changecap_scan(server, changecap_bytes(table), n, fault);
+}
+static inline uint32_t changecap_null_column_bytes(changecap_server *server, size_t column, uint8_t *out,
+                                                   size_t room, size_t *len){
+  return changecap_column_bytes(server, column, changecap_room(out), room, len);
+}
+static inline void changecap_null_server_close(changecap_server *server){
+  if( server->at ) changecap_server_close(server);
+}
+
+#define changecap_check changecap_null_check
+#define changecap_invert changecap_null_invert
+#define changecap_patchset changecap_null_patchset
+#define changecap_concat changecap_null_concat
+#define changecap_json changecap_null_json
+#define changecap_iter_open changecap_null_iter_open
+#define changecap_iter_table changecap_null_iter_table
+#define changecap_iter_old_bytes changecap_null_iter_old_bytes
+#define changecap_iter_new_bytes changecap_null_iter_new_bytes
+#define changecap_iter_close changecap_null_iter_close
+#define changecap_decoder_feed changecap_null_decoder_feed
+#define changecap_decoder_close changecap_null_decoder_close
+#define changecap_server_call changecap_null_server_call
+#define changecap_server_reply changecap_null_server_reply
+#define changecap_create changecap_null_create
+#define changecap_save changecap_null_save
+#define changecap_apply changecap_null_apply
+#define changecap_session_attach changecap_null_session_attach
+#define changecap_session_filter changecap_null_session_filter
+#define changecap_session_diff changecap_null_session_diff
+#define changecap_session_changeset changecap_null_session_changeset
+#define changecap_session_patchset changecap_null_session_patchset
+#define changecap_session_restart changecap_null_session_restart
+#define changecap_bind_text changecap_null_bind_text
+#define changecap_bind_blob changecap_null_bind_blob
+#define changecap_insert changecap_null_insert
+#define changecap_update changecap_null_update
+#define changecap_delete changecap_null_delete
+#define changecap_get changecap_null_get
+#define changecap_scan changecap_null_scan
+#define changecap_column_bytes changecap_null_column_bytes
+#define changecap_server_close changecap_null_server_close
 
 #ifdef __cplusplus
 }

@@ -506,6 +506,44 @@ static void worked_pieces(void){
   free(blob.at);
 }
 
+/* NULL stands for no bytes and for no room, and a handle that is closed is closed again. */
+static void no_bytes_are_null(void){
+  changecap_fault fault = { 77, 77 };
+  changecap_iter it = CHANGECAP_CLOSED;
+  changecap_decoder decoder = CHANGECAP_CLOSED;
+  size_t len = 99, refused = 99;
+  bytes blob = of_hex(INSERT, strlen(INSERT));
+  CHECK(changecap_check(NULL, 0, &fault) == CHANGECAP_OK);
+  CHECK(changecap_invert(NULL, 0, 1, NULL, 0, &len, &fault) == CHANGECAP_OK && len == 0);
+  CHECK(changecap_invert(blob.at, blob.n, 1, NULL, 0, &len, &fault) == CHANGECAP_ROOM && len == blob.n);
+  CHECK(changecap_patchset(NULL, 0, 1, NULL, 0, &len, &fault) == CHANGECAP_OK && len == 0);
+  CHECK(changecap_concat(NULL, 0, blob.at, blob.n, 1, NULL, 0, &len, &fault, &refused) == CHANGECAP_ROOM);
+  CHECK(len == blob.n);
+  CHECK(changecap_concat(NULL, 0, NULL, 0, 1, NULL, 0, &len, &fault, &refused) == CHANGECAP_OK && len == 0);
+  CHECK(changecap_json(NULL, 0, NULL, 0, &len, &fault) == CHANGECAP_ROOM && len == strlen("[]\n"));
+  CHECK(fault.kind == 77 && fault.at == 77 && refused == 99);
+  changecap_iter_close(&it);
+  CHECK(changecap_iter_open(NULL, 0, &it, &fault) == CHANGECAP_OK && changecap_iter_next(&it) == CHANGECAP_DONE);
+  CHECK(changecap_iter_table(&it, NULL, 0, &len) == CHANGECAP_MISUSE && len == strlen("[]\n"));
+  changecap_iter_close(&it);
+  changecap_iter_close(&it);
+  CHECK(it.at == NULL);
+  CHECK(changecap_iter_open(blob.at, blob.n, &it, &fault) == CHANGECAP_OK && changecap_iter_next(&it) == CHANGECAP_ROW);
+  len = 99;
+  CHECK(changecap_iter_table(&it, NULL, 0, &len) == CHANGECAP_ROOM && len == 1);
+  CHECK(changecap_iter_old_bytes(&it, 1, NULL, 0, &len) == CHANGECAP_OK && len == 0);
+  CHECK(changecap_iter_new_bytes(&it, 1, NULL, 0, &len) == CHANGECAP_ROOM && len == 1);
+  changecap_iter_close(&it);
+  changecap_decoder_close(&decoder);
+  CHECK(changecap_decoder_open(&decoder) == CHANGECAP_OK);
+  CHECK(changecap_decoder_feed(&decoder, NULL, 0, &fault) == CHANGECAP_OK);
+  CHECK(changecap_decoder_finish(&decoder, &it, &fault) == CHANGECAP_OK);
+  changecap_decoder_close(&decoder);
+  CHECK(decoder.at == NULL && changecap_iter_next(&it) == CHANGECAP_DONE);
+  changecap_iter_close(&it);
+  free(blob.at);
+}
+
 /* Each request for memory is refused in turn. A piece that was not taken is given again. */
 static void refused_pieces(bytes blob){
   for(long at = 0, granted = 0; !granted; at++){
@@ -678,6 +716,7 @@ int main(int words, char **word){
   worked_json();
   worked_iterator();
   worked_pieces();
+  no_bytes_are_null();
   test_server();
   test_batches();
   read_known(word[1]);

@@ -47,6 +47,45 @@ static void worked_server(void){
   CHECK(server.at == NULL);
 }
 
+/* NULL stands for no bytes and for no room, and a server that is closed is closed again. */
+static void no_bytes_are_null(void){
+  changecap_server server = CHANGECAP_CLOSED;
+  changecap_fault fault = { 77, 77 };
+  changecap_report report;
+  uint64_t number = 99;
+  size_t len = 99;
+  changecap_server_close(&server);
+  CHECK(changecap_server_open(&server) == CHANGECAP_OK);
+  CHECK(changecap_server_reply(&server, NULL, 0, &len) == CHANGECAP_OK && len == 0);
+  CHECK(changecap_server_call(&server, NULL, 0, &fault) == CHANGECAP_COMMAND && fault.kind == 0 && fault.at == 0);
+  CHECK(changecap_create(&server, (const uint8_t *)"t", 1, NULL, 0, &number, &fault) == CHANGECAP_MISUSE);
+  CHECK(changecap_create(&server, NULL, 0, (const uint8_t *)"\1", 1, &number, &fault) == CHANGECAP_MISUSE);
+  CHECK(changecap_create(&server, (const uint8_t *)"t", 1, (const uint8_t *)"\0", 2, &number, &fault) == CHANGECAP_OK);
+  CHECK(changecap_save(&server, NULL, 0, &fault) == CHANGECAP_MISUSE);
+  CHECK(changecap_apply(&server, NULL, 0, 0, 0, 0, &report, &fault) == CHANGECAP_OK && report.applied == 0);
+  CHECK(changecap_session_new(&server, &number, &fault) == CHANGECAP_OK && number == 1);
+  CHECK(changecap_session_attach(&server, 1, NULL, 0, &fault) == CHANGECAP_MISUSE);
+  CHECK(changecap_session_filter(&server, 1, NULL, 0, &fault) == CHANGECAP_FILTER && fault.kind == 12);
+  CHECK(changecap_session_diff(&server, 1, NULL, 0, NULL, 0, &fault) == CHANGECAP_MISUSE);
+  CHECK(changecap_session_changeset(&server, 1, 1, NULL, 0, &len, &fault) == CHANGECAP_OK && len == 0);
+  CHECK(changecap_session_patchset(&server, 1, 1, NULL, 0, &len, &fault) == CHANGECAP_OK && len == 0);
+  CHECK(changecap_session_restart(&server, 1, 1, NULL, 0, &len, &fault) == CHANGECAP_OK && len == 0);
+  CHECK(changecap_bind_text(&server, NULL, 0) == CHANGECAP_OK && changecap_bind_blob(&server, NULL, 0) == CHANGECAP_OK);
+  CHECK(changecap_insert(&server, NULL, 0, CHANGECAP_DIRECT, &fault) == CHANGECAP_MISUSE);
+  CHECK(changecap_update(&server, NULL, 0, 1, CHANGECAP_DIRECT, &fault) == CHANGECAP_MISUSE);
+  CHECK(changecap_delete(&server, NULL, 0, 1, CHANGECAP_DIRECT, &fault) == CHANGECAP_MISUSE);
+  CHECK(changecap_insert(&server, (const uint8_t *)"t", 1, CHANGECAP_DIRECT, &fault) == CHANGECAP_OK);
+  CHECK(changecap_commit(&server, &number, &fault) == CHANGECAP_OK);
+  CHECK(changecap_get(&server, NULL, 0, 1, &fault) == CHANGECAP_MISUSE);
+  CHECK(changecap_scan(&server, NULL, 0, &fault) == CHANGECAP_MISUSE);
+  CHECK(changecap_scan(&server, (const uint8_t *)"t", 1, &fault) == CHANGECAP_OK);
+  CHECK(changecap_step(&server) == CHANGECAP_ROW);
+  CHECK(changecap_column_bytes(&server, 1, NULL, 0, &len) == CHANGECAP_OK && len == 0);
+  changecap_server_close(&server);
+  changecap_server_close(&server);
+  CHECK(server.at == NULL);
+}
+
 /* Each request for memory is refused in turn: a command that was not carried out is carried out when it comes again. */
 static void refused_server(void){
   static const char *const command[] = {
@@ -350,6 +389,7 @@ void application_agrees(bytes blob, uint32_t wanted, changecap_fault fault){
 
 void test_server(void){
   worked_server();
+  no_bytes_are_null();
   refused_server();
   worked_sessions();
   worked_applications();

@@ -15,14 +15,20 @@ else libchangecap.so of ../out beside this file, else the system's.
         changeset = session.changeset()
         print(server.scan("t"))
 
-A value is None, int, str (TEXT) or bytes (BLOB).
+A value is None, an int (True is 1), a str (TEXT), or bytes, a bytearray or a memoryview of single bytes (BLOB).
+Nothing else is converted in silence: an argument of another type is a TypeError, one that no call can take a
+ValueError, and an int of more than 64 bits an OverflowError.
 """
 import ctypes
 import ctypes.util
 import os
+import re
 import threading
+from collections import deque
+from collections.abc import Mapping, Sequence
 from ctypes import POINTER, byref, c_int64, c_size_t, c_uint32, c_uint64, c_void_p
 from dataclasses import dataclass
+from json import JSONDecoder
 
 OK, MALFORMED, ROOM, NOMEM, PATCHSET, MISUSE, REFUSED, COMMAND, FULL, ROW, DONE = 0, 1, 2, 3, 4, 5, 6, 7, 8, 100, 101
 KIND, COLUMNS, FILTER = 9, 10, 11
@@ -32,6 +38,7 @@ OMIT, REPLACE, ABORT = 0, 1, 2
 DIRECT, CASCADE = 0, 1
 UNDEFINED, INTEGER, TEXT, BLOB, NULL = 0, 1, 3, 4, 5
 OPERATIONS = {18: "insert", 23: "update", 9: "delete"}
+_UPDATE = 23
 
 
 class Error(Exception):
@@ -67,11 +74,19 @@ class NoFilter(Error):
 
 
 class Refused(Error):
-    """A command that the server refuses. The text is its reply, or has the number alone, as in E18, where the call has
-    no reply."""
+    """A command that the server refuses. The text is its reply, or has the number alone, as in E18, where the
+    call has no reply. `kind` is the number, and `at` that of the refused operation or change, from 0, or None
+    where it is the whole command."""
 
-    def __init__(self, reply):
+    def __init__(self, reply, kind, at=None):
         super().__init__(REFUSED, reply)
+        self.kind, self.at = kind, at
+
+    @classmethod
+    def of_reply(cls, reply):
+        """That of a reply, as in 'refused at 1: E6 NoRow'."""
+        at, kind = re.match(r"refused(?: at (\d+))?: E(\d+)", reply).groups()
+        return cls(reply, int(kind), None if at is None else int(at))
 
 
 @dataclass
@@ -191,7 +206,8 @@ class _Library:
         name = os.environ.get("CHANGECAP_LIBRARY") or (os.path.exists(here) and here)
         name = name or ctypes.util.find_library("changecap")
         if not name:
-            raise ImportError("libchangecap.so is not there: make lib, or set CHANGECAP_LIBRARY")
+            raise ImportError("libchangecap.so is not there: `make shared` at the top of changecap's sources makes it, "
+                              "or the environment variable CHANGECAP_LIBRARY names it")
         calls = ctypes.CDLL(name)
         for call, types in _CALLS.items():
             made = getattr(calls, f"changecap_{call}")
@@ -211,8 +227,8 @@ _MESSAGES = {
 }
 
 
-def _check(status, fault=None):
-    """Raises what a status other than OK stands for."""
+def _check(status, fault=None, has_place=lambda kind: False):
+    """Raises what a status other than OK stands for, with the place of a refusal of a number that has one."""
     if status == MALFORMED:
         raise Malformed(fault)
     if status == COMMAND:
@@ -220,11 +236,49 @@ def _check(status, fault=None):
     if status == FILTER:
         raise NoFilter(fault)
     if status == REFUSED:
-        raise Refused(f"refused: E{fault.kind}")
+        raise Refused(f"refused: E{fault.kind}", fault.kind, fault.at if has_place(fault.kind) else None)
     if status == NOMEM:
         raise MemoryError
     if status != OK:
         raise Error(status, _MESSAGES.get(status, f"status {status}"))
+
+
+def _content(blob):
+    """The bytes of a blob."""
+    is_blob = isinstance(blob, (bytes, bytearray)) or isinstance(blob, memoryview) and blob.itemsize == 1
+    if not is_blob:
+        raise TypeError(f"a blob is bytes, a bytearray or a memoryview of single bytes, not {_type(blob)}")
+    return bytes(blob)
+
+
+def _text(text):
+    """The bytes of a name, a command or a filter."""
+    if not isinstance(text, str):
+        raise TypeError(f"a name, a command or a filter is a str, not {_type(text)}")
+    return text.encode()
+
+
+def _number(number, bits=32):
+    """A number that a call takes in so many bits."""
+    if not isinstance(number, int):
+        raise TypeError(f"a number is an int, not {_type(number)}")
+    if not 0 <= number < 2**bits:
+        raise ValueError(f"{int(number)} is not a number of {bits} bits")
+    return number
+
+
+def _flag(value, what="a flag"):
+    """Whether a flag is set, that is True or False, or 1 or 0."""
+    if not isinstance(value, int):
+        raise TypeError(f"{what} is True or False, not {_type(value)}")
+    if value not in (0, 1):
+        raise ValueError(f"{what} is True or False, not {int(value)}")
+    return bool(value)
+
+
+def _type(value):
+    """The name of a value's type."""
+    return f"a memoryview of {value.format!r}" if isinstance(value, memoryview) else type(value).__name__
 
 
 def _taken(call, room=256, fault=None):
@@ -240,14 +294,14 @@ def _taken(call, room=256, fault=None):
 
 def _converted(call, blob, key_flags):
     """What a call makes of a changeset, which is no longer."""
-    blob, fault = bytes(blob), _Fault()
+    blob, key_flags, fault = _content(blob), _number(key_flags), _Fault()
     return _taken(lambda *out: call(blob, len(blob), key_flags, *out, byref(fault)), len(blob), fault)
 
 
 def check(blob):
     """Raises Malformed unless the bytes are a changeset or a patchset."""
-    fault = _Fault()
-    _check(_library.check(bytes(blob), len(blob), byref(fault)), fault)
+    blob, fault = _content(blob), _Fault()
+    _check(_library.check(blob, len(blob), byref(fault)), fault)
 
 
 def invert(changeset, key_flags=KEYS_PLACES):
@@ -263,7 +317,8 @@ def patchset(changeset, key_flags=KEYS_PLACES):
 def concat(first, second, key_flags=KEYS_PLACES):
     """The concatenation of two changesets or of two patchsets. Of an error, `blob` is 0 or 1: the one that is
     refused."""
-    first, second, fault, blob = bytes(first), bytes(second), _Fault(), c_size_t()
+    first, second, key_flags = _content(first), _content(second), _number(key_flags)
+    fault, blob = _Fault(), c_size_t()
 
     def call(*out):
         return _library.concat(first, len(first), second, len(second), key_flags, *out, byref(fault), byref(blob))
@@ -278,129 +333,169 @@ def concat(first, second, key_flags=KEYS_PLACES):
 
 def json(blob):
     """A changeset or a patchset as JSON: an array with an object for each change, and a line feed."""
-    blob, fault = bytes(blob), _Fault()
+    blob, fault = _content(blob), _Fault()
     return _taken(lambda *out: _library.json(blob, len(blob), *out, byref(fault)), 4 * len(blob), fault).decode()
 
 
-def _value(handle, column, field_of, bytes_of):
-    """Whether a column has a value, and the value, by the call of it and that of its bytes."""
-    field = _Field()
-    _check(field_of(byref(handle), column, byref(field)))
-    if field.kind in (TEXT, BLOB):
-        content = _taken(lambda *out: bytes_of(byref(handle), column, *out), field.len)
-        return True, content.decode() if field.kind == TEXT else content
-    return field.kind != UNDEFINED, field.number if field.kind == INTEGER else None
+class _Columns(dict):
+    """The numbers of columns by their names in JSON, as 3 by 'c3'."""
+
+    def __missing__(self, name):
+        return self.setdefault(name, int(name[1:]))
 
 
-def _fields(handle, columns, field_of, bytes_of):
-    """The values that are defined, by their columns."""
-    values = (_value(handle, column, field_of, bytes_of) for column in range(columns))
-    return {column: value for column, (is_defined, value) in enumerate(values) if is_defined}
+_columns = _Columns()
 
 
-def _change(handle):
-    """The change that an iterator is at."""
-    info, flag = _Change(), c_uint32()
-    _check(_library.iter_op(byref(handle), byref(info)))
-    key = []
-    for column in range(info.columns):
-        _check(_library.iter_key(byref(handle), column, byref(flag)))
-        key.append(bool(flag.value))
-    return Change(
-        table=_taken(lambda *out: _library.iter_table(byref(handle), *out)).decode(),
-        key=key,
-        operation=OPERATIONS[info.op],
-        indirect=bool(info.indirect),
-        patchset=bool(info.patchset),
-        old=_fields(handle, info.columns, _library.iter_old, _library.iter_old_bytes),
-        new=_fields(handle, info.columns, _library.iter_new, _library.iter_new_bytes),
-    )
+def _fields(members):
+    """The values of an object of JSON that has those of columns, by the numbers of these."""
+    return {_columns[name]: bytes.fromhex(value["blob"]) if type(value) is dict else value
+            for name, value in members.items()}
 
 
-def _changes(handle):
-    """The changes of an open iterator, which is closed in the end."""
+def _change(members, info):
+    """A change by its object of JSON, and by what an iterator tells of it."""
+    key = [_columns[name] for name in members["key"]]
+    old, new = _fields(members.get("old", {})), _fields(members.get("new", {}))
+    if info.patchset and info.op == _UPDATE:
+        old = {column: new.pop(column) for column in key}
+    flags = [False] * info.columns
+    for column in key:
+        flags[column] = True
+    return Change(members["table"], flags, members["op"], members["indirect"], bool(info.patchset), old, new)
+
+
+def _changes(handle, blob):
+    """The changes of a blob, of which the iterator is open, and is closed in the end. The values come as the JSON of
+    the whole blob, since a call for each of them would take most of the time."""
+    next_change, op = _library.iter_next, _library.iter_op
+    at, info, read = byref(handle), _Change(), JSONDecoder().raw_decode
     try:
-        while _library.iter_next(byref(handle)) == ROW:
-            yield _change(handle)
+        text, place, info_at = json(blob), 1, byref(info)
+        while next_change(at) == ROW:
+            _check(op(at, info_at))
+            members, place = read(text, place)
+            place += 1
+            yield _change(members, info)
     finally:
-        _library.iter_close(byref(handle))
+        _library.iter_close(at)
 
 
 def iterate(blob):
     """Each change of a changeset or a patchset, in order."""
-    handle, fault = _Handle(), _Fault()
-    _check(_library.iter_open(bytes(blob), len(blob), byref(handle), byref(fault)), fault)
-    yield from _changes(handle)
+    blob, handle, fault = _content(blob), _Handle(), _Fault()
+    _check(_library.iter_open(blob, len(blob), byref(handle), byref(fault)), fault)
+    yield from _changes(handle, blob)
 
 
 def iterate_pieces(pieces):
     """The same of a blob in pieces of any lengths. A fault is raised with the piece that shows it."""
-    decoder, handle, fault = _Handle(), _Handle(), _Fault()
+    decoder, handle, fault, taken = _Handle(), _Handle(), _Fault(), bytearray()
     _check(_library.decoder_open(byref(decoder)))
     try:
         for piece in pieces:
-            piece = bytes(piece)
+            piece = _content(piece)
             _check(_library.decoder_feed(byref(decoder), piece, len(piece), byref(fault)), fault)
+            taken += piece
         _check(_library.decoder_finish(byref(decoder), byref(handle), byref(fault)), fault)
     finally:
         if decoder.at:
             _library.decoder_close(byref(decoder))
-    yield from _changes(handle)
+    yield from _changes(handle, taken)
+
+
+class RowId(int):
+    """The id of a row that has no key, from 1 on."""
+
+    def __repr__(self):
+        return f"RowId({int(self)})"
 
 
 @dataclass
 class Row:
-    """A row, with its id where it has no key."""
+    """A row, with its `RowId` where it has no key."""
 
     id: object
     values: tuple
 
 
-def _bind(handle, value):
-    """Binds a value behind those that are bound."""
+def _binding(value):
+    """The call that binds a value, and its words."""
     if value is None:
-        _check(_library.bind_null(handle))
-    elif isinstance(value, int):
+        return (_library.bind_null,)
+    if isinstance(value, int):
         if not -2**63 <= value < 2**63:
             raise OverflowError("an integer has 64 bits")
-        _check(_library.bind_int(handle, value))
-    else:
-        is_text = isinstance(value, str)
-        content = value.encode() if is_text else bytes(value)
-        _check((_library.bind_text if is_text else _library.bind_blob)(handle, content, len(content)))
+        return _library.bind_int, value
+    if isinstance(value, str):
+        text = value.encode()
+        return _library.bind_text, text, len(text)
+    if not isinstance(value, (bytes, bytearray, memoryview)):
+        raise TypeError(f"a value is None, int, str or bytes, not {_type(value)}")
+    content = _content(value)
+    return _library.bind_blob, content, len(content)
 
 
-def _insert(handle, table, values, cause=DIRECT):
-    for value in values:
-        _bind(handle, value)
-    fault, name = _Fault(), table.encode()
-    _check(_library.insert(handle, name, len(name), cause, byref(fault)), fault)
+def _bindings(values, what="a row"):
+    """The calls that bind the values of a row or of a key."""
+    if not isinstance(values, Sequence) or isinstance(values, (str, bytes, bytearray, memoryview)):
+        raise TypeError(f"{what} is a tuple or a list of values, as in (1,), not {_type(values)}")
+    return [_binding(it) for it in values]
 
 
-def _named(handle, row):
-    """Binds the key of a row, a tuple, or answers its id."""
+def _named(row):
+    """The calls that bind the key of a row, and 0; or none, and its id."""
+    if isinstance(row, RowId):
+        return [], _number(row, 64)
     if isinstance(row, int):
-        return row
-    for value in row:
-        _bind(handle, value)
-    return 0
+        raise TypeError(f"a row is named by its key, as in ({row!r},), or by its id, as in RowId({row!r})")
+    return _bindings(row, "a key"), 0
 
 
-def _update(handle, table, row, fields, cause=DIRECT):
-    number = _named(handle, row)
+def _insert(fault, table, values, cause=DIRECT):
+    name = _text(table)
+    return [*_bindings(values), (_library.insert, name, len(name), _number(cause), byref(fault))]
+
+
+def _update(fault, table, row, fields, cause=DIRECT):
+    name, (calls, number) = _text(table), _named(row)
+    if not isinstance(fields, Mapping):
+        raise TypeError(f"the new values are a dict, as in {{1: 'x'}}, not {_type(fields)}")
     for column, value in fields.items():
-        _bind(handle, value)
-        _check(_library.set(handle, column))
-    fault, name = _Fault(), table.encode()
-    _check(_library.update(handle, name, len(name), number, cause, byref(fault)), fault)
+        calls += [_binding(value), (_library.set, _number(column, 64))]
+    return [*calls, (_library.update, name, len(name), number, _number(cause), byref(fault))]
 
 
-def _delete(handle, table, row, cause=DIRECT):
-    fault, name, number = _Fault(), table.encode(), _named(handle, row)
-    _check(_library.delete(handle, name, len(name), number, cause, byref(fault)), fault)
+def _delete(fault, table, row, cause=DIRECT):
+    name, (calls, number) = _text(table), _named(row)
+    return [*calls, (_library.delete, name, len(name), number, _number(cause), byref(fault))]
 
 
-_PUT = {"insert": _insert, "update": _update, "delete": _delete}
+_PUT = {"insert": (_insert, 3), "update": (_update, 4), "delete": (_delete, 3)}
+
+
+def _put(operation, fault):
+    """The calls that put an operation last in the batch, made of the tuple that `Server.commit` takes. No call is
+    made here, so that nothing is bound where a part of it does not fit."""
+    if not isinstance(operation, (tuple, list)) or not operation or not isinstance(operation[0], str):
+        raise TypeError(f"an operation is a tuple, as in ('insert', 't', (1, 'x')), not {operation!r:.50}")
+    word, *parts = operation
+    if word not in _PUT:
+        raise ValueError(f"an operation is 'insert', 'update' or 'delete', not {word!r:.50}")
+    call, least = _PUT[word]
+    if not least <= len(operation) <= least + 1:
+        raise ValueError(f"the operation {word!r} has {least} parts, and a cause behind them or none")
+    return call(fault, *parts)
+
+
+def _value(handle, column):
+    """The value of a column of the row that a server is at."""
+    field = _Field()
+    _check(_library.column(byref(handle), column, byref(field)))
+    if field.kind not in (TEXT, BLOB):
+        return field.number if field.kind == INTEGER else None
+    content = _taken(lambda *out: _library.column_bytes(byref(handle), column, *out), field.len)
+    return content.decode() if field.kind == TEXT else content
 
 
 def _rows(handle):
@@ -409,8 +504,8 @@ def _rows(handle):
     while _library.step(byref(handle)) == ROW:
         _check(_library.row_id(byref(handle), byref(number)))
         _check(_library.columns(byref(handle), byref(columns)))
-        values = (_value(handle, it, _library.column, _library.column_bytes)[1] for it in range(columns.value))
-        yield Row(number.value or None, tuple(values))
+        yield Row(RowId(number.value) if number.value else None,
+                  tuple(_value(handle, it) for it in range(columns.value)))
 
 
 class Server:
@@ -418,11 +513,13 @@ class Server:
 
     def __init__(self):
         self._lock, self._handle = threading.Lock(), _Handle()
+        # The numbers of sessions that nobody refers to any more. They are ended before the next call.
+        self._unused = deque()
         _check(_library.server_open(byref(self._handle)))
 
     def call(self, command):
         """The text of the reply to one command of the workload language (docs/FORMAT.md)."""
-        text = command.encode()
+        text = _text(command)
 
         def replied(handle, fault):
             status = _library.server_call(handle, text, len(text), byref(fault))
@@ -430,7 +527,7 @@ class Server:
                 _check(status, fault)
             reply = _taken(lambda *out: _library.server_reply(handle, *out)).decode()
             if status == REFUSED:
-                raise Refused(reply)
+                raise Refused.of_reply(reply)
             return reply
 
         return self._made(replied)
@@ -440,53 +537,72 @@ class Server:
         with self._lock:
             if not self._handle.at:
                 raise ValueError("the server is closed")
+            self._end_unused()
             return work(byref(self._handle), _Fault())
 
-    def _done(self, call, *words):
+    def _end_unused(self):
+        """Ends the sessions that nobody refers to any more, while this thread has the handle."""
+        while self._unused:
+            number = self._unused.popleft()
+            if _library.session_drop(byref(self._handle), number, byref(_Fault())) == NOMEM:
+                self._unused.append(number)
+                return
+
+    def _done(self, call, *words, has_place=lambda kind: False):
         """Makes a call with the handle, the words and a fault."""
-        self._made(lambda handle, fault: _check(call(handle, *words, byref(fault)), fault))
+        self._made(lambda handle, fault: _check(call(handle, *words, byref(fault)), fault, has_place))
 
     def create_table(self, table, key):
-        """Creates a table with these columns, each of them in the primary key or not, and answers the new version."""
-        name, columns, version = table.encode(), bytes(bool(it) for it in key), c_uint64()
+        """Creates a table and answers the new version. `key` has True or False for each column, from the first on:
+        whether it is in the primary key. Columns have no names."""
+        name, version = _text(table), c_uint64()
+        columns = bytes(_flag(it, "whether a column is in the key") for it in key)
         self._done(_library.create, name, len(name), columns, len(columns), byref(version))
         return version.value
 
     def commit(self, *operations, base=None):
-        """Makes operations together or not at all, on the version `base` alone where it is given, and answers the new
-        version. Each is a tuple: ("insert", table, values), ("update", table, row, {column: value}) or
-        ("delete", table, row), and CASCADE behind it where a trigger or a foreign key action is its cause. A row is a
-        tuple, its key, or an int, its id. Of a `Refused`, `at` is the number of the operation, from 0."""
+        """Makes operations together or not at all, on the version `base` alone where it is given, and answers the
+        new version. Each is a tuple: ("insert", table, values), ("update", table, row, {column: value}) or
+        ("delete", table, row), and CASCADE behind it where a trigger or a foreign key action is its cause. A row
+        is a tuple, its key, or a `RowId` where it has no key. Of a `Refused`, `at` is the number of the operation,
+        from 0."""
+        refusal, version = _Fault(), c_uint64()
+        calls = [call for it in operations for call in _put(it, refusal)]
+        base = None if base is None else _number(base, 64)
 
         def committed(handle, fault):
-            if base is None:
-                _library.begin(handle)
-            else:
-                _library.begin_at(handle, base)
-            for word, *rest in operations:
-                _PUT[word](handle, *rest)
-            version = c_uint64()
             try:
-                _check(_library.commit(handle, byref(version), byref(fault)), fault)
-            except Refused as refused:
-                refused.at = fault.at
-                raise
+                if base is None:
+                    _library.begin(handle)
+                else:
+                    _library.begin_at(handle, base)
+                for call, *words in calls:
+                    _check(call(handle, *words), refusal)
+                status = _library.commit(handle, byref(version), byref(fault))
+                # E11 is the refusal of the whole batch.
+                _check(status, fault, lambda kind: kind != 11)
+            finally:
+                # Of a batch that is not committed neither an operation nor a value stays.
+                _library.begin(handle)
             return version.value
 
         return self._made(committed)
 
-    def _read(self, call, table, *words):
+    def _read(self, call, name, *words):
         """The rows that a call reads, while this thread has the handle."""
-        fault, name = _Fault(), table.encode()
+        fault = _Fault()
         _check(call(byref(self._handle), name, len(name), *words, byref(fault)), fault)
         return list(_rows(self._handle))
 
     def get(self, table, row):
-        """The row with this key, a tuple, or this id, an int; or None."""
+        """The row with this key, a tuple, or with this `RowId`; or None."""
+        name, (calls, number) = _text(table), _named(row)
 
         def found(handle, _):
             try:
-                return self._read(_library.get, table, _named(handle, row))
+                for call, *words in calls:
+                    _check(call(handle, *words))
+                return self._read(_library.get, name, number)
             finally:
                 _library.clear_bindings(handle)
 
@@ -494,22 +610,24 @@ class Server:
 
     def scan(self, table):
         """All rows of a table: those with a key in the order of their keys, and then the others by their ids."""
-        return self._made(lambda *_: self._read(_library.scan, table))
+        name = _text(table)
+        return self._made(lambda *_: self._read(_library.scan, name))
 
     def save(self, database):
         """Saves the tables under a name, for `Session.diff`."""
-        name = database.encode()
+        name = _text(database)
         self._done(_library.save, name, len(name))
 
     def apply(self, blob, data=ABORT, notfound=ABORT, conflict=ABORT):
-        """Applies a changeset or a patchset, with an answer where a row differs, where it is missing, and where its key
-        is in use."""
-        blob, report = bytes(blob), _Report()
-        self._done(_library.apply, blob, len(blob), data, notfound, conflict, byref(report))
+        """Applies a changeset or a patchset, with an answer where a row differs, where it is missing, and where its
+        key is in use. Of a `Refused`, `at` is the number of the change, from 0."""
+        blob, policy, report = _content(blob), [_number(it) for it in (data, notfound, conflict)], _Report()
+        # E15 and E16 are the refusals of a change.
+        self._done(_library.apply, blob, len(blob), *policy, byref(report), has_place=lambda kind: kind in (15, 16))
         return Report(*(getattr(report, name) for name, _ in _Report._fields_))
 
     def session(self):
-        """Makes a session."""
+        """Makes a session, which ends when nobody refers to it any more."""
         number = c_uint64()
         self._done(_library.session_new, byref(number))
         return Session(self, number.value)
@@ -532,27 +650,32 @@ class Server:
 
 
 class Session:
-    """A session of a server."""
+    """A session of a server. It ends when nobody refers to this object any more, or by `drop`."""
 
     def __init__(self, server, number):
-        self._server, self.number = server, number
+        self._server, self.number, self._is_ended = server, number, False
+
+    def __del__(self):
+        # The server's lock may be this thread's already: the collector runs at any time.
+        if not getattr(self, "_is_ended", True):
+            self._server._unused.append(self.number)
 
     def attach(self, table=None):
         """Attaches a table, or each table of which a row changes from now on."""
         if table is None:
             self._server._done(_library.session_attach_all, self.number)
         else:
-            name = table.encode()
+            name = _text(table)
             self._server._done(_library.session_attach, self.number, name, len(name))
 
     def filter(self, text):
         """Attaches from now on each table of which a row changes and whose name the filter accepts."""
-        text = text.encode()
+        text = _text(text)
         self._server._done(_library.session_filter, self.number, text, len(text))
 
     def diff(self, database, table):
         """Records how a table differs from the one of the same name in a saved database."""
-        database, table = database.encode(), table.encode()
+        database, table = _text(database), _text(table)
         self._server._done(_library.session_diff, self.number, database, len(database), table, len(table))
 
     def _flag(self, call, *words):
@@ -563,11 +686,11 @@ class Session:
 
     def enable(self, value=None):
         """Whether the session is enabled, after it was set so where a value is given."""
-        return self._flag(_library.session_enable, ASK if value is None else ON if value else OFF)
+        return self._flag(_library.session_enable, ASK if value is None else ON if _flag(value) else OFF)
 
     def indirect(self, value=None):
         """Whether touches are indirect, after that was set where a value is given."""
-        return self._flag(_library.session_indirect, ASK if value is None else ON if value else OFF)
+        return self._flag(_library.session_indirect, ASK if value is None else ON if _flag(value) else OFF)
 
     def is_empty(self):
         """Whether the session has no records."""
@@ -575,6 +698,7 @@ class Session:
 
     def _captured(self, call, key_flags):
         """The blob that a call writes."""
+        key_flags = _number(key_flags)
 
         def taken(handle, fault):
             return _taken(lambda *out: call(handle, self.number, key_flags, *out, byref(fault)), fault=fault)
@@ -596,3 +720,4 @@ class Session:
     def drop(self):
         """Ends the session."""
         self._server._done(_library.session_drop, self.number)
+        self._is_ended = True

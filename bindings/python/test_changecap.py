@@ -1,14 +1,24 @@
 """Each call, beside worked values, the table of blobs that CHANGECAP_BLOBS names, and SQLite where it is there."""
+import array
+import collections
+import ctypes
+import gc
 import json
 import os
 import random
+import re
+import shutil
+import subprocess
 import sys
+import tempfile
 import threading
 import unittest
+import unittest.mock
 
 sys.dont_write_bytecode = True
 HERE = os.path.dirname(os.path.abspath(__file__))
-sys.path[:0] = [HERE, os.path.join(HERE, "..", "..", "conformance")]
+ROOT = os.path.dirname(os.path.dirname(HERE))
+sys.path[:0] = [HERE, os.path.join(ROOT, "conformance")]
 import changecap  # noqa: E402
 
 try:
@@ -21,6 +31,66 @@ INSERT = bytes.fromhex("5402010074001200010000000000000001030178")
 DELETE = bytes.fromhex("5402010074000900010000000000000001030178")
 TWO_KEYS = bytes.fromhex("540300010174001200030178010000000000000002010000000000000001")
 TWO_TABLES = bytes.fromhex("540201007500170101000000000000000703012d0003022b2b540301000062001200040200ff05030161")
+
+
+class Index:
+    """What is no int, but may stand for one as an index."""
+
+    def __index__(self):
+        return 5
+
+
+# What is no blob.
+OTHERS = [[1, 2], Index(), array.array("i", [1]), memoryview(array.array("i", [1])), 5, 1.5, "T", None, (84,)]
+
+
+class Counted:
+    """The library, and how often each call of it was made."""
+
+    def __init__(self, library):
+        self.library, self.counts = library, collections.Counter()
+
+    def __getattr__(self, name):
+        def counted(*words):
+            self.counts[name] += 1
+            return getattr(self.library, name)(*words)
+
+        return counted
+
+
+def by_fields(blob):
+    """The changes of a blob, each value by a call of its own."""
+    calls, at, fault = changecap._library, changecap._Handle(), changecap._Fault()
+    at_it, info, flag = ctypes.byref(at), changecap._Change(), ctypes.c_uint32()
+    changecap._check(calls.iter_open(blob, len(blob), at_it, ctypes.byref(fault)), fault)
+    made = []
+    while calls.iter_next(at_it) == changecap.ROW:
+        changecap._check(calls.iter_op(at_it, ctypes.byref(info)))
+        key = []
+        for column in range(info.columns):
+            changecap._check(calls.iter_key(at_it, column, ctypes.byref(flag)))
+            key.append(bool(flag.value))
+        made.append(changecap.Change(
+            table=changecap._taken(lambda *out: calls.iter_table(at_it, *out)).decode(),
+            key=key, operation=changecap.OPERATIONS[info.op], indirect=bool(info.indirect),
+            patchset=bool(info.patchset),
+            old=fields(at_it, info.columns, calls.iter_old, calls.iter_old_bytes),
+            new=fields(at_it, info.columns, calls.iter_new, calls.iter_new_bytes)))
+    calls.iter_close(at_it)
+    return made
+
+
+def fields(at, columns, field_of, bytes_of):
+    """The values that are defined, by their columns."""
+    made, field = {}, changecap._Field()
+    for column in range(columns):
+        changecap._check(field_of(at, column, ctypes.byref(field)))
+        if field.kind in (changecap.TEXT, changecap.BLOB):
+            content = changecap._taken(lambda *out: bytes_of(at, column, *out), field.len)  # noqa: B023
+            made[column] = content.decode() if field.kind == changecap.TEXT else content
+        elif field.kind != changecap.UNDEFINED:
+            made[column] = field.number if field.kind == changecap.INTEGER else None
+    return made
 
 
 class Blobs(unittest.TestCase):
@@ -84,6 +154,64 @@ class Blobs(unittest.TestCase):
         with self.assertRaises(changecap.Malformed):
             next(changecap.iterate(b"T"))
 
+    def test_changes_value_by_value(self):
+        changesets = b"", INSERT, DELETE, TWO_KEYS, TWO_TABLES
+        for blob in (*changesets, *map(changecap.patchset, changesets),
+                     changecap.patchset(changecap.invert(TWO_KEYS))):
+            self.assertEqual(list(changecap.iterate(blob)), by_fields(blob))
+        path = os.environ.get("CHANGECAP_BLOBS")
+        if path:
+            with open(path, encoding="ascii") as file:
+                for digits, kind, _ in (line.split(" ") for line in file):
+                    if kind == "0":
+                        blob = bytes.fromhex(digits)
+                        self.assertEqual(list(changecap.iterate(blob)), by_fields(blob), digits)
+
+    def test_values_of_changes(self):
+        values = ["", "c0", "blob", '"\\/\b\0\x1f\x7f\u2028\ud7ff\uffff\U0010ffff', 2**63 - 1, -2**63, 2**53 + 1, b"",
+                  bytes(range(256)), None]
+        with changecap.Server() as server:
+            server.create_table("\u00e4\"", [True] + [False] * len(values))
+            session = server.session()
+            session.attach()
+            server.commit(("insert", "\u00e4\"", (1, *values)))
+            inserted = session.restart()
+            server.commit(("update", "\u00e4\"", (1,), {len(values): 2}))
+            server.commit(("update", "\u00e4\"", (1,), dict(enumerate(values[::-1], 1))))
+            for blob in inserted, changecap.invert(inserted), session.changeset(), session.patchset():
+                self.assertEqual(list(changecap.iterate(blob)), by_fields(blob))
+        change, = changecap.iterate(inserted)
+        self.assertEqual(list(change.new.values()), [1, *values])
+
+    def test_calls_of_an_iteration(self):
+        with changecap.Server() as server:
+            server.create_table("t", [True] + [False] * 19)
+            session = server.session()
+            session.attach()
+            server.commit(*(("insert", "t", (it, *"abcdefghijklmnopqrs")) for it in range(100)))
+            blob = session.restart()
+            server.commit(*(("update", "t", (it,), {5: it}) for it in range(100)))
+            for blob in blob, session.changeset(), session.patchset():
+                with unittest.mock.patch.object(changecap, "_library", Counted(changecap._library)) as calls:
+                    self.assertEqual(len(list(changecap.iterate(blob))), 100)
+                # Two for each change, and a few for the whole blob.
+                self.assertLessEqual(sum(calls.counts.values()), 2 * 100 + 10, calls.counts)
+
+    def test_what_is_no_blob(self):
+        for other in OTHERS:
+            for call in (changecap.check, changecap.invert, changecap.patchset, changecap.json,
+                         lambda it: changecap.concat(it, INSERT), lambda it: changecap.concat(INSERT, it),
+                         lambda it: list(changecap.iterate(it)), lambda it: list(changecap.iterate_pieces([it]))):
+                self.assertRaises(TypeError, call, other)
+        # The pieces of bytes are ints.
+        self.assertRaises(TypeError, list, changecap.iterate_pieces(INSERT))
+        for blob in bytearray(INSERT), memoryview(INSERT), memoryview(INSERT * 2)[:len(INSERT)]:
+            self.assertEqual(changecap.invert(blob), DELETE)
+            self.assertEqual(list(changecap.iterate_pieces([blob])), list(changecap.iterate(INSERT)))
+        for call in changecap.invert, changecap.patchset, lambda it, flags: changecap.concat(it, it, flags):
+            self.assertRaises(TypeError, call, INSERT, "places")
+            self.assertRaises(ValueError, call, INSERT, 2**32)
+
     def test_pieces(self):
         for length in 1, 3, 100:
             pieces = [TWO_TABLES[at:at + length] for at in range(0, len(TWO_TABLES), length)]
@@ -122,6 +250,7 @@ class Blobs(unittest.TestCase):
             for blob in changeset, patchset:
                 ours, theirs = list(changecap.iterate(blob)), list(sqlite.iterate(blob))
                 self.assertEqual(len(ours), len(theirs))
+                self.assertEqual(ours, by_fields(blob))
                 for our, their in zip(ours, theirs):
                     self.assertEqual((our.table, our.operation, our.old, our.new),
                                      (their.table, their.operation, their.old, their.new))
@@ -244,15 +373,15 @@ class Servers(unittest.TestCase):
             self.assertEqual([(it.table, it.indirect) for it in changecap.iterate(session.changeset())],
                              [("t", False), ("t", True), ("u", False)])
             self.assertEqual(server.get("t", (2,)), changecap.Row(None, (2, b"\0\xff")))
-            self.assertEqual(server.get("u", 1), changecap.Row(1, ("x", None, 1)))
+            self.assertEqual(server.get("u", changecap.RowId(1)), changecap.Row(1, ("x", None, 1)))
             self.assertIsNone(server.get("t", (3,)))
-            server.commit(("update", "u", (1, 2), {0: None}), ("update", "u", 1, {1: 1, 0: 2}),
+            server.commit(("update", "u", (1, 2), {0: None}), ("update", "u", changecap.RowId(1), {1: 1, 0: 2}),
                           ("delete", "t", (2,)), base=3)
             self.assertEqual([it.values for it in server.scan("u")], [(2, 1, 1), (None, 1, 2)])
             self.assertEqual(server.scan("t"), [changecap.Row(None, (1, "x"))])
             for call, wanted in ((lambda: server.scan("v"), "refused: E8"), (lambda: server.get("t", ()), "misuse"),
                                  (lambda: server.get("t", (None,)), "misuse"), (lambda: server.scan(""), "misuse"),
-                                 (lambda: server.commit(("delete", "t", 0)), "misuse"),
+                                 (lambda: server.commit(("delete", "t", changecap.RowId(0))), "misuse"),
                                  (lambda: server.commit(("insert", "t", (1,), 2)), "misuse"),
                                  (lambda: server.commit(("delete", "t", (1,)), base=3), "refused: E11")):
                 with self.assertRaises(changecap.Error) as raised:
@@ -262,6 +391,162 @@ class Servers(unittest.TestCase):
                 server.commit(("delete", "t", (1,)), ("insert", "t", (5,)))
             self.assertEqual((str(raised.exception), raised.exception.at), ("refused: E3", 1))
             self.assertEqual(len(server.scan("t")), 1)
+
+    def test_failed_commits_leave_nothing(self):
+        with changecap.Server() as server:
+            server.create_table("t", [True, False])
+            rows = [changecap.Row(None, (1, "x")), changecap.Row(None, (2, "y"))]
+            server.commit(*(("insert", "t", it.values) for it in rows))
+            for operation, error in ((("insert", "t", (3, 2**63)), OverflowError),
+                                     (("insert", "t", (3, [])), TypeError),
+                                     (("insert", "t", (3, "\ud800")), ValueError),
+                                     (("insert", "t", (3, "z"), 2), changecap.Error),
+                                     (("insert", "t\0", (3, "z")), changecap.Error),
+                                     (("update", "t", (1, None), {1: "z"}), changecap.Error),
+                                     (("update", "t", (1,), {1: "z", -1: "z"}), ValueError),
+                                     (("delete", "t", (None,)), changecap.Error)):
+                with self.assertRaises(error):
+                    server.commit(("insert", "t", (4, "w")), operation)
+                # Neither a value nor an operation is left behind.
+                self.assertEqual([server.get("t", it.values[:1]) for it in rows], rows)
+                self.assertIsNone(server.get("t", (3,)))
+                server.commit()
+                self.assertEqual(server.scan("t"), rows)
+            with self.assertRaises(changecap.Refused):
+                server.commit(("insert", "t", (4, "w")), base=1)
+            self.assertEqual(server.commit(("delete", "t", (2,))), 11)
+            self.assertEqual(server.scan("t"), rows[:1])
+
+    def test_values_of_other_types(self):
+        with changecap.Server() as server:
+            server.create_table("t", [True, False])
+            for other in (it for it in OTHERS if not isinstance(it, (int, str)) and it is not None):
+                self.assertRaises(TypeError, server.commit, ("insert", "t", (1, other)))
+                self.assertRaises(TypeError, server.commit, ("update", "t", (1,), {1: other}))
+                self.assertRaises(TypeError, server.get, "t", (other,))
+            self.assertEqual(server.scan("t"), [])
+            values = [True, 7, "", b"ab", bytearray(b"ab"), memoryview(b"abc")[1:], None]
+            server.commit(*(("insert", "t", row) for row in enumerate(values)))
+            self.assertEqual([it.values[1] for it in server.scan("t")], [1, 7, "", b"ab", b"ab", b"bc", None])
+
+    def test_key_flags_of_other_types(self):
+        with changecap.Server() as server:
+            for key, error in ((["id", "body"], TypeError), ("kv", TypeError), ([1, 2], ValueError),
+                               ([True, None], TypeError), ({"id": True}, TypeError), (None, TypeError),
+                               ([1.0], TypeError)):
+                self.assertRaises(error, server.create_table, "z", key)
+            self.assertEqual(server.create_table("z", (True, 0)), 1)
+            for name in 5, b"t", None:
+                self.assertRaises(TypeError, server.create_table, name, [True])
+                self.assertRaises(TypeError, server.scan, name)
+                self.assertRaises(TypeError, server.get, name, (1,))
+                self.assertRaises(TypeError, server.save, name)
+                self.assertRaises(TypeError, server.call, name)
+                self.assertRaises(TypeError, server.commit, ("insert", name, (1, 2)))
+
+    def test_names_of_rows(self):
+        with changecap.Server() as server:
+            server.create_table("t", [True, True, False])
+            server.commit(("insert", "t", ("a", "b", 1)), ("insert", "t", ("a", None, 2)))
+            keyed, loose = server.scan("t")
+            for other in 7, "ab", b"ab", {"a", "b"}, {"a": 1}, iter(("a", "b")), None, 7.5:
+                self.assertRaises(TypeError, server.get, "t", other)
+                self.assertRaises(TypeError, server.commit, ("delete", "t", other))
+                self.assertRaises(TypeError, server.commit, ("update", "t", other, {2: 3}))
+            for number in -1, 2**64, 2**64 + 1:
+                self.assertRaises(ValueError, server.get, "t", changecap.RowId(number))
+            self.assertEqual(server.get("t", ["a", "b"]), keyed)
+            self.assertEqual((server.get("t", loose.id), repr(loose.id)), (loose, "RowId(1)"))
+            self.assertIsNone(server.get("t", changecap.RowId(2)))
+            server.commit(("delete", "t", loose.id))
+            self.assertEqual(server.scan("t"), [keyed])
+
+    def test_what_is_no_operation(self):
+        with changecap.Server() as server:
+            server.create_table("t", [True, False])
+            for operation, error in ((("inser", "t", (1, 2)), ValueError), ("insert", TypeError), (5, TypeError),
+                                     ((), TypeError), ([("insert", "t", (1, 2))], TypeError),
+                                     (("insert", "t"), ValueError), (("insert", "t", (1, 2), 0, 0), ValueError),
+                                     (("update", "t", (1,)), ValueError), (("insert", "t", "ab"), TypeError),
+                                     (("insert", "t", 5), TypeError), (("insert", "t", {1: 2}), TypeError),
+                                     (("update", "t", (1,), [(1, 2)]), TypeError),
+                                     (("update", "t", (1,), {"b": 2}), TypeError),
+                                     (("update", "t", (1,), {-1: 2}), ValueError),
+                                     (("update", "t", (1,), {2**64 + 1: 2}), ValueError),
+                                     (("insert", "t", (1, 2), "cascade"), TypeError),
+                                     (("insert", "t", (1, 2), 2**32), ValueError)):
+                self.assertRaises(error, server.commit, operation)
+            self.assertRaises(TypeError, server.commit, base="1")
+            self.assertRaises(ValueError, server.commit, base=2**64 + 1)
+            self.assertEqual((server.scan("t"), server.commit()), ([], 2))
+
+    def test_flags_and_policies_of_other_types(self):
+        with changecap.Server() as server:
+            session = server.session()
+            for call in session.enable, session.indirect:
+                before = call()
+                self.assertRaises(TypeError, call, "off")
+                self.assertRaises(ValueError, call, -1)
+                self.assertEqual(call(), before)
+            for call in session.changeset, session.patchset, session.restart:
+                self.assertRaises(TypeError, call, "places")
+                self.assertRaises(ValueError, call, 2**32)
+            for call in session.attach, session.filter, lambda it: session.diff(it, "t"):
+                self.assertRaises(TypeError, call, 5)
+            for policy in "omit", None:
+                self.assertRaises(TypeError, server.apply, b"", policy)
+            self.assertRaises(ValueError, server.apply, b"", 2**32)
+            for other in OTHERS:
+                self.assertRaises(TypeError, server.apply, other)
+
+    def test_numbers_of_refusals(self):
+        second = bytes.fromhex("12000100000000000000020301")
+        with changecap.Server() as server:
+            server.create_table("t", [True, False])
+            server.commit(("insert", "t", (2, "x")))
+            for call, wanted in ((lambda: server.apply(INSERT + second + b"y"), (15, 1)),
+                                 (lambda: server.apply(DELETE, notfound=changecap.REPLACE), (16, 0)),
+                                 (lambda: server.commit(("delete", "t", (2,)), ("delete", "t", (2,))), (6, 1)),
+                                 (lambda: server.commit(base=1), (11, None)), (lambda: server.scan("u"), (8, None)),
+                                 (lambda: server.commit(*[("delete", "t", (2,))] * 10001), (10, None)),
+                                 (lambda: server.call("commit delete t key(2) ; delete t key(2)"), (6, 1)),
+                                 (lambda: server.call("commitat 1 delete t key(2)"), (11, None))):
+                with self.assertRaises(changecap.Refused) as raised:
+                    call()
+                self.assertEqual((raised.exception.kind, raised.exception.at), wanted)
+            self.assertEqual(len(server.scan("t")), 1)
+
+    def test_sessions_that_nobody_refers_to(self):
+        with changecap.Server() as server:
+            server.create_table("t", [True, False])
+            for _ in range(70):
+                server.session().attach()
+            session = server.session()
+            for _ in range(70):
+                server.session()
+            self.assertTrue(session.is_empty())
+            number = session.number
+            # The collector may run while this thread has the lock.
+            with server._lock:
+                del session
+            with self.assertRaises(changecap.Refused) as raised:
+                server.call(f"isempty {number}")
+            self.assertEqual(raised.exception.kind, 18)
+            cycle = [server.session()]
+            cycle.append(cycle)
+            number = cycle[0].number
+            del cycle
+            gc.collect()
+            self.assertRaises(changecap.Refused, server.call, f"drop {number}")
+            kept = [server.session() for _ in range(64)]
+            with self.assertRaises(changecap.Refused) as raised:
+                server.session()
+            self.assertEqual(raised.exception.kind, 10)
+            kept.pop().drop()
+            kept.append(server.session())
+            self.assertTrue(all(it.is_empty() for it in kept))
+        # The sessions of a closed server have ended.
+        del kept
 
     def test_filters_and_differences(self):
         with changecap.Server() as server:
@@ -380,6 +665,27 @@ class Servers(unittest.TestCase):
             for thread in threads:
                 thread.join()
             self.assertEqual(server.call("scan t").split("\n")[0], "rows 800")
+
+
+class Libraries(unittest.TestCase):
+    def test_a_missing_library(self):
+        archive = os.path.join(os.path.dirname(os.environ.get("CHANGECAP_LIBRARY", "")), "libchangecap.a")
+        if not (os.path.exists(archive) and shutil.which("make") and shutil.which("cc")):
+            self.skipTest("no libchangecap.a beside the shared object, no make or no cc")
+        words = "import ctypes.util; ctypes.util.find_library = lambda name: None; import changecap"
+        environment = {name: it for name, it in os.environ.items() if name != "CHANGECAP_LIBRARY"}
+        with tempfile.TemporaryDirectory() as folder:
+            os.makedirs(f"{folder}/python")
+            shutil.copy(os.path.join(HERE, "changecap.py"), f"{folder}/python")
+            run, where = [sys.executable, "-B", "-c", words], {"cwd": f"{folder}/python", "env": environment}
+            ran = subprocess.run(run, capture_output=True, text=True, check=False, **where)
+            self.assertIn("ImportError: libchangecap.so is not there", ran.stderr)
+            # The command that the message names makes it, where the module looks for it.
+            command = re.search(r"`(make \w+)`", ran.stderr)[1].split()
+            os.makedirs(f"{folder}/out")
+            os.symlink(os.path.abspath(archive), f"{folder}/out/libchangecap.a")
+            subprocess.run([*command, f"OUT={folder}/out"], cwd=ROOT, capture_output=True, check=True)
+            subprocess.run(run, check=True, **where)
 
 
 if __name__ == "__main__":

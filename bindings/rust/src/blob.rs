@@ -71,7 +71,7 @@ pub struct Changeset(Vec<u8>);
 pub struct Patchset(Vec<u8>);
 
 impl Changeset {
-    /// The changeset with these bytes, which are checked.
+    /// The changeset with these bytes, which are checked. No bytes are a changeset without changes.
     pub fn from_bytes(bytes: &[u8]) -> Result<Changeset> {
         check(bytes)?;
         if bytes.first() == Some(&b'P') {
@@ -116,7 +116,7 @@ impl Patchset {
     pub fn from_bytes(bytes: &[u8]) -> Result<Patchset> {
         check(bytes)?;
         if bytes.first() == Some(&b'T') {
-            return Err(Error::Misuse);
+            return Err(Error::Changeset);
         }
         Ok(Patchset(bytes.to_vec()))
     }

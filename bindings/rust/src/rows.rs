@@ -45,9 +45,15 @@ pub struct Row {
 const STALE: u32 = 11;
 
 /// A connection has one batch that is put together: operations that are made together or not at all.
+///
+/// Where `insert`, `update` or `delete` fails, the whole batch has failed, as a transaction that SQLite has
+/// rolled back: `commit` makes nothing of what was put in it before and after, and answers
+/// [`Error::FailedBatch`]. `begin` drops a batch, as the drop of a rusqlite `Transaction` does. Call it where a
+/// batch begins if an error may have left one behind, as `?` does.
 impl Connection {
-    /// Begins a batch in place of the one before it.
+    /// Begins a batch in place of the one before it, of which nothing is made.
     pub fn begin(&self) {
+        self.has_failed.set(false);
         // SAFETY: the handle is open as long as the connection is there, and no other call runs: the
         // connection is not `Sync`. So in each call of this file.
         unsafe { ffi::changecap_begin(self.at()) }
@@ -55,6 +61,7 @@ impl Connection {
 
     /// The same of a batch that may be committed on this version alone.
     pub fn begin_at(&self, version: u64) {
+        self.has_failed.set(false);
         unsafe { ffi::changecap_begin_at(self.at(), version) }
     }
 
@@ -88,9 +95,19 @@ impl Connection {
         made
     }
 
-    /// Puts an operation last in the batch that inserts a row.
+    /// Puts an operation last in the batch by a call. Where it fails, the batch does.
+    fn put(&self, call: impl FnOnce() -> Result<()>) -> Result<()> {
+        let put = self.bound(call);
+        if put.is_err() {
+            self.has_failed.set(true);
+        }
+        put
+    }
+
+    /// Puts an operation last in the batch that inserts a row. Whether there is such a table is looked at when
+    /// the batch is committed.
     pub fn insert(&self, table: &str, row: &[Value], cause: Cause) -> Result<()> {
-        self.bound(|| {
+        self.put(|| {
             self.bind(row)?;
             done(|fault| unsafe {
                 ffi::changecap_insert(self.at(), table.as_ptr(), table.len(), cause.number(), fault)
@@ -100,7 +117,7 @@ impl Connection {
 
     /// The same of one that sets columns, from 0 on, of a row.
     pub fn update(&self, table: &str, row: RowRef, set: &[(usize, Value)], cause: Cause) -> Result<()> {
-        self.bound(|| {
+        self.put(|| {
             let id = self.bind_name(row)?;
             for (column, value) in set {
                 self.bind(std::slice::from_ref(value))?;
@@ -114,7 +131,7 @@ impl Connection {
 
     /// The same of one that deletes a row.
     pub fn delete(&self, table: &str, row: RowRef, cause: Cause) -> Result<()> {
-        self.bound(|| {
+        self.put(|| {
             let id = self.bind_name(row)?;
             done(|fault| unsafe {
                 ffi::changecap_delete(self.at(), table.as_ptr(), table.len(), id, cause.number(), fault)
@@ -122,15 +139,17 @@ impl Connection {
         })
     }
 
-    /// Commits the batch, and answers the new version. A refusal has the number of the operation, from 0.
+    /// Commits the batch, and answers the new version. A refusal has the number of the operation, from 0. Then
+    /// another batch begins, but for [`Error::OutOfMemory`], which leaves the batch: it may be committed again.
     pub fn commit(&self) -> Result<u64> {
+        if self.has_failed.get() {
+            self.begin();
+            return Err(Error::FailedBatch);
+        }
         let (mut version, mut fault) = (0, ffi::Fault::default());
         match unsafe { ffi::changecap_commit(self.at(), &mut version, &mut fault) } {
             ffi::OK => Ok(version),
-            ffi::REFUSED if fault.kind != STALE => {
-                Err(Error::Refused(format!("refused at {}: E{}", fault.at, fault.kind)))
-            }
-            status => Err(Error::of(status, fault)),
+            status => Err(Error::at_part(status, fault, |kind| kind != STALE)),
         }
     }
 

@@ -2,7 +2,7 @@
 use crate::call::{done, taken, text_of};
 use crate::ffi;
 use crate::{Changeset, Error, KeyFlags, Patchset, Result};
-use std::cell::UnsafeCell;
+use std::cell::{Cell, UnsafeCell};
 use std::io::Write;
 
 /// What an application does at a conflict.
@@ -44,7 +44,12 @@ pub struct Report {
 /// A server. It may go to another thread; callers of several threads share it behind a lock.
 pub struct Connection {
     handle: UnsafeCell<ffi::Handle>,
+    /// Whether an operation could not be put in the batch.
+    pub(crate) has_failed: Cell<bool>,
 }
+
+/// The refusals of an applied blob that have the number of a change: E15 Aborted and E16 Misuse.
+const OF_A_CHANGE: [u32; 2] = [15, 16];
 
 // SAFETY: the handle owns a core, of which `Send` is proved, and bytes.
 unsafe impl Send for Connection {}
@@ -59,7 +64,7 @@ impl Connection {
         let mut handle = ffi::Handle::CLOSED;
         // SAFETY: the handle is closed.
         done(|_| unsafe { ffi::changecap_server_open(&mut handle) })?;
-        Ok(Connection { handle: handle.into() })
+        Ok(Connection { handle: handle.into(), has_failed: Cell::new(false) })
     }
 
     /// Carries out one command of the workload language (docs/FORMAT.md), and answers the text of its reply.
@@ -96,7 +101,7 @@ impl Connection {
     }
 
     /// Applies a changeset or a patchset: what is done where a row differs, where it is missing, and where
-    /// its key is in use.
+    /// its key is in use. A refusal has the number of the change, from 0, as in `refused at 1: E15`.
     pub fn apply(
         &self,
         blob: &[u8],
@@ -104,20 +109,22 @@ impl Connection {
         not_found: ConflictAction,
         conflict: ConflictAction,
     ) -> Result<Report> {
-        let mut report = ffi::Report::default();
-        done(|fault| unsafe {
-            let (data, not_found, conflict) = (data.number(), not_found.number(), conflict.number());
+        let (mut report, mut fault) = (ffi::Report::default(), ffi::Fault::default());
+        let status = unsafe {
             ffi::changecap_apply(
                 self.at(),
                 blob.as_ptr(),
                 blob.len(),
-                data,
-                not_found,
-                conflict,
+                data.number(),
+                not_found.number(),
+                conflict.number(),
                 &mut report,
-                fault,
+                &mut fault,
             )
-        })?;
+        };
+        if status != ffi::OK {
+            return Err(Error::at_part(status, fault, |kind| OF_A_CHANGE.contains(&kind)));
+        }
         let ffi::Report { version, applied, conflicts, omitted, skipped } = report;
         Ok(Report { version, applied, conflicts, omitted, skipped })
     }

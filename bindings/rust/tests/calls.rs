@@ -20,6 +20,12 @@ fn whole_blobs() {
     assert_eq!(patchset.as_bytes(), of_hex("5002010074001200010000000000000001030178"));
     assert!(matches!(Changeset::from_bytes(patchset.as_bytes()), Err(Error::Patchset)));
     assert_eq!(Patchset::from_bytes(patchset.as_bytes()).unwrap(), patchset);
+    let wrong = Patchset::from_bytes(changeset.as_bytes()).unwrap_err();
+    assert!(matches!(wrong, Error::Changeset));
+    assert_eq!(wrong.to_string(), "a changeset, where only a patchset serves");
+    let wrong = Changeset::from_bytes(patchset.as_bytes()).unwrap_err();
+    assert_eq!(wrong.to_string(), "a patchset, where only a changeset serves");
+    assert!(Patchset::from_bytes(&[]).is_ok() && Changeset::from_bytes(&[]).is_ok());
     assert!(matches!(check(&of_hex("5480")), Err(Error::Malformed(Fault { kind: 3, at: 1 }))));
     assert!(check(&[]).is_ok());
     let two_keys = Changeset::from_bytes(&of_hex(TWO_KEYS)).unwrap();
@@ -227,6 +233,7 @@ fn refused_batches_and_rows() {
     assert!(matches!(source.get("t", RowRef::Id(0)), Err(Error::Misuse)));
     assert!(matches!(source.delete("t", RowRef::Key(&[Value::Null]), Cause::Direct), Err(Error::Misuse)));
     assert!(matches!(source.insert("", &key, Cause::Direct), Err(Error::Misuse)));
+    source.begin();
     source.insert("u", &[Value::Null, Value::Null, one.clone()], Cause::Direct).unwrap();
     source.delete("t", RowRef::Key(&key), Cause::Direct).unwrap();
     assert!(matches!(source.commit(), Err(Error::Refused(why)) if why == "refused at 1: E6"));
@@ -234,6 +241,60 @@ fn refused_batches_and_rows() {
     source.delete("t", RowRef::Key(&[one]), Cause::Direct).unwrap();
     assert!(matches!(source.commit(), Err(Error::Refused(why)) if why == "refused: E11"));
     assert_eq!(source.commit().unwrap(), 3);
+}
+
+#[test]
+fn batches_of_which_an_operation_fails() {
+    let source = with_tables();
+    let row = |number| [Value::Integer(number), Value::Null];
+    let insert = |number| source.insert("t", &row(number), Cause::Direct);
+    let fails: [&dyn Fn() -> Result<()>; 4] = [
+        &|| source.insert("", &row(2), Cause::Direct),
+        &|| source.insert("t\0", &row(2), Cause::Cascade),
+        &|| source.update("t", RowRef::Key(&[Value::Null]), &[(1, Value::Integer(3))], Cause::Direct),
+        &|| source.delete("t", RowRef::Id(0), Cause::Direct),
+    ];
+    for fail in fails {
+        insert(1).unwrap();
+        assert!(matches!(fail(), Err(Error::Misuse)));
+        insert(3).unwrap();
+        // None of it is made, neither what was put in before nor what was put in after.
+        assert!(matches!(source.commit(), Err(Error::FailedBatch)));
+        assert_eq!(source.scan("t").unwrap(), []);
+        // The next batch has nothing of it.
+        insert(4).unwrap();
+        source.delete("t", RowRef::Key(&row(4)[..1]), Cause::Direct).unwrap();
+        source.commit().unwrap();
+        // Nor has one that `begin` or `begin_at` begins in its place.
+        insert(1).unwrap();
+        fail().unwrap_err();
+        source.begin();
+        source.commit().unwrap();
+        insert(1).unwrap();
+        fail().unwrap_err();
+        source.begin_at(1);
+        assert!(matches!(source.commit(), Err(Error::Refused(why)) if why == "refused: E11"));
+        source.commit().unwrap();
+        assert_eq!(source.scan("t").unwrap(), []);
+    }
+    // What is read is no part of it.
+    insert(5).unwrap();
+    assert!(matches!(source.get("t", RowRef::Key(&[Value::Null])), Err(Error::Misuse)));
+    assert!(source.scan("v").is_err() && source.get("t", RowRef::Key(&row(5)[..1])).unwrap().is_none());
+    source.commit().unwrap();
+    assert_eq!(source.scan("t").unwrap(), [Row { id: None, values: row(5).into() }]);
+}
+
+#[test]
+fn a_batch_with_an_operation_too_many() {
+    let source = with_tables();
+    let insert = |number| source.insert("t", &[Value::Integer(number), Value::Null], Cause::Direct);
+    for number in 0..10_000 {
+        insert(number).unwrap();
+    }
+    assert!(matches!(insert(10_000), Err(Error::Refused(why)) if why == "refused: E10"));
+    assert!(matches!(source.commit(), Err(Error::FailedBatch)));
+    assert_eq!(source.scan("t").unwrap(), []);
 }
 
 #[test]
@@ -245,7 +306,7 @@ fn applications() {
     let by = |conflict| target.apply(&insert, ConflictAction::Abort, ConflictAction::Abort, conflict);
     let omitted = Report { version: 3, applied: 0, conflicts: 1, omitted: 1, skipped: 0 };
     assert_eq!(by(ConflictAction::Omit).unwrap(), omitted);
-    assert!(matches!(by(ConflictAction::Abort), Err(Error::Refused(why)) if why == "refused: E15"));
+    assert!(matches!(by(ConflictAction::Abort), Err(Error::Refused(why)) if why == "refused at 0: E15"));
     let replaced = Report { version: 4, applied: 1, conflicts: 1, omitted: 0, skipped: 0 };
     assert_eq!(by(ConflictAction::Replace).unwrap(), replaced);
     assert_eq!(target.execute("scan t").unwrap(), "rows 1\n(1,'x')");
@@ -253,7 +314,19 @@ fn applications() {
     let skipped =
         target.apply(&other, ConflictAction::Omit, ConflictAction::Omit, ConflictAction::Omit).unwrap();
     assert_eq!(skipped, Report { version: 5, applied: 0, conflicts: 0, omitted: 0, skipped: 1 });
-    let omit = ConflictAction::Omit;
+    let (omit, replace, abort) = (ConflictAction::Omit, ConflictAction::Replace, ConflictAction::Abort);
+    // The second change is an insert of the row that is there, and then a delete of one that is missing.
+    let two = of_hex("5402010074001200010000000000000002030179120001000000000000000103017a");
+    assert!(matches!(
+        target.apply(&two, omit, omit, abort),
+        Err(Error::Refused(why)) if why == "refused at 1: E15"
+    ));
+    let two = of_hex("5402010074001200010000000000000002030179090001000000000000000303017a");
+    assert!(matches!(
+        target.apply(&two, omit, replace, omit),
+        Err(Error::Refused(why)) if why == "refused at 1: E16"
+    ));
+    assert_eq!(target.execute("scan t").unwrap(), "rows 1\n(1,'x')");
     assert!(matches!(
         target.apply(b"T\x80", omit, omit, omit),
         Err(Error::Malformed(Fault { kind: 3, at: 1 }))

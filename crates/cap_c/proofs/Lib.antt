@@ -1,5 +1,6 @@
 mod BetweenLemmas
 mod DecoderAsBox
 mod IterAsBox
+mod OneLineLemmas
 mod PositionLemmas
 mod ServerAsBox

@@ -15,6 +15,7 @@ pub mod IterOutputs
 pub mod Json
 pub mod KeyFlags
 pub mod Names
+pub mod OneCommand
 pub mod Outputs
 pub mod Positions
 pub mod Query

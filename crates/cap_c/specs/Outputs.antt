@@ -12,7 +12,7 @@ use Rattle.cap_c.specs.Fault.{placed}
 use Rattle.cap_c.specs.Status.{room_status}
 use Rattle.cap_c.specs.declared.change_info.FieldValue.{FieldValue}
 use Rattle.cap_c.specs.declared.fault.PlacedFault.{PlacedFault}
-use Rattle.cap_c.specs.declared.status.TheConstants.{MISUSE, OK}
+use Rattle.cap_c.specs.declared.status.TheConstants.{MALFORMED, MISUSE, OK, ROOM}
 
 -- The bytes are at the beginning of the buffer, and what was behind them is still there.
 abbrev pub begins_with : List ℕ → List ℕ → List ℕ
@@ -23,6 +23,14 @@ pub record Writes (bytes : List ℕ) (status : ℕ) (old new : List ℕ) (len : 
   pub len_is : len ≡ length bytes
   pub written : status ≡ OK → new ≡ begins_with bytes old
   pub kept : ¬ (status ≡ OK) → new ≡ old
+
+-- What a call for bytes leaves as it was: the buffer unless the bytes are in it, the length unless it is set,
+-- and the fault unless the bytes of a blob have one.
+pub record KeepsOthers (status : ℕ) (old new : List ℕ) (old_len len : ℕ) (old_fault fault : PlacedFault)
+    : Type 0 where
+  pub out_kept : ¬ (status ≡ OK) → new ≡ old
+  pub len_kept : ¬ (status ≡ OK) → ¬ (status ≡ ROOM) → len ≡ old_len
+  pub fault_kept : ¬ (status ≡ MALFORMED) → fault ≡ old_fault
 
 -- The same of an answer that may be a refusal: nothing is written for it, and the fault is set.
 abbrev pub Outputs : Result (List ℕ) ChangesetRefusal → ℕ → List ℕ → List ℕ → ℕ → PlacedFault → Type 0
@@ -47,10 +55,10 @@ OutputsFound (Some found) status old new = (status ≡ OK) × (new ≡ found)
 OutputsFound None status old new = (status ≡ MISUSE) × (new ≡ old)
 
 -- the same of bytes
-abbrev pub OutputsBytes : Option (List ℕ) → ℕ → List ℕ → List ℕ → ℕ → Type 0
-OutputsBytes (Some bytes) status old new len =
+abbrev pub OutputsBytes : Option (List ℕ) → ℕ → List ℕ → List ℕ → ℕ → ℕ → Type 0
+OutputsBytes (Some bytes) status old new old_len len =
     (status ≡ room_status (length bytes) (length old)) × Writes bytes status old new len
-OutputsBytes None status old new len = (status ≡ MISUSE) × (new ≡ old)
+OutputsBytes None status old new old_len len = (status ≡ MISUSE) × (new ≡ old) × (len ≡ old_len)
 
 -- The bytes of a capture, where there are any: a command that is refused has none. All of them are written.
 abbrev pub WritesAll : Option (List ℕ) → List ℕ → List ℕ → ℕ → ℕ → Type 0

@@ -9,7 +9,7 @@ ghost use Rattle.cap_codec.specs.declared.read.Contents.{Contents as Spelled};
 ghost use Rattle.cap_c.specs.Fault.{placed};
 ghost use Rattle.cap_c.specs.KeyFlags.{key_flags_of};
 ghost use Rattle.cap_c.specs.Status.{IsUnlessMemory, bytes_status, read_status};
-ghost use Rattle.cap_c.specs.Outputs.{Outputs};
+ghost use Rattle.cap_c.specs.Outputs.{KeepsOthers, Outputs};
 ghost use Rattle.cap_c.specs.declared.status.TheConstants.{MALFORMED, MISUSE, NOMEM, OK};
 
 use crate::fault::PlacedFault;
@@ -59,9 +59,7 @@ pub extern "C" fn changecap_invert(
         Outputs (inverse_at Global flags blob.now) result out.old out.new len.new fault.new }
     // Exactly a number that names no key flags is misuse.
     ensures misuse { (result ≡ MISUSE) ↔ (key_flags_of key_flags ≡ None) }
-    ensures out_kept { ¬ (result ≡ OK) → out.new ≡ out.old }
-    ensures len_kept { result ≡ NOMEM → len.new ≡ len.old }
-    ensures fault_kept { result ≡ NOMEM → fault.new ≡ fault.old }
+    ensures kept { KeepsOthers result out.old out.new len.old len.new fault.old fault.new }
 {
     let Some(flags) = key_flags_of(key_flags) else {
         return MISUSE;
@@ -87,9 +85,7 @@ pub extern "C" fn changecap_patchset(
         Outputs (patchset_at Global flags blob.now) result out.old out.new len.new fault.new }
     // Exactly a number that names no key flags is misuse.
     ensures misuse { (result ≡ MISUSE) ↔ (key_flags_of key_flags ≡ None) }
-    ensures out_kept { ¬ (result ≡ OK) → out.new ≡ out.old }
-    ensures len_kept { result ≡ NOMEM → len.new ≡ len.old }
-    ensures fault_kept { result ≡ NOMEM → fault.new ≡ fault.old }
+    ensures kept { KeepsOthers result out.old out.new len.old len.new fault.old fault.new }
 {
     let Some(flags) = key_flags_of(key_flags) else {
         return MISUSE;

@@ -6,8 +6,8 @@ ghost use Rattle.cap_group.specs.Bytes.{concat_at};
 ghost use Rattle.cap_group.specs.declared.refusal.ConcatRefusal.{ConcatRefusal as Refused};
 ghost use Rattle.cap_c.specs.KeyFlags.{key_flags_of};
 ghost use Rattle.cap_c.specs.Status.{IsUnlessMemory, concat_status, refused_status};
-ghost use Rattle.cap_c.specs.Outputs.{OutputsConcat, OutputsFault};
-ghost use Rattle.cap_c.specs.declared.status.TheConstants.{MALFORMED, MISUSE, NOMEM, OK};
+ghost use Rattle.cap_c.specs.Outputs.{KeepsOthers, OutputsConcat, OutputsFault};
+ghost use Rattle.cap_c.specs.declared.status.TheConstants.{COLUMNS, KIND, MALFORMED, MISUSE, NOMEM};
 
 use crate::fault::PlacedFault;
 use crate::key_flags::key_flags_of;
@@ -38,10 +38,9 @@ pub extern "C" fn changecap_concat(
         fault.new blob.new }
     // Exactly a number that names no key flags is misuse.
     ensures misuse { (result ≡ MISUSE) ↔ (key_flags_of key_flags ≡ None) }
-    ensures out_kept { ¬ (result ≡ OK) → out.new ≡ out.old }
-    ensures fault_kept { ¬ (result ≡ MALFORMED) → fault.new ≡ fault.old }
-    ensures len_kept { result ≡ NOMEM → len.new ≡ len.old }
-    ensures blob_kept { result ≡ NOMEM → blob.new ≡ blob.old }
+    ensures kept { KeepsOthers result out.old out.new len.old len.new fault.old fault.new }
+    ensures blob_kept { ¬ (result ≡ MALFORMED) → ¬ (result ≡ KIND) → ¬ (result ≡ COLUMNS) →
+        blob.new ≡ blob.old }
 {
     let Some(flags) = key_flags_of(key_flags) else {
         return MISUSE;
@@ -69,10 +68,9 @@ fn set_concat(
         ShowsUnlessMemory (λ bytes. bytes.items) answer said →
         ¬ (result ≡ NOMEM) → OutputsConcat said result out.old out.new len.new fault.new blob.new }
     ensures misuse { ¬ (result ≡ MISUSE) }
-    ensures out_kept { ¬ (result ≡ OK) → out.new ≡ out.old }
-    ensures fault_kept { ¬ (result ≡ MALFORMED) → fault.new ≡ fault.old }
-    ensures len_kept { result ≡ NOMEM → len.new ≡ len.old }
-    ensures blob_kept { result ≡ NOMEM → blob.new ≡ blob.old }
+    ensures kept { KeepsOthers result out.old out.new len.old len.new fault.old fault.new }
+    ensures blob_kept { ¬ (result ≡ MALFORMED) → ¬ (result ≡ KIND) → ¬ (result ≡ COLUMNS) →
+        blob.new ≡ blob.old }
 {
     match answer {
         Ok(bytes) => write_bytes(bytes.as_slice(), out, len),
@@ -89,6 +87,7 @@ fn set_refused(why: BlobRefusal, fault: &mut PlacedFault) -> u32
     ensures status { result ≡ refused_status why }
     ensures outputs { OutputsFault why fault.new }
     ensures fault_kept { ¬ (result ≡ MALFORMED) → fault.new ≡ fault.old }
+    ensures refused { ¬ (result ≡ MALFORMED) → ¬ (result ≡ KIND) → result ≡ COLUMNS }
 {
     match why {
         BlobRefusal::Malformed(wrong) => {

@@ -102,7 +102,7 @@ pub extern "C" fn changecap_iter_table(
     requires opened { IsSome handle.old.value }
     ensures kept { handle.new.value ≡ handle.old.value }
     ensures outputs { (it : Iter) → handle.old.value ≡ Some it →
-        OutputsBytes (table_of it) result out.old out.new len.new }
+        OutputsBytes (table_of it) result out.old out.new len.old len.new }
 {
     let it = take(alloc, handle);
     let status = set_table(&it, out, len);
@@ -179,7 +179,7 @@ pub extern "C" fn changecap_iter_old_bytes(
     requires opened { IsSome handle.old.value }
     ensures kept { handle.new.value ≡ handle.old.value }
     ensures outputs { (it : Iter) → handle.old.value ≡ Some it →
-        OutputsBytes (old_bytes it column) result out.old out.new len.new }
+        OutputsBytes (old_bytes it column) result out.old out.new len.old len.new }
 {
     let it = take(alloc, handle);
     let status = set_old_bytes(&it, column, out, len);
@@ -199,7 +199,7 @@ pub extern "C" fn changecap_iter_new_bytes(
     requires opened { IsSome handle.old.value }
     ensures kept { handle.new.value ≡ handle.old.value }
     ensures outputs { (it : Iter) → handle.old.value ≡ Some it →
-        OutputsBytes (new_bytes it column) result out.old out.new len.new }
+        OutputsBytes (new_bytes it column) result out.old out.new len.old len.new }
 {
     let it = take(alloc, handle);
     let status = set_new_bytes(&it, column, out, len);

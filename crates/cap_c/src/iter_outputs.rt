@@ -22,7 +22,7 @@ pub(crate) fn set_info(it: &BlobIter, info: &mut ChangeInfo) -> u32
 }
 
 pub(crate) fn set_table(it: &BlobIter, out: &mut [u8], len: &mut usize) -> u32
-    ensures { OutputsBytes (table_of it.now) result out.old out.new len.new }
+    ensures { OutputsBytes (table_of it.now) result out.old out.new len.old len.new }
 {
     match it.table() {
         Some(name) => write_bytes(name.as_str().as_bytes(), out, len),
@@ -64,7 +64,7 @@ pub(crate) fn set_new(it: &BlobIter, column: usize, value: &mut FieldValue) -> u
 }
 
 pub(crate) fn set_old_bytes(it: &BlobIter, column: usize, out: &mut [u8], len: &mut usize) -> u32
-    ensures { OutputsBytes (old_bytes it.now column) result out.old out.new len.new }
+    ensures { OutputsBytes (old_bytes it.now column) result out.old out.new len.old len.new }
 {
     if column < it.columns() {
         write_bytes(value_bytes(it.old(column)), out, len)
@@ -74,7 +74,7 @@ pub(crate) fn set_old_bytes(it: &BlobIter, column: usize, out: &mut [u8], len: &
 }
 
 pub(crate) fn set_new_bytes(it: &BlobIter, column: usize, out: &mut [u8], len: &mut usize) -> u32
-    ensures { OutputsBytes (new_bytes it.now column) result out.old out.new len.new }
+    ensures { OutputsBytes (new_bytes it.now column) result out.old out.new len.old len.new }
 {
     if column < it.columns() {
         write_bytes(value_bytes(it.new_value(column)), out, len)

@@ -3,8 +3,8 @@ ghost use Rattle.std.specs.Prelude.{◌≡◌, IfOk, length};
 ghost use Rattle.cap_value.specs.Memory.{ShowsUnlessMemory};
 ghost use Rattle.cap_c.specs.Json.{json_at, json_of};
 ghost use Rattle.cap_c.specs.Status.{IsUnlessMemory, bytes_status};
-ghost use Rattle.cap_c.specs.Outputs.{Outputs};
-ghost use Rattle.cap_c.specs.declared.status.TheConstants.{NOMEM, OK};
+ghost use Rattle.cap_c.specs.Outputs.{KeepsOthers, Outputs};
+ghost use Rattle.cap_c.specs.declared.status.TheConstants.{NOMEM};
 
 use crate::fault::PlacedFault;
 use crate::output::set_bytes;
@@ -28,9 +28,7 @@ pub extern "C" fn changecap_json(
     // The text, its length, or the fault.
     ensures outputs { ¬ (result ≡ NOMEM) →
         Outputs (json_at Global blob.now) result out.old out.new len.new fault.new }
-    ensures out_kept { ¬ (result ≡ OK) → out.new ≡ out.old }
-    ensures len_kept { result ≡ NOMEM → len.new ≡ len.old }
-    ensures fault_kept { result ≡ NOMEM → fault.new ≡ fault.old }
+    ensures kept { KeepsOthers result out.old out.new len.old len.new fault.old fault.new }
 {
     set_bytes(json_bytes(alloc, blob), out, len, fault)
 }

@@ -3,8 +3,8 @@ ghost use Rattle.std.specs.Prelude.{◌≡◌, ℕ, List, Result, length};
 ghost use Rattle.cap_value.specs.Memory.{ShowsUnlessMemory};
 ghost use Rattle.cap_blob.specs.declared.refusal.ChangesetRefusal.{ChangesetRefusal as Refused};
 ghost use Rattle.cap_c.specs.Status.{IsUnlessMemory, bytes_status, room_status};
-ghost use Rattle.cap_c.specs.Outputs.{Outputs, Writes, begins_with};
-ghost use Rattle.cap_c.specs.declared.status.TheConstants.{NOMEM, OK};
+ghost use Rattle.cap_c.specs.Outputs.{KeepsOthers, Outputs, Writes, begins_with};
+ghost use Rattle.cap_c.specs.declared.status.TheConstants.{NOMEM, OK, ROOM};
 
 use crate::fault::PlacedFault;
 use crate::status::{MALFORMED, NOMEM, OK, PATCHSET, ROOM};
@@ -18,6 +18,7 @@ pub(crate) fn write_bytes(bytes: &[u8], out: &mut [u8], len: &mut usize) -> u32
     ensures len { len.new ≡ length bytes.now }
     ensures written { result ≡ OK → out.new ≡ begins_with bytes.now out.old }
     ensures out_kept { ¬ (result ≡ OK) → out.new ≡ out.old }
+    ensures answered { ¬ (result ≡ OK) → result ≡ ROOM }
 {
     *len = bytes.len();
     if out.len() < bytes.len() {
@@ -39,9 +40,7 @@ pub(crate) fn set_bytes(
     ensures outputs { (said : Result (List ℕ) Refused) →
         ShowsUnlessMemory (λ bytes. bytes.items) answer said →
         ¬ (result ≡ NOMEM) → Outputs said result out.old out.new len.new fault.new }
-    ensures out_kept { ¬ (result ≡ OK) → out.new ≡ out.old }
-    ensures len_kept { result ≡ NOMEM → len.new ≡ len.old }
-    ensures fault_kept { result ≡ NOMEM → fault.new ≡ fault.old }
+    ensures kept { KeepsOthers result out.old out.new len.old len.new fault.old fault.new }
 {
     match answer {
         Ok(bytes) => write_bytes(bytes.as_slice(), out, len),

@@ -165,7 +165,7 @@ pub extern "C" fn changecap_column_bytes(
     requires opened { IsSome handle.old.value }
     ensures kept { handle.new.value ≡ handle.old.value }
     ensures outputs { (server : Server) → handle.old.value ≡ Some server →
-        OutputsBytes (column_bytes server.cursor column) result out.old out.new len.new }
+        OutputsBytes (column_bytes server.cursor column) result out.old out.new len.old len.new }
 {
     let server = take(alloc, handle);
     let status = server.cursor.set_bytes(column, out, len);

@@ -113,7 +113,7 @@ impl RowCursor {
 
     /// Writes the bytes of a column's value.
     pub(crate) fn set_bytes(&self, column: usize, out: &mut [u8], len: &mut usize) -> u32
-        ensures { OutputsBytes (column_bytes self.now column) result out.old out.new len.new }
+        ensures { OutputsBytes (column_bytes self.now column) result out.old out.new len.old len.new }
     {
         match self.value(column) {
             Some(found) => write_bytes(value_bytes(Some(found)), out, len),

@@ -1,7 +1,8 @@
 //! A server that C calls, with commands as text or by words and numbers.
 ghost use Rattle.std.specs.Prelude.{◌≡◌, ◌+◌, ◌<◌, ◌^◌};
+ghost use Rattle.cap_c.specs.OneCommand.{TellsText};
 ghost use Rattle.cap_c.specs.Server.{IsAnswered, IsNew, RunsLine, RunsText, reply_status};
-ghost use Rattle.cap_c.specs.declared.status.TheConstants.{FULL};
+ghost use Rattle.cap_c.specs.declared.status.TheConstants.{COMMAND, FULL};
 
 use crate::draft::Draft;
 use crate::fault::PlacedFault;
@@ -46,6 +47,7 @@ impl OpenServer {
     /// Carries out the command that the text is, and keeps the text of its reply.
     pub(crate) fn call(&mut self, alloc: Global, text: &[u8], fault: &mut PlacedFault) -> u32
         ensures ran { IsAnswered result → RunsText self.old self.new text.now result }
+        ensures text { TellsText text.now result fault.old fault.new }
         ensures kept { ¬ (IsAnswered result) → self.new ≡ self.old }
         ensures full { result ≡ FULL → ¬ (self.old.core.events + 1 < 2 ^ 63) }
     {
@@ -68,6 +70,7 @@ impl OpenServer {
         ensures ran { IsAnswered result → RunsLine self.old self.new line.now result }
         ensures kept { ¬ (IsAnswered result) → self.new ≡ self.old }
         ensures full { ¬ (result ≡ FULL) }
+        ensures command { ¬ (result ≡ COMMAND) }
     {
         let mut printer = Printer {
             alloc,

@@ -1,5 +1,6 @@
 //! The calls that open and end a server, and that give it a command as text.
 ghost use Rattle.std.specs.Prelude.{◌≡◌, ◌+◌, ◌<◌, ◌^◌, None, Some, IsSome, length};
+ghost use Rattle.cap_c.specs.OneCommand.{TellsText};
 ghost use Rattle.cap_c.specs.Server.{IsAnswered, IsNew, RunsText};
 ghost use Rattle.cap_c.specs.Status.{room_status};
 ghost use Rattle.cap_c.specs.Outputs.{Writes};
@@ -42,6 +43,8 @@ pub extern "C" fn changecap_server_call(
     // The next state and the reply are those of the sequential server.
     ensures ran { IsAnswered result → (old : Server) × (new : Server) × (handle.old.value ≡ Some old)
         × (handle.new.value ≡ Some new) × RunsText old new text.now result }
+    // Exactly a text that is not one command is none, unless memory ran out, and the fault says why.
+    ensures text { TellsText text.now result fault.old fault.new }
     ensures kept { ¬ (IsAnswered result) → handle.new.value ≡ handle.old.value }
     // The history is full only where it is.
     ensures full { (old : Server) → handle.old.value ≡ Some old → result ≡ FULL →

@@ -1,5 +1,6 @@
--- The name of a fault's kind.
-use Rattle.std.specs.Prelude.{ℕ, List, codes}
+-- The text of a fault, and the name of its kind.
+use Rattle.std.specs.Prelude.{ℕ, List, ◌++◌, codes, decimal}
+use Rattle.cap_codec.specs.declared.fault.BlobFault.{BlobFault}
 use Rattle.cap_codec.specs.declared.fault.FaultKind.{FaultKind}
 use Rattle.cap_codec.specs.declared.fault.FaultKind.TheVariants.{Truncated, BadHeader, BadVarint, BadName}
 use Rattle.cap_codec.specs.declared.fault.FaultKind.TheVariants.{BadOp, BadField, Real, BadText, BadRecord}
@@ -17,3 +18,7 @@ kind_name Real = codes "D7 Real"
 kind_name BadText = codes "D8 BadText"
 kind_name BadRecord = codes "D9 BadRecord"
 kind_name Mixed = codes "D10 Mixed"
+
+-- the name of its kind, and its offset
+abbrev pub fault_text : BlobFault → List ℕ
+fault_text fault = kind_name fault.kind ++ (codes " at " ++ decimal fault.at)

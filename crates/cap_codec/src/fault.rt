@@ -55,6 +55,11 @@ impl FaultKind {
 }
 
 impl fmt::Display for FaultKind {
+    ghost use Rattle.std.specs.Prelude.{Some};
+    ghost use Rattle.cap_codec.specs.FaultName.{kind_name};
+
+    ghost output = { λ kind. Some (kind_name kind) };
+
     fn fmt<W: fmt::Write>(&self, f: &mut fmt::Formatter<W>) -> fmt::Result {
         f.write_str(self.name())
     }
@@ -70,6 +75,11 @@ pub struct BlobFault {
 }
 
 impl fmt::Display for BlobFault {
+    ghost use Rattle.std.specs.Prelude.{Some};
+    ghost use Rattle.cap_codec.specs.FaultName.{fault_text};
+
+    ghost output = { λ fault. Some (fault_text fault) };
+
     fn fmt<W: fmt::Write>(&self, f: &mut fmt::Formatter<W>) -> fmt::Result {
         write!(f, "{} at {}", self.kind, self.at)
     }

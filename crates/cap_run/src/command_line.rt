@@ -2,7 +2,7 @@
 ghost use Rattle.std.specs.Prelude.{IfOk};
 ghost use Rattle.cap_run.specs.Options.{IsInRange};
 
-use crate::{Concatenation, Conversion, Encoding, Form, Options, OptionsFault, THREADS_MAX};
+use crate::{Concatenation, Conversion, Encoding, Form, Options, OptionsFault, Pace, THREADS_MAX};
 use cap_blob::Target;
 use cap_codec::KeyFlags;
 use clap::builder::ValueParser;
@@ -41,7 +41,8 @@ BadField, D7 Real, D8 BadText, D9 BadRecord and D10 Mixed are of the bytes of a 
 command, as E5 Duplicate; the refusal is its reply, and the next command runs.
 
 The exit status is 0 where the input was run or printed, 1 where it is refused, 2 where the command line
-is, and 3 where memory ran out or a read or a write failed.";
+is, and 3 where memory ran out or a read or a write failed. With -v a line on standard error then says what
+failed.";
 
 const RUN_ABOUT: &str = "Run the workload on standard input and print the reply to each command";
 
@@ -71,6 +72,10 @@ const KEY_FLAGS_HELP: &str =
 static KEY_FLAGS: [&str; 2] = ["places", "ones"];
 
 const THREADS_HELP: &str = "How many workers the lines that begin with @K belong to, from 1 to 63";
+
+const IN_TURN_HELP: &str = "Let workers call in the order of the lines, one after the other";
+
+const VERBOSE_HELP: &str = "Say on standard error what failed where the exit status is 3";
 
 const LANGUAGE: &str =
     "A workload has one command a line. Empty lines and lines that begin with # are ignored.
@@ -108,7 +113,8 @@ indirect. REF is key(V,..), or loose N for the row without a key that has the nu
 not F, and(F,..) or or(F,..).
 
 A line may begin with @K, K from 0 to 63, and then belongs to worker K mod N:
-@1 commit insert t (2,'y'). Replies are printed in the order of the lines.
+@1 commit insert t (2,'y'). Workers do not wait for each other, or with --in-turn each line for those
+before it. Replies are printed in the order of the lines.
 
 The whole input is read first. Nothing runs before its end, or where one of its lines is refused.";
 
@@ -168,6 +174,7 @@ fn command_line<'a>(alloc: Global) -> Result<Command<'a>, AllocError> {
         .after_help(EXAMPLE)
         .no_binary_name(true)
         .bin_name("changecap")?
+        .arg(verbose(alloc))?
         .subcommand_required(true)
         .subcommand(run_command(alloc)?)?
         .subcommand(shell_command(alloc))?
@@ -187,7 +194,8 @@ fn run_command<'a>(alloc: Global) -> Result<Command<'a>, AllocError> {
     Command::new(alloc, "run")
         .about(RUN_ABOUT)
         .after_help(LANGUAGE)
-        .arg(threads)
+        .arg(threads)?
+        .arg(flag(alloc, "in-turn", IN_TURN_HELP))
 }
 
 fn shell_command<'a>(alloc: Global) -> Command<'a> {
@@ -228,6 +236,11 @@ fn binary<'a>(alloc: Global, help: &'a str) -> Arg<'a> {
     flag(alloc, "binary", help)
 }
 
+// It stands before or behind the command.
+fn verbose<'a>(alloc: Global) -> Arg<'a> {
+    flag(alloc, "verbose", VERBOSE_HELP).short('v').global(true)
+}
+
 fn flag<'a>(alloc: Global, word: &'a str, help: &'a str) -> Arg<'a> {
     Arg::new(alloc, word)
         .long(word)
@@ -237,11 +250,13 @@ fn flag<'a>(alloc: Global, word: &'a str, help: &'a str) -> Arg<'a> {
 
 /// Parses the words after the program's name.
 ///
-/// `run` runs a workload, on N threads with `--threads N`, N from 1 to 63, and otherwise on one. `shell` runs
-/// each line as it is read. `show` shows a blob as text, with `--sql` as SQL, or with `--json` as JSON.
-/// `invert` and `patchset` convert one, and `concat` concatenates several, with key flags by places, or by
-/// ones with `--key-flags ones`. A blob is given and written as hex digits, or with `--binary` as its bytes.
-/// Other words are refused with a message. `--help` and `--version` give their text as a fault of status 0.
+/// `run` runs a workload, on N threads with `--threads N`, N from 1 to 63, and otherwise on one; with
+/// `--in-turn` its lines are called one after the other. `shell` runs each line as it is read. `show` shows a
+/// blob as text, with `--sql` as SQL, or with `--json` as JSON. `invert` and `patchset` convert one, and
+/// `concat` concatenates several, with key flags by places, or by ones with `--key-flags ones`. A blob is
+/// given and written as hex digits, or with `--binary` as its bytes. `-v` or `--verbose` among the words
+/// changes nothing of that. Other words are refused with a message. `--help` and `--version` give their text
+/// as a fault of status 0.
 pub fn options(alloc: Global, words: &[String]) -> Result<Options, OptionsFault>
     // The number of threads is in range.
     ensures range { IfOk result IsInRange }
@@ -263,6 +278,7 @@ fn asked_for(matches: &ArgMatches) -> Options
             // The parser refuses all others.
             Options::Run {
                 threads: threads.clamp(1, THREADS_MAX),
+                pace: pace(run),
             }
         }
         Some(("shell", _)) => Options::Shell,
@@ -281,6 +297,14 @@ fn asked_for(matches: &ArgMatches) -> Options
             form: Form::Text,
             encoding: Encoding::Hex,
         },
+    }
+}
+
+fn pace(matches: &ArgMatches) -> Pace {
+    if matches.get_flag("in-turn") {
+        Pace::InTurn
+    } else {
+        Pace::Free
     }
 }
 

@@ -2,7 +2,8 @@
 ghost use Rattle.std.specs.Prelude.{◌≡◌};
 ghost use Rattle.cap_run.specs.Options.{options_status};
 
-use crate::{Concatenation, Conversion, Encoding, Form};
+use crate::{Concatenation, Conversion, Encoding, Form, Pace};
+use thiserror::Error;
 
 /// What the program does.
 #[derive(Clone, Copy, Debug, PartialEq, Eq, Drop)]
@@ -11,6 +12,8 @@ pub enum Options {
     Run {
         /// The number of workers for the lines that begin with `@K`: 1 to 63.
         threads: u64,
+        /// Whether they wait for each other.
+        pace: Pace,
     },
     /// Run each line of standard input as it is read.
     Shell,
@@ -28,13 +31,16 @@ pub enum Options {
 }
 
 /// Why the program ends without a run.
-#[derive(Debug, Drop)]
+#[derive(Debug, Drop, Error)]
 pub enum OptionsFault {
     /// The words are refused, with this message.
+    #[error("{0}")]
     Refused(String),
     /// The words ask for this help or version text.
+    #[error("{0}")]
     Help(String),
     /// Out of memory.
+    #[error("out of memory")]
     OutOfMemory,
 }
 

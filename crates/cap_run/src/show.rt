@@ -1,6 +1,5 @@
 //! Shows a changeset or a patchset.
-ghost use Rattle.std.specs.Prelude.{◌≡◌, ◌⊎◌, Err, false, IfSome, IfErr, IfOk, IsErrAnd, OnOk};
-ghost use Rattle.std.specs.Io.KnownBytes.{Appends};
+ghost use Rattle.std.specs.Prelude.{◌≡◌, ◌⊎◌, Err, false, IfSome, IfErr, IfOk, IsErrAnd};
 ghost use Rattle.cap_value.specs.Memory.{ShowsUnlessMemory};
 ghost use Rattle.cap_run.specs.Conversion.{WritesOutput};
 ghost use Rattle.cap_run.specs.Reads.{EndsReads, ShowsUnlessUnread};
@@ -14,12 +13,9 @@ use crate::output::write_output;
 use crate::{Encoding, RunFault, RunOutput};
 use cap_codec::{Contents, Source, read_blob};
 use cap_show::{
-    changeset_json, patchset_json, write_changeset, write_changeset_sql, write_patchset,
-    write_patchset_sql,
+    changeset_json, changeset_sql, changeset_text, patchset_json, patchset_sql, patchset_text,
 };
 use cap_value::{AllocHandle, Fault, OutOfMemory};
-use std::io;
-use std::io::Write;
 
 /// How a blob is shown.
 #[derive(Clone, Copy, Debug, PartialEq, Eq, Drop)]
@@ -139,39 +135,17 @@ fn json_text<A: AllocHandle>(alloc: A, blob: &Contents<A>) -> Result<Vec<u8, A>,
 fn lines_text<A: AllocHandle>(alloc: A, blob: &Contents<A>) -> Result<Vec<u8, A>, OutOfMemory>
     ensures { IfOk result (λ text. text.items ≡ lines_text blob.now) }
 {
-    let mut text = Vec::new(alloc);
-    // A vector fails at a write only out of memory.
-    match write_lines(blob, &mut text) {
-        Ok(()) => Ok(text),
-        Err(_) => Err(OutOfMemory),
-    }
-}
-
-fn write_lines<A: AllocHandle, W: Write>(blob: &Contents<A>, output: &mut W) -> io::Result<()>
-    ensures { OnOk result (Appends (W.contents output.old) (W.contents output.new) (lines_text blob.now)) }
-{
     match blob {
-        Contents::Changes(changes) => write_changeset(changes, output),
-        Contents::Patches(patches) => write_patchset(patches, output),
+        Contents::Changes(changes) => changeset_text(alloc, changes),
+        Contents::Patches(patches) => patchset_text(alloc, patches),
     }
 }
 
 fn sql_text<A: AllocHandle>(alloc: A, blob: &Contents<A>) -> Result<Vec<u8, A>, OutOfMemory>
     ensures { IfOk result (λ text. text.items ≡ sql_text blob.now) }
 {
-    let mut text = Vec::new(alloc);
-    // A vector fails at a write only out of memory.
-    match write_sql(blob, &mut text) {
-        Ok(()) => Ok(text),
-        Err(_) => Err(OutOfMemory),
-    }
-}
-
-fn write_sql<A: AllocHandle, W: Write>(blob: &Contents<A>, output: &mut W) -> io::Result<()>
-    ensures { OnOk result (Appends (W.contents output.old) (W.contents output.new) (sql_text blob.now)) }
-{
     match blob {
-        Contents::Changes(changes) => write_changeset_sql(changes, output),
-        Contents::Patches(patches) => write_patchset_sql(patches, output),
+        Contents::Changes(changes) => changeset_sql(alloc, changes),
+        Contents::Patches(patches) => patchset_sql(alloc, patches),
     }
 }

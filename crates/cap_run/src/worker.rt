@@ -17,11 +17,11 @@ use std::sync::Wait;
 use std::sync::atomic::{AtomicU64, Ordering};
 use std::time::Duration;
 
-// For how many turns a worker lets earlier lines be called first, over a whole block.
-const TURNS_MAX: u32 = 1_000;
-
-// The microseconds of a turn in which no line is called.
+// The microseconds of a turn of waiting in which no line is called.
 const TURN_MICROS: u64 = 100;
+
+// For how many turns a worker waits at most before a line: an hour.
+const TURNS_MAX: u64 = 36_000_000;
 
 // More lines than any block has.
 const ALL_CALLED: u64 = 1 << 62;
@@ -35,6 +35,8 @@ pub(crate) struct Shared<'r, J: Naming, A: AllocHandle, T: Wait, G: Gate> {
     pub(crate) gate: &'r G,
     // The number of workers, without seat 0.
     pub(crate) threads: u64,
+    // Whether each line waits for the lines of its block before it.
+    pub(crate) is_in_turn: bool,
 }
 
 // A worker: its seat, and the outcome of its lines of a block.
@@ -90,10 +92,9 @@ pub(crate) fn answer_lines<J: Naming, A: AllocHandle, T: Wait, G: Gate>(
 {
     let number = worker.seat.number();
     let mut before = 0u64;
-    let mut turns = TURNS_MAX;
     for line in block {
         if seat_of(shared.threads, line.worker) == number {
-            turns = let_others_first(shared.rt, called, before, turns);
+            wait_for_turn(shared.rt, shared.is_in_turn, called, before);
             answer_own(shared, called, worker, line)?;
         }
         before = before.saturating_add(1);
@@ -101,20 +102,21 @@ pub(crate) fn answer_lines<J: Naming, A: AllocHandle, T: Wait, G: Gate>(
     Ok(())
 }
 
-// Waits until this many lines of the block were called, for at most these turns, and gives the number of
-// turns left. A turn sleeps, so that other workers run even where all processors are busy. So a short block
-// mostly prints the same in each run; no order is promised.
-fn let_others_first<T: Wait>(rt: &T, called: &AtomicU64, before: u64, turns: u32) -> u32 {
-    for spent in 0..turns {
+// Where lines are called in turn, waits until this many lines of the block were called. A turn sleeps, so
+// that other workers run even where all processors are busy.
+fn wait_for_turn<T: Wait>(rt: &T, is_in_turn: bool, called: &AtomicU64, before: u64) {
+    if !is_in_turn {
+        return;
+    }
+    for _ in 0..TURNS_MAX {
         let seen = called.load(Ordering::SeqCst);
         if seen >= before {
-            return turns - spent;
+            return;
         }
         // The sleep ends early where the lower half of the word changes.
         let low = (seen % (1 << 32)) as u32;
         called.park_timeout(rt, low, Duration::from_micros(TURN_MICROS));
     }
-    0
 }
 
 // Lets all workers go on where this one ended at a fault, as its other lines will not be called.

@@ -23,7 +23,7 @@ use crate::meeting::{each_meets_first, first_meets_each};
 use crate::output::{write_ending, write_long, write_pending};
 use crate::run::{parse_lines, read_text, run_outcome};
 use crate::worker::{Shared, Worker, call_line, seat_of};
-use crate::{Gate, RunFault, RunOutput};
+use crate::{Gate, Pace, RunFault, RunOutput};
 use cap_codec::Source;
 use cap_history::{Naming, Opened, Seat};
 use cap_script::{Line, Lines};
@@ -41,6 +41,9 @@ use std::thread::Threads;
 /// own seat, worker 0 from seat 1, so calls of different workers may overlap. The block ends when all workers
 /// have ended.
 ///
+/// With `Pace::Free` no worker waits for another one. With `Pace::InTurn` the lines of a block are called one
+/// after the other; what is promised is the same.
+///
 /// The whole text is parsed before anything runs. After a call without a reply its worker calls no further
 /// line. At the end of the block, or at once for seat 0, the replies to the lines before the first line
 /// without a reply are written, then the fault of that line, and the run ends. A worker whose thread cannot
@@ -55,7 +58,15 @@ pub fn run_workload<
     G: Gate,
     R: Source,
     W: RunOutput,
->(rt: &T, alloc: A, gate: &G, threads: u64, reader: &mut R, writer: &mut W) -> Result<(), RunFault>
+>(
+    rt: &T,
+    alloc: A,
+    gate: &G,
+    threads: u64,
+    pace: Pace,
+    reader: &mut R,
+    writer: &mut W,
+) -> Result<(), RunFault>
     requires threads { IsThreadCount threads }
     requires frees { Frees A.Allocator A.dealloc_token }
     // Exactly the input that is not UTF-8 is refused as such, where it is known what the reader gives.
@@ -95,7 +106,7 @@ pub fn run_workload<
     let text = read_text(alloc, reader)?;
     let mut lines = parse_lines(alloc, text.as_str())?;
     let opened = Opened::new();
-    serve_lines::<Brand, A, T, G, W>(rt, alloc, gate, threads, opened, &mut lines, writer)
+    serve_lines::<Brand, A, T, G, W>(rt, alloc, gate, threads, pace, opened, &mut lines, writer)
 }
 
 // Runs the lines on a new server, and writes their replies.
@@ -110,6 +121,7 @@ fn serve_lines<
     alloc: A,
     gate: &G,
     threads: u64,
+    pace: Pace,
     opened: Opened<A>,
     lines: &mut Lines<'_, A>,
     writer: &mut W,
@@ -141,6 +153,7 @@ fn serve_lines<
         server: &server,
         gate,
         threads,
+        is_in_turn: pace.is_in_turn(),
     };
     let (workers, outcome) = run_with_workers(&shared, lines, workers, writer);
     take_seats(workers, &mut back);

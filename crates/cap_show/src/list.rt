@@ -1,46 +1,81 @@
 //! Prints changesets and patchsets.
-ghost use Rattle.std.specs.Prelude.{◌≡◌, ℕ, List, OnOk};
+ghost use Rattle.std.specs.Prelude.{◌≡◌, ℕ, List, IfErr, IfOk, OnOk};
 ghost use Rattle.std.specs.Io.KnownBytes.{Appends};
 ghost use Rattle.std.specs.List.{flat_map};
+ghost use Rattle.cap_codec.specs.Stream.{EndsWrites, WritesFront};
 ghost use Rattle.cap_show.specs.ShowText as spec;
 
+use crate::output::write_whole;
 use crate::text::{DefinedText, RecordText, SchemaText};
 use cap_changes::{ChangeList, Entry, GroupList, Patch, PatchList, RowChange, TableGroup};
-use cap_value::AllocHandle;
+use cap_codec::{Sink, WriteFault};
+use cap_value::{AllocHandle, OutOfMemory};
 use std::io;
 use std::io::Write;
 
 // The line of a blob without groups.
 const EMPTY: &[u8] = b"empty\n";
 
-/// Writes a changeset: a line for it, for each group and for each change, or `empty` where it has no group.
+/// A changeset as text: a line for it, for each group and for each change, or `empty` where it has no group.
 ///
 /// The line of a change has its kind, `direct` or `indirect`, and its fields in parentheses, with `-` for
-/// each undefined field. The error is the writer's.
-pub fn write_changeset<A: AllocHandle, W: Write>(
+/// each undefined field.
+pub fn changeset_text<A: AllocHandle>(
+    alloc: A,
     changes: &ChangeList<A>,
-    output: &mut W,
-) -> io::Result<()>
-    // Where it is known what the writer holds, it is followed by the text of the list.
-    ensures text { OnOk result (Appends (W.contents output.old) (W.contents output.new)
-        (spec.changeset_text changes.now)) }
+) -> Result<Vec<u8, A>, OutOfMemory>
+    ensures { IfOk result (λ text. text.items ≡ spec.changeset_text changes.now) }
 {
-    write_list::<RowChange<A>, A, W>("changeset", changes, output)
+    list_text::<RowChange<A>, A>(alloc, "changeset", changes)
 }
 
-/// Writes a patchset: a line for it, for each group and for each change, or `empty` where it has no group.
-///
-/// As for a changeset, but an update has only its key and new values, and a delete only its key. The error is
-/// the writer's.
-pub fn write_patchset<A: AllocHandle, W: Write>(
+/// A patchset as text, as a changeset is, but an update has only its key and new values, and a delete only
+/// its key.
+pub fn patchset_text<A: AllocHandle>(
+    alloc: A,
+    patches: &PatchList<A>,
+) -> Result<Vec<u8, A>, OutOfMemory>
+    ensures { IfOk result (λ text. text.items ≡ spec.patchset_text patches.now) }
+{
+    list_text::<Patch<A>, A>(alloc, "patchset", patches)
+}
+
+/// Writes the text of a changeset. All of it is made before any of it is written.
+pub fn write_changeset<A: AllocHandle, W: Sink>(
+    alloc: A,
+    changes: &ChangeList<A>,
+    output: &mut W,
+) -> Result<(), WriteFault>
+    // Where it is known what the writer holds, it is followed by the text of the list.
+    ensures ok { OnOk result (Appends (W.contents output.old) (W.contents output.new)
+        (spec.changeset_text changes.now)) }
+    // A beginning of the text is written where a write failed, and nothing where memory was out.
+    ensures err { IfErr result (λ fault. WritesFront fault (W.contents output.old) (W.contents output.new)
+        (spec.changeset_text changes.now)) }
+    // Which answer comes when, as far as the outcomes of the writes are known.
+    ensures reported { EndsWrites W.took W.failed result output.old output.new }
+{
+    let text = changeset_text(alloc, changes).map_err(|_| WriteFault::Memory)?;
+    write_whole(output, text.as_slice())
+}
+
+/// Writes the text of a patchset. All of it is made before any of it is written.
+pub fn write_patchset<A: AllocHandle, W: Sink>(
+    alloc: A,
     patches: &PatchList<A>,
     output: &mut W,
-) -> io::Result<()>
+) -> Result<(), WriteFault>
     // Where it is known what the writer holds, it is followed by the text of the list.
-    ensures text { OnOk result (Appends (W.contents output.old) (W.contents output.new)
+    ensures ok { OnOk result (Appends (W.contents output.old) (W.contents output.new)
         (spec.patchset_text patches.now)) }
+    // A beginning of the text is written where a write failed, and nothing where memory was out.
+    ensures err { IfErr result (λ fault. WritesFront fault (W.contents output.old) (W.contents output.new)
+        (spec.patchset_text patches.now)) }
+    // Which answer comes when, as far as the outcomes of the writes are known.
+    ensures reported { EndsWrites W.took W.failed result output.old output.new }
 {
-    write_list::<Patch<A>, A, W>("patchset", patches, output)
+    let text = patchset_text(alloc, patches).map_err(|_| WriteFault::Memory)?;
+    write_whole(output, text.as_slice())
 }
 
 // What a group holds, as a line.
@@ -127,6 +162,21 @@ fn flag_text(indirect: bool) -> &'static str
     ensures { result.now ≡ spec.flag_text indirect }
 {
     if indirect { "indirect" } else { "direct" }
+}
+
+fn list_text<C: TextEntry, A: AllocHandle>(
+    alloc: A,
+    kind: &str,
+    list: &GroupList<C, A>,
+) -> Result<Vec<u8, A>, OutOfMemory>
+    ensures { IfOk result (λ text. text.items ≡ spec.list_text C.text kind.now list.now) }
+{
+    let mut text = Vec::new(alloc);
+    // A vector fails at a write only out of memory.
+    match write_list(kind, list, &mut text) {
+        Ok(()) => Ok(text),
+        Err(_) => Err(OutOfMemory),
+    }
 }
 
 // Writes the line of the list's kind and its groups, or `empty` where it has no group.

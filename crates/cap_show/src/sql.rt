@@ -2,48 +2,86 @@
 ghost use Rattle.std.specs.Fmt.{WritesOnOk};
 ghost use Rattle.std.specs.Io.KnownBytes.{Appends};
 ghost use Rattle.std.specs.List.{flat_map};
-ghost use Rattle.std.specs.Prelude.{◌≡◌, ◌++◌, Bool, List, OnOk, false, option_copied, slice_get, ℕ};
+ghost use Rattle.std.specs.Prelude.{◌≡◌, ◌++◌, Bool, List, IfErr, IfOk, OnOk, false, option_copied, ℕ};
+ghost use Rattle.std.specs.Prelude.{slice_get};
+ghost use Rattle.cap_codec.specs.Stream.{EndsWrites, WritesFront};
 ghost use Rattle.cap_show.specs.Code.DefinedFields.{is_first_after, next_text};
 ghost use Rattle.cap_show.specs.Code.Equations.{asked_value, next_equation, separator_before};
 ghost use Rattle.cap_show.specs.Code.Equations as code;
 ghost use Rattle.cap_show.specs.Sql as spec;
 
+use crate::output::write_whole;
 use crate::text::{write_blob, write_comma, write_quoted};
 use cap_changes::{
     ChangeList, Entry, FieldRecord, GroupList, Patch, PatchList, RowChange, TableGroup,
 };
+use cap_codec::{Sink, WriteFault};
 use cap_row::Schema;
-use cap_value::{AllocHandle, Name, Value};
+use cap_value::{AllocHandle, Name, OutOfMemory, Value};
 use std::fmt::{Display, Formatter};
 use std::io::Write;
 use std::{fmt, io};
 
-/// Writes a changeset as SQL, as SQLite's program `changeset` does: a statement for each change, between
-/// `BEGIN` and `COMMIT`. Columns are `c0`, `c1` and so on.
+/// A changeset as SQL, as SQLite's program `changeset` does it: a statement for each change, between `BEGIN`
+/// and `COMMIT`. Columns are `c0`, `c1` and so on.
 ///
 /// An update sets the modified fields, and has no statement where there is none. Updates and deletes name
-/// their row by its key alone. The error is the writer's.
-pub fn write_changeset_sql<A: AllocHandle, W: Write>(
+/// their row by its key alone.
+pub fn changeset_sql<A: AllocHandle>(
+    alloc: A,
     changes: &ChangeList<A>,
-    output: &mut W,
-) -> io::Result<()>
-    // Where it is known what the writer holds, it is followed by the statements of the list.
-    ensures sql { OnOk result (Appends (W.contents output.old) (W.contents output.new)
-        (spec.changeset_sql changes.now)) }
+) -> Result<Vec<u8, A>, OutOfMemory>
+    ensures { IfOk result (λ sql. sql.items ≡ spec.changeset_sql changes.now) }
 {
-    write_list::<RowChange<A>, A, W>(changes, output)
+    list_sql::<RowChange<A>, A>(alloc, changes)
 }
 
-/// Writes a patchset as SQL, as a changeset is. The error is the writer's.
-pub fn write_patchset_sql<A: AllocHandle, W: Write>(
+/// A patchset as SQL, as a changeset is.
+pub fn patchset_sql<A: AllocHandle>(
+    alloc: A,
+    patches: &PatchList<A>,
+) -> Result<Vec<u8, A>, OutOfMemory>
+    ensures { IfOk result (λ sql. sql.items ≡ spec.patchset_sql patches.now) }
+{
+    list_sql::<Patch<A>, A>(alloc, patches)
+}
+
+/// Writes the SQL of a changeset. All of it is made before any of it is written.
+pub fn write_changeset_sql<A: AllocHandle, W: Sink>(
+    alloc: A,
+    changes: &ChangeList<A>,
+    output: &mut W,
+) -> Result<(), WriteFault>
+    // Where it is known what the writer holds, it is followed by the statements of the list.
+    ensures ok { OnOk result (Appends (W.contents output.old) (W.contents output.new)
+        (spec.changeset_sql changes.now)) }
+    // A beginning of the statements is written where a write failed, and nothing where memory was out.
+    ensures err { IfErr result (λ fault. WritesFront fault (W.contents output.old) (W.contents output.new)
+        (spec.changeset_sql changes.now)) }
+    // Which answer comes when, as far as the outcomes of the writes are known.
+    ensures reported { EndsWrites W.took W.failed result output.old output.new }
+{
+    let sql = changeset_sql(alloc, changes).map_err(|_| WriteFault::Memory)?;
+    write_whole(output, sql.as_slice())
+}
+
+/// Writes the SQL of a patchset. All of it is made before any of it is written.
+pub fn write_patchset_sql<A: AllocHandle, W: Sink>(
+    alloc: A,
     patches: &PatchList<A>,
     output: &mut W,
-) -> io::Result<()>
+) -> Result<(), WriteFault>
     // Where it is known what the writer holds, it is followed by the statements of the list.
-    ensures sql { OnOk result (Appends (W.contents output.old) (W.contents output.new)
+    ensures ok { OnOk result (Appends (W.contents output.old) (W.contents output.new)
         (spec.patchset_sql patches.now)) }
+    // A beginning of the statements is written where a write failed, and nothing where memory was out.
+    ensures err { IfErr result (λ fault. WritesFront fault (W.contents output.old) (W.contents output.new)
+        (spec.patchset_sql patches.now)) }
+    // Which answer comes when, as far as the outcomes of the writes are known.
+    ensures reported { EndsWrites W.took W.failed result output.old output.new }
 {
-    write_list::<Patch<A>, A, W>(patches, output)
+    let sql = patchset_sql(alloc, patches).map_err(|_| WriteFault::Memory)?;
+    write_whole(output, sql.as_slice())
 }
 
 // What a list holds, as a statement.
@@ -97,6 +135,20 @@ impl<A: AllocHandle> SqlEntry<A> for Patch<A> {
             Patch::Update { new, .. } => write_update(table, schema, new, new, output),
             Patch::Delete { key, .. } => write_delete(table, schema, key, output),
         }
+    }
+}
+
+fn list_sql<C: SqlEntry<A>, A: AllocHandle>(
+    alloc: A,
+    list: &GroupList<C, A>,
+) -> Result<Vec<u8, A>, OutOfMemory>
+    ensures { IfOk result (λ sql. sql.items ≡ spec.list_sql C.sql list.now) }
+{
+    let mut sql = Vec::new(alloc);
+    // A vector fails at a write only out of memory.
+    match write_list(list, &mut sql) {
+        Ok(()) => Ok(sql),
+        Err(_) => Err(OutOfMemory),
     }
 }
 

@@ -1,5 +1,16 @@
-//! Tests of the command line.
+//! Tests of the command line, of shells, of blobs that are shown, converted or concatenated in refused
+//! memory, and of streams that fail.
 #![tactic(auto)]
 
 #[cfg(test)]
+mod memory;
+#[cfg(test)]
 mod options;
+#[cfg(test)]
+mod rows;
+#[cfg(test)]
+mod shell;
+#[cfg(test)]
+mod streams;
+#[cfg(test)]
+mod watched;

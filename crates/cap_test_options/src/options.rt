@@ -1,7 +1,7 @@
 //! The words of a command line: what they ask for, and those that are refused.
 use cap_blob::Target;
 use cap_codec::KeyFlags;
-use cap_run::{Concatenation, Conversion, Encoding, Form, Options, OptionsFault, options};
+use cap_run::{Concatenation, Conversion, Encoding, Form, Options, OptionsFault, Pace, options};
 use std::alloc::{AllocError, Global};
 use std::test::Fail;
 
@@ -14,77 +14,138 @@ fn words_of(alloc: Global, line: &str) -> Result<Vec<String>, AllocError> {
     Ok(words)
 }
 
-fn shown(form: Form, encoding: Encoding) -> Options {
-    Options::Show { form, encoding }
+// What a line of words asks for. None where it is refused.
+fn asked(alloc: Global, line: &str) -> Option<Options> {
+    let words = words_of(alloc, line).ok()?;
+    options(alloc, words.as_slice()).ok()
 }
 
-fn conversion(target: Target, key_flags: KeyFlags, encoding: Encoding) -> Options {
-    Options::Convert(Conversion {
-        target,
-        key_flags,
-        encoding,
-    })
+fn asks_for_run(alloc: Global, line: &str, threads: u64, pace: Pace) -> bool {
+    asked(alloc, line) == Some(Options::Run { threads, pace })
+}
+
+fn asks_to_show(alloc: Global, line: &str, form: Form, encoding: Encoding) -> bool {
+    asked(alloc, line) == Some(Options::Show { form, encoding })
+}
+
+fn asks_to_convert(alloc: Global, line: &str, conversion: Conversion) -> bool {
+    asked(alloc, line) == Some(Options::Convert(conversion))
+}
+
+fn asks_to_join(alloc: Global, line: &str, concatenation: Concatenation) -> bool {
+    asked(alloc, line) == Some(Options::Concat(concatenation))
 }
 
 #[test]
 fn what_is_asked_for(rt: HostRuntime) -> Result<(), Fail> {
-    let table = [
-        ("run", Options::Run { threads: 1 }),
-        ("run --threads 1", Options::Run { threads: 1 }),
-        ("run --threads 4", Options::Run { threads: 4 }),
-        ("run --threads=63", Options::Run { threads: 63 }),
-        ("shell", Options::Shell),
-        ("show", shown(Form::Text, Encoding::Hex)),
-        ("show --binary", shown(Form::Text, Encoding::Binary)),
-        ("show --sql", shown(Form::Sql, Encoding::Hex)),
-        ("show --json --binary", shown(Form::Json, Encoding::Binary)),
+    let runs = [
+        ("run", 1, Pace::Free),
+        ("run --threads 1", 1, Pace::Free),
+        ("run --threads 4", 4, Pace::Free),
+        ("run --threads=63", 63, Pace::Free),
+        ("run --in-turn", 1, Pace::InTurn),
+        ("run --in-turn --threads 4", 4, Pace::InTurn),
+        ("run --threads 4 --in-turn -v", 4, Pace::InTurn),
+        ("-v run --threads 4", 4, Pace::Free),
+        ("--verbose run", 1, Pace::Free),
     ];
-    for (line, asked) in table {
-        let words = words_of(rt.alloc(), line)?;
-        let found = options(rt.alloc(), words.as_slice()).map_err(|_| "refused")?;
-        assert_eq!(rt; found, asked, "{line}");
+    for (line, threads, pace) in runs {
+        assert!(rt; asks_for_run(rt.alloc(), line, threads, pace), "{line}");
+    }
+    assert!(rt; asked(rt.alloc(), "shell") == Some(Options::Shell));
+    assert!(rt; asked(rt.alloc(), "shell --verbose") == Some(Options::Shell));
+    let shows = [
+        ("show", Form::Text, Encoding::Hex),
+        ("show --binary", Form::Text, Encoding::Binary),
+        ("show --sql", Form::Sql, Encoding::Hex),
+        ("show --json --binary", Form::Json, Encoding::Binary),
+        ("show -v --json", Form::Json, Encoding::Hex),
+    ];
+    for (line, form, encoding) in shows {
+        assert!(rt; asks_to_show(rt.alloc(), line, form, encoding), "{line}");
     }
     Ok(())
 }
 
 // The words behind `invert`, `patchset` and `concat`.
+const CONVERSIONS: [(&str, KeyFlags, Encoding); 6] = [
+    ("", KeyFlags::Places, Encoding::Hex),
+    ("--binary", KeyFlags::Places, Encoding::Binary),
+    ("--key-flags places", KeyFlags::Places, Encoding::Hex),
+    ("--key-flags ones", KeyFlags::Ones, Encoding::Hex),
+    (
+        "--binary --key-flags=ones",
+        KeyFlags::Ones,
+        Encoding::Binary,
+    ),
+    (
+        "--key-flags ones --binary",
+        KeyFlags::Ones,
+        Encoding::Binary,
+    ),
+];
+
 #[test]
 fn what_is_converted(rt: HostRuntime) -> Result<(), Fail> {
-    let table = [
-        ("", KeyFlags::Places, Encoding::Hex),
-        ("--binary", KeyFlags::Places, Encoding::Binary),
-        ("--key-flags places", KeyFlags::Places, Encoding::Hex),
-        ("--key-flags ones", KeyFlags::Ones, Encoding::Hex),
-        (
-            "--binary --key-flags=ones",
-            KeyFlags::Ones,
-            Encoding::Binary,
-        ),
-        (
-            "--key-flags ones --binary",
-            KeyFlags::Ones,
-            Encoding::Binary,
-        ),
-    ];
-    for (word, target) in [("invert", Target::Inverse), ("patchset", Target::Patchset)] {
-        for (line, key_flags, encoding) in table {
-            let line = format!(in rt.alloc(); "{word} {line}")?;
-            let words = words_of(rt.alloc(), line.as_str())?;
-            let found = options(rt.alloc(), words.as_slice()).map_err(|_| "refused")?;
-            assert_eq!(rt; found, conversion(target, key_flags, encoding), "{line}");
+    for (words, key_flags, encoding) in CONVERSIONS {
+        for (word, target) in [("invert", Target::Inverse), ("patchset", Target::Patchset)] {
+            let line = format!(in rt.alloc(); "{word} {words}")?;
+            let conversion = Conversion {
+                target,
+                key_flags,
+                encoding,
+            };
+            assert!(rt;
+                asks_to_convert(rt.alloc(), line.as_str(), conversion),
+                "{line}"
+            );
         }
-    }
-    for (line, key_flags, encoding) in table {
-        let line = format!(in rt.alloc(); "concat {line}")?;
-        let words = words_of(rt.alloc(), line.as_str())?;
-        let found = options(rt.alloc(), words.as_slice()).map_err(|_| "refused")?;
-        let asked = Options::Concat(Concatenation {
+        let line = format!(in rt.alloc(); "concat {words}")?;
+        let concatenation = Concatenation {
             key_flags,
             encoding,
-        });
-        assert_eq!(rt; found, asked, "{line}");
+        };
+        assert!(rt;
+            asks_to_join(rt.alloc(), line.as_str(), concatenation),
+            "{line}"
+        );
     }
     Ok(())
+}
+
+// The fault of a line of words. None where it is accepted.
+fn fault(alloc: Global, line: &str) -> Option<OptionsFault> {
+    let words = words_of(alloc, line).ok()?;
+    options(alloc, words.as_slice()).err()
+}
+
+// Whether the words are refused with a message that names the help.
+fn is_refused(alloc: Global, line: &str) -> bool {
+    match fault(alloc, line) {
+        Some(OptionsFault::Refused(text)) => text.as_str().contains("--help"),
+        _ => false,
+    }
+}
+
+// Whether the words ask for a text that has this in it.
+fn is_explained(alloc: Global, line: &str, part: &str) -> bool {
+    match fault(alloc, line) {
+        Some(OptionsFault::Help(text)) => text.as_str().contains(part),
+        _ => false,
+    }
+}
+
+// The status of the fault of a line of words, and whether what it displays is its text.
+fn is_displayed(alloc: Global, line: &str, status: u8) -> Result<bool, AllocError> {
+    let Some(fault) = fault(alloc, line) else {
+        return Ok(false);
+    };
+    let shown = format!(in alloc; "{fault}")?;
+    let is_text = match &fault {
+        OptionsFault::Refused(text) | OptionsFault::Help(text) => *text == shown,
+        OptionsFault::OutOfMemory => false,
+    };
+    Ok(is_text && fault.status() == status)
 }
 
 #[test]
@@ -99,6 +160,12 @@ fn what_is_refused(rt: HostRuntime) -> Result<(), Fail> {
         "run --threads two",
         "run --threads",
         "run --threads 2 --threads 3",
+        "run --in-turn=yes",
+        "run --in-turn 2",
+        "shell --in-turn",
+        "run -v=yes",
+        "run -vv",
+        "verbose",
         "run file",
         "shell file",
         "shell --threads 2",
@@ -116,25 +183,21 @@ fn what_is_refused(rt: HostRuntime) -> Result<(), Fail> {
         "concat --key-flags Places",
     ];
     for line in lines {
-        let words = words_of(rt.alloc(), line)?;
-        let fault = options(rt.alloc(), words.as_slice())
-            .err()
-            .ok_or("accepted")?;
-        assert_eq!(rt; fault.status(), 2, "{line}");
-        let OptionsFault::Refused(text) = &fault else {
-            return Err("no text".into());
-        };
-        assert!(rt; text.as_str().contains("--help"), "{line}");
+        assert!(rt; is_refused(rt.alloc(), line), "{line}");
     }
+    assert!(rt; is_displayed(rt.alloc(), "frob", 2)?);
     Ok(())
 }
 
 #[test]
 fn help(rt: HostRuntime) -> Result<(), Fail> {
     let table = [
-        ("--help", "Usage: changecap <COMMAND>"),
+        ("--help", "Usage: changecap [OPTIONS] <COMMAND>"),
         ("--version", "changecap 0.1.0\n"),
         ("run --help", "--threads <N>"),
+        ("run --help", "--in-turn"),
+        ("run --help", "-v, --verbose"),
+        ("show --help", "-v, --verbose"),
         ("run --help", "commit OP ; OP .."),
         ("help run", "commit OP ; OP .."),
         ("shell --help", "as it is read"),
@@ -151,15 +214,13 @@ fn help(rt: HostRuntime) -> Result<(), Fail> {
         ("concat --help", "| changecap concat"),
     ];
     for (line, part) in table {
-        let words = words_of(rt.alloc(), line)?;
-        let fault = options(rt.alloc(), words.as_slice())
-            .err()
-            .ok_or("accepted")?;
-        assert_eq!(rt; fault.status(), 0, "{line}");
-        let OptionsFault::Help(text) = &fault else {
-            return Err("no text".into());
-        };
-        assert!(rt; text.as_str().contains(part), "{line}");
+        assert!(rt; is_explained(rt.alloc(), line, part), "{line}");
     }
+    assert!(rt; is_displayed(rt.alloc(), "--help", 0)?);
+    assert!(rt; is_displayed(rt.alloc(), "--version", 0)?);
+    assert!(rt; OptionsFault::OutOfMemory.status() == 3);
+    assert!(rt;
+        format!(in rt.alloc(); "{}", OptionsFault::OutOfMemory)?.as_str() == "out of memory"
+    );
     Ok(())
 }

@@ -2,8 +2,9 @@
 
 ghost use Rattle.std.specs.Prelude.{◌≤◌};
 
-use cap_run::{Gate, NoGate, RunFault, run_workload};
-use std::alloc::{AllocError, Global};
+use crate::rows::ROWS;
+use cap_run::{Gate, NoGate, Pace, RunFault, run_workload};
+use std::alloc::Global;
 use std::sync::Wait;
 use std::sync::atomic::{AtomicU64, Ordering};
 use std::test::Fail;
@@ -12,53 +13,122 @@ use std::thread::{Threads, yield_now};
 // The most turns for which a gate waits.
 const TURNS_MAX: u64 = 200_000_000;
 
-// A table that a session has attached.
-const BEFORE: &str = "create t kv\nsession\nattach 1 t\n";
+const TWO: &str =
+    "create t kv\nsession\nattach 1 t\n@0 commit insert t (1,'a')\n@1 commit insert t (2,'b')\nchangeset 1";
 
-const BEFORE_REPLIES: &str = "ok version 1\nsession 1\nok\n";
+const TWO_CHANGESET: &str =
+    "changeset 54020100740012000100000000000000010301611200010000000000000002030162\n";
+
+const FOUR: &str =
+    "create t kv\nsession\nattach 1 t\n@0 commit insert t (0,'v')\n@1 commit insert t (1,'v')\n\n# between\n@2 commit insert t (2,'v')\n@3 commit insert t (3,'v')\nchangeset 1\n";
+
+const FOUR_CHANGESET: &str =
+    "changeset 5402010074001200010000000000000000030176120001000000000000000103017612000100000000000000020301761200010000000000000003030176\n";
 
 const EIGHT: &str =
     "create t kv\nsession\nattach 1 t\n@0 commit insert t (0,'v')\n@1 commit insert t (1,'v')\n@2 commit insert t (2,'v')\n@3 commit insert t (3,'v')\n@4 commit insert t (4,'v')\n@5 commit insert t (5,'v')\n@6 commit insert t (6,'v')\n@7 commit insert t (7,'v')\nchangeset 1\n";
 
 const EIGHT_CHANGESET: &str =
-    "changeset 54020100740012000100000000000000000301761200010000000000000001030176120001000000000000000203017612000100000000000000030301761200010000000000000004030176120001000000000000000503017612000100000000000000060301761200010000000000000007030176";
+    "changeset 54020100740012000100000000000000000301761200010000000000000001030176120001000000000000000203017612000100000000000000030301761200010000000000000004030176120001000000000000000503017612000100000000000000060301761200010000000000000007030176\n";
 
-#[derive(Drop)]
-struct Ran {
-    outcome: Result<(), RunFault>,
-    written: Vec<u8>,
-}
+// A table that a session has attached.
+const BEFORE_REPLIES: &str = "ok version 1\nsession 1\nok\n";
 
+// The replies to commits, by their places.
+const COMMIT_REPLIES: [&str; 8] = [
+    "ok version 2\n",
+    "ok version 3\n",
+    "ok version 4\n",
+    "ok version 5\n",
+    "ok version 6\n",
+    "ok version 7\n",
+    "ok version 8\n",
+    "ok version 9\n",
+];
+
+// Runs a workload, which writes into `written`.
 fn run<T: Threads + Wait + Sync, G: Gate>(
     rt: &T,
     alloc: Global,
     gate: &G,
     threads: u64,
+    pace: Pace,
     text: &str,
-) -> Ran
+    written: &mut Vec<u8>,
+) -> Result<(), RunFault>
+    requires { (1 ≤ threads) × (threads ≤ 63) }
+{
+    let mut reader = text.as_bytes();
+    let outcome = run_workload(rt, alloc, gate, threads, pace, &mut reader, written);
+    outcome
+}
+
+// Whether the text has each of the first replies to commits, behind those before, one line each, and ends
+// with this.
+fn has_commits(text: &str, count: usize, last: &str) -> bool {
+    for reply in COMMIT_REPLIES.iter().take(count) {
+        if !text.contains(*reply) {
+            return false;
+        }
+    }
+    text.starts_with(BEFORE_REPLIES)
+        && text.ends_with(last)
+        && text.lines().count() == count.saturating_add(4)
+}
+
+// Whether the run ends well and writes the replies to so many commits in any order, and then this.
+fn ends_with<T: Threads + Wait + Sync, G: Gate>(
+    rt: &T,
+    alloc: Global,
+    gate: &G,
+    threads: u64,
+    text: &str,
+    count: usize,
+    last: &str,
+) -> bool
     requires { (1 ≤ threads) × (threads ≤ 63) }
 {
     let mut written = Vec::new(alloc);
-    let outcome = run_workload(rt, alloc, gate, threads, &mut text.as_bytes(), &mut written);
-    Ran { outcome, written }
+    if run(rt, alloc, gate, threads, Pace::Free, text, &mut written).is_err() {
+        return false;
+    }
+    match str::from_utf8(written.as_slice()) {
+        Ok(replies) => has_commits(replies, count, last),
+        Err(_) => false,
+    }
 }
 
-// The last line of a text.
-fn last_line(text: &str) -> &str {
-    text.lines().last().unwrap_or("")
+// Whether the run ends well and writes this.
+fn writes<T: Threads + Wait + Sync, G: Gate>(
+    rt: &T,
+    alloc: Global,
+    gate: &G,
+    threads: u64,
+    pace: Pace,
+    text: &str,
+    replies: &str,
+) -> bool
+    requires { (1 ≤ threads) × (threads ≤ 63) }
+{
+    let mut written = Vec::new(alloc);
+    run(rt, alloc, gate, threads, pace, text, &mut written).is_ok()
+        && written.as_slice() == replies.as_bytes()
+}
+
+// What is written where the commits have these places, and then this.
+fn replies_at(alloc: Global, places: &[usize], last: &str) -> Option<String> {
+    let mut replies = String::from_str(alloc, BEFORE_REPLIES).ok()?;
+    for place in places {
+        replies.push_str(COMMIT_REPLIES.get(*place)?).ok()?;
+    }
+    replies.push_str(last).ok()?;
+    Some(replies)
 }
 
 #[test]
 fn two_workers(rt: HostRuntime) -> Result<(), Fail> {
-    let text =
-        "create t kv\nsession\nattach 1 t\n@0 commit insert t (1,'a')\n@1 commit insert t (2,'b')\nchangeset 1";
     for threads in [1, 4] {
-        let ran = run(&rt, rt.alloc(), &NoGate, threads, text);
-        assert_eq!(rt; ran.outcome, Ok(()));
-        assert_eq!(rt;
-            last_line(str::from_utf8(ran.written.as_slice())?),
-            "changeset 54020100740012000100000000000000010301611200010000000000000002030162"
-        );
+        assert!(rt; ends_with(&rt, rt.alloc(), &NoGate, threads, TWO, 2, TWO_CHANGESET));
     }
     Ok(())
 }
@@ -66,37 +136,8 @@ fn two_workers(rt: HostRuntime) -> Result<(), Fail> {
 #[test]
 fn eight_lines(rt: HostRuntime) -> Result<(), Fail> {
     for threads in [1, 3, 4, 8] {
-        let ran = run(&rt, rt.alloc(), &NoGate, threads, EIGHT);
-        assert_eq!(rt; ran.outcome, Ok(()));
-        let written = str::from_utf8(ran.written.as_slice())?;
-        assert_eq!(rt; last_line(written), EIGHT_CHANGESET, "{threads}");
-        assert_eq!(rt; written.lines().count(), 12);
+        assert!(rt; ends_with(&rt, rt.alloc(), &NoGate, threads, EIGHT, 8, EIGHT_CHANGESET));
     }
-    Ok(())
-}
-
-#[test]
-fn no_call_is_overtaken(rt: HostRuntime) -> Result<(), Fail> {
-    for round in 0..100 {
-        let ran = run(&rt, rt.alloc(), &NoGate, 8, EIGHT);
-        assert_eq!(rt; ran.outcome, Ok(()), "{round}");
-        let written = str::from_utf8(ran.written.as_slice())?;
-        assert!(rt; !written.contains("overtaken"), "{round}");
-        assert_eq!(rt; last_line(written), EIGHT_CHANGESET, "{round}");
-    }
-    Ok(())
-}
-
-#[test]
-fn worker_beyond_the_last(rt: HostRuntime) -> Result<(), Fail> {
-    let ran = run(&rt, rt.alloc(), &NoGate, 4, "@64 session");
-    let fault = ran.outcome.err().ok_or("no fault")?;
-    assert_eq!(rt; fault.status(), 1);
-    assert_eq!(rt;
-        format!(in rt.alloc(); "{fault}")?.as_str(),
-        "line 1: G1 Syntax at 1"
-    );
-    assert!(rt; ran.written.is_empty());
     Ok(())
 }
 
@@ -109,6 +150,61 @@ fn wait_for(cell: &AtomicU64, number: u64, missed: &AtomicU64) {
         yield_now();
     }
     missed.store(1, Ordering::SeqCst);
+}
+
+// Releases eight workers at once, when the last of them is about to call.
+#[derive(Drop)]
+struct Barrier {
+    arrived: AtomicU64,
+    missed: AtomicU64,
+}
+
+impl Gate for Barrier {
+    fn before(&self, _worker: u64, _call: u64) {
+        self.arrived.fetch_add(1, Ordering::SeqCst);
+        wait_for(&self.arrived, 8, &self.missed);
+    }
+
+    fn after(&self, _worker: u64, _call: u64) {}
+}
+
+// Whether eight workers that are released at once have their replies.
+fn runs_free<T: Threads + Wait + Sync>(rt: &T, alloc: Global) -> bool {
+    let gate = Barrier {
+        arrived: AtomicU64::new(0),
+        missed: AtomicU64::new(0),
+    };
+    ends_with(rt, alloc, &gate, 8, EIGHT, 8, EIGHT_CHANGESET)
+        && gate.missed.load(Ordering::SeqCst) == 0
+}
+
+// A run whose call is overtaken has no reply to it, and does not end well.
+#[test]
+fn no_call_is_overtaken(rt: HostRuntime) -> Result<(), Fail> {
+    for round in 0..100 {
+        assert!(rt; runs_free(&rt, rt.alloc()), "{round}");
+    }
+    Ok(())
+}
+
+#[test]
+fn worker_beyond_the_last(rt: HostRuntime) -> Result<(), Fail> {
+    let mut written = Vec::new(rt.alloc());
+    let alloc = rt.alloc();
+    let outcome = run(
+        &rt,
+        alloc,
+        &NoGate,
+        4,
+        Pace::Free,
+        "@64 session",
+        &mut written,
+    );
+    let fault = outcome.err().ok_or("no fault")?;
+    assert!(rt; fault.status() == 1);
+    assert!(rt; format!(in rt.alloc(); "{fault}")?.as_str() == "line 1: G1 Syntax at 1");
+    assert!(rt; written.is_empty());
+    Ok(())
 }
 
 // Lets no call begin before the other worker's is to begin.
@@ -141,12 +237,13 @@ fn two_calls_meet(rt: HostRuntime) -> Result<(), Fail> {
         second: AtomicU64::new(0),
         missed: AtomicU64::new(0),
     };
-    let ran = run(&rt, rt.alloc(), &gate, 2, "@0 session\n@1 session\n");
-    assert_eq!(rt; ran.outcome, Ok(()));
-    assert_eq!(rt; gate.missed.load(Ordering::SeqCst), 0);
-    let written = str::from_utf8(ran.written.as_slice())?;
-    let is_either = written == "session 1\nsession 2\n" || written == "session 2\nsession 1\n";
-    assert!(rt; is_either);
+    let mut written = Vec::new(rt.alloc());
+    let text = "@0 session\n@1 session\n";
+    assert!(rt; run(&rt, rt.alloc(), &gate, 2, Pace::Free, text, &mut written).is_ok());
+    assert!(rt; gate.missed.load(Ordering::SeqCst) == 0);
+    let first = written.as_slice() == "session 1\nsession 2\n".as_bytes();
+    let second = written.as_slice() == "session 2\nsession 1\n".as_bytes();
+    assert!(rt; first || second);
     Ok(())
 }
 
@@ -154,7 +251,7 @@ fn two_calls_meet(rt: HostRuntime) -> Result<(), Fail> {
 #[derive(Drop)]
 struct Turns {
     // The place of each worker's turn.
-    places: [u64; 4],
+    places: [usize; 4],
     next: AtomicU64,
     missed: AtomicU64,
 }
@@ -162,7 +259,7 @@ struct Turns {
 impl Turns {
     fn place_of(&self, worker: u64) -> u64 {
         match self.places.get(worker as usize) {
-            Some(place) => *place,
+            Some(place) => *place as u64,
             None => 0,
         }
     }
@@ -179,70 +276,90 @@ impl Gate for Turns {
     }
 }
 
-// What is printed where worker K calls at this place.
-fn replies_at(alloc: Global, places: [u64; 4]) -> Result<String, AllocError> {
-    let mut replies = String::from_str(alloc, BEFORE_REPLIES)?;
-    for place in places {
-        let version = place.saturating_add(2);
-        replies.push_str(format!(in alloc; "ok version {version}\n")?.as_str())?;
-    }
-    replies.push_str(
-        "changeset 5402010074001200010000000000000000030176120001000000000000000103017612000100000000000000020301761200010000000000000003030176\n",
-    )?;
-    Ok(replies)
-}
-
 // Each order in which four workers may call.
-fn orders() -> [[u64; 4]; 24] {
-    [
-        [0, 1, 2, 3],
-        [0, 1, 3, 2],
-        [0, 2, 1, 3],
-        [0, 2, 3, 1],
-        [0, 3, 1, 2],
-        [0, 3, 2, 1],
-        [1, 0, 2, 3],
-        [1, 0, 3, 2],
-        [1, 2, 0, 3],
-        [1, 2, 3, 0],
-        [1, 3, 0, 2],
-        [1, 3, 2, 0],
-        [2, 0, 1, 3],
-        [2, 0, 3, 1],
-        [2, 1, 0, 3],
-        [2, 1, 3, 0],
-        [2, 3, 0, 1],
-        [2, 3, 1, 0],
-        [3, 0, 1, 2],
-        [3, 0, 2, 1],
-        [3, 1, 0, 2],
-        [3, 1, 2, 0],
-        [3, 2, 0, 1],
-        [3, 2, 1, 0],
-    ]
+const ORDERS: [[usize; 4]; 24] = [
+    [0, 1, 2, 3],
+    [0, 1, 3, 2],
+    [0, 2, 1, 3],
+    [0, 2, 3, 1],
+    [0, 3, 1, 2],
+    [0, 3, 2, 1],
+    [1, 0, 2, 3],
+    [1, 0, 3, 2],
+    [1, 2, 0, 3],
+    [1, 2, 3, 0],
+    [1, 3, 0, 2],
+    [1, 3, 2, 0],
+    [2, 0, 1, 3],
+    [2, 0, 3, 1],
+    [2, 1, 0, 3],
+    [2, 1, 3, 0],
+    [2, 3, 0, 1],
+    [2, 3, 1, 0],
+    [3, 0, 1, 2],
+    [3, 0, 2, 1],
+    [3, 1, 0, 2],
+    [3, 1, 2, 0],
+    [3, 2, 0, 1],
+    [3, 2, 1, 0],
+];
+
+// Whether each line's reply is that of its own call where worker K calls at place K of these.
+fn answers_at<T: Threads + Wait + Sync>(rt: &T, alloc: Global, places: [usize; 4]) -> bool {
+    let gate = Turns {
+        places,
+        next: AtomicU64::new(0),
+        missed: AtomicU64::new(0),
+    };
+    let Some(replies) = replies_at(alloc, &places, FOUR_CHANGESET) else {
+        return false;
+    };
+    writes(rt, alloc, &gate, 4, Pace::Free, FOUR, replies.as_str())
+        && gate.missed.load(Ordering::SeqCst) == 0
 }
 
 // Whatever the order of the calls, each line's reply is that of its own call, and they stand in the order of
 // the lines.
 #[test]
 fn every_order_of_four_calls(rt: HostRuntime) -> Result<(), Fail> {
-    let text = format!(in rt.alloc();
-        "{BEFORE}@0 commit insert t (0,'v')\n@1 commit insert t (1,'v')\n\n# between\n@2 commit insert t (2,'v')\n@3 commit insert t (3,'v')\nchangeset 1\n"
-    )?;
-    for places in orders() {
-        let gate = Turns {
-            places,
-            next: AtomicU64::new(0),
-            missed: AtomicU64::new(0),
-        };
-        let ran = run(&rt, rt.alloc(), &gate, 4, text.as_str());
-        assert_eq!(rt; ran.outcome, Ok(()), "{places:?}");
-        assert_eq!(rt; gate.missed.load(Ordering::SeqCst), 0, "{places:?}");
-        let replies = replies_at(rt.alloc(), places)?;
-        assert_eq!(rt;
-            str::from_utf8(ran.written.as_slice())?,
-            replies.as_str(),
-            "{places:?}"
+    for places in ORDERS {
+        assert!(rt; answers_at(&rt, rt.alloc(), places), "{places:?}");
+    }
+    Ok(())
+}
+
+// Holds the workers of the first lines up before their calls.
+#[derive(Clone, Copy, Drop)]
+struct LastFirst;
+
+impl Gate for LastFirst {
+    fn before(&self, worker: u64, _call: u64) {
+        for _ in worker..8 {
+            for _ in 0..1_000 {
+                yield_now();
+            }
+        }
+    }
+
+    fn after(&self, _worker: u64, _call: u64) {}
+}
+
+// In turn each line is called behind those before it, though their workers are slower.
+#[test]
+fn lines_in_turn(rt: HostRuntime) -> Result<(), Fail> {
+    let places = [0, 1, 2, 3, 4, 5, 6, 7];
+    let replies = replies_at(rt.alloc(), &places, EIGHT_CHANGESET).ok_or("no memory")?;
+    for threads in [1, 3, 8] {
+        assert!(rt;
+            writes(
+                &rt,
+                rt.alloc(),
+                &LastFirst,
+                threads,
+                Pace::InTurn,
+                EIGHT,
+                replies.as_str()
+            )
         );
     }
     Ok(())
@@ -278,6 +395,15 @@ impl Gate for Counting {
     }
 }
 
+fn are_counts(counts: &[AtomicU64; 3], wanted: [u64; 3]) -> bool {
+    for place in 0..3 {
+        if counts[place].load(Ordering::SeqCst) != wanted[place] {
+            return false;
+        }
+    }
+    true
+}
+
 // Each worker's calls pass the gate one after the other, numbered over all blocks, and the others do not.
 #[test]
 fn calls_at_the_gate(rt: HostRuntime) -> Result<(), Fail> {
@@ -288,25 +414,14 @@ fn calls_at_the_gate(rt: HostRuntime) -> Result<(), Fail> {
     };
     let text =
         "@0 session\n@3 isempty 1\n@2 session\nsession\nisempty 3\n@1 isempty 9\n@0 isempty 1\n@63 isempty 1\n";
-    let ran = run(&rt, rt.alloc(), &gate, 3, text);
-    assert_eq!(rt; ran.outcome, Ok(()));
-    assert_eq!(rt; gate.odd.load(Ordering::SeqCst), 0);
-    let counts = [4, 1, 1];
-    for worker in 0..3 {
-        assert_eq!(rt;
-            gate.before[worker].load(Ordering::SeqCst),
-            counts[worker],
-            "{worker}"
-        );
-        assert_eq!(rt;
-            gate.after[worker].load(Ordering::SeqCst),
-            counts[worker],
-            "{worker}"
-        );
-    }
-    let written = str::from_utf8(ran.written.as_slice())?;
-    assert_eq!(rt; written.lines().count(), 8);
-    assert!(rt; written.contains("session 3\ntrue\nrefused: E18 NoSession\ntrue\ntrue\n"));
+    let mut written = Vec::new(rt.alloc());
+    assert!(rt; run(&rt, rt.alloc(), &gate, 3, Pace::Free, text, &mut written).is_ok());
+    assert!(rt; gate.odd.load(Ordering::SeqCst) == 0);
+    assert!(rt; are_counts(&gate.before, [4, 1, 1]));
+    assert!(rt; are_counts(&gate.after, [4, 1, 1]));
+    let replies = str::from_utf8(written.as_slice())?;
+    assert!(rt; replies.lines().count() == 8);
+    assert!(rt; replies.ends_with("session 3\ntrue\nrefused: E18 NoSession\ntrue\ntrue\n"));
     Ok(())
 }
 
@@ -328,11 +443,19 @@ impl Gate for Slow {
 #[test]
 fn a_block_ends_before_what_follows(rt: HostRuntime) -> Result<(), Fail> {
     let text = "@0 session\nisempty 1\n@1 drop 1\nisempty 1\n@1 session\n@1 isempty 2\ndrop 2\n";
-    let ran = run(&rt, rt.alloc(), &Slow, 2, text);
-    assert_eq!(rt; ran.outcome, Ok(()));
-    assert_eq!(rt;
-        str::from_utf8(ran.written.as_slice())?,
-        "session 1\ntrue\nok\nrefused: E18 NoSession\nsession 2\ntrue\nok\n"
-    );
+    let replies = "session 1\ntrue\nok\nrefused: E18 NoSession\nsession 2\ntrue\nok\n";
+    assert!(rt; writes(&rt, rt.alloc(), &Slow, 2, Pace::Free, text, replies));
+    Ok(())
+}
+
+// One worker's thread writes what one thread writes.
+#[test]
+fn rows_of_one_worker(rt: HostRuntime) -> Result<(), Fail> {
+    for (text, replies) in ROWS {
+        assert!(rt;
+            writes(&rt, rt.alloc(), &NoGate, 1, Pace::Free, text, replies),
+            "{text}"
+        );
+    }
     Ok(())
 }

@@ -6,7 +6,7 @@
 ghost use Rattle.cap_run.specs.Options.{IsThreadCount};
 
 use cap_run::{
-    NoGate, Options, OptionsFault, RunFault, concat_blobs, convert_blob, options, run_core,
+    NoGate, Options, OptionsFault, Pace, RunFault, concat_blobs, convert_blob, options, run_core,
     run_shell, run_workload, show_blob,
 };
 use std::alloc::AllocError;
@@ -25,27 +25,39 @@ const MISUSED: u8 = 2;
 
 const FAILED: u8 = 3;
 
-// Prints the fault where the input is refused, and gives the exit status.
-fn report(rt: &impl Eprint, outcome: Result<(), RunFault>) -> u8 {
+// Whether the words ask that the program says what failed. They are looked at themselves, since memory may
+// run out while they are parsed.
+fn asks_what_failed(words: &[String]) -> bool {
+    for word in words {
+        if word.as_str() == "-v" || word.as_str() == "--verbose" {
+            return true;
+        }
+    }
+    false
+}
+
+// Prints the fault where the input is refused or the caller is verbose, and gives the exit status.
+fn report(rt: &impl Eprint, is_verbose: bool, outcome: Result<(), RunFault>) -> u8 {
     let Err(fault) = outcome else {
         return 0;
     };
     let status = fault.status();
-    if status == REFUSED && eprintln!(rt; "{fault}").is_err() {
+    let is_told = status == REFUSED || is_verbose;
+    if is_told && eprintln!(rt; "{fault}").is_err() {
         return FAILED;
     }
     status
 }
 
 // Prints the message of a command line that asks for no run, and gives the exit status.
-fn explain(rt: &(impl Print + Eprint), fault: &OptionsFault) -> u8 {
+fn explain(rt: &(impl Print + Eprint), is_verbose: bool, fault: &OptionsFault) -> u8 {
     let printed = match fault {
         OptionsFault::Refused(text) => eprint!(rt; "{text}"),
         OptionsFault::Help(text) => print!(rt; "{text}"),
-        OptionsFault::OutOfMemory => Ok(()),
+        OptionsFault::OutOfMemory => return report(rt, is_verbose, Err(RunFault::OutOfMemory)),
     };
     if printed.is_err() {
-        return FAILED;
+        return report(rt, is_verbose, Err(RunFault::Write));
     }
     fault.status()
 }
@@ -61,7 +73,12 @@ fn without_words(rt: &impl Eprint, error: &io::Error) -> u8 {
 }
 
 // Runs the workload on standard input, and gives the exit status. One thread needs no other.
-fn run<R: Input + Print + Eprint + AllocGlobal + Threads + Wait + Sync>(rt: &R, threads: u64) -> u8
+fn run<R: Input + Print + Eprint + AllocGlobal + Threads + Wait + Sync>(
+    rt: &R,
+    is_verbose: bool,
+    threads: u64,
+    pace: Pace,
+) -> u8
     requires threads { IsThreadCount threads }
 {
     let alloc = rt.alloc();
@@ -70,9 +87,9 @@ fn run<R: Input + Print + Eprint + AllocGlobal + Threads + Wait + Sync>(rt: &R, 
     let outcome = if threads == 1 {
         run_core(alloc, &mut reader, &mut writer)
     } else {
-        run_workload(rt, alloc, &NoGate, threads, &mut reader, &mut writer)
+        run_workload(rt, alloc, &NoGate, threads, pace, &mut reader, &mut writer)
     };
-    report(rt, outcome)
+    report(rt, is_verbose, outcome)
 }
 
 // Standard input at a terminal: each read is of a line, and has a prompt before it.
@@ -93,13 +110,14 @@ impl<'a, I: Read + Drop, P: Eprint> Read for Prompting<'a, I, P> {
 // the input leaves the prompt on its line.
 fn shell<R: Input + Print + Eprint + AllocGlobal, E: Write>(
     rt: &R,
+    is_verbose: bool,
     faults: &mut E,
     at_terminal: bool,
 ) -> u8 {
     let mut replies = io::writer(rt);
     if !at_terminal {
         let outcome = run_shell(rt.alloc(), &mut rt.reader(), &mut replies, faults);
-        return report(rt, outcome);
+        return report(rt, is_verbose, outcome);
     }
     let mut reader = Prompting {
         input: rt.reader(),
@@ -107,7 +125,7 @@ fn shell<R: Input + Print + Eprint + AllocGlobal, E: Write>(
     };
     let outcome = run_shell(rt.alloc(), &mut reader, &mut replies, faults);
     match eprintln!(rt; "") {
-        Ok(()) => report(rt, outcome),
+        Ok(()) => report(rt, is_verbose, outcome),
         Err(_) => FAILED,
     }
 }
@@ -125,22 +143,23 @@ fn run_program<R: Input + Print + Eprint + Env + AllocGlobal + Threads + Wait + 
         Err(error) => return Ok(without_words(rt, &error)),
     };
     let words: Vec<String> = arguments.skip(1).collect(alloc)?;
+    let is_verbose = asks_what_failed(words.as_slice());
     match options(alloc, words.as_slice()) {
-        Ok(Options::Run { threads }) => Ok(run(rt, threads)),
-        Ok(Options::Shell) => Ok(shell(rt, faults, at_terminal)),
+        Ok(Options::Run { threads, pace }) => Ok(run(rt, is_verbose, threads, pace)),
+        Ok(Options::Shell) => Ok(shell(rt, is_verbose, faults, at_terminal)),
         Ok(Options::Show { form, encoding }) => {
             let outcome = show_blob(alloc, form, encoding, &mut rt.reader(), &mut io::writer(rt));
-            Ok(report(rt, outcome))
+            Ok(report(rt, is_verbose, outcome))
         }
         Ok(Options::Convert(conversion)) => {
             let outcome = convert_blob(alloc, conversion, &mut rt.reader(), &mut io::writer(rt));
-            Ok(report(rt, outcome))
+            Ok(report(rt, is_verbose, outcome))
         }
         Ok(Options::Concat(concatenation)) => {
             let outcome = concat_blobs(alloc, concatenation, &mut rt.reader(), &mut io::writer(rt));
-            Ok(report(rt, outcome))
+            Ok(report(rt, is_verbose, outcome))
         }
-        Err(fault) => Ok(explain(rt, &fault)),
+        Err(fault) => Ok(explain(rt, is_verbose, &fault)),
     }
 }
 

@@ -1,0 +1,10 @@
+use Rattle.cap_test_options.proofs.WatchLemmas.{read_reported, write_reported}
+use Rattle.cap_test_options.proofs.watched.show_watched.Goals as goal
+
+pub returns-clause-read : goal.returns-clause-read
+returns-clause-read g c = λ failed.
+    read_reported (λ watched. watched.has_failed) c.show_blob.result c.args.reader.now c.show_blob.new.reader c.show_blob.ensures.read_reported c.requires.reader failed
+
+pub returns-clause-write : goal.returns-clause-write
+returns-clause-write g c = λ failed.
+    write_reported (λ watched. watched.has_failed) c.show_blob.result c.args.writer.now c.show_blob.new.writer c.show_blob.ensures.write_reported c.requires.writer failed

@@ -1,0 +1,103 @@
+//! Each request for memory refused in turn, where a blob is shown or converted, or blobs are concatenated.
+use crate::rows::{
+    CHANGESET, INVERSE, JOINED, PATCHSET, SHOWN, TO_INVERSE, TO_JOIN, TO_PATCHSET, TOGETHER,
+};
+use cap_run::{Encoding, Form, RunFault, concat_blobs, convert_blob, show_blob};
+use cap_test_support::{Failure, Memory, Source};
+use std::alloc::Global;
+use std::test::Fail;
+
+// More requests than any of these makes.
+const REQUESTS_MAX: u64 = 100_000;
+
+// The most requests that are refused without a fault: each reserves memory for a hint.
+const SPARED_MAX: u64 = 3;
+
+// What is made of a blob or of several.
+#[derive(Clone, Copy, Drop)]
+enum Made {
+    Text,
+    Inverse,
+    Patchset,
+    Concatenation,
+}
+
+// Makes it in this memory. The reader gives so many bytes at a time.
+fn make(
+    memory: &Memory<Global>,
+    made: Made,
+    most: usize,
+    given: &str,
+    written: &mut Vec<u8>,
+) -> Result<(), RunFault> {
+    let mut reader = Source {
+        bytes: given.as_bytes(),
+        most,
+        failure: Failure::none(),
+    };
+    match made {
+        Made::Text => show_blob(memory, Form::Text, Encoding::Hex, &mut reader, written),
+        Made::Inverse => convert_blob(memory, TO_INVERSE, &mut reader, written),
+        Made::Patchset => convert_blob(memory, TO_PATCHSET, &mut reader, written),
+        Made::Concatenation => concat_blobs(memory, TOGETHER, &mut reader, written),
+    }
+}
+
+// Whether all of the output was written, or nothing for want of memory.
+fn is_as_it_should(outcome: Result<(), RunFault>, output: &str, written: &[u8]) -> bool {
+    match outcome {
+        Ok(()) => written == output.as_bytes(),
+        Err(RunFault::OutOfMemory) => written.is_empty(),
+        _ => false,
+    }
+}
+
+// Makes it with the first request refused, then the second, until none is. How many were refused without a
+// fault. None where one does not end as it should, or few are refused.
+fn spared(alloc: Global, made: Made, most: usize, given: &str, output: &str) -> Option<u64> {
+    let memory = Memory::new(alloc);
+    let mut spared = 0u64;
+    for number in 1..REQUESTS_MAX {
+        memory.refuse(number);
+        let mut written = Vec::new(alloc);
+        let outcome = make(&memory, made, most, given, &mut written);
+        if !is_as_it_should(outcome, output, written.as_slice()) {
+            return None;
+        }
+        if !memory.has_refused() {
+            return (outcome.is_ok() && number > spared.saturating_add(11)).then_some(spared);
+        }
+        spared = spared.saturating_add(outcome.is_ok() as u64);
+    }
+    None
+}
+
+// The most that are refused without a fault, where the input comes whole and byte by byte.
+fn most_spared(alloc: Global, made: Made, given: &str, output: &str) -> Option<u64> {
+    let whole = spared(alloc, made, 10_000, given, output)?;
+    let by_byte = spared(alloc, made, 1, given, output)?;
+    Some(whole.max(by_byte))
+}
+
+#[test]
+fn out_of_memory_for_a_blob(rt: HostRuntime) -> Result<(), Fail> {
+    let spared = most_spared(rt.alloc(), Made::Text, CHANGESET, SHOWN).ok_or("refused")?;
+    assert!(rt; spared <= SPARED_MAX, "{spared}");
+    Ok(())
+}
+
+#[test]
+fn out_of_memory_for_a_conversion(rt: HostRuntime) -> Result<(), Fail> {
+    for (made, output) in [(Made::Inverse, INVERSE), (Made::Patchset, PATCHSET)] {
+        let spared = most_spared(rt.alloc(), made, CHANGESET, output).ok_or("refused")?;
+        assert!(rt; spared <= SPARED_MAX, "{spared}");
+    }
+    Ok(())
+}
+
+#[test]
+fn out_of_memory_for_a_concatenation(rt: HostRuntime) -> Result<(), Fail> {
+    let spared = most_spared(rt.alloc(), Made::Concatenation, TO_JOIN, JOINED).ok_or("refused")?;
+    assert!(rt; spared <= SPARED_MAX, "{spared}");
+    Ok(())
+}
