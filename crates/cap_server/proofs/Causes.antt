@@ -1,22 +1,14 @@
 -- Why a call has no reply.
-use Rattle.std.proofs.Common.{◌≡◌, ◌≢◌, ◌⊎◌, ◌<◌, inl, inr, ℕ, Option, Some, None, Result, Ok, Err, List, length, refl}
+use Rattle.std.proofs.Common.{◌≡◌, ◌≢◌, ◌⊎◌, ◌<◌, inl, inr, ℕ, Result, Ok, Err, List, length}
 use Rattle.std.specs.Prelude.{IfErr}
 use mathlib.Core.List.{IsPrefix}
-use Rattle.cap_value.specs.declared.memory.Fault.TheVariants.{OutOfMemory}
 use Rattle.cap_core.specs.declared.command.Command.{Command}
 use Rattle.cap_core.specs.declared.event.Event.{Event}
-use Rattle.cap_core.specs.Outcome.{Refused as Why}
-use Rattle.cap_core.specs.RefusedFirst.{RepliesFirst}
 use Rattle.cap_history.specs.History.{own}
 use Rattle.cap_history.specs.Seat.{SeatState, calls}
 use Rattle.cap_server.specs.Fault.{HasCalls, HasCause, HasCauseAfter}
 use Rattle.cap_server.specs.declared.fault.CallFault.{CallFault}
 use Rattle.cap_server.proofs.Counting.{same_or_other}
-
--- where memory has run out, no refusal is known without it
-pub needs_memory : (A E : Type 0) (known : Option Why) → RepliesFirst {A = A} {E = E} known (Err OutOfMemory) → known ≡ None
-needs_memory A E None first = refl
-needs_memory A E (Some why) first = absurd first
 
 module _ {A : Type 0} where
   -- a longer history, or other calls than are counted

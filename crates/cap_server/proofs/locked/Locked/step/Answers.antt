@@ -3,7 +3,7 @@ use Rattle.std.proofs.lemmas.Grind.{get_or_default_zero}
 use Rattle.cap_core.specs.Answer.{event_by, state}
 use Rattle.cap_history.specs.Beginnings.{prefix-length}
 use Rattle.cap_history.specs.Own.{own-few}
-use Rattle.cap_server.proofs.Causes.{needs_memory, overtaken_after}
+use Rattle.cap_server.proofs.Causes.{overtaken_after}
 use Rattle.cap_server.proofs.Counting.{counted-push}
 use Rattle.cap_server.proofs.locked.Locked.step.Goals as goal
 
