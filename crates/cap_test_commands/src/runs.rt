@@ -88,8 +88,9 @@ fn prepared(core: &Core<Global>, command: &Command<Global>) -> Option<(u64, u64)
     if core.events() >= EVENTS_MAX {
         return None;
     }
-    match core.prepare(command) {
-        Ok((made, Reply::Written { version })) => Some((made.events(), version)),
+    let (made, reply) = core.prepare(command).ok()?;
+    match reply {
+        Reply::Written { version } => Some((made.events(), version)),
         _ => None,
     }
 }

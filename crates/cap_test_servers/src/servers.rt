@@ -123,8 +123,9 @@ fn rows_left(alloc: Global, core: &Core<Global>) -> Option<u128> {
     if core.events() >= EVENTS_MAX {
         return None;
     }
-    match core.prepare(&Command::Read) {
-        Ok((_core, Reply::Snapshot(snapshot))) => rows_of(alloc, &snapshot),
+    let (_core, reply) = core.prepare(&Command::Read).ok()?;
+    match &reply {
+        Reply::Snapshot(snapshot) => rows_of(alloc, snapshot),
         _ => None,
     }
 }
@@ -227,10 +228,14 @@ fn missed<J: Naming>(
     missing: u64,
 ) -> Option<(Server<J, Global>, Vec<Seat<J, Global>>)> {
     match server.close(seats) {
-        Err((server, seats, CloseFault::MissingSeat { number })) if number == missing => {
-            Some((server, seats))
+        Err((server, seats, fault)) => {
+            if fault == (CloseFault::MissingSeat { number: missing }) {
+                Some((server, seats))
+            } else {
+                None
+            }
         }
-        _ => None,
+        Ok(_) => None,
     }
 }
 
