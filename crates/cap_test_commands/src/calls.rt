@@ -65,7 +65,7 @@ pub(crate) const REPLIES: &str = "ok version 1\n\
 // What a call is answered.
 type Called = Result<Reply<Global>, CallFault>;
 
-// The calls that are named after the commands to tables.
+// The calls that are named after the commands to tables, and take parts of them.
 fn call_tables<J: Naming>(
     rt: &impl Wait,
     server: &Server<J, Global>,
@@ -77,12 +77,12 @@ fn call_tables<J: Naming>(
         Command::Commit(batch) => server.commit(rt, seat, batch),
         Command::Apply { blob, policy } => server.apply(rt, seat, blob, policy),
         Command::SaveAs { database } => server.save_as(rt, seat, database),
-        _ => server.read(rt, seat),
+        _ => Err(CallFault::OutOfMemory),
     }
 }
 
-// The calls that are named after the commands which tell a session what to watch.
-fn call_watching<J: Naming>(
+// The calls that are named after the commands to a session, and take parts of them.
+fn call_sessions<J: Naming>(
     rt: &impl Wait,
     server: &Server<J, Global>,
     seat: &mut Seat<J, Global>,
@@ -90,31 +90,45 @@ fn call_watching<J: Naming>(
 ) -> Called {
     match command {
         Command::Attach { session, table } => server.attach(rt, seat, session, table),
-        Command::AttachAll { session } => server.attach_all(rt, seat, session),
         Command::SetFilter { session, filter } => server.set_filter(rt, seat, session, filter),
-        Command::Enable { session, enabled } => server.enable(rt, seat, session, enabled),
-        Command::Indirect { session, indirect } => server.indirect(rt, seat, session, indirect),
-        _ => server.new_session(rt, seat),
-    }
-}
-
-// The calls that are named after the other commands to a session.
-fn call_watched<J: Naming>(
-    rt: &impl Wait,
-    server: &Server<J, Global>,
-    seat: &mut Seat<J, Global>,
-    command: Command<Global>,
-) -> Called {
-    match command {
-        Command::IsEmpty { session } => server.is_empty(rt, seat, session),
         Command::Diff {
             session,
             from,
             table,
         } => server.diff(rt, seat, session, from, table),
-        Command::Capture { session } => server.capture(rt, seat, session),
-        Command::Restart { session } => server.restart(rt, seat, session),
-        Command::DropSession { session } => server.drop_session(rt, seat, session),
+        _ => Err(CallFault::OutOfMemory),
+    }
+}
+
+// The calls that are named after the other commands which may change a session.
+fn call_changes<J: Naming>(
+    rt: &impl Wait,
+    server: &Server<J, Global>,
+    seat: &mut Seat<J, Global>,
+    command: &Command<Global>,
+) -> Called {
+    match command {
+        Command::NewSession => server.new_session(rt, seat),
+        Command::AttachAll { session } => server.attach_all(rt, seat, *session),
+        Command::Enable { session, enabled } => server.enable(rt, seat, *session, *enabled),
+        Command::Indirect { session, indirect } => server.indirect(rt, seat, *session, *indirect),
+        Command::DropSession { session } => server.drop_session(rt, seat, *session),
+        _ => Err(CallFault::OutOfMemory),
+    }
+}
+
+// The calls that are named after the commands which ask for something.
+fn call_asks<J: Naming>(
+    rt: &impl Wait,
+    server: &Server<J, Global>,
+    seat: &mut Seat<J, Global>,
+    command: &Command<Global>,
+) -> Called {
+    match command {
+        Command::Read => server.read(rt, seat),
+        Command::IsEmpty { session } => server.is_empty(rt, seat, *session),
+        Command::Capture { session } => server.capture(rt, seat, *session),
+        Command::Restart { session } => server.restart(rt, seat, *session),
         _ => Err(CallFault::OutOfMemory),
     }
 }
@@ -130,15 +144,16 @@ fn call<J: Naming>(
         Command::CreateTable { .. }
         | Command::Commit(_)
         | Command::Apply { .. }
-        | Command::Read
         | Command::SaveAs { .. } => call_tables(rt, server, seat, command),
+        Command::Attach { .. } | Command::SetFilter { .. } | Command::Diff { .. } => {
+            call_sessions(rt, server, seat, command)
+        }
         Command::NewSession
-        | Command::Attach { .. }
         | Command::AttachAll { .. }
-        | Command::SetFilter { .. }
         | Command::Enable { .. }
-        | Command::Indirect { .. } => call_watching(rt, server, seat, command),
-        _ => call_watched(rt, server, seat, command),
+        | Command::Indirect { .. }
+        | Command::DropSession { .. } => call_changes(rt, server, seat, &command),
+        _ => call_asks(rt, server, seat, &command),
     }
 }
 

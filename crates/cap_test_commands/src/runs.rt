@@ -122,14 +122,22 @@ const PATCHSET: [u8; 20] = [
     0x50, 2, 1, 0, 0x74, 0, 0x17, 0, 1, 0, 0, 0, 0, 0, 0, 0, 1, 3, 1, 0x79,
 ];
 
+// The capture that a reply is.
+fn capture_in(reply: Reply<Global>) -> Option<Capture<Global>> {
+    match reply {
+        Reply::Capture(capture) => Some(capture),
+        _ => None,
+    }
+}
+
 // The capture of session 1.
 fn captured(core: &mut Core<Global>) -> Option<Capture<Global>> {
     if core.events() >= EVENTS_MAX {
         return None;
     }
     match core.step(&Command::Capture { session: 1 }, &mut NoHook) {
-        Ok(Reply::Capture(capture)) => Some(capture),
-        _ => None,
+        Ok(reply) => capture_in(reply),
+        Err(_) => None,
     }
 }
 

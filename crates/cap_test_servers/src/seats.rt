@@ -68,6 +68,14 @@ pub(crate) fn is_answered<J: Naming>(
     }
 }
 
+// The tables that a reply is.
+fn tables_in(reply: Reply<Global>) -> Option<Snapshot<Global>> {
+    match reply {
+        Reply::Snapshot(snapshot) => Some(snapshot),
+        _ => None,
+    }
+}
+
 // The tables as they are.
 pub(crate) fn snapshot<J: Naming>(
     rt: &impl Wait,
@@ -75,8 +83,8 @@ pub(crate) fn snapshot<J: Naming>(
     seat: &mut Seat<J, Global>,
 ) -> Option<Snapshot<Global>> {
     match server.read(rt, seat) {
-        Ok(Reply::Snapshot(snapshot)) => Some(snapshot),
-        _ => None,
+        Ok(reply) => tables_in(reply),
+        Err(_) => None,
     }
 }
 
