@@ -86,10 +86,8 @@ fn beside<A: AllocHandle>(core: &Core<A>) -> Option<Core<A>> {
     if core.events() >= EVENTS_MAX {
         return None;
     }
-    match core.prepare(&Command::Read) {
-        Ok((beside, _reply)) => Some(beside),
-        Err(_) => None,
-    }
+    let (beside, _reply) = core.prepare(&Command::Read).ok()?;
+    Some(beside)
 }
 
 // What a server holds, in words: the replies to these lines on a server beside it.
