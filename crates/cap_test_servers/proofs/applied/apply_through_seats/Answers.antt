@@ -6,8 +6,8 @@ use Rattle.cap_core.proofs.Crossing.{reply_send}
 use Rattle.cap_history.specs.declared.naming.Naming as naming
 use Rattle.cap_history.proofs.seat.Seat.TheSendSync as seat
 use Rattle.cap_server.proofs.Crossing.{server_sync}
-use Rattle.cap_test_replicas.specs.contracts.applied.SeatJob as Job
-use Rattle.cap_test_replicas.proofs.applied.apply_through_seats.Goals as goal
+use Rattle.cap_test_servers.specs.contracts.applied.SeatJob as Job
+use Rattle.cap_test_servers.proofs.applied.apply_through_seats.Goals as goal
 
 module _ (j : NamedLft) (J R : RattleType) (n : naming.Ghosts J.Denot) (js : IsSend J) (jy : IsSync J) (ry : IsSync R) where
   -- a seat goes to the thread that applies a changeset through it

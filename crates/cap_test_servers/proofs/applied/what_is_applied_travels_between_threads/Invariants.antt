@@ -1,4 +1,4 @@
-use Rattle.cap_test_replicas.proofs.applied.what_is_applied_travels_between_threads.Given as goal
+use Rattle.cap_test_servers.proofs.applied.what_is_applied_travels_between_threads.Given as goal
 
 -- the history that was just opened, and its seat
 abbrev pub ghosts-applied_to_replicas : goal.ghosts-applied_to_replicas

@@ -1,34 +1,24 @@
 //! Two commits captured in two parts and as a whole.
 
-use cap_captures::captured_in_two_parts;
+use crate::carried::carry_out;
+use cap_captures::{InParts, captured_in_two_parts};
 use cap_codec::{Contents, write_changes};
-use cap_core::{Core, EVENTS_MAX};
-use cap_script::parse;
+use cap_core::Core;
+use cap_script::{Line, parse};
 use std::alloc::Global;
 use std::test::*;
 
 const START: &str = "create t kv\nsession\nattach 1 t\ncommit insert t (1,'x') ; insert t (2,'y')";
 
-// The server after the commands of a workload.
-fn server(alloc: Global, workload: &str) -> Option<Core<Global>> {
-    let mut core = Core::new(alloc);
-    for line in &parse(alloc, workload).ok()?.lines {
-        if core.events() >= EVENTS_MAX {
-            return None;
-        }
-        let (next, _reply) = core.prepare(&line.command).ok()?;
-        core = next;
-    }
-    Some(core)
-}
-
-// Whether the bytes of the concatenation are those of the one capture, for two commits, a line each.
-fn are_same(alloc: Global, commits: &str) -> Option<bool> {
-    let core = server(alloc, START)?;
-    let lines = parse(alloc, commits).ok()?.lines;
+// The captures of the commits on two lines.
+fn in_parts(alloc: Global, core: &Core<Global>, lines: &[Line<Global>]) -> Option<InParts<Global>> {
     let first = lines.first()?;
     let second = lines.get(1)?;
-    let made = captured_in_two_parts(alloc, &core, 1, &first.command, &second.command).ok()??;
+    captured_in_two_parts(alloc, core, 1, &first.command, &second.command).ok()?
+}
+
+// Whether the bytes of the concatenation are those of the one capture.
+fn is_whole(alloc: Global, made: &InParts<Global>) -> Option<bool> {
     let Contents::Changes(list) = &made.together else {
         return None;
     };
@@ -37,12 +27,20 @@ fn are_same(alloc: Global, commits: &str) -> Option<bool> {
     Some(together.as_slice() == whole.as_slice())
 }
 
+// The same for two commits, a line each.
+fn are_same(alloc: Global, commits: &str) -> Option<bool> {
+    let mut core = Core::new(alloc);
+    carry_out(alloc, &mut core, START)?;
+    let parsed = parse(alloc, commits).ok()?;
+    let made = in_parts(alloc, &core, &parsed.lines)?;
+    is_whole(alloc, &made)
+}
+
 #[test]
 fn two_parts_are_the_whole(rt: HostRuntime) -> Result<(), Fail> {
     let commits = "commit update t key(1) set 1 = 'z' ; delete t key(2)\n\
                    commit update t key(1) set 1 = 'w' ; insert t (2,'v') ; insert t (3,'u')";
-    let same = are_same(rt.alloc(), commits);
-    assert!(rt; same == Some(true));
+    assert!(rt; are_same(rt.alloc(), commits) == Some(true));
     Ok(())
 }
 
@@ -51,7 +49,6 @@ fn two_parts_are_the_whole(rt: HostRuntime) -> Result<(), Fail> {
 fn a_flag_without_a_change_is_lost(rt: HostRuntime) -> Result<(), Fail> {
     let commits = "commit update t key(1) set 1 = 'z' ; update t key(1) set 1 = 'x'\n\
                    commit cascade update t key(1) set 1 = 'w'";
-    let same = are_same(rt.alloc(), commits);
-    assert!(rt; same == Some(false));
+    assert!(rt; are_same(rt.alloc(), commits) == Some(false));
     Ok(())
 }

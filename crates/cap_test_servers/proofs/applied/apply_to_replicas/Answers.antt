@@ -4,8 +4,8 @@ use Rattle.std.proofs.Crossing.{crosses, frees, send, sync}
 use Rattle.cap_database.proofs.Crossing.{database_send, snapshot_send}
 use Rattle.cap_database.proofs.change.Change.TheSendSync as change
 use Rattle.cap_apply.proofs.report.Report.TheSendSync as report
-use Rattle.cap_test_replicas.specs.contracts.applied.ReplicaJob as Job
-use Rattle.cap_test_replicas.proofs.applied.apply_to_replicas.Goals as goal
+use Rattle.cap_test_servers.specs.contracts.applied.ReplicaJob as Job
+use Rattle.cap_test_servers.proofs.applied.apply_to_replicas.Goals as goal
 
 module _ (j : NamedLft) where
   -- a replica goes to the thread that applies a changeset to it
