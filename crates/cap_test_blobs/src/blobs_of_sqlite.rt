@@ -1,10 +1,8 @@
 //! Bytes that SQLite 3.40.1 wrote, and takes again, of a table whose key has two columns.
-use cap_codec::{
-    Contents, KeyFlags, read_blob, write_changes, write_changes_with, write_patches,
-    write_patches_with,
-};
-use std::process::Abort;
-use std::test::*;
+use crate::known::write;
+use cap_codec::{BlobFault, Contents, KeyFlags, read_blob, write_changes_with, write_patches_with};
+use cap_value::Fault;
+use std::alloc::Global;
 
 /// What `sqlite3session_changeset` gave. The table is `t(a, b, c, d, primary key (b, d))` with the rows (0,
 /// 7, 1, 7) and (0, 8, 1, 8), of which the second is deleted, after ('x', 1, NULL, 2) was inserted and `c`
@@ -32,43 +30,60 @@ fn with_ones<const N: usize>(bytes: &[u8; N]) -> [u8; N] {
     ones
 }
 
-#[test]
-fn a_changeset_of_sqlite(rt: HostRuntime) -> Result<(), Fail> {
-    let alloc = rt.alloc();
-    for bytes in [CHANGESET, with_ones(&CHANGESET)] {
-        let Contents::Changes(list) = read_blob(alloc, &bytes)? else {
-            return Err("a patchset".into());
-        };
-        let group = list.groups().first().ok_or("no group")?;
-        assert!(rt; group.schema().flags() == [false, true, false, true].as_slice());
-        assert!(rt; group.changes().len() == 3);
-        assert!(rt;
-            write_changes_with(alloc, KeyFlags::Places, &list)?.as_slice() == CHANGESET.as_slice()
-        );
-        assert!(rt;
-            write_changes_with(alloc, KeyFlags::Ones, &list)?.as_slice()
-                == with_ones(&CHANGESET).as_slice()
-        );
-        assert!(rt; write_changes(alloc, &list)?.as_slice() == with_ones(&CHANGESET).as_slice());
+// Whether the first bytes read, and are written as these where the key flags are places, and as those where
+// they are ones, which is the way of all other calls.
+fn is_written_both_ways(
+    alloc: Global,
+    bytes: &[u8],
+    places: &[u8],
+    ones: &[u8],
+) -> Result<bool, Fault<BlobFault>> {
+    let blob = read_blob(alloc, bytes)?;
+    Ok(
+        write_with(alloc, KeyFlags::Places, &blob)?.as_slice() == places
+            && write_with(alloc, KeyFlags::Ones, &blob)?.as_slice() == ones
+            && write(alloc, &blob)?.as_slice() == ones,
+    )
+}
+
+fn write_with(
+    alloc: Global,
+    flags: KeyFlags,
+    blob: &Contents<Global>,
+) -> Result<Vec<u8>, Fault<BlobFault>> {
+    match blob {
+        Contents::Changes(list) => Ok(write_changes_with(alloc, flags, list)?),
+        Contents::Patches(list) => Ok(write_patches_with(alloc, flags, list)?),
     }
-    Ok(())
+}
+
+// Whether the bytes are a changeset of three changes of the table whose key is the second and fourth column.
+fn is_of_the_table(alloc: Global, bytes: &[u8]) -> Result<bool, Fault<BlobFault>> {
+    let Contents::Changes(list) = read_blob(alloc, bytes)? else {
+        return Ok(false);
+    };
+    match list.groups().first() {
+        None => Ok(false),
+        Some(group) => {
+            let flags = group.schema().flags();
+            Ok(flags == [false, true, false, true].as_slice() && group.changes().len() == 3)
+        }
+    }
 }
 
 #[test]
-fn a_patchset_of_sqlite(rt: HostRuntime) -> Result<(), Fail> {
-    let alloc = rt.alloc();
-    for bytes in [PATCHSET, with_ones(&PATCHSET)] {
-        let Contents::Patches(list) = read_blob(alloc, &bytes)? else {
-            return Err("a changeset".into());
-        };
-        assert!(rt;
-            write_patches_with(alloc, KeyFlags::Places, &list)?.as_slice() == PATCHSET.as_slice()
-        );
-        assert!(rt;
-            write_patches_with(alloc, KeyFlags::Ones, &list)?.as_slice()
-                == with_ones(&PATCHSET).as_slice()
-        );
-        assert!(rt; write_patches(alloc, &list)?.as_slice() == with_ones(&PATCHSET).as_slice());
+fn a_changeset_of_sqlite(rt: HostRuntime) {
+    let ones = with_ones(&CHANGESET);
+    for bytes in [CHANGESET, ones] {
+        assert!(rt; is_of_the_table(rt.alloc(), &bytes) == Ok(true));
+        assert!(rt; is_written_both_ways(rt.alloc(), &bytes, &CHANGESET, &ones) == Ok(true));
     }
-    Ok(())
+}
+
+#[test]
+fn a_patchset_of_sqlite(rt: HostRuntime) {
+    let ones = with_ones(&PATCHSET);
+    for bytes in [PATCHSET, ones] {
+        assert!(rt; is_written_both_ways(rt.alloc(), &bytes, &PATCHSET, &ones) == Ok(true));
+    }
 }

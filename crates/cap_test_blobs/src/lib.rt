@@ -8,4 +8,12 @@ mod blobs_of_sqlite;
 #[cfg(test)]
 mod changes;
 #[cfg(test)]
+mod known;
+#[cfg(test)]
+mod made;
+#[cfg(test)]
+mod refused;
+#[cfg(test)]
 mod streams;
+#[cfg(test)]
+mod sweep;

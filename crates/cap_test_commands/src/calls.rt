@@ -1,15 +1,15 @@
 //! Each of the sixteen calls of a server, and what becomes of it with each request for memory refused.
 ghost use Rattle.std.specs.Prelude.{◌≡◌};
 
+use crate::carried::push_line;
 use cap_core::{Command, Reply};
 use cap_history::{Naming, Opened, Seat};
-use cap_script::{Line, Workload, parse, print_reply};
+use cap_script::{Line, parse, print_reply};
 use cap_server::{CallFault, Server};
 use cap_test_support::Memory;
-use cap_value::OutOfMemory;
+use cap_value::AllocHandle;
 use std::alloc::Global;
 use std::marker::Brand;
-use std::process::Abort;
 use std::sync::Wait;
 use std::test::*;
 
@@ -62,61 +62,74 @@ pub(crate) const REPLIES: &str = "ok version 1\n\
      ok\n\
      refused: E18 NoSession\n";
 
-// The calls that are named after the commands to tables.
+// What a call is answered.
+type Called = Result<Reply<Global>, CallFault>;
+
+// The calls that are named after the commands to tables, and take parts of them.
 fn call_tables<J: Naming>(
     rt: &impl Wait,
     server: &Server<J, Global>,
     seat: &mut Seat<J, Global>,
     command: Command<Global>,
-) -> Option<Reply<Global>> {
+) -> Called {
     match command {
-        Command::CreateTable { table, schema } => server.create_table(rt, seat, table, schema).ok(),
-        Command::Commit(batch) => server.commit(rt, seat, batch).ok(),
-        Command::Apply { blob, policy } => server.apply(rt, seat, blob, policy).ok(),
-        Command::Read => server.read(rt, seat).ok(),
-        Command::SaveAs { database } => server.save_as(rt, seat, database).ok(),
-        _ => None,
+        Command::CreateTable { table, schema } => server.create_table(rt, seat, table, schema),
+        Command::Commit(batch) => server.commit(rt, seat, batch),
+        Command::Apply { blob, policy } => server.apply(rt, seat, blob, policy),
+        Command::SaveAs { database } => server.save_as(rt, seat, database),
+        _ => Err(CallFault::OutOfMemory),
     }
 }
 
-// The calls that are named after the commands which tell a session what to watch.
-fn call_watching<J: Naming>(
+// The calls that are named after the commands to a session, and take parts of them.
+fn call_sessions<J: Naming>(
     rt: &impl Wait,
     server: &Server<J, Global>,
     seat: &mut Seat<J, Global>,
     command: Command<Global>,
-) -> Option<Reply<Global>> {
+) -> Called {
     match command {
-        Command::NewSession => server.new_session(rt, seat).ok(),
-        Command::Attach { session, table } => server.attach(rt, seat, session, table).ok(),
-        Command::AttachAll { session } => server.attach_all(rt, seat, session).ok(),
-        Command::SetFilter { session, filter } => server.set_filter(rt, seat, session, filter).ok(),
-        Command::Enable { session, enabled } => server.enable(rt, seat, session, enabled).ok(),
-        Command::Indirect { session, indirect } => server
-            .indirect(rt, seat, session, indirect)
-            .ok(),
-        _ => None,
-    }
-}
-
-// The calls that are named after the other commands to a session.
-fn call_watched<J: Naming>(
-    rt: &impl Wait,
-    server: &Server<J, Global>,
-    seat: &mut Seat<J, Global>,
-    command: Command<Global>,
-) -> Option<Reply<Global>> {
-    match command {
-        Command::IsEmpty { session } => server.is_empty(rt, seat, session).ok(),
+        Command::Attach { session, table } => server.attach(rt, seat, session, table),
+        Command::SetFilter { session, filter } => server.set_filter(rt, seat, session, filter),
         Command::Diff {
             session,
             from,
             table,
-        } => server.diff(rt, seat, session, from, table).ok(),
-        Command::Capture { session } => server.capture(rt, seat, session).ok(),
-        Command::Restart { session } => server.restart(rt, seat, session).ok(),
-        Command::DropSession { session } => server.drop_session(rt, seat, session).ok(),
-        _ => None,
+        } => server.diff(rt, seat, session, from, table),
+        _ => Err(CallFault::OutOfMemory),
+    }
+}
+
+// The calls that are named after the other commands which may change a session.
+fn call_changes<J: Naming>(
+    rt: &impl Wait,
+    server: &Server<J, Global>,
+    seat: &mut Seat<J, Global>,
+    command: &Command<Global>,
+) -> Called {
+    match command {
+        Command::NewSession => server.new_session(rt, seat),
+        Command::AttachAll { session } => server.attach_all(rt, seat, *session),
+        Command::Enable { session, enabled } => server.enable(rt, seat, *session, *enabled),
+        Command::Indirect { session, indirect } => server.indirect(rt, seat, *session, *indirect),
+        Command::DropSession { session } => server.drop_session(rt, seat, *session),
+        _ => Err(CallFault::OutOfMemory),
+    }
+}
+
+// The calls that are named after the commands which ask for something.
+fn call_asks<J: Naming>(
+    rt: &impl Wait,
+    server: &Server<J, Global>,
+    seat: &mut Seat<J, Global>,
+    command: &Command<Global>,
+) -> Called {
+    match command {
+        Command::Read => server.read(rt, seat),
+        Command::IsEmpty { session } => server.is_empty(rt, seat, *session),
+        Command::Capture { session } => server.capture(rt, seat, *session),
+        Command::Restart { session } => server.restart(rt, seat, *session),
+        _ => Err(CallFault::OutOfMemory),
     }
 }
 
@@ -126,136 +139,174 @@ fn call<J: Naming>(
     server: &Server<J, Global>,
     seat: &mut Seat<J, Global>,
     command: Command<Global>,
-) -> Option<Reply<Global>> {
+) -> Called {
     match &command {
         Command::CreateTable { .. }
         | Command::Commit(_)
         | Command::Apply { .. }
-        | Command::Read
         | Command::SaveAs { .. } => call_tables(rt, server, seat, command),
+        Command::Attach { .. } | Command::SetFilter { .. } | Command::Diff { .. } => {
+            call_sessions(rt, server, seat, command)
+        }
         Command::NewSession
-        | Command::Attach { .. }
         | Command::AttachAll { .. }
-        | Command::SetFilter { .. }
         | Command::Enable { .. }
-        | Command::Indirect { .. } => call_watching(rt, server, seat, command),
-        _ => call_watched(rt, server, seat, command),
+        | Command::Indirect { .. }
+        | Command::DropSession { .. } => call_changes(rt, server, seat, &command),
+        _ => call_asks(rt, server, seat, &command),
     }
 }
 
-// The texts of the replies to a workload's commands, each on a line, or none where one has no reply.
+// Adds the text of the reply to a line's command.
+fn push_reply<A: AllocHandle>(
+    alloc: A,
+    texts: &mut String,
+    line: Option<&Line<A>>,
+    reply: &Reply<A>,
+) -> Option<()> {
+    let text = print_reply(alloc, line?, reply).ok()?;
+    push_line(texts, text.as_str())
+}
+
+// Makes each call of the workload, and adds the texts of the replies. A call takes its command's parts, so
+// that the lines are read twice.
 fn answers<J: Naming>(
     rt: &impl Wait,
     alloc: Global,
     server: &Server<J, Global>,
     seat: &mut Seat<J, Global>,
-    workload: &str,
-) -> Option<String> {
-    let Workload { lines } = parse(alloc, workload).ok()?;
-    let mut texts = String::new(alloc);
-    let mut place = 0usize;
-    // A call takes its command's parts, so that the lines are read for the second time.
-    for line in parse(alloc, workload).ok()?.lines {
-        let reply = call(rt, server, seat, line.command)?;
-        let text = print_reply(alloc, lines.get(place)?, &reply).ok()?;
-        texts.push_str(text.as_str()).ok()?;
-        texts.push_str("\n").ok()?;
-        place = place.checked_add(1)?;
+    texts: &mut String,
+) -> Option<()> {
+    let shown = parse(alloc, WORKLOAD).ok()?;
+    let mut shown = shown.lines.iter();
+    for line in parse(alloc, WORKLOAD).ok()?.lines {
+        let reply = call(rt, server, seat, line.command).ok()?;
+        push_reply(alloc, texts, shown.next(), &reply)?;
     }
-    Some(texts)
+    Some(())
 }
 
-// One seat makes each call, and the replies are those of the sequential server.
-fn each_call<J: Naming + Send + Sync, R: Wait + Abort>(
-    rt: &R,
+// One seat makes each call. Adds the texts of the replies, and answers how many calls it has made, and how
+// many events it has seen.
+fn each_call<J: Naming + Send + Sync>(
+    rt: &impl Wait,
     opened: Opened<Global>,
     alloc: Global,
-) -> Result<(), Fail>
+    texts: &mut String,
+) -> Option<(u64, u64)>
     requires history { opened.seen.book ≡ J.book }
     requires seats { J.seats ≡ 1 }
 {
-    let (server, mut seats) = Server::<J, Global>::open(opened, alloc, 1)?;
-    let mut seat = seats.pop().ok_or("a seat")?;
-    let texts = answers(rt, alloc, &server, &mut seat, WORKLOAD).ok_or("replies")?;
-    assert!(rt; texts.as_str() == REPLIES);
-    assert!(rt; (seat.calls(), seat.seen()) == (22, 22));
-    Ok(())
+    let (server, mut seats) = Server::<J, Global>::open(opened, alloc, 1).ok()?;
+    let mut seat = seats.pop()?;
+    answers(rt, alloc, &server, &mut seat, texts)?;
+    Some((seat.calls(), seat.seen()))
 }
 
 // More requests for memory than any call makes.
 pub(crate) const REQUESTS_MAX: u64 = 10_000;
 
-// Opens a server, or is out of memory.
-fn is_opened<'a, J: Naming + Send + Sync>(
-    opened: Opened<&'a Memory<Global>>,
-    memory: &'a Memory<Global>,
-) -> bool
+// Opens a server, and answers whether it has its seat; none where there is no memory.
+fn is_opened<J: Naming + Send + Sync, A: AllocHandle>(opened: Opened<A>, alloc: A) -> Option<bool>
     requires history { opened.seen.book ≡ J.book }
     requires seats { J.seats ≡ 1 }
 {
-    match Server::<J, &'a Memory<Global>>::open(opened, memory, 1) {
-        Ok((_server, seats)) => seats.len() == 1,
-        Err(OutOfMemory) => false,
+    match Server::<J, A>::open(opened, alloc, 1) {
+        Ok((_server, seats)) => Some(seats.len() == 1),
+        Err(_) => None,
     }
 }
 
-// Makes a call with each request refused in turn, until it meets none, and answers its reply in words. A call
-// that is out of memory is no event: the seat has made as many calls as before, and the server has as many
-// events.
-fn starve<'a, J: Naming>(
+// Makes a call with this request refused, and answers it.
+fn call_with_a_request_refused<J: Naming, A: AllocHandle>(
     rt: &impl Wait,
-    server: &Server<J, &'a Memory<Global>>,
-    seat: &mut Seat<J, &'a Memory<Global>>,
-    memory: &'a Memory<Global>,
-    line: &Line<&'a Memory<Global>>,
-) -> Option<String<&'a Memory<Global>>> {
+    server: &Server<J, A>,
+    seat: &mut Seat<J, A>,
+    memory: &Memory<Global>,
+    line: &Line<A>,
+    number: u64,
+) -> Result<Reply<A>, CallFault> {
+    memory.refuse(number);
+    let answer = server.call(rt, seat, &line.command);
+    memory.refuse(0);
+    answer
+}
+
+// Makes a call with each request refused in turn, until it meets none, and answers its reply. A call that is
+// out of memory is no event: the seat has made as many calls as before, and the server has as many events.
+fn starve<J: Naming, A: AllocHandle>(
+    rt: &impl Wait,
+    server: &Server<J, A>,
+    seat: &mut Seat<J, A>,
+    memory: &Memory<Global>,
+    line: &Line<A>,
+) -> Option<Reply<A>> {
     let made = seat.calls();
     for number in 1..REQUESTS_MAX {
-        memory.refuse(number);
-        let answer = server.call(rt, seat, &line.command);
-        memory.refuse(0);
-        if !memory.has_refused() {
-            return print_reply(memory, line, &answer.ok()?).ok();
-        }
-        let is_refused = matches!(answer, Err(CallFault::OutOfMemory));
-        if !is_refused || seat.calls() != made || server.front(seat) != made {
-            return None;
+        match call_with_a_request_refused(rt, server, seat, memory, line, number) {
+            Ok(reply) => return (!memory.has_refused()).then_some(reply),
+            Err(CallFault::OutOfMemory) => {
+                let kept = (memory.has_refused(), seat.calls(), server.front(seat));
+                if kept != (true, made, made) {
+                    return None;
+                }
+            }
+            Err(_) => return None,
         }
     }
     None
 }
 
+// Makes each call of these lines so, and adds the texts of the replies.
+fn starve_each<J: Naming, A: AllocHandle>(
+    rt: &impl Wait,
+    alloc: A,
+    server: &Server<J, A>,
+    seat: &mut Seat<J, A>,
+    memory: &Memory<Global>,
+    texts: &mut String,
+) -> Option<()> {
+    let workload = parse(alloc, WORKLOAD).ok()?;
+    for line in &workload.lines {
+        let reply = starve(rt, server, seat, memory, line)?;
+        push_reply(alloc, texts, Some(line), &reply)?;
+    }
+    Some(())
+}
+
 // Each request of each call is refused, until there is none left. The same call then has the reply that it
 // would have had.
-fn starved<'a, J: Naming + Send + Sync, R: Wait>(
-    rt: &R,
-    opened: Opened<&'a Memory<Global>>,
-    memory: &'a Memory<Global>,
+fn starved<J: Naming + Send + Sync, A: AllocHandle>(
+    rt: &impl Wait,
+    opened: Opened<A>,
+    alloc: A,
+    memory: &Memory<Global>,
     texts: &mut String,
-) -> Result<(), Fail>
+) -> Option<()>
     requires history { opened.seen.book ≡ J.book }
     requires seats { J.seats ≡ 1 }
 {
-    let (server, mut seats) = Server::<J, &'a Memory<Global>>::open(opened, memory, 1)?;
-    let mut seat = seats.pop().ok_or("a seat")?;
-    for line in &parse(memory, WORKLOAD)?.lines {
-        let text = starve(rt, &server, &mut seat, memory, line).ok_or("a reply")?;
-        texts.push_str(text.as_str())?;
-        texts.push_str("\n")?;
-    }
-    Ok(())
+    let (server, mut seats) = Server::<J, A>::open(opened, alloc, 1).ok()?;
+    let mut seat = seats.pop()?;
+    starve_each(rt, alloc, &server, &mut seat, memory, texts)
 }
 
 #[test]
 fn each_call_is_answered(rt: HostRuntime) -> Result<(), Fail> {
-    each_call::<Brand, _>(&rt, Opened::new(), rt.alloc())
+    let mut texts = String::new(rt.alloc());
+    let called = each_call::<Brand>(&rt, Opened::new(), rt.alloc(), &mut texts);
+    assert!(rt; called == Some((22, 22)));
+    // They are the replies of the sequential server.
+    assert!(rt; texts.as_str() == REPLIES);
+    Ok(())
 }
 
 #[test]
 fn a_call_without_memory_is_no_event(rt: HostRuntime) -> Result<(), Fail> {
     let memory = Memory::new(rt.alloc());
     let mut texts = String::new(rt.alloc());
-    starved::<Brand, _>(&rt, Opened::new(), &memory, &mut texts)?;
+    let answered = starved::<Brand, _>(&rt, Opened::new(), &memory, &memory, &mut texts);
+    assert!(rt; answered == Some(()));
     assert!(rt; texts.as_str() == REPLIES);
     Ok(())
 }
@@ -265,13 +316,12 @@ fn each_request_of_an_opening_is_refused(rt: HostRuntime) -> Result<(), Fail> {
     let memory = Memory::new(rt.alloc());
     for number in 1..REQUESTS_MAX {
         memory.refuse(number);
-        let is_opened = is_opened::<Brand>(Opened::new(), &memory);
-        let is_met = memory.has_refused();
-        assert!(rt; is_opened != is_met);
-        if is_opened {
-            assert!(rt; number > 2);
+        let opened = is_opened::<Brand, _>(Opened::new(), &memory);
+        if !memory.has_refused() {
+            assert!(rt; opened == Some(true) && number > 2);
             return Ok(());
         }
+        assert!(rt; opened.is_none());
     }
     Err(Fail::from("never opened"))
 }

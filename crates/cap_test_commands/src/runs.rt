@@ -1,13 +1,14 @@
 //! Runs of the sequential server, commands that are prepared, and captures as bytes.
 use crate::calls::{REPLIES, WORKLOAD};
-use crate::steps::give;
+use crate::carried::{carry_out, push_line};
 use cap_codec::KeyFlags;
-use cap_core::{Command, Core, NoHook, Reply};
+use cap_core::{Capture, Command, Core, EVENTS_MAX, NoHook, Reply};
 use cap_database::{Action, Cause, Op};
 use cap_row::{Row, Schema};
-use cap_script::{parse, print_reply};
+use cap_script::{Line, parse, print_reply};
 use cap_txn::Batch;
 use cap_value::{Name, Value};
+use std::alloc::Global;
 use std::test::Fail;
 
 // It is the first example of README.md.
@@ -43,39 +44,66 @@ fn a_session_and_what_it_captures(rt: HostRuntime) -> Result<(), Fail> {
     Ok(())
 }
 
+// The commands of a workload.
+fn commands(alloc: Global, text: &str) -> Option<Vec<Command<Global>>> {
+    let mut commands = Vec::new(alloc);
+    for line in parse(alloc, text).ok()?.lines {
+        commands.push(line.command).ok()?;
+    }
+    Some(commands)
+}
+
+// Adds the texts of the replies to the commands of these lines.
+fn push_replies(
+    alloc: Global,
+    texts: &mut String,
+    lines: &[Line<Global>],
+    replies: &[Reply<Global>],
+) -> Option<()> {
+    for (line, reply) in lines.iter().zip(replies) {
+        let text = print_reply(alloc, line, reply).ok()?;
+        push_line(texts, text.as_str())?;
+    }
+    Some(())
+}
+
 #[test]
 fn a_run_answers_each_command(rt: HostRuntime) -> Result<(), Fail> {
     let alloc = rt.alloc();
-    let mut commands = Vec::new(alloc);
-    for line in parse(alloc, WORKLOAD)?.lines {
-        commands.push(line.command)?;
-    }
+    let mut texts = String::new(alloc);
+    let lines = parse(alloc, WORKLOAD)?.lines;
+    let commands = commands(alloc, WORKLOAD).ok_or("the commands")?;
     if commands.len() != 22 {
         return Err(Fail::from("not all commands"));
     }
     let (core, replies) = Core::run(alloc, &commands)?;
-    let mut texts = String::new(alloc);
-    for (line, reply) in parse(alloc, WORKLOAD)?.lines.iter().zip(&replies) {
-        texts.push_str(print_reply(alloc, line, reply)?.as_str())?;
-        texts.push_str("\n")?;
-    }
+    assert!(rt; core.events() == 22);
+    assert!(rt; push_replies(alloc, &mut texts, &lines, &replies) == Some(()));
     assert!(rt; texts.as_str() == REPLIES);
-    assert_eq!(rt; core.events(), 22);
     Ok(())
+}
+
+// The events of the server that a command makes, and the version that it writes.
+fn prepared(core: &Core<Global>, command: &Command<Global>) -> Option<(u64, u64)> {
+    if core.events() >= EVENTS_MAX {
+        return None;
+    }
+    let (made, reply) = core.prepare(command).ok()?;
+    match reply {
+        Reply::Written { version } => Some((made.events(), version)),
+        _ => None,
+    }
 }
 
 // The server on which a command was prepared goes on as if nothing had been.
 #[test]
 fn a_prepared_command_is_another_server(rt: HostRuntime) -> Result<(), Fail> {
     let core = Core::new(rt.alloc());
-    for line in &parse(rt.alloc(), "create t kv\ncreate t kv")?.lines {
-        if core.events() != 0 {
-            return Err(Fail::from("a new server has no event"));
-        }
-        let (made, reply) = core.prepare(&line.command)?;
-        assert!(rt; matches!(reply, Reply::Written { version: 1 }));
-        assert_eq!(rt; (core.events(), made.events()), (0, 1));
-    }
+    let lines = parse(rt.alloc(), "create t kv")?.lines;
+    let line = lines.first().ok_or("no command")?;
+    assert!(rt; prepared(&core, &line.command) == Some((1, 1)));
+    assert!(rt; core.events() == 0);
+    assert!(rt; prepared(&core, &line.command) == Some((1, 1)));
     Ok(())
 }
 
@@ -94,26 +122,33 @@ const PATCHSET: [u8; 20] = [
     0x50, 2, 1, 0, 0x74, 0, 0x17, 0, 1, 0, 0, 0, 0, 0, 0, 0, 1, 3, 1, 0x79,
 ];
 
+// The capture that a reply is.
+fn capture_in(reply: Reply<Global>) -> Option<Capture<Global>> {
+    match reply {
+        Reply::Capture(capture) => Some(capture),
+        _ => None,
+    }
+}
+
+// The capture of session 1.
+fn captured(core: &mut Core<Global>) -> Option<Capture<Global>> {
+    if core.events() >= EVENTS_MAX {
+        return None;
+    }
+    match core.step(&Command::Capture { session: 1 }, &mut NoHook) {
+        Ok(reply) => capture_in(reply),
+        Err(_) => None,
+    }
+}
+
 #[test]
 fn a_capture_as_a_changeset_and_a_patchset(rt: HostRuntime) -> Result<(), Fail> {
     let alloc = rt.alloc();
     let mut core = Core::new(alloc);
-    give(alloc, &mut core, UPDATE)?;
-    let lines = parse(alloc, "changeset 1")?.lines;
-    let line = lines.first().ok_or("no command")?;
-    if core.events() != 5 {
-        return Err(Fail::from("not all commands"));
-    }
-    let Ok(reply) = core.step(&line.command, &mut NoHook) else {
-        return Err(Fail::from("no reply"));
-    };
-    match &reply {
-        Reply::Capture(capture) => {
-            assert!(rt; capture.changeset(alloc)?.as_slice() == CHANGESET.as_slice());
-            assert!(rt; capture.patchset(alloc)?.as_slice() == PATCHSET.as_slice());
-        }
-        _ => assert!(rt; false),
-    }
+    assert!(rt; carry_out(alloc, &mut core, UPDATE).is_some());
+    let capture = captured(&mut core).ok_or("a capture")?;
+    assert!(rt; capture.changeset(alloc)?.as_slice() == CHANGESET.as_slice());
+    assert!(rt; capture.patchset(alloc)?.as_slice() == PATCHSET.as_slice());
     // The same bytes without a capture.
     let bytes = core
         .changeset(alloc, 1, KeyFlags::Ones)?

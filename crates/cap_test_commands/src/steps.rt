@@ -1,9 +1,10 @@
 //! Steps of the sequential server that are refused, by the commit hook or out of memory.
 use crate::calls::REQUESTS_MAX;
-use cap_core::{CommitHook, Core, NoHook, Reply};
-use cap_script::{Line, ScriptFault, parse, print_reply};
+use crate::carried::give;
+use cap_core::{Command, CommitHook, Core, EVENTS_MAX, Reply};
+use cap_script::{Line, parse, read_line};
 use cap_test_support::{CountingHook, Memory};
-use cap_value::{AllocHandle, Fault};
+use cap_value::AllocHandle;
 use std::alloc::Global;
 use std::test::Fail;
 
@@ -80,39 +81,27 @@ const CONTENT: &str = "scan t\n\
      diff 2 a t\n\
      changeset 2";
 
-// What a test's text may meet: out of memory, or a fault of the text.
-type Outcome<T> = Result<T, Fault<ScriptFault>>;
-
-// The texts of the replies to the commands of a workload, which are given to a server one after the other.
-pub(crate) fn give<A: AllocHandle>(alloc: A, core: &mut Core<A>, text: &str) -> Outcome<String<A>> {
-    let mut texts = String::new(alloc);
-    for line in &parse(alloc, text)?.lines {
-        if core.events() >= 1000 {
-            break;
-        }
-        match core.step(&line.command, &mut NoHook) {
-            Ok(reply) => texts.push_str(print_reply(alloc, line, &reply)?.as_str())?,
-            Err(_) => return Err(Fault::OutOfMemory),
-        }
-        texts.push_str("\n")?;
-    }
-    Ok(texts)
-}
-
 // The server as it is, with which it shares all memory.
-fn beside<A: AllocHandle>(alloc: A, core: &Core<A>) -> Outcome<Core<A>> {
-    match parse(alloc, "scan t")?.lines.first() {
-        Some(line) if core.events() < 1000 => {
-            let (beside, _reply) = core.prepare(&line.command)?;
-            Ok(beside)
-        }
-        _ => Err(Fault::OutOfMemory),
+fn beside<A: AllocHandle>(core: &Core<A>) -> Option<Core<A>> {
+    if core.events() >= EVENTS_MAX {
+        return None;
     }
+    let (beside, _reply) = core.prepare(&Command::Read).ok()?;
+    Some(beside)
 }
 
-// What a server holds, in words.
-fn content<A: AllocHandle>(alloc: A, core: &Core<A>) -> Outcome<String<A>> {
-    give(alloc, &mut beside(alloc, core)?, CONTENT)
+// What a server holds, in words: the replies to these lines on a server beside it.
+fn content<A: AllocHandle>(alloc: A, core: &Core<A>, shown: &[Line<A>]) -> Option<String<A>> {
+    let mut beside = beside(core)?;
+    give(alloc, &mut beside, shown)
+}
+
+// Whether a server holds this.
+fn holds<A: AllocHandle>(alloc: A, core: &Core<A>, shown: &[Line<A>], expected: &str) -> bool {
+    match content(alloc, core, shown) {
+        Some(texts) => texts.as_str() == expected,
+        None => false,
+    }
 }
 
 // Makes the step where there was room for it, and answers whether it was made and how often the hook was
@@ -121,35 +110,77 @@ fn step<A: AllocHandle>(core: &mut Core<A>, line: &Line<A>, allows: bool) -> (bo
     let mut hook = Hook {
         counting: CountingHook::new(allows),
     };
-    let made = core.events() < 1000 && core.step(&line.command, &mut hook).is_ok();
+    let made = core.events() < EVENTS_MAX && core.step(&line.command, &mut hook).is_ok();
     (made, hook.counting.asked)
+}
+
+// Makes the step with this request refused: whether the request was made. If it was not, the commit hook is
+// asked, which refuses. None where anything else comes of it.
+fn step_with_a_request_refused<A: AllocHandle>(
+    memory: &Memory<Global>,
+    core: &mut Core<A>,
+    line: &Line<A>,
+    number: u64,
+) -> Option<bool> {
+    // Every node is shared, so that a change needs memory.
+    let _shared = beside(core)?;
+    memory.refuse(number);
+    let stepped = step(core, line, false);
+    memory.refuse(0);
+    let is_refused = memory.has_refused();
+    (stepped == (false, u64::from(!is_refused))).then_some(is_refused)
 }
 
 // Makes the step with each request refused in turn, until the commit hook is asked, which refuses. Answers
 // how many requests were refused, or nothing where a refused step changed the server or asked the hook.
-fn refuse_in_turn<'a>(
-    memory: &'a Memory<Global>,
-    core: &mut Core<&'a Memory<Global>>,
-    line: &Line<&'a Memory<Global>>,
-    before: &str,
-) -> Outcome<Option<u64>> {
+fn refuse_in_turn<A: AllocHandle>(
+    alloc: A,
+    memory: &Memory<Global>,
+    core: &mut Core<A>,
+    line: &Line<A>,
+    (shown, before): (&[Line<A>], &str),
+) -> Option<u64> {
     for number in 1..REQUESTS_MAX {
-        // Every node is shared, so that a change needs memory.
-        let shared = beside(memory, core)?;
-        memory.refuse(number);
-        let stepped = step(core, line, false);
-        memory.refuse(0);
-        drop(shared);
-        let is_refused = memory.has_refused();
-        let is_kept = core.events() == 10 && content(memory, core)?.as_str() == before;
-        if !is_kept || stepped != (false, !is_refused as u64) {
-            return Ok(None);
+        let is_refused = step_with_a_request_refused(memory, core, line, number)?;
+        if core.events() != 10 || !holds(alloc, core, shown, before) {
+            return None;
         }
         if !is_refused {
-            return Ok(Some(number - 1));
+            return Some(number - 1);
         }
     }
-    Ok(None)
+    None
+}
+
+// Whether a command changes nothing with each request refused, and where the commit hook refuses; then the
+// hook allows it, and the server is another just where the command changes anything.
+fn is_whole_or_nothing<A: AllocHandle>(
+    alloc: A,
+    memory: &Memory<Global>,
+    core: &mut Core<A>,
+    shown: &[Line<A>],
+    (command, changes, grows): (&str, bool, bool),
+) -> Option<bool> {
+    let line = read_line(alloc, 1, command).ok()??;
+    let before = content(alloc, core, shown)?;
+    let refused = refuse_in_turn(alloc, memory, core, &line, (shown, before.as_str()))?;
+    let is_made = step(core, &line, true) == (true, 1) && core.events() == 11;
+    let is_same = holds(alloc, core, shown, before.as_str());
+    Some(is_made && is_same != changes && (refused > 0) == grows)
+}
+
+// The first of the commands of which this does not hold; an empty text where there is none.
+fn first_that_fails<A: AllocHandle>(alloc: A, memory: &Memory<Global>) -> Option<&'static str> {
+    let server = parse(alloc, SERVER).ok()?;
+    let shown = parse(alloc, CONTENT).ok()?;
+    for command in COMMANDS {
+        let mut core = Core::new(alloc);
+        give(alloc, &mut core, &server.lines)?;
+        if is_whole_or_nothing(alloc, memory, &mut core, &shown.lines, command) != Some(true) {
+            return Some(command.0);
+        }
+    }
+    Some("")
 }
 
 // Each request of each command is refused, until the commit hook is asked, which refuses. Then it allows the
@@ -159,20 +190,7 @@ fn a_write_without_memory_or_vetoed_by_the_hook_changes_nothing(
     rt: HostRuntime,
 ) -> Result<(), Fail> {
     let memory = Memory::new(rt.alloc());
-    for (command, changes, grows) in COMMANDS {
-        let mut core = Core::new(&memory);
-        give(&memory, &mut core, SERVER)?;
-        let before = content(&memory, &core)?;
-        let lines = parse(&memory, command)?.lines;
-        let line = lines.first().ok_or("no command")?;
-        let refused = refuse_in_turn(&memory, &mut core, line, before.as_str())?;
-        assert!(rt;
-            refused.is_some_and(|count| (count > 0) == grows),
-            "{command}"
-        );
-        assert!(rt; step(&mut core, line, true) == (true, 1), "{command}");
-        let is_same = content(&memory, &core)?.as_str() == before.as_str();
-        assert!(rt; (core.events(), is_same) == (11, !changes), "{command}");
-    }
+    let failed = first_that_fails(&memory, &memory).ok_or("workloads")?;
+    assert!(rt; failed.is_empty(), "{failed}");
     Ok(())
 }

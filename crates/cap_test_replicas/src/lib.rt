@@ -1,12 +1,6 @@
 //! A change's whole way: from a call on a server that threads share to the rows of another database.
 #![tactic(auto)]
 
-#[cfg(test)]
-mod applied;
-#[cfg(test)]
-mod calls;
-#[cfg(test)]
-mod replicas;
 mod replication;
 
 pub use replication::{Form, NotReplicated, replicate};

@@ -1,165 +1,251 @@
 //! Transactions beside other commits.
 ghost use Rattle.std.specs.Prelude.{◌≡◌};
 
-use cap_core::{Command, Reply};
-use cap_database::Snapshot;
+use crate::looks::{Looked, Told, are_items, are_looks};
+use crate::seats::{is_answered, snapshot};
+use cap_core::Command;
+use cap_database::{Op, Snapshot};
 use cap_history::{Naming, Opened, Seat};
-use cap_script::{Show, parse, print_reply};
+use cap_script::{Line, Show, print_reply, read_line};
 use cap_server::Server;
 use cap_txn::{Batch, Mark, Txn, copy_of_op};
+use cap_value::Refusal;
 use std::alloc::Global;
 use std::marker::Brand;
 use std::process::Abort;
 use std::sync::Wait;
 use std::test::*;
 
-// A transaction's calls, a workload that is carried out meanwhile, and the reply to the transaction's commit.
-// The transactions begin at version 3, where t has (1,'a') and (2,'b').
-const ROWS: &[(&[&str], &str, &str)] = &[
-    (
-        &["get t key(1)", "commit update t key(1) set 1 = 'c'"],
-        "commit update t key(2) set 1 = 'q'",
-        "ok version 5",
-    ),
-    (
-        &["get t key(1)", "commit update t key(1) set 1 = 'c'"],
-        "commit update t key(1) set 1 = 'q'",
-        "refused: E11 Stale base 3 now 4 item 1",
-    ),
-    (
-        &["get t key(1)", "commit update t key(1) set 1 = 'c'"],
-        "commit update t key(1) set 1 = 'q'\ncommit update t key(1) set 1 = 'a'",
-        "ok version 6",
-    ),
-    (
-        &["scan t", "commit insert t (9,'z')"],
-        "commit insert t (5,'e')",
-        "refused: E11 Stale base 3 now 4 item 1",
-    ),
-    (
-        &["commit insert t (5,'x')"],
-        "commit insert t (5,'e')",
-        "refused: E11 Stale base 3 now 4 item 1",
-    ),
-    (
-        &["commit insert t (null,'l')"],
-        "commit insert t (null,'m')",
-        "refused: E11 Stale base 3 now 4 item 1",
-    ),
-    (
-        &[
+// The rows that each transaction begins from, and the replies.
+const ROWS: (&str, &str) = (
+    "create t kv\ncommit insert t (1,'a')\ncommit insert t (2,'b')",
+    "ok version 1\nok version 2\nok version 3\n",
+);
+
+// A transaction, and the commit of it beside other commits.
+struct Case<'a> {
+    // The transaction's calls. It begins at version 3, where t has (1,'a') and (2,'b').
+    calls: &'a [&'a str],
+    // What it looks at, in order.
+    footprint: &'a [Looked],
+    // Its calls and their answers.
+    trace: &'a [(&'a str, Told<'a>)],
+    // A workload that is carried out meanwhile, and the replies to it.
+    meanwhile: (&'a str, &'a str),
+    // The reply to the transaction's commit.
+    reply: &'a str,
+    // What a scan of t shows then.
+    scan: &'a str,
+}
+
+const UPDATE: &[&str] = &["get t key(1)", "commit update t key(1) set 1 = 'c'"];
+
+const UPDATE_LOOKS: &[Looked] = &[Looked::Table, Looked::Row(1)];
+
+const UPDATE_TRACE: &[(&str, Told<'static>)] = &[
+    ("get", Told::Row((1, "a"))),
+    ("update", Told::Done),
+];
+
+const CASES: &[Case<'static>] = &[
+    Case {
+        calls: UPDATE,
+        footprint: UPDATE_LOOKS,
+        trace: UPDATE_TRACE,
+        meanwhile: ("commit update t key(2) set 1 = 'q'", "ok version 4\n"),
+        reply: "ok version 5",
+        scan: "rows 2\n(1,'c')\n(2,'q')\n",
+    },
+    Case {
+        calls: UPDATE,
+        footprint: UPDATE_LOOKS,
+        trace: UPDATE_TRACE,
+        meanwhile: ("commit update t key(1) set 1 = 'q'", "ok version 4\n"),
+        reply: "refused: E11 Stale base 3 now 4 item 1",
+        scan: "rows 2\n(1,'q')\n(2,'b')\n",
+    },
+    Case {
+        calls: UPDATE,
+        footprint: UPDATE_LOOKS,
+        trace: UPDATE_TRACE,
+        meanwhile: (
+            "commit update t key(1) set 1 = 'q'\ncommit update t key(1) set 1 = 'a'",
+            "ok version 4\nok version 5\n",
+        ),
+        reply: "ok version 6",
+        scan: "rows 2\n(1,'c')\n(2,'b')\n",
+    },
+    Case {
+        calls: &["scan t", "commit insert t (9,'z')"],
+        footprint: &[Looked::Table, Looked::Scan, Looked::Row(9)],
+        trace: &[
+            ("scan", Told::Rows(&[(1, "a"), (2, "b")])),
+            ("insert", Told::Done),
+        ],
+        meanwhile: ("commit insert t (5,'e')", "ok version 4\n"),
+        reply: "refused: E11 Stale base 3 now 4 item 1",
+        scan: "rows 3\n(1,'a')\n(2,'b')\n(5,'e')\n",
+    },
+    Case {
+        calls: &["commit insert t (5,'x')"],
+        footprint: &[Looked::Table, Looked::Row(5)],
+        trace: &[("insert", Told::Done)],
+        meanwhile: ("commit insert t (5,'e')", "ok version 4\n"),
+        reply: "refused: E11 Stale base 3 now 4 item 1",
+        scan: "rows 3\n(1,'a')\n(2,'b')\n(5,'e')\n",
+    },
+    Case {
+        calls: &["commit insert t (null,'l')"],
+        footprint: &[Looked::Table, Looked::NextId],
+        trace: &[("insert", Told::Done)],
+        meanwhile: ("commit insert t (null,'m')", "ok version 4\n"),
+        reply: "refused: E11 Stale base 3 now 4 item 1",
+        scan: "rows 3\n(1,'a')\n(2,'b')\nloose 1 (null,'m')\n",
+    },
+    Case {
+        calls: &[
             "savepoint",
             "commit delete t key(2)",
             "back",
             "commit insert t (9,'z')",
         ],
-        "commit delete t key(2)",
-        "refused: E11 Stale base 3 now 4 item 1",
-    ),
-    (
-        &["commit insert t (1,'z')", "commit insert t (9,'z')"],
-        "commit update t key(2) set 1 = 'q'",
-        "ok version 5",
-    ),
+        footprint: &[Looked::Table, Looked::Row(2), Looked::Row(9)],
+        trace: &[
+            ("savepoint", Told::Mark(0)),
+            ("delete", Told::Done),
+            ("back", Told::Done),
+            ("insert", Told::Done),
+        ],
+        meanwhile: ("commit delete t key(2)", "ok version 4\n"),
+        reply: "refused: E11 Stale base 3 now 4 item 1",
+        scan: "rows 1\n(1,'a')\n",
+    },
+    Case {
+        calls: &["commit insert t (1,'z')", "commit insert t (9,'z')"],
+        footprint: &[Looked::Table, Looked::Row(1), Looked::Row(9)],
+        trace: &[
+            ("insert", Told::Refused(Refusal::Duplicate)),
+            ("insert", Told::Done),
+        ],
+        meanwhile: ("commit update t key(2) set 1 = 'q'", "ok version 4\n"),
+        reply: "ok version 5",
+        scan: "rows 3\n(1,'a')\n(2,'q')\n(9,'z')\n",
+    },
 ];
 
-// The reply to the last command of a workload, as text.
-fn last_answer<J: Naming>(
-    rt: &impl Wait,
-    alloc: Global,
-    server: &Server<J, Global>,
-    seat: &mut Seat<J, Global>,
-    workload: &str,
-) -> Option<String> {
-    let mut last = None;
-    for line in &parse(alloc, workload).ok()?.lines {
-        let reply = server.call(rt, seat, &line.command).ok()?;
-        last = Some(print_reply(alloc, line, &reply).ok()?);
-    }
-    last
-}
-
-// One call of the transaction, as a line of a workload says it. What it is answered is in its trace.
-fn call(alloc: Global, txn: &mut Txn<Global>, text: &str) -> Option<()> {
-    for line in &parse(alloc, text).ok()?.lines {
-        match (&line.command, &line.show) {
-            (Command::Commit(batch), _) => {
-                for op in batch.ops() {
-                    let _answer = txn.op(copy_of_op(alloc, op).ok()?);
-                }
+// Operations of the transaction. What they are answered is in its trace.
+fn operate(alloc: Global, txn: &mut Txn<Global>, ops: &[Op<Global>]) -> bool {
+    for op in ops {
+        match copy_of_op(alloc, op) {
+            Ok(op) => {
+                let _answer = txn.op(op);
             }
-            (_, Show::Get(table, row)) => {
-                let _row = txn.get(table, row).ok()?;
-            }
-            (_, Show::Scan(table)) => {
-                let _rows = txn.scan(table).ok()?;
-            }
-            _ => return None,
+            Err(_) => return false,
         }
     }
-    Some(())
+    true
+}
+
+// The call of the transaction that a line of a workload says.
+fn call_of(alloc: Global, txn: &mut Txn<Global>, line: &Line<Global>) -> bool {
+    match &line.show {
+        Show::Get(table, row) => txn.get(table, row).is_ok(),
+        Show::Scan(table) => txn.scan(table).is_ok(),
+        _ => match &line.command {
+            Command::Commit(batch) => operate(alloc, txn, batch.ops()),
+            _ => false,
+        },
+    }
+}
+
+// One call of the transaction.
+fn call(alloc: Global, txn: &mut Txn<Global>, text: &str) -> bool {
+    if text == "savepoint" {
+        return txn.savepoint().is_ok();
+    }
+    if text == "back" {
+        return txn.back_to(Mark { number: 0 }).is_ok();
+    }
+    match read_line(alloc, 1, text) {
+        Ok(Some(line)) => call_of(alloc, txn, &line),
+        _ => false,
+    }
 }
 
 // The batch of a transaction on the snapshot that makes these calls.
 fn transact(alloc: Global, base: &Snapshot<Global>, calls: &[&str]) -> Option<Batch<Global>> {
     let mut txn = Txn::begin(alloc, base).ok()?;
-    let mut mark = Mark { number: 0 };
     for text in calls {
-        match *text {
-            "savepoint" => mark = txn.savepoint().ok()?,
-            "back" => txn.back_to(mark).ok()?,
-            text => call(alloc, &mut txn, text)?,
+        if !call(alloc, &mut txn, text) {
+            return None;
         }
     }
     Some(txn.into_batch())
 }
 
-// The reply to the commit of a transaction, where other commits were made since it began.
-fn commit_beside<J: Naming>(
+// The text of the reply to the commit of a batch.
+fn committed<J: Naming>(
     rt: &impl Wait,
+    alloc: Global,
+    server: &Server<J, Global>,
+    seat: &mut Seat<J, Global>,
+    batch: Batch<Global>,
+) -> Option<String> {
+    let line = read_line(alloc, 1, "session").ok()??;
+    match server.commit(rt, seat, batch) {
+        Ok(reply) => print_reply(alloc, &line, &reply).ok(),
+        Err(_) => None,
+    }
+}
+
+// Commits a transaction from one seat, where the other made commits since it began.
+fn commit_beside<J: Naming, R: Wait + Abort>(
+    rt: &R,
     alloc: Global,
     server: &Server<J, Global>,
     zero: &mut Seat<J, Global>,
     one: &mut Seat<J, Global>,
-    row: &(&[&str], &str, &str),
-) -> Option<String> {
-    let rows = "create t kv\ncommit insert t (1,'a')\ncommit insert t (2,'b')";
-    last_answer(rt, alloc, server, zero, rows)?;
-    let Reply::Snapshot(base) = server.read(rt, zero).ok()? else {
-        return None;
-    };
-    let batch = transact(alloc, &base, row.0)?;
-    last_answer(rt, alloc, server, one, row.1)?;
-    let reply = server.commit(rt, zero, batch).ok()?;
-    let parsed = parse(alloc, "session").ok()?;
-    print_reply(alloc, parsed.lines.first()?, &reply).ok()
+    case: &Case<'_>,
+) -> Option<()> {
+    let base = snapshot(rt, server, zero)?;
+    let batch = transact(alloc, &base, case.calls)?;
+    assert!(rt; are_items(batch.footprint(), case.footprint));
+    assert!(rt; are_looks(batch.trace(), case.trace));
+    assert!(rt; is_answered(rt, alloc, server, one, case.meanwhile));
+    let reply = committed(rt, alloc, server, zero, batch)?;
+    assert!(rt; reply.as_str() == case.reply, "{}", reply.as_str());
+    assert!(rt;
+        is_answered(rt, alloc, server, zero, ("scan t", case.scan)),
+        "{}",
+        case.scan
+    );
+    Some(())
 }
 
-// A row on a server of its own.
+// A case on a server of its own.
 fn judged<J: Naming + Send + Sync, R: Wait + Abort>(
     rt: &R,
     opened: Opened<Global>,
     alloc: Global,
-    row: &(&[&str], &str, &str),
-) -> Result<(), Fail>
+    case: &Case<'_>,
+) -> Option<()>
     requires history { opened.seen.book ≡ J.book }
     requires seats { J.seats ≡ 2 }
 {
-    let (server, mut seats) = Server::<J, Global>::open(opened, alloc, 2)?;
-    let mut one = seats.pop().ok_or("seat 1")?;
-    let mut zero = seats.pop().ok_or("seat 0")?;
-    let reply = commit_beside(rt, alloc, &server, &mut zero, &mut one, row);
-    let text = reply.ok_or("a reply")?;
-    assert!(rt; text.as_str() == row.2, "{}", text.as_str());
-    Ok(())
+    let (server, mut seats) = Server::<J, Global>::open(opened, alloc, 2).ok()?;
+    let mut one = seats.pop()?;
+    let mut zero = seats.pop()?;
+    assert!(rt; is_answered(rt, alloc, &server, &mut zero, ROWS));
+    commit_beside(rt, alloc, &server, &mut zero, &mut one, case)
 }
 
 #[test]
 fn transactions_are_refused_where_what_they_looked_at_has_changed(
     rt: HostRuntime,
 ) -> Result<(), Fail> {
-    for row in ROWS {
-        judged::<Brand, _>(&rt, Opened::new(), rt.alloc(), row)?;
+    for case in CASES {
+        let judged = judged::<Brand, _>(&rt, Opened::new(), rt.alloc(), case);
+        assert!(rt; judged == Some(()));
     }
     Ok(())
 }

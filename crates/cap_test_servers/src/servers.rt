@@ -1,10 +1,13 @@
 //! Servers that threads share.
 ghost use Rattle.std.specs.Prelude.{◌≡◌};
 
-use cap_core::Core;
+use crate::seats::is_answered;
+use cap_core::{Command, Core, EVENTS_MAX, Reply};
+use cap_database::Snapshot;
 use cap_history::{Naming, Opened, Seat};
-use cap_script::{Workload, parse, print_reply};
-use cap_server::{CloseFault, Server};
+use cap_script::read_line;
+use cap_server::{CallFault, CloseFault, Server};
+use cap_value::Name;
 use std::alloc::Global;
 use std::marker::Brand;
 use std::process::Abort;
@@ -12,38 +15,6 @@ use std::sync::Wait;
 use std::test::*;
 use std::thread;
 use std::thread::Threads;
-
-// The texts of the replies to a workload's commands, each on a line, or none where one has no reply.
-fn answers<J: Naming>(
-    rt: &impl Wait,
-    alloc: Global,
-    server: &Server<J, Global>,
-    seat: &mut Seat<J, Global>,
-    workload: &str,
-) -> Option<String> {
-    let mut texts = String::new(alloc);
-    for line in &parse(alloc, workload).ok()?.lines {
-        let reply = server.call(rt, seat, &line.command).ok()?;
-        let text = print_reply(alloc, line, &reply).ok()?;
-        texts.push_str(text.as_str()).ok()?;
-        texts.push_str("\n").ok()?;
-    }
-    Some(texts)
-}
-
-// Whether these are the replies to the workload's commands.
-fn is_answered<J: Naming>(
-    rt: &impl Wait,
-    alloc: Global,
-    server: &Server<J, Global>,
-    seat: &mut Seat<J, Global>,
-    rows: (&str, &str),
-) -> bool {
-    match answers(rt, alloc, server, seat, rows.0) {
-        Some(texts) => texts.as_str() == rows.1,
-        None => false,
-    }
-}
 
 // Three seats, of which the first makes a table, the others commit, and the second reads its own row.
 fn call_from_three<J: Naming, R: Wait + Abort>(
@@ -69,27 +40,34 @@ fn call_from_three<J: Naming, R: Wait + Abort>(
     assert!(rt; (zero.calls(), first.calls(), second.calls()) == (1, 2, 1));
 }
 
+// The seats then stand in another order.
+fn call_from_each<J: Naming, R: Wait + Abort>(
+    rt: &R,
+    alloc: Global,
+    server: &Server<J, Global>,
+    seats: &mut Vec<Seat<J, Global>>,
+) -> Option<()> {
+    let mut second = seats.pop()?;
+    let mut first = seats.pop()?;
+    let mut zero = seats.pop()?;
+    call_from_three(rt, alloc, server, &mut zero, &mut first, &mut second);
+    seats.push(first).ok()?;
+    seats.push(zero).ok()?;
+    seats.push(second).ok()
+}
+
+// How many events are left, and how many rows.
 fn three_seats<J: Naming + Send + Sync, R: Wait + Abort>(
     rt: &R,
     opened: Opened<Global>,
     alloc: Global,
-) -> Result<(), Fail>
+) -> Option<(u64, u128)>
     requires history { opened.seen.book ≡ J.book }
     requires seats { J.seats ≡ 3 }
 {
-    let (server, mut seats) = Server::<J, Global>::open(opened, alloc, 3)?;
-    let mut second = seats.pop().ok_or("seat 2")?;
-    let mut first = seats.pop().ok_or("seat 1")?;
-    let mut zero = seats.pop().ok_or("seat 0")?;
-    call_from_three(rt, alloc, &server, &mut zero, &mut first, &mut second);
-    seats.push(first)?;
-    seats.push(zero)?;
-    seats.push(second)?;
-    match server.close(seats) {
-        Ok(closed) => assert!(rt; closed.events == 4),
-        Err(_) => assert!(rt; false, "closed"),
-    }
-    Ok(())
+    let (server, mut seats) = Server::<J, Global>::open(opened, alloc, 3).ok()?;
+    call_from_each(rt, alloc, &server, &mut seats)?;
+    closed(alloc, server, seats)
 }
 
 // A seat, and what its thread needs to call from it.
@@ -99,6 +77,27 @@ struct Job<'j, J: Naming, R: Wait> {
     alloc: Global,
     server: &'j Server<J, Global>,
     seat: Seat<J, Global>,
+}
+
+// One commit of a seat, which inserts a row with this key.
+fn is_committed<J: Naming>(
+    rt: &impl Wait,
+    alloc: Global,
+    server: &Server<J, Global>,
+    seat: &mut Seat<J, Global>,
+    key: u64,
+) -> bool {
+    let Ok(text) = format!(in alloc; "commit insert t ({key},'x')") else {
+        return false;
+    };
+    match read_line(alloc, 1, text.as_str()) {
+        Ok(Some(line)) => is_written(server.call(rt, seat, &line.command)),
+        _ => false,
+    }
+}
+
+fn is_written(answer: Result<Reply<Global>, CallFault>) -> bool {
+    matches!(answer, Ok(Reply::Written { .. }))
 }
 
 // One hundred commits of a seat, each of one insert with a key of its own.
@@ -112,24 +111,31 @@ fn commits<J: Naming, R: Wait>(job: Job<'_, J, R>) -> Option<Seat<J, Global>> {
     let first = seat.number().checked_mul(1000)?;
     for i in 0..100u64 {
         let key = first.checked_add(i)?;
-        let workload = format!(in alloc; "commit insert t ({key},'x')").ok()?;
-        let texts = answers(rt, alloc, server, &mut seat, workload.as_str())?;
-        if !texts.as_str().starts_with("ok version ") {
+        if !is_committed(rt, alloc, server, &mut seat, key) {
             return None;
         }
     }
     Some(seat)
 }
 
-// The rows of `t` in the core that a closed server left, in words.
-fn rows_left(alloc: Global, core: &Core<Global>) -> Option<String> {
-    let Workload { lines } = parse(alloc, "scan t").ok()?;
-    let line = lines.first()?;
-    if core.events() >= 1000 {
+// The number of rows of `t` in the core that a closed server left.
+fn rows_left(alloc: Global, core: &Core<Global>) -> Option<u128> {
+    if core.events() >= EVENTS_MAX {
         return None;
     }
-    let (_core, reply) = core.prepare(&line.command).ok()?;
-    print_reply(alloc, line, &reply).ok()
+    let (_core, reply) = core.prepare(&Command::Read).ok()?;
+    match &reply {
+        Reply::Snapshot(snapshot) => rows_of(alloc, snapshot),
+        _ => None,
+    }
+}
+
+fn rows_of(alloc: Global, snapshot: &Snapshot<Global>) -> Option<u128> {
+    let name = Name::new(alloc, "t").ok()?;
+    match snapshot.scan(&name) {
+        Ok(scan) => Some(scan.left()),
+        Err(_) => None,
+    }
 }
 
 // Each seat's thread makes its commits.
@@ -138,7 +144,7 @@ fn commit_together<J: Naming + Send + Sync, R: Threads + Wait + Sync>(
     alloc: Global,
     server: &Server<J, Global>,
     seats: Vec<Seat<J, Global>>,
-) -> Result<Vec<Option<Seat<J, Global>>>, Fail> {
+) -> Option<Vec<Option<Seat<J, Global>>>> {
     let mut jobs = Vec::new(alloc);
     for seat in seats {
         jobs.push(Job {
@@ -146,10 +152,10 @@ fn commit_together<J: Naming + Send + Sync, R: Threads + Wait + Sync>(
             alloc,
             server,
             seat,
-        })?;
+        })
+        .ok()?;
     }
-    let worked = thread::map_vec(rt, jobs, &|job| commits(job))?;
-    Ok(worked)
+    thread::map_vec(rt, jobs, &|job| commits(job)).ok()
 }
 
 // The seats that came back, each with its 100 calls, behind the first one.
@@ -170,15 +176,16 @@ fn handed_back<J: Naming>(
     Some(back)
 }
 
-// How many events a closed server leaves, and its rows in words.
+// How many events a closed server leaves, and how many rows.
 fn closed<J: Naming>(
     alloc: Global,
     server: Server<J, Global>,
     seats: Vec<Seat<J, Global>>,
-) -> Option<(u64, String)> {
-    let closed = server.close(seats).ok()?;
-    let rows = rows_left(alloc, &closed.core)?;
-    Some((closed.events, rows))
+) -> Option<(u64, u128)> {
+    match server.close(seats) {
+        Ok(closed) => Some((closed.events, rows_left(alloc, &closed.core)?)),
+        Err(_) => None,
+    }
 }
 
 // The first of the seats makes a table, and then the others commit.
@@ -187,77 +194,100 @@ fn carried_out<J: Naming + Send + Sync, R: Threads + Wait + Sync>(
     alloc: Global,
     server: &Server<J, Global>,
     mut seats: Vec<Seat<J, Global>>,
-) -> Result<Vec<Seat<J, Global>>, Fail> {
+) -> Option<Vec<Seat<J, Global>>> {
     if seats.len() != 5 {
-        return Err("five seats".into());
+        return None;
     }
     let mut zero = seats.remove(0);
     let rows = ("create t kv", "ok version 1\n");
     if !is_answered(rt, alloc, server, &mut zero, rows) {
-        return Err("a table".into());
+        return None;
     }
     let worked = commit_together(rt, alloc, server, seats)?;
-    let back = handed_back(alloc, zero, worked).ok_or("all commits")?;
-    Ok(back)
+    handed_back(alloc, zero, worked)
 }
 
-// Four threads with 100 commits each, after a table was made.
-fn four_threads<J: Naming + Send + Sync, R: Threads + Wait + Abort + Sync>(
+// Four threads with 100 commits each, after a table was made: how many events are left, and how many rows.
+fn four_threads<J: Naming + Send + Sync, R: Threads + Wait + Sync>(
     rt: &R,
     opened: Opened<Global>,
     alloc: Global,
-) -> Result<(), Fail>
+) -> Option<(u64, u128)>
     requires history { opened.seen.book ≡ J.book }
     requires seats { J.seats ≡ 5 }
 {
-    let (server, seats) = Server::<J, Global>::open(opened, alloc, 5)?;
+    let (server, seats) = Server::<J, Global>::open(opened, alloc, 5).ok()?;
     let back = carried_out(rt, alloc, &server, seats)?;
-    let (events, rows) = closed(alloc, server, back).ok_or("closed")?;
-    assert!(rt; events == 401);
-    assert!(rt; rows.as_str().starts_with("rows 400\n"));
-    Ok(())
+    closed(alloc, server, back)
 }
 
-// Two of five seats are kept back at first.
-fn missing_seats<J: Naming + Send + Sync, R: Wait + Abort>(
-    rt: &R,
-    opened: Opened<Global>,
-    alloc: Global,
-) -> Result<(), Fail>
-    requires history { opened.seen.book ≡ J.book }
-    requires seats { J.seats ≡ 5 }
-{
-    let (server, mut seats) = Server::<J, Global>::open(opened, alloc, 5)?;
-    assert!(rt; seats.len() == 5);
-    let third = seats.remove(3);
-    let first = seats.remove(1);
+// Hands these seats alone to a server, which is not closed without the seat of this number.
+fn missed<J: Naming>(
+    server: Server<J, Global>,
+    seats: Vec<Seat<J, Global>>,
+    missing: u64,
+) -> Option<(Server<J, Global>, Vec<Seat<J, Global>>)> {
     match server.close(seats) {
-        Ok(_) => assert!(rt; false, "two seats are missing"),
-        Err((server, mut seats, fault)) => {
-            assert!(rt; matches!(fault, CloseFault::MissingSeat { number: 1 }));
-            assert!(rt; seats.len() == 3);
-            seats.push(third)?;
-            seats.push(first)?;
-            match server.close(seats) {
-                Ok(closed) => assert!(rt; closed.events == 0),
-                Err(_) => assert!(rt; false, "closed"),
+        Err((server, seats, fault)) => {
+            if fault == (CloseFault::MissingSeat { number: missing }) {
+                Some((server, seats))
+            } else {
+                None
             }
         }
+        Ok(_) => None,
     }
-    Ok(())
+}
+
+// How many events are left where two of five seats are kept back at first.
+fn close_twice<J: Naming>(
+    server: Server<J, Global>,
+    mut seats: Vec<Seat<J, Global>>,
+) -> Option<u64> {
+    if seats.len() != 5 {
+        return None;
+    }
+    let third = seats.remove(3);
+    let first = seats.remove(1);
+    let (server, mut seats) = missed(server, seats, 1)?;
+    if seats.len() != 3 {
+        return None;
+    }
+    seats.push(third).ok()?;
+    seats.push(first).ok()?;
+    match server.close(seats) {
+        Ok(closed) => Some(closed.events),
+        Err(_) => None,
+    }
+}
+
+fn missing_seats<J: Naming + Send + Sync>(opened: Opened<Global>, alloc: Global) -> Option<u64>
+    requires history { opened.seen.book ≡ J.book }
+    requires seats { J.seats ≡ 5 }
+{
+    match Server::<J, Global>::open(opened, alloc, 5) {
+        Ok((server, seats)) => close_twice(server, seats),
+        Err(_) => None,
+    }
 }
 
 #[test]
 fn a_seat_reads_its_own_commit(rt: HostRuntime) -> Result<(), Fail> {
-    three_seats::<Brand, _>(&rt, Opened::new(), rt.alloc())
+    let left = three_seats::<Brand, _>(&rt, Opened::new(), rt.alloc());
+    assert!(rt; left == Some((4, 2)));
+    Ok(())
 }
 
 #[test]
 fn four_threads_commit(rt: HostRuntime) -> Result<(), Fail> {
-    four_threads::<Brand, _>(&rt, Opened::new(), rt.alloc())
+    let left = four_threads::<Brand, _>(&rt, Opened::new(), rt.alloc());
+    assert!(rt; left == Some((401, 400)));
+    Ok(())
 }
 
 #[test]
 fn a_server_is_not_closed_without_its_seats(rt: HostRuntime) -> Result<(), Fail> {
-    missing_seats::<Brand, _>(&rt, Opened::new(), rt.alloc())
+    let left = missing_seats::<Brand>(Opened::new(), rt.alloc());
+    assert!(rt; left == Some(0));
+    Ok(())
 }

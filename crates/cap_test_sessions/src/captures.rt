@@ -1,42 +1,52 @@
 //! Captures of sessions that no server has.
-use crate::sessions::{attached, commit, delete, insert, key, op, with_tables};
+use crate::noted::{attach, commit, create};
 use cap_codec::write_changes;
 use cap_core::{can_capture, changes_of};
-use cap_database::{Action, Assignments, Database, Op};
+use cap_database::Database;
 use cap_row::Schema;
 use cap_session::Session;
-use cap_table::RowRef;
-use cap_value::{AllocHandle, Fault, Name, Refusal, Value};
+use cap_value::Name;
+use std::alloc::Global;
 use std::test::Fail;
 
-// Sets the second column of a row of t.
-fn update<A: AllocHandle>(alloc: A, number: i64, text: &str) -> Result<Op<A>, Fault<Refusal>> {
-    let mut fields = Vec::new(alloc);
-    if fields.push((1, Value::text(alloc, text)?)).is_err() {
-        return Err(Fault::OutOfMemory);
-    }
-    let named = RowRef::Key(key(alloc, number)?);
-    op(alloc, "t", Action::Update(named, Assignments::new(fields)))
-}
-
-// A database whose table t has these columns.
-fn with_columns<A: AllocHandle>(alloc: A, flags: &[bool]) -> Result<Database<A>, Fault<Refusal>> {
-    let mut database = Database::empty(alloc);
-    database.create(Name::new(alloc, "t")?, Schema::new(alloc, flags)?)?;
-    Ok(database)
-}
-
-// The bytes of the changeset of a session.
-fn bytes_of<A: AllocHandle>(
-    alloc: A,
-    session: &Session<A>,
-    database: &Database<A>,
-) -> Result<Vec<u8, A>, Fault<Refusal>> {
+// The bytes of the changeset of a session, or none where it is not captured.
+fn bytes_of(
+    alloc: Global,
+    session: &Session<Global>,
+    database: &Database<Global>,
+) -> Option<Vec<u8>> {
     if !can_capture(session, database) {
-        return Err(Fault::Refused(Refusal::Incompatible));
+        return None;
     }
-    let changes = changes_of(alloc, session, database)?;
-    Ok(write_changes(alloc, &changes)?)
+    let changes = changes_of(alloc, session, database).ok()?;
+    write_changes(alloc, &changes).ok()
+}
+
+// Whether a session has these bytes.
+fn has_bytes(
+    alloc: Global,
+    session: &Session<Global>,
+    database: &Database<Global>,
+    expected: &[u8],
+) -> bool {
+    match bytes_of(alloc, session, database) {
+        Some(bytes) => bytes.as_slice() == expected,
+        None => false,
+    }
+}
+
+// Makes an empty table t with these columns.
+fn create_with(alloc: Global, database: &mut Database<Global>, flags: &[bool]) -> Option<()> {
+    let name = Name::new(alloc, "t").ok()?;
+    let schema = Schema::new(alloc, flags).ok()?;
+    database.create(name, schema).ok()
+}
+
+// Whether a session is captured against an empty table t with these columns.
+fn is_captured_against(alloc: Global, session: &Session<Global>, flags: &[bool]) -> Option<bool> {
+    let mut database = Database::empty(alloc);
+    create_with(alloc, &mut database, flags)?;
+    Some(can_capture(session, &database))
 }
 
 // The update of (1,'x') to (1,'z'), the delete of (2,'y') and the insert of (3,'w').
@@ -48,53 +58,40 @@ const CHANGESET: [u8; 52] = [
 #[test]
 fn a_session_is_captured_against_the_later_database(rt: HostRuntime) -> Result<(), Fail> {
     let alloc = rt.alloc();
-    let mut database = with_tables(alloc, &["t"])?;
-    let ops = [insert(alloc, "t", 1, "x")?, insert(alloc, "t", 2, "y")?];
-    commit(alloc, &mut database, &mut Session::new(alloc), &ops)?;
-    let mut session = attached(alloc, "t")?;
-    let ops = [
-        update(alloc, 1, "z")?,
-        delete(alloc, 2)?,
-        insert(alloc, "t", 3, "w")?,
-    ];
-    commit(alloc, &mut database, &mut session, &ops)?;
-    let bytes = bytes_of(alloc, &session, &database)?;
-    assert!(rt; bytes.as_slice() == CHANGESET.as_slice());
-    Ok(())
-}
-
-// A session that saw the delete of (1,'x').
-fn deleted<A: AllocHandle>(alloc: A) -> Result<Session<A>, Fault<Refusal>> {
-    let mut database = with_tables(alloc, &["t"])?;
+    let mut database = Database::empty(alloc);
     let mut session = Session::new(alloc);
-    let mut ops = Vec::new(alloc);
-    if ops.push(insert(alloc, "t", 1, "x")?).is_err() {
-        return Err(Fault::OutOfMemory);
-    }
-    commit(alloc, &mut database, &mut session, &ops)?;
-    session.attach(&Name::new(alloc, "t")?)?;
-    let mut ops = Vec::new(alloc);
-    if ops.push(delete(alloc, 1)?).is_err() {
-        return Err(Fault::OutOfMemory);
-    }
-    commit(alloc, &mut database, &mut session, &ops)?;
-    Ok(session)
+    assert!(rt; create(alloc, &mut database, "t"));
+    let text = "commit insert t (1,'x') ; insert t (2,'y')";
+    assert!(rt; commit(alloc, &mut database, &mut session, text));
+    assert!(rt; attach(alloc, &mut session, "t"));
+    let text = "commit update t key(1) set 1 = 'z' ; delete t key(2) ; insert t (3,'w')";
+    assert!(rt; commit(alloc, &mut database, &mut session, text));
+    assert!(rt; has_bytes(alloc, &session, &database, &CHANGESET));
+    Ok(())
 }
 
 // A first image is no row of a table that is wider, has another key, or is not there.
 #[test]
 fn a_session_is_not_captured_against_other_columns(rt: HostRuntime) -> Result<(), Fail> {
     let alloc = rt.alloc();
-    let session = deleted(alloc)?;
-    assert!(rt; can_capture(&session, &with_columns(alloc, &[true, false])?));
-    for flags in [
-        [true, false, false].as_slice(),
-        &[true],
-        &[false, true],
-        &[true, true],
-    ] {
-        assert!(rt; !can_capture(&session, &with_columns(alloc, flags)?));
-    }
+    let mut database = Database::empty(alloc);
+    let mut session = Session::new(alloc);
+    assert!(rt; create(alloc, &mut database, "t"));
+    assert!(rt;
+        commit(
+            alloc,
+            &mut database,
+            &mut session,
+            "commit insert t (1,'x')"
+        )
+    );
+    assert!(rt; attach(alloc, &mut session, "t"));
+    assert!(rt; commit(alloc, &mut database, &mut session, "commit delete t key(1)"));
+    assert!(rt; is_captured_against(alloc, &session, &[true, false]) == Some(true));
+    assert!(rt; is_captured_against(alloc, &session, &[true, false, false]) == Some(false));
+    assert!(rt; is_captured_against(alloc, &session, &[true]) == Some(false));
+    assert!(rt; is_captured_against(alloc, &session, &[false, true]) == Some(false));
+    assert!(rt; is_captured_against(alloc, &session, &[true, true]) == Some(false));
     assert!(rt; !can_capture(&session, &Database::empty(alloc)));
     Ok(())
 }
@@ -104,12 +101,21 @@ fn a_session_is_not_captured_against_other_columns(rt: HostRuntime) -> Result<()
 #[test]
 fn a_session_without_images_is_captured_against_any_database(rt: HostRuntime) -> Result<(), Fail> {
     let alloc = rt.alloc();
-    let mut database = with_tables(alloc, &["t"])?;
-    let mut session = attached(alloc, "t")?;
-    let ops = [insert(alloc, "t", 1, "x")?];
-    commit(alloc, &mut database, &mut session, &ops)?;
+    let mut database = Database::empty(alloc);
+    let mut session = Session::new(alloc);
+    assert!(rt; create(alloc, &mut database, "t") && attach(alloc, &mut session, "t"));
+    assert!(rt;
+        commit(
+            alloc,
+            &mut database,
+            &mut session,
+            "commit insert t (1,'x')"
+        )
+    );
     assert!(rt; !session.is_empty());
-    assert!(rt; bytes_of(alloc, &session, &Database::empty(alloc))?.is_empty());
-    assert!(rt; bytes_of(alloc, &session, &with_columns(alloc, &[true])?)?.is_empty());
+    let mut other = Database::empty(alloc);
+    assert!(rt; has_bytes(alloc, &session, &other, &[]));
+    assert!(rt; create_with(alloc, &mut other, &[true]) == Some(()));
+    assert!(rt; has_bytes(alloc, &session, &other, &[]));
     Ok(())
 }

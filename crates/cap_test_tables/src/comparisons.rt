@@ -1,95 +1,88 @@
 //! Comparisons of tables, also in memory of which each request is refused.
+use crate::rows::{has_text, refusal, row, schema};
 use cap_compare::{Difference, compare};
-use cap_row::{Row, Schema};
+use cap_row::Schema;
 use cap_table::Table;
 use cap_test_support::Memory;
-use cap_value::{AllocHandle, Fault, OutOfMemory, Refusal, Value};
+use cap_value::{AllocHandle, Fault, Refusal, Value};
 use linked_list_allocator::LocalHeap;
+use std::alloc::Global;
 use std::test::Fail;
-
-fn row<A: AllocHandle>(alloc: A, key: Option<i64>, number: i64) -> Result<Row<A>, OutOfMemory> {
-    let mut fields = Vec::new(alloc);
-    fields.push(match key {
-        None => Value::Null,
-        Some(key) => Value::Int(key),
-    })?;
-    fields.push(Value::Int(number))?;
-    Row::new(fields)
-}
 
 fn table<A: AllocHandle>(
     alloc: A,
-    rows: &[(Option<i64>, i64)],
+    rows: &[(Option<i64>, &str)],
 ) -> Result<Table<A>, Fault<Refusal>> {
-    let mut table = Table::empty(alloc, Schema::new(alloc, &[true, false])?);
-    for (key, number) in rows {
-        table.insert(row(alloc, *key, *number)?)?;
+    let mut table = Table::empty(alloc, schema(alloc)?);
+    for (key, text) in rows {
+        table.insert(row(alloc, *key, text)?)?;
     }
     Ok(table)
 }
 
-// The difference at a place: its key, and the number of its row.
-fn at<A: AllocHandle>(found: &[Difference<A>], place: usize) -> Option<(i64, Option<i64>)> {
-    let difference = found.get(place)?;
-    let Some(Value::Int(key)) = difference.key.get(0) else {
-        return None;
+// Whether the difference is of this key, and its row has this text; there is none where none is given.
+fn is_of(difference: &Difference<Global>, key: i64, text: Option<&str>) -> bool {
+    let is_row = match (&difference.image, text) {
+        (None, None) => true,
+        (Some(row), Some(text)) => has_text(row, text),
+        _ => false,
     };
-    let number = match &difference.image {
-        None => None,
-        Some(row) => match row.get(1) {
-            Some(Value::Int(number)) => Some(*number),
-            _ => None,
-        },
-    };
-    Some((*key, number))
+    is_row && difference.key.get(0) == Some(&Value::Int(key))
+}
+
+// Whether the differences are just these.
+fn differ_by(
+    alloc: Global,
+    from: &Table<Global>,
+    to: &Table<Global>,
+    expected: &[(i64, Option<&str>)],
+) -> Result<bool, Fault<Refusal>> {
+    let found = compare(alloc, Some(from), to)?;
+    let mut rest = expected.iter();
+    for difference in found.iter() {
+        let Some((key, text)) = rest.next() else {
+            return Ok(false);
+        };
+        if !is_of(difference, *key, *text) {
+            return Ok(false);
+        }
+    }
+    Ok(rest.next().is_none())
 }
 
 // One row gone, one changed, one new, and one that is the same; rows without a key are passed over.
 #[test]
 fn rows_gone_changed_and_new(rt: HostRuntime) -> Result<(), Fail> {
-    let alloc = rt.alloc();
-    let from = table(
-        alloc,
-        &[(Some(1), 10), (Some(2), 20), (Some(3), 30), (None, 1)],
-    )?;
-    let to = table(
-        alloc,
-        &[(Some(2), 20), (Some(3), 31), (Some(4), 40), (None, 2)],
-    )?;
-    let found = compare(alloc, Some(&from), &to)?;
-    assert!(rt; found.len() == 3);
-    assert!(rt; at(&found, 0) == Some((1, Some(10))));
-    assert!(rt; at(&found, 1) == Some((3, Some(30))));
-    assert!(rt; at(&found, 2) == Some((4, None)));
-    assert!(rt; compare(alloc, Some(&to), &to)?.is_empty());
+    let rows = [
+        (Some(1), "10"),
+        (Some(2), "20"),
+        (Some(3), "30"),
+        (None, "1"),
+    ];
+    let from = table(rt.alloc(), &rows)?;
+    let rows = [
+        (Some(2), "20"),
+        (Some(3), "31"),
+        (Some(4), "40"),
+        (None, "2"),
+    ];
+    let to = table(rt.alloc(), &rows)?;
+    let expected = [(1, Some("10")), (3, Some("30")), (4, None)];
+    assert!(rt; differ_by(rt.alloc(), &from, &to, &expected) == Ok(true));
+    assert!(rt; differ_by(rt.alloc(), &to, &to, &[]) == Ok(true));
     Ok(())
 }
 
 #[test]
 fn other_columns_and_no_table_are_refused(rt: HostRuntime) -> Result<(), Fail> {
-    let alloc = rt.alloc();
-    let to = table(alloc, &[(Some(2), 20)])?;
+    let to = table(rt.alloc(), &[(Some(2), "20")])?;
+    let incompatible = Some(Refusal::Incompatible);
     for flags in [[true, false, false].as_slice(), &[false, false]] {
-        let other = Table::empty(alloc, Schema::new(alloc, flags)?);
-        let refused = matches!(
-            compare(alloc, Some(&other), &to),
-            Err(Fault::Refused(Refusal::Incompatible))
-        );
-        assert!(rt; refused);
+        let other = Table::empty(rt.alloc(), Schema::new(rt.alloc(), flags)?);
+        assert!(rt; refusal(compare(rt.alloc(), Some(&other), &to)) == incompatible);
     }
-    let refused = matches!(
-        compare(alloc, None, &to),
-        Err(Fault::Refused(Refusal::Incompatible))
-    );
-    assert!(rt; refused);
+    assert!(rt; refusal(compare(rt.alloc(), None, &to)) == incompatible);
     Ok(())
-}
-
-// Two tables with three differences.
-fn two_tables<A: AllocHandle>(alloc: A) -> Result<(Table<A>, Table<A>), Fault<Refusal>> {
-    let from = table(alloc, &[(Some(1), 10), (Some(2), 20)])?;
-    let to = table(alloc, &[(Some(2), 21), (Some(3), 30)])?;
-    Ok((from, to))
 }
 
 // Compares with this request for memory refused: whether there is an answer, which is the three differences.
@@ -116,7 +109,8 @@ fn compared_in_refused_memory<A: AllocHandle>(
     alloc: A,
     memory: &Memory<&LocalHeap>,
 ) -> Result<bool, Fault<Refusal>> {
-    let (from, to) = two_tables(alloc)?;
+    let from = table(alloc, &[(Some(1), "10"), (Some(2), "20")])?;
+    let to = table(alloc, &[(Some(2), "21"), (Some(3), "30")])?;
     for number in 1..1_000u64 {
         match with_a_request_refused(alloc, memory, &from, &to, number) {
             Some(true) => return Ok(number > 1),

@@ -4,6 +4,8 @@
 #[cfg(test)]
 mod comparisons;
 #[cfg(test)]
+mod rows;
+#[cfg(test)]
 mod tables;
 #[cfg(test)]
 mod transactions;

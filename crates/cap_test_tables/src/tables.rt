@@ -1,138 +1,185 @@
 //! Tables: rows that change, ids, commit hooks, and memory of which each request is refused.
-use cap_row::{Key, Row, Schema};
+use crate::rows::{At, has_rows, key, key_value, named, refusal, row, schema};
+use cap_row::{Key, Row};
 use cap_table::{IDS_END, NotMade, RowName, RowRef, Table};
 use cap_test_support::{CountingHook, Memory};
 use cap_value::{AllocHandle, Fault, Refusal, Value};
 use linked_list_allocator::LocalHeap;
+use std::alloc::Global;
 use std::test::Fail;
 
-fn row<A: AllocHandle>(alloc: A, key: Option<i64>, text: &str) -> Result<Row<A>, Fault<Refusal>> {
-    let mut fields = Vec::new(alloc);
-    let key = match key {
-        None => Value::Null,
-        Some(key) => Value::Int(key),
-    };
-    let pushed = fields.push(key).is_ok() && fields.push(Value::text(alloc, text)?).is_ok();
-    if !pushed {
-        return Err(Fault::OutOfMemory);
-    }
-    Ok(Row::new(fields)?)
-}
-
-fn named<A: AllocHandle>(alloc: A, key: i64) -> Result<RowRef<A>, Fault<Refusal>> {
-    let mut fields = Vec::new(alloc);
-    if fields.push(Value::Int(key)).is_err() {
-        return Err(Fault::OutOfMemory);
-    }
-    match Key::new(alloc, fields)? {
-        Some(key) => Ok(RowRef::Key(key)),
-        None => Err(Fault::OutOfMemory),
-    }
-}
+// The rows of a table as plain data, in their order.
+type Rows = &'static [(At, &'static str)];
 
 fn kv<A: AllocHandle>(alloc: A) -> Result<Table<A>, Fault<Refusal>> {
-    Ok(Table::empty(alloc, Schema::new(alloc, &[true, false])?))
+    Ok(Table::empty(alloc, schema(alloc)?))
 }
 
-// Whether the row of this name has the text.
-fn has<A: AllocHandle>(table: &Table<A>, name: &RowRef<A>, text: &str) -> bool {
-    match table.get(name) {
-        None => false,
-        Some(row) => match row.get(1) {
-            Some(Value::Text(found)) => found.as_str() == text,
-            _ => false,
-        },
+// The row with this name and text.
+fn row_at(alloc: Global, at: At, text: &str) -> Result<Row<Global>, Fault<Refusal>> {
+    match at {
+        At::Key(number) => row(alloc, Some(number), text),
+        At::Loose(_) => row(alloc, None, text),
+    }
+}
+
+// Whether the answer is a key just where the row has one.
+fn insert(
+    alloc: Global,
+    table: &mut Table<Global>,
+    key: Option<i64>,
+    text: &str,
+) -> Result<bool, Fault<Refusal>> {
+    let row = row(alloc, key, text)?;
+    Ok(table.insert(row)?.is_some() == key.is_some())
+}
+
+// Whether the answer is a key just where one is set, and the row with this text.
+fn set_key(
+    alloc: Global,
+    table: &mut Table<Global>,
+    (at, text): (At, &str),
+    key: Option<i64>,
+) -> Result<bool, Fault<Refusal>> {
+    let before = row_at(alloc, at, text)?;
+    let name = named(alloc, at)?;
+    let replaced = table.update(&name, &[(0, key_value(key))])?;
+    Ok(replaced.key.is_some() == key.is_some() && replaced.row.same(&before))
+}
+
+// Whether the answer is the row with this text.
+fn delete(
+    alloc: Global,
+    table: &mut Table<Global>,
+    (at, text): (At, &str),
+) -> Result<bool, Fault<Refusal>> {
+    let before = row_at(alloc, at, text)?;
+    let name = named(alloc, at)?;
+    Ok(table.delete(&name)?.same(&before))
+}
+
+// A row that gets another key, or none; and the rows after it.
+const MOVES: [((At, &str), Option<i64>, Rows); 3] = [
+    (
+        (At::Loose(1), "a"),
+        Some(7),
+        &[(At::Key(7), "a"), (At::Loose(2), "b")],
+    ),
+    (
+        (At::Key(7), "a"),
+        None,
+        &[(At::Loose(2), "b"), (At::Loose(3), "a")],
+    ),
+    (
+        (At::Loose(2), "b"),
+        Some(5),
+        &[(At::Key(5), "b"), (At::Loose(3), "a")],
+    ),
+];
+
+#[test]
+fn rows_move_between_keys_and_ids(rt: HostRuntime) -> Result<(), Fail> {
+    let mut table = kv(rt.alloc())?;
+    assert!(rt; insert(rt.alloc(), &mut table, None, "a") == Ok(true));
+    assert!(rt; insert(rt.alloc(), &mut table, None, "b") == Ok(true));
+    assert!(rt; has_rows(&table, &[(At::Loose(1), "a"), (At::Loose(2), "b")]));
+    for (row, key, rows) in MOVES {
+        assert!(rt; set_key(rt.alloc(), &mut table, row, key) == Ok(true));
+        assert!(rt; has_rows(&table, rows));
+    }
+    assert!(rt; insert(rt.alloc(), &mut table, None, "c") == Ok(true));
+    assert!(rt; delete(rt.alloc(), &mut table, (At::Loose(3), "a")) == Ok(true));
+    assert!(rt; has_rows(&table, &[(At::Key(5), "b"), (At::Loose(4), "c")]));
+    assert!(rt; (table.scan().left(), table.next_id()) == (2, 5));
+    Ok(())
+}
+
+// What a table may be made into.
+#[derive(Clone, Copy, Drop)]
+enum Step {
+    Insert,
+    Update,
+    Delete,
+}
+
+const OTHERS: [(Step, Rows); 3] = [
+    (
+        Step::Insert,
+        &[(At::Key(7), "a"), (At::Key(8), "y"), (At::Loose(1), "b")],
+    ),
+    (Step::Update, &[(At::Key(7), "z"), (At::Loose(1), "b")]),
+    (Step::Delete, &[(At::Loose(1), "b")]),
+];
+
+// The table with a row 8, or with another text in the row 7, or without that row.
+fn other(
+    alloc: Global,
+    table: &Table<Global>,
+    step: Step,
+) -> Result<Table<Global>, Fault<Refusal>> {
+    let seven = named(alloc, At::Key(7))?;
+    match step {
+        Step::Insert => table.with_insert(row(alloc, Some(8), "y")?),
+        Step::Update => table.with_update(&seven, &[(1, Value::text(alloc, "z")?)]),
+        Step::Delete => table.with_delete(&seven),
     }
 }
 
 #[test]
-fn rows_move_between_keys_and_ids(rt: HostRuntime) -> Result<(), Fail> {
-    let alloc = rt.alloc();
-    let mut table = kv(alloc)?;
-    let seven = named(alloc, 7)?;
-    assert!(rt; table.insert(row(alloc, None, "a")?)?.is_none());
-    assert!(rt; has(&table, &RowRef::Loose(1), "a"));
-    assert!(rt; table.insert(row(alloc, None, "b")?)?.is_none());
-    assert!(rt; has(&table, &RowRef::Loose(2), "b"));
-    let to_seven = [(0, Value::Int(7))];
-    let replaced = table.update(&RowRef::Loose(1), &to_seven)?;
-    assert!(rt; replaced.key.is_some() && replaced.row.same(&row(alloc, None, "a")?));
-    assert!(rt; has(&table, &seven, "a") && table.get(&RowRef::Loose(1)).is_none());
-    table.insert(row(alloc, None, "c")?)?;
-    assert!(rt; has(&table, &RowRef::Loose(3), "c"));
+fn tables_made_of_a_snapshot_leave_it_as_it_was(rt: HostRuntime) -> Result<(), Fail> {
+    let mut table = kv(rt.alloc())?;
+    assert!(rt; insert(rt.alloc(), &mut table, Some(7), "a") == Ok(true));
+    assert!(rt; insert(rt.alloc(), &mut table, None, "b") == Ok(true));
     let before = table.snapshot()?;
-    let replaced = table.update(&seven, &[(0, Value::Null)])?;
-    assert!(rt; replaced.key.is_none());
-    assert!(rt; has(&table, &RowRef::Loose(4), "a") && table.get(&seven).is_none());
-    let mut ids = Vec::new(alloc);
-    for (name, _) in table.scan() {
-        if let RowName::Loose(id) = name {
-            ids.push(id)?;
-        }
+    assert!(rt; set_key(rt.alloc(), &mut table, (At::Key(7), "a"), None) == Ok(true));
+    for (step, rows) in OTHERS {
+        assert!(rt; has_rows(&other(rt.alloc(), &before, step)?, rows));
     }
-    assert!(rt; ids.as_slice() == [2, 3, 4].as_slice());
-    assert!(rt; (table.scan().left(), table.next_id()) == (3, 5));
-    assert!(rt; has(&before, &seven, "a"));
-    assert!(rt;
-        has(
-            &before.with_update(&seven, &[(1, Value::text(alloc, "z")?)])?,
-            &seven,
-            "z"
-        )
-    );
-    assert!(rt; before.with_delete(&seven)?.get(&seven).is_none());
-    assert!(rt;
-        has(
-            &before.with_insert(row(alloc, Some(8), "y")?)?,
-            &named(alloc, 8)?,
-            "y"
-        )
-    );
-    assert!(rt;
-        table
-            .delete(&RowRef::Loose(3))?
-            .same(&row(alloc, None, "c")?)
-    );
+    assert!(rt; has_rows(&before, &[(At::Key(7), "a"), (At::Loose(1), "b")]));
     Ok(())
+}
+
+fn begins_with_the_least_key(table: &Table<Global>) -> bool {
+    let mut scan = table.scan();
+    let is_least = match scan.next() {
+        Some((RowName::Key(key), _)) => key.get(0) == Some(&Value::Int(-9)),
+        _ => false,
+    };
+    is_least && scan.left() == 2
 }
 
 #[test]
 fn keyed_rows_come_first(rt: HostRuntime) -> Result<(), Fail> {
-    let alloc = rt.alloc();
-    let mut table = kv(alloc)?;
-    table.insert(row(alloc, None, "n")?)?;
-    table.insert(row(alloc, Some(9), "x")?)?;
-    table.insert(row(alloc, Some(-9), "y")?)?;
-    let mut scan = table.scan();
-    let first = match scan.next() {
-        Some((RowName::Key(key), _)) => key.get(0) == Some(&Value::Int(-9)),
-        _ => false,
-    };
-    assert!(rt; first);
-    assert!(rt; scan.left() == 2);
+    let mut table = kv(rt.alloc())?;
+    for (key, text) in [(None, "n"), (Some(9), "x"), (Some(-9), "y")] {
+        assert!(rt; insert(rt.alloc(), &mut table, key, text) == Ok(true));
+    }
+    assert!(rt;
+        has_rows(
+            &table,
+            &[(At::Key(-9), "y"), (At::Key(9), "x"), (At::Loose(1), "n")]
+        )
+    );
+    assert!(rt; begins_with_the_least_key(&table));
     assert!(rt; (table.keyed().len(), table.loose().len()) == (2, 1));
     Ok(())
 }
 
-fn refusal<T: Drop>(answer: Result<T, Fault<Refusal>>) -> Option<Refusal> {
-    match answer {
-        Err(Fault::Refused(why)) => Some(why),
-        _ => None,
-    }
-}
-
 #[test]
 fn the_last_id_is_given_once(rt: HostRuntime) -> Result<(), Fail> {
-    let alloc = rt.alloc();
-    let schema = Schema::new(alloc, &[true, false])?;
-    let mut table = Table::with_next_id(alloc, schema, IDS_END - 1);
-    let one = named(alloc, 1)?;
-    table.insert(row(alloc, Some(1), "x")?)?;
-    table.insert(row(alloc, None, "a")?)?;
-    assert!(rt; has(&table, &RowRef::Loose(IDS_END - 1), "a"));
-    assert!(rt; refusal(table.insert(row(alloc, None, "b")?)) == Some(Refusal::IdsSpent));
-    assert!(rt; refusal(table.update(&one, &[(0, Value::Null)])) == Some(Refusal::IdsSpent));
-    table.update(&RowRef::Loose(IDS_END - 1), &[(1, Value::Int(5))])?;
+    let last = At::Loose(IDS_END - 1);
+    let mut table = Table::with_next_id(rt.alloc(), schema(rt.alloc())?, IDS_END - 1);
+    assert!(rt; insert(rt.alloc(), &mut table, Some(1), "x") == Ok(true));
+    assert!(rt; insert(rt.alloc(), &mut table, None, "a") == Ok(true));
+    assert!(rt; has_rows(&table, &[(At::Key(1), "x"), (last, "a")]));
+    let spent = Some(Refusal::IdsSpent);
+    assert!(rt; refusal(insert(rt.alloc(), &mut table, None, "b")) == spent);
+    assert!(rt; refusal(set_key(rt.alloc(), &mut table, (At::Key(1), "x"), None)) == spent);
+    assert!(rt;
+        table
+            .update(&RowRef::Loose(IDS_END - 1), &[(1, Value::Int(5))])
+            .is_ok()
+    );
     assert!(rt; table.next_id() == IDS_END);
     Ok(())
 }
@@ -141,7 +188,7 @@ fn the_last_id_is_given_once(rt: HostRuntime) -> Result<(), Fail> {
 const TEXT: &str = "a text that is stored";
 
 // The calls that change a table of one row.
-#[derive(Clone, Copy, Debug, Drop)]
+#[derive(Clone, Copy, Drop)]
 enum Call {
     Insert,
     LoseKey,
@@ -149,75 +196,51 @@ enum Call {
     Delete,
 }
 
-// Whether the row is under its key, and under its id; the number of rows; and the next id.
-type Content = (bool, bool, u128, u64);
+// The rows of a table, and its next id.
+type Content = (Rows, u64);
 
-// The calls in turn, each with the content of the table after it.
-const CALLS: [(Call, Content); 4] = [
-    (Call::Insert, (true, false, 1, 1)),
-    (Call::LoseKey, (false, true, 1, 2)),
-    (Call::GainKey, (true, false, 1, 2)),
-    (Call::Delete, (false, false, 0, 2)),
+// The calls in turn, each with the content of the table before it and after it.
+const CALLS: [(Call, Content, Content); 4] = [
+    (Call::Insert, (&[], 1), (&[(At::Key(1), TEXT)], 1)),
+    (
+        Call::LoseKey,
+        (&[(At::Key(1), TEXT)], 1),
+        (&[(At::Loose(1), TEXT)], 2),
+    ),
+    (
+        Call::GainKey,
+        (&[(At::Loose(1), TEXT)], 2),
+        (&[(At::Key(1), TEXT)], 2),
+    ),
+    (Call::Delete, (&[(At::Key(1), TEXT)], 2), (&[], 2)),
 ];
 
-// What they are made with: the row, its name by its key, and what takes its key away and gives it back.
-#[derive(Drop)]
-struct Arguments<A: AllocHandle> {
-    row: Row<A>,
-    name: RowRef<A>,
-    without_key: Vec<(usize, Value<A>), A>,
-    with_key: Vec<(usize, Value<A>), A>,
+fn has_content<A: AllocHandle>(table: &Table<A>, content: Content) -> bool {
+    has_rows(table, content.0) && table.next_id() == content.1
 }
 
-fn set_key<A: AllocHandle>(
-    alloc: A,
-    key: Value<A>,
-) -> Result<Vec<(usize, Value<A>), A>, Fault<Refusal>> {
-    let mut fields = Vec::new(alloc);
-    if fields.push((0, key)).is_err() {
-        return Err(Fault::OutOfMemory);
-    }
-    Ok(fields)
-}
-
-fn given<A: AllocHandle>(alloc: A) -> Result<Arguments<A>, Fault<Refusal>> {
-    Ok(Arguments {
-        row: row(alloc, Some(1), TEXT)?,
-        name: named(alloc, 1)?,
-        without_key: set_key(alloc, Value::Null)?,
-        with_key: set_key(alloc, Value::Int(1))?,
-    })
-}
-
+// Makes the call with this row, whose key is the name.
 fn made_call<A: AllocHandle>(
     table: &mut Table<A>,
     call: Call,
-    given: &Arguments<A>,
+    row: &Row<A>,
+    name: &RowRef<A>,
 ) -> Result<(), Fault<Refusal>> {
     match call {
         Call::Insert => {
-            table.insert(given.row.copy()?)?;
+            table.insert(row.copy()?)?;
         }
         Call::LoseKey => {
-            table.update(&given.name, &given.without_key)?;
+            table.update(name, &[(0, Value::Null)])?;
         }
         Call::GainKey => {
-            table.update(&RowRef::Loose(1), &given.with_key)?;
+            table.update(&RowRef::Loose(1), &[(0, Value::Int(1))])?;
         }
         Call::Delete => {
-            table.delete(&given.name)?;
+            table.delete(name)?;
         }
     }
     Ok(())
-}
-
-fn content<A: AllocHandle>(table: &Table<A>, name: &RowRef<A>) -> Content {
-    (
-        has(table, name, TEXT),
-        has(table, &RowRef::Loose(1), TEXT),
-        table.scan().left(),
-        table.next_id(),
-    )
 }
 
 // Makes a call with this request for memory refused: whether it is made. Where it is not, the table is as
@@ -225,18 +248,20 @@ fn content<A: AllocHandle>(table: &Table<A>, name: &RowRef<A>) -> Content {
 fn with_a_request_refused<A: AllocHandle>(
     memory: &Memory<&LocalHeap>,
     table: &mut Table<A>,
-    (call, after): (Call, Content),
-    given: &Arguments<A>,
+    (call, before, after): (Call, Content, Content),
+    (row, name): (&Row<A>, &RowRef<A>),
     number: u64,
 ) -> Option<bool> {
-    let before = table.snapshot().ok()?;
+    let snapshot = table.snapshot().ok()?;
     memory.refuse(number);
-    let answer = made_call(table, call, given);
+    let answer = made_call(table, call, row, name);
     memory.refuse(0);
-    let now = content(table, &given.name);
+    if !has_content(&snapshot, before) {
+        return None;
+    }
     match (answer, memory.has_refused()) {
-        (Ok(()), false) => (now == after).then_some(true),
-        (Err(Fault::OutOfMemory), true) => (now == content(&before, &given.name)).then_some(false),
+        (Ok(()), false) => has_content(table, after).then_some(true),
+        (Err(Fault::OutOfMemory), true) => has_content(table, before).then_some(false),
         _ => None,
     }
 }
@@ -246,8 +271,8 @@ fn with_a_request_refused<A: AllocHandle>(
 fn first_unused_request<A: AllocHandle>(
     memory: &Memory<&LocalHeap>,
     table: &mut Table<A>,
-    call: (Call, Content),
-    given: &Arguments<A>,
+    call: (Call, Content, Content),
+    given: (&Row<A>, &RowRef<A>),
 ) -> Option<u64> {
     for number in 1..1_000u64 {
         if with_a_request_refused(memory, table, call, given, number)? {
@@ -263,10 +288,10 @@ fn each_call_may_be_refused<A: AllocHandle>(
     alloc: A,
     memory: &Memory<&LocalHeap>,
 ) -> Result<bool, Fault<Refusal>> {
+    let (row, name) = (row(alloc, Some(1), TEXT)?, named(alloc, At::Key(1))?);
     let mut table = kv(alloc)?;
-    let given = given(alloc)?;
     for call in CALLS {
-        if first_unused_request(memory, &mut table, call, &given).unwrap_or(0) <= 1 {
+        if first_unused_request(memory, &mut table, call, (&row, &name)).unwrap_or(0) <= 1 {
             return Ok(false);
         }
     }
@@ -284,75 +309,80 @@ fn each_allocation_may_be_refused(rt: HostRuntime) -> Result<(), Fail> {
     Ok(())
 }
 
-// Adds a row under its key, if the hook allows it.
-fn insert_keyed<A: AllocHandle>(
-    alloc: A,
-    table: &mut Table<A>,
+// Adds the row 1, if the hook allows it.
+fn insert_keyed(
+    alloc: Global,
+    table: &mut Table<Global>,
     text: &str,
     hook: &mut CountingHook,
-) -> Result<Result<(), NotMade<()>>, Fault<Refusal>> {
-    let row = row(alloc, Some(1), text)?;
-    match table.new_key(&row)? {
-        Some(key) => Ok(table.insert_keyed_hooked(key, row, hook)),
-        None => Ok(Err(NotMade::OutOfMemory)),
+) -> Result<(), NotMade<()>> {
+    let Ok(row) = row(alloc, Some(1), text) else {
+        return Err(NotMade::OutOfMemory);
+    };
+    match table.new_key(&row) {
+        Ok(Some(key)) => table.insert_keyed_hooked(key, row, hook),
+        _ => Err(NotMade::OutOfMemory),
     }
 }
 
 // Sets the text of the row of this key, if the hook allows it.
-fn update_kept<A: AllocHandle>(
-    alloc: A,
-    table: &mut Table<A>,
-    key: &Key<A>,
+fn update_kept(
+    alloc: Global,
+    table: &mut Table<Global>,
+    key: &Key<Global>,
     hook: &mut CountingHook,
-) -> Result<Result<(), NotMade<()>>, Fault<Refusal>> {
-    let fields = [(1, Value::text(alloc, "b")?)];
+) -> Result<(), NotMade<()>> {
+    let Ok(text) = Value::text(alloc, "b") else {
+        return Err(NotMade::OutOfMemory);
+    };
+    let fields = [(1, text)];
     if !table.keeps_key(&fields) {
-        return Ok(Err(NotMade::OutOfMemory));
+        return Err(NotMade::OutOfMemory);
     }
-    Ok(table.update_kept_hooked(key, &fields, hook))
-}
-
-fn key_of_one<A: AllocHandle>(alloc: A) -> Result<Key<A>, Fault<Refusal>> {
-    match named(alloc, 1)? {
-        RowRef::Key(key) => Ok(key),
-        RowRef::Loose(_) => Err(Fault::OutOfMemory),
-    }
+    table.update_kept_hooked(key, &fields, hook)
 }
 
 // Each change is tried with a hook that refuses, and then with one that allows it.
 #[test]
 fn changes_wait_for_the_commit_hook(rt: HostRuntime) -> Result<(), Fail> {
-    let alloc = rt.alloc();
-    let (mut table, key, one) = (kv(alloc)?, key_of_one(alloc)?, named(alloc, 1)?);
+    let (mut table, one) = (kv(rt.alloc())?, key(rt.alloc(), 1)?);
     let (mut no, mut yes) = (CountingHook::new(false), CountingHook::new(true));
     let vetoed = Err(NotMade::Vetoed(()));
-    assert!(rt; insert_keyed(alloc, &mut table, "a", &mut no)? == vetoed);
-    assert!(rt; table.get(&one).is_none());
-    assert!(rt; insert_keyed(alloc, &mut table, "a", &mut yes)? == Ok(()));
-    assert!(rt; update_kept(alloc, &mut table, &key, &mut no)? == vetoed);
-    assert!(rt; has(&table, &one, "a"));
-    assert!(rt; update_kept(alloc, &mut table, &key, &mut yes)? == Ok(()));
-    assert!(rt; table.delete_keyed_hooked(&key, &mut no) == vetoed);
-    assert!(rt; has(&table, &one, "b"));
-    assert!(rt; table.delete_keyed_hooked(&key, &mut yes) == Ok(()));
+    assert!(rt; insert_keyed(rt.alloc(), &mut table, "a", &mut no) == vetoed);
+    assert!(rt; has_rows(&table, &[]));
+    assert!(rt; insert_keyed(rt.alloc(), &mut table, "a", &mut yes) == Ok(()));
+    assert!(rt; update_kept(rt.alloc(), &mut table, &one, &mut no) == vetoed);
+    assert!(rt; has_rows(&table, &[(At::Key(1), "a")]));
+    assert!(rt; update_kept(rt.alloc(), &mut table, &one, &mut yes) == Ok(()));
+    assert!(rt; table.delete_keyed_hooked(&one, &mut no) == vetoed);
+    assert!(rt; has_rows(&table, &[(At::Key(1), "b")]));
+    assert!(rt; table.delete_keyed_hooked(&one, &mut yes) == Ok(()));
     assert!(rt; (table.scan().left(), no.asked, yes.asked) == (0, 3, 3));
     Ok(())
+}
+
+fn has_new_key(
+    alloc: Global,
+    table: &Table<Global>,
+    key: Option<i64>,
+) -> Result<bool, Fault<Refusal>> {
+    let row = row(alloc, key, "l")?;
+    Ok(table.new_key(&row)?.is_some())
 }
 
 // A change that the rules refuse is not shown to the hook.
 #[test]
 fn refused_changes_are_not_shown_to_the_hook(rt: HostRuntime) -> Result<(), Fail> {
-    let alloc = rt.alloc();
-    let (mut table, key) = (kv(alloc)?, key_of_one(alloc)?);
+    let (mut table, one) = (kv(rt.alloc())?, key(rt.alloc(), 1)?);
     let mut no = CountingHook::new(false);
     let no_row = Err(NotMade::Refused(Refusal::NoRow));
-    assert!(rt; table.new_key(&row(alloc, None, "l")?)?.is_none());
+    assert!(rt; has_new_key(rt.alloc(), &table, None) == Ok(false));
     assert!(rt; !table.keeps_key(&[(0, Value::Int(2))]));
-    assert!(rt; update_kept(alloc, &mut table, &key, &mut no)? == no_row);
-    assert!(rt; table.delete_keyed_hooked(&key, &mut no) == no_row);
-    table.insert(row(alloc, Some(1), "a")?)?;
+    assert!(rt; update_kept(rt.alloc(), &mut table, &one, &mut no) == no_row);
+    assert!(rt; table.delete_keyed_hooked(&one, &mut no) == no_row);
+    assert!(rt; insert(rt.alloc(), &mut table, Some(1), "a") == Ok(true));
     let duplicate = Err(NotMade::Refused(Refusal::Duplicate));
-    assert!(rt; insert_keyed(alloc, &mut table, "c", &mut no)? == duplicate);
+    assert!(rt; insert_keyed(rt.alloc(), &mut table, "c", &mut no) == duplicate);
     assert!(rt; no.asked == 0);
     Ok(())
 }

@@ -1,34 +1,16 @@
 //! Transactions, batches, lists of operations and commit hooks of databases.
+use crate::rows::{At, has_text, named, refusal, row, schema};
 use cap_database::{
     Action, Assignments, Cause, Database, Op, RefusedAt, Snapshot, TABLES_MAX, run_ops,
 };
-use cap_row::{Key, Row, Schema};
+use cap_row::Schema;
 use cap_table::{NotMade, RowRef};
 use cap_test_support::{CountingHook, Memory};
 use cap_txn::{Batch, Mark, OPS_MAX, SAVEPOINTS_MAX, Txn};
-use cap_value::{AllocHandle, Fault, Name, Refusal, Value};
+use cap_value::{AllocHandle, Fault, Name, OutOfMemory, Refusal, Value};
 use linked_list_allocator::LocalHeap;
+use std::alloc::Global;
 use std::test::Fail;
-
-fn row<A: AllocHandle>(alloc: A, key: i64, text: &str) -> Result<Row<A>, Fault<Refusal>> {
-    let mut fields = Vec::new(alloc);
-    let text = Value::text(alloc, text)?;
-    if fields.push(Value::Int(key)).is_err() || fields.push(text).is_err() {
-        return Err(Fault::OutOfMemory);
-    }
-    Ok(Row::new(fields)?)
-}
-
-fn named<A: AllocHandle>(alloc: A, key: i64) -> Result<RowRef<A>, Fault<Refusal>> {
-    let mut fields = Vec::new(alloc);
-    if fields.push(Value::Int(key)).is_err() {
-        return Err(Fault::OutOfMemory);
-    }
-    match Key::new(alloc, fields)? {
-        Some(key) => Ok(RowRef::Key(key)),
-        None => Err(Fault::OutOfMemory),
-    }
-}
 
 fn op<A: AllocHandle>(alloc: A, action: Action<A>) -> Result<Op<A>, Fault<Refusal>> {
     Ok(Op {
@@ -39,252 +21,272 @@ fn op<A: AllocHandle>(alloc: A, action: Action<A>) -> Result<Op<A>, Fault<Refusa
 }
 
 fn insert<A: AllocHandle>(alloc: A, key: i64, text: &str) -> Result<Op<A>, Fault<Refusal>> {
-    op(alloc, Action::Insert(row(alloc, key, text)?))
+    op(alloc, Action::Insert(row(alloc, Some(key), text)?))
 }
 
-fn set_text<A: AllocHandle>(alloc: A, key: i64, text: &str) -> Result<Op<A>, Fault<Refusal>> {
-    let mut fields = Vec::new(alloc);
-    if fields.push((1, Value::text(alloc, text)?)).is_err() {
-        return Err(Fault::OutOfMemory);
-    }
-    op(
-        alloc,
-        Action::Update(named(alloc, key)?, Assignments::new(fields)),
-    )
+fn set_text(alloc: Global, key: i64, text: &str) -> Result<Op<Global>, Fault<Refusal>> {
+    let fields = assign(alloc, Value::text(alloc, text)?)?;
+    op(alloc, Action::Update(named(alloc, At::Key(key))?, fields))
 }
 
-fn delete<A: AllocHandle>(alloc: A, key: i64) -> Result<Op<A>, Fault<Refusal>> {
-    op(alloc, Action::Delete(named(alloc, key)?))
+fn assign(alloc: Global, text: Value<Global>) -> Result<Assignments<Global>, OutOfMemory> {
+    Ok(Assignments::new(vec![in alloc; (1, text)]?))
 }
 
-// A database with an empty table t of a key and a value.
+fn delete(alloc: Global, key: i64) -> Result<Op<Global>, Fault<Refusal>> {
+    op(alloc, Action::Delete(named(alloc, At::Key(key))?))
+}
+
+// A database with an empty table t of a key and a text.
 fn with_table<A: AllocHandle>(alloc: A) -> Result<Database<A>, Fault<Refusal>> {
     let mut database = Database::empty(alloc);
-    database.create(Name::new(alloc, "t")?, Schema::new(alloc, &[true, false])?)?;
+    database.create(Name::new(alloc, "t")?, schema(alloc)?)?;
     Ok(database)
 }
 
-fn refusal<T: Drop>(answer: Result<T, Fault<Refusal>>) -> Option<Refusal> {
-    match answer {
-        Err(Fault::Refused(why)) => Some(why),
-        _ => None,
+// What is done to the row 1.
+#[derive(Clone, Copy, Drop)]
+enum Does {
+    Insert(&'static str),
+    SetText(&'static str),
+    Delete,
+}
+
+fn op_of(alloc: Global, does: Does) -> Result<Op<Global>, Fault<Refusal>> {
+    match does {
+        Does::Insert(text) => insert(alloc, 1, text),
+        Does::SetText(text) => set_text(alloc, 1, text),
+        Does::Delete => delete(alloc, 1),
     }
 }
 
-// Whether the row of this key is this one, or none is there where none is given.
-fn is_row<A: AllocHandle>(
-    txn: &mut Txn<A>,
-    name: &Name<A>,
-    key: &RowRef<A>,
-    row: Option<&Row<A>>,
-) -> bool {
-    match (txn.get(name, key), row) {
-        (Ok(Some(found)), Some(row)) => found.same(row),
-        (Ok(None), None) => true,
-        _ => false,
+fn make(alloc: Global, txn: &mut Txn<Global>, does: Does) -> Result<(), Fault<Refusal>> {
+    txn.op(op_of(alloc, does)?)
+}
+
+// Whether the row 1 has this text, or is not there where none is given.
+fn is_one(
+    alloc: Global,
+    txn: &mut Txn<Global>,
+    text: Option<&str>,
+) -> Result<bool, Fault<Refusal>> {
+    let (name, one) = (Name::new(alloc, "t")?, named(alloc, At::Key(1))?);
+    match (txn.get(&name, &one)?, text) {
+        (Some(row), Some(text)) => Ok(has_text(&row, text)),
+        (None, None) => Ok(true),
+        _ => Ok(false),
     }
+}
+
+// A snapshot of a database whose table has the row (1, 'x').
+fn with_one(alloc: Global) -> Result<Snapshot<Global>, Fault<Refusal>> {
+    let mut database = with_table(alloc)?;
+    database.step(&insert(alloc, 1, "x")?)?;
+    Ok(Snapshot::new(2, database))
+}
+
+// The rows of the table in the transaction.
+fn rows_seen(alloc: Global, txn: &mut Txn<Global>) -> Result<u128, Fault<Refusal>> {
+    let name = Name::new(alloc, "t")?;
+    Ok(txn.scan(&name)?.scan().left())
+}
+
+// Whether the snapshot has the row 1, and no other.
+fn has_just_one(alloc: Global, snapshot: &Snapshot<Global>) -> Option<bool> {
+    let name = Name::new(alloc, "t").ok()?;
+    let one = named(alloc, At::Key(1)).ok()?;
+    Some(snapshot.get(&name, &one).ok()?.is_some() && snapshot.scan(&name).ok()?.left() == 1)
 }
 
 #[test]
 fn going_back_keeps_the_mark(rt: HostRuntime) -> Result<(), Fail> {
-    let alloc = rt.alloc();
-    let mut database = with_table(alloc)?;
-    database.step(&insert(alloc, 1, "x")?)?;
-    let (name, one) = (Name::new(alloc, "t")?, named(alloc, 1)?);
-    let (x, y) = (row(alloc, 1, "x")?, row(alloc, 1, "y")?);
-    let snapshot = Snapshot::new(2, database);
-    let mut txn = Txn::begin(alloc, &snapshot)?;
-    let first = txn.savepoint()?;
-    txn.op(set_text(alloc, 1, "y")?)?;
-    let second = txn.savepoint()?;
-    assert!(rt; (first.number, second.number) == (0, 1));
-    txn.op(delete(alloc, 1)?)?;
-    assert!(rt; is_row(&mut txn, &name, &one, None));
-    txn.back_to(second)?;
-    assert!(rt; is_row(&mut txn, &name, &one, Some(&y)));
-    txn.back_to(first)?;
-    assert!(rt; is_row(&mut txn, &name, &one, Some(&x)));
+    let snapshot = with_one(rt.alloc())?;
+    let mut txn = Txn::begin(rt.alloc(), &snapshot)?;
+    let (first, second) = (Mark { number: 0 }, Mark { number: 1 });
+    assert!(rt; txn.savepoint() == Ok(first));
+    assert!(rt; make(rt.alloc(), &mut txn, Does::SetText("y")) == Ok(()));
+    assert!(rt; txn.savepoint() == Ok(second));
+    assert!(rt; make(rt.alloc(), &mut txn, Does::Delete) == Ok(()));
+    assert!(rt; is_one(rt.alloc(), &mut txn, None) == Ok(true));
+    assert!(rt; txn.back_to(second) == Ok(()));
+    assert!(rt; is_one(rt.alloc(), &mut txn, Some("y")) == Ok(true));
+    assert!(rt; txn.back_to(first) == Ok(()));
+    assert!(rt; is_one(rt.alloc(), &mut txn, Some("x")) == Ok(true));
     assert!(rt; refusal(txn.back_to(second)) == Some(Refusal::NoMark));
-    txn.back_to(first)?;
-    assert!(rt; txn.savepoint()? == Mark { number: 2 });
-    assert!(rt; txn.scan(&name)?.scan().left() == 1);
+    assert!(rt; txn.back_to(first) == Ok(()));
+    assert!(rt; txn.savepoint() == Ok(Mark { number: 2 }));
+    assert!(rt; rows_seen(rt.alloc(), &mut txn) == Ok(1));
     let batch = txn.into_batch();
     assert!(rt; (batch.ops().len(), batch.base()) == (0, Some(2)));
-    assert!(rt; snapshot.get(&name, &one)?.is_some() && snapshot.scan(&name)?.left() == 1);
-    Txn::begin(alloc, &snapshot)?.rollback();
+    assert!(rt; has_just_one(rt.alloc(), &snapshot) == Some(true));
+    Txn::begin(rt.alloc(), &snapshot)?.rollback();
     Ok(())
 }
 
-#[test]
-fn limits_of_a_transaction(rt: HostRuntime) -> Result<(), Fail> {
-    let alloc = rt.alloc();
-    let snapshot = Snapshot::new(1, with_table(alloc)?);
-    let mut txn = Txn::begin(alloc, &snapshot)?;
-    let mut batch = Batch::based(alloc, 1);
+// Inserts as many rows as a transaction and a batch may have operations.
+fn fill(
+    alloc: Global,
+    txn: &mut Txn<Global>,
+    batch: &mut Batch<Global>,
+) -> Result<(), Fault<Refusal>> {
     for key in 0..OPS_MAX as i64 {
         txn.op(insert(alloc, key, "x")?)?;
         batch.push(insert(alloc, key, "x")?)?;
     }
-    assert!(rt; refusal(txn.op(insert(alloc, 0, "x")?)) == Some(Refusal::TooMany));
-    assert!(rt; refusal(batch.push(insert(alloc, 0, "x")?)) == Some(Refusal::TooMany));
-    let outcome = run_ops(alloc, snapshot.database(), batch.ops());
-    match outcome {
-        Ok(outcome) => assert!(rt; outcome.changes().len() == OPS_MAX),
-        Err(_) => assert!(rt; false, "the batch is refused"),
-    }
+    Ok(())
+}
+
+fn push(alloc: Global, batch: &mut Batch<Global>) -> Result<(), Fault<Refusal>> {
+    batch.push(insert(alloc, 0, "x")?)
+}
+
+// What comes of a list of operations: how many changes, and how many rows of the table.
+fn outcome(
+    alloc: Global,
+    database: &Database<Global>,
+    ops: &[Op<Global>],
+) -> Result<(usize, Option<u128>), Fault<RefusedAt>> {
+    let outcome = run_ops(alloc, database, ops)?;
+    let changed = outcome.changes().len();
+    Ok((changed, rows_of(alloc, outcome.database())))
+}
+
+fn rows_of(alloc: Global, database: &Database<Global>) -> Option<u128> {
+    let name = Name::new(alloc, "t").ok()?;
+    Some(database.scan(&name).ok()?.left())
+}
+
+#[test]
+fn limits_of_a_transaction(rt: HostRuntime) -> Result<(), Fail> {
+    let snapshot = Snapshot::new(1, with_table(rt.alloc())?);
+    let mut txn = Txn::begin(rt.alloc(), &snapshot)?;
+    let mut batch = Batch::based(rt.alloc(), 1);
+    assert!(rt; fill(rt.alloc(), &mut txn, &mut batch) == Ok(()));
+    let too_many = Some(Refusal::TooMany);
+    assert!(rt; refusal(make(rt.alloc(), &mut txn, Does::Insert("x"))) == too_many);
+    assert!(rt; refusal(push(rt.alloc(), &mut batch)) == too_many);
+    let expected = (OPS_MAX, Some(OPS_MAX as u128));
+    assert!(rt; outcome(rt.alloc(), snapshot.database(), batch.ops()) == Ok(expected));
     for _made in 0..SAVEPOINTS_MAX {
-        txn.savepoint()?;
+        assert!(rt; txn.savepoint().is_ok());
     }
-    assert!(rt; refusal(txn.savepoint()) == Some(Refusal::TooMany));
+    assert!(rt; refusal(txn.savepoint()) == too_many);
     assert!(rt; txn.into_batch().ops().len() == OPS_MAX);
     Ok(())
 }
 
+// Inserts a row for each of the keys.
+fn inserts(alloc: Global, keys: &[i64]) -> Result<Batch<Global>, Fault<Refusal>> {
+    let mut batch = Batch::blind(alloc);
+    for key in keys {
+        batch.push(insert(alloc, *key, "x")?)?;
+    }
+    Ok(batch)
+}
+
 #[test]
 fn a_refused_list_changes_nothing(rt: HostRuntime) -> Result<(), Fail> {
-    let alloc = rt.alloc();
-    let database = with_table(alloc)?;
-    let mut batch = Batch::blind(alloc);
-    batch.push(insert(alloc, 1, "x")?)?;
-    batch.push(insert(alloc, 2, "y")?)?;
-    batch.push(insert(alloc, 1, "z")?)?;
-    match run_ops(alloc, &database, batch.ops()) {
-        Err(Fault::Refused(refused)) => {
-            assert!(rt;
-                refused
-                    == RefusedAt {
-                        at: 2,
-                        why: Refusal::Duplicate
-                    }
-            )
-        }
-        _ => assert!(rt; false, "the list is not refused"),
-    }
-    assert!(rt; database.scan(&Name::new(alloc, "t")?)?.left() == 0);
-    match run_ops(alloc, &database, &batch.ops()[..2]) {
-        Ok(outcome) => {
-            assert!(rt; outcome.changes().len() == 2);
-            let (after, _) = outcome.into_parts();
-            assert!(rt; after.scan(&Name::new(alloc, "t")?)?.left() == 2);
-        }
-        Err(_) => assert!(rt; false, "the first two are refused"),
-    }
+    let database = with_table(rt.alloc())?;
+    let batch = inserts(rt.alloc(), &[1, 2, 1])?;
+    let refused = Err(Fault::Refused(RefusedAt {
+        at: 2,
+        why: Refusal::Duplicate,
+    }));
+    assert!(rt; outcome(rt.alloc(), &database, batch.ops()) == refused);
+    assert!(rt; rows_of(rt.alloc(), &database) == Some(0));
+    let batch = inserts(rt.alloc(), &[1, 2])?;
+    assert!(rt; outcome(rt.alloc(), &database, batch.ops()) == Ok((2, Some(2))));
     Ok(())
+}
+
+fn create(
+    alloc: Global,
+    database: &mut Database<Global>,
+    name: &str,
+) -> Result<(), Fault<Refusal>> {
+    let schema = Schema::new(alloc, &[true])?;
+    database.create(Name::new(alloc, name)?, schema)
+}
+
+// Why the table u, which is not there, cannot be written.
+fn refused_write(alloc: Global, database: &mut Database<Global>) -> Option<Refusal> {
+    let name = Name::new(alloc, "u").ok()?;
+    if database.table(&name).is_some() {
+        return None;
+    }
+    let nowhere = Op {
+        table: name,
+        cause: Cause::Cascade,
+        action: Action::Delete(RowRef::Loose(1)),
+    };
+    refusal(database.step(&nowhere))
 }
 
 #[test]
 fn up_to_64_tables(rt: HostRuntime) -> Result<(), Fail> {
-    let alloc = rt.alloc();
-    let mut database = with_table(alloc)?;
-    let schema = Schema::new(alloc, &[true])?;
-    assert!(rt;
-        refusal(database.create(Name::new(alloc, "t")?, schema.copy()?))
-            == Some(Refusal::TableExists)
-    );
+    let mut database = with_table(rt.alloc())?;
+    let exists = Some(Refusal::TableExists);
+    assert!(rt; refusal(create(rt.alloc(), &mut database, "t")) == exists);
     for number in 1..TABLES_MAX {
-        let name = format!(in alloc; "{number}")?;
-        database.create(Name::new(alloc, name.as_str())?, schema.copy()?)?;
+        let name = format!(in rt.alloc(); "{number}")?;
+        assert!(rt; create(rt.alloc(), &mut database, name.as_str()) == Ok(()));
     }
     assert!(rt; database.len() == TABLES_MAX);
-    assert!(rt;
-        refusal(database.create(Name::new(alloc, "t")?, schema.copy()?))
-            == Some(Refusal::TableExists)
-    );
-    assert!(rt; refusal(database.create(Name::new(alloc, "u")?, schema)) == Some(Refusal::TooMany));
-    assert!(rt; database.table(&Name::new(alloc, "u")?).is_none());
-    let nowhere = Op {
-        table: Name::new(alloc, "u")?,
-        cause: Cause::Cascade,
-        action: Action::Delete(RowRef::Loose(1)),
-    };
-    assert!(rt; refusal(database.step(&nowhere)) == Some(Refusal::NoTable));
+    assert!(rt; refusal(create(rt.alloc(), &mut database, "t")) == exists);
+    assert!(rt; refusal(create(rt.alloc(), &mut database, "u")) == Some(Refusal::TooMany));
+    assert!(rt; refused_write(rt.alloc(), &mut database) == Some(Refusal::NoTable));
     Ok(())
 }
 
-// Makes an operation with this request for memory refused: whether it is made. Where it is not, the
-// transaction is as before. None where anything else comes of it.
-fn op_with_a_request_refused<A: AllocHandle>(
+// Inserts a row, or goes back to a savepoint, with this request for memory refused: whether it is done. Where
+// it is not, the transaction is as before. None where anything else comes of it.
+fn with_a_request_refused<A: AllocHandle>(
     memory: &Memory<&LocalHeap>,
     txn: &mut Txn<A>,
-    op: Op<A>,
+    (op, mark): (Op<A>, Option<Mark>),
     number: u64,
 ) -> Option<bool> {
     let before = (txn.trace().len(), txn.footprint().len());
     memory.refuse(number);
-    let answer = txn.op(op);
+    let answer = match mark {
+        None => txn.op(op),
+        Some(mark) => txn.back_to(mark),
+    };
     memory.refuse(0);
-    let is_refused = memory.has_refused();
-    if is_refused != (answer == Err(Fault::OutOfMemory)) {
-        return None;
+    match (answer, memory.has_refused()) {
+        (Ok(()), false) => Some(true),
+        (Err(Fault::OutOfMemory), true) => {
+            (before == (txn.trace().len(), txn.footprint().len())).then_some(false)
+        }
+        _ => None,
     }
-    if is_refused && (txn.trace().len(), txn.footprint().len()) != before {
-        return None;
-    }
-    Some(!is_refused)
 }
 
-// The same of going back to a savepoint.
-fn back_with_a_request_refused<A: AllocHandle>(
-    memory: &Memory<&LocalHeap>,
-    txn: &mut Txn<A>,
-    mark: Mark,
-    number: u64,
-) -> Option<bool> {
-    let before = txn.trace().len();
-    memory.refuse(number);
-    let answer = txn.back_to(mark);
-    memory.refuse(0);
-    let is_refused = memory.has_refused();
-    if is_refused != (answer == Err(Fault::OutOfMemory)) {
-        return None;
-    }
-    if is_refused && txn.trace().len() != before {
-        return None;
-    }
-    Some(!is_refused)
-}
-
-// Makes an operation with each of its requests refused in turn, on one transaction, until it is made: whether
-// there were such requests.
-fn op_in_refused_memory<A: AllocHandle>(
+// Does the same with each request refused in turn, on one transaction, until it is done: whether there were
+// such requests.
+fn done_in_refused_memory<A: AllocHandle>(
     alloc: A,
     memory: &Memory<&LocalHeap>,
     txn: &mut Txn<A>,
-) -> Result<bool, Fault<Refusal>> {
+    mark: Option<Mark>,
+) -> Option<bool> {
     for number in 1..1_000u64 {
-        let op = insert(alloc, 1, "a text that is stored")?;
-        match op_with_a_request_refused(memory, txn, op, number) {
-            Some(true) => return Ok(number > 1),
-            Some(false) => {}
-            None => return Ok(false),
+        let op = insert(alloc, 1, "a text that is stored").ok()?;
+        if with_a_request_refused(memory, txn, (op, mark), number)? {
+            return Some(number > 1);
         }
     }
-    Ok(false)
-}
-
-// The same of going back to a savepoint.
-fn back_in_refused_memory<A: AllocHandle>(
-    memory: &Memory<&LocalHeap>,
-    txn: &mut Txn<A>,
-    mark: Mark,
-) -> bool {
-    for number in 1..1_000u64 {
-        match back_with_a_request_refused(memory, txn, mark, number) {
-            Some(true) => return number > 1,
-            Some(false) => {}
-            None => return false,
-        }
-    }
-    false
+    None
 }
 
 fn transact<A: AllocHandle>(alloc: A, memory: &Memory<&LocalHeap>) -> Result<bool, Fault<Refusal>> {
     let snapshot = Snapshot::new(1, with_table(alloc)?);
     let mut txn = Txn::begin(alloc, &snapshot)?;
     let mark = txn.savepoint()?;
-    let is_made = op_in_refused_memory(alloc, memory, &mut txn)?;
-    let is_undone = back_in_refused_memory(memory, &mut txn, mark);
-    Ok(is_made && is_undone && txn.into_batch().ops().is_empty())
+    let is_made = done_in_refused_memory(alloc, memory, &mut txn, None);
+    let is_undone = done_in_refused_memory(alloc, memory, &mut txn, Some(mark));
+    let is_done = is_made == Some(true) && is_undone == Some(true);
+    Ok(is_done && txn.into_batch().ops().is_empty())
 }
 
 // Each request for memory of an operation and of going back is refused in turn. The transaction is as before,
@@ -298,29 +300,33 @@ fn each_allocation_may_be_refused(rt: HostRuntime) -> Result<(), Fail> {
     Ok(())
 }
 
+// The answer to an operation on a row with a key, which the hook is asked for.
+fn step(
+    alloc: Global,
+    database: &mut Database<Global>,
+    does: Does,
+    hook: &mut CountingHook,
+) -> Result<(), NotMade<()>> {
+    let Ok(op) = op_of(alloc, does) else {
+        return Err(NotMade::OutOfMemory);
+    };
+    match database.kept_key(&op) {
+        Ok(Some(key)) => database.step_keyed(&op, &key, hook),
+        _ => Err(NotMade::OutOfMemory),
+    }
+}
+
 // Each operation is tried with a hook that refuses, and then with one that allows it.
 #[test]
 fn operations_wait_for_the_commit_hook(rt: HostRuntime) -> Result<(), Fail> {
-    let alloc = rt.alloc();
-    let mut database = with_table(alloc)?;
+    let mut database = with_table(rt.alloc())?;
     let (mut no, mut yes) = (CountingHook::new(false), CountingHook::new(true));
-    let ops = [
-        insert(alloc, 1, "a")?,
-        set_text(alloc, 1, "b")?,
-        delete(alloc, 1)?,
-    ];
-    for op in &ops {
-        if let Some(key) = database.kept_key(op)? {
-            assert!(rt; database.step_keyed(op, &key, &mut no) == Err(NotMade::Vetoed(())));
-            assert!(rt; database.step_keyed(op, &key, &mut yes) == Ok(()));
-        }
+    for does in [Does::Insert("a"), Does::SetText("b"), Does::Delete] {
+        assert!(rt; step(rt.alloc(), &mut database, does, &mut no) == Err(NotMade::Vetoed(())));
+        assert!(rt; step(rt.alloc(), &mut database, does, &mut yes) == Ok(()));
     }
-    let refused = delete(alloc, 1)?;
-    if let Some(key) = database.kept_key(&refused)? {
-        assert!(rt;
-            database.step_keyed(&refused, &key, &mut no) == Err(NotMade::Refused(Refusal::NoRow))
-        );
-    }
+    let no_row = Err(NotMade::Refused(Refusal::NoRow));
+    assert!(rt; step(rt.alloc(), &mut database, Does::Delete, &mut no) == no_row);
     assert!(rt; (no.asked, yes.asked) == (3, 3));
     Ok(())
 }

@@ -1,8 +1,7 @@
 //! Schemas, rows and keys at their limits, and in their order.
+use crate::refused::{Call, requests_refused};
 use cap_row::{COLUMNS_MAX, Key, Row, Schema, key_of};
-use cap_test_support::Memory;
 use cap_value::{AllocHandle, Fault, OutOfMemory, Refusal, Value};
-use linked_list_allocator::LocalHeap;
 use std::alloc::Global;
 use std::test::Fail;
 
@@ -14,103 +13,140 @@ fn numbers<A: AllocHandle>(alloc: A, numbers: &[i64]) -> Result<Vec<Value<A>, A>
     Ok(values)
 }
 
+fn row(alloc: Global, values: &[i64]) -> Result<Row<Global>, OutOfMemory> {
+    Row::new(numbers(alloc, values)?)
+}
+
+fn key(alloc: Global, values: &[i64]) -> Result<Option<Key<Global>>, OutOfMemory> {
+    Key::new(alloc, numbers(alloc, values)?)
+}
+
+fn is_refused(alloc: Global, flags: &[bool]) -> bool {
+    match Schema::new(alloc, flags) {
+        Err(fault) => fault == Fault::Refused(Refusal::BadSchema),
+        Ok(_schema) => false,
+    }
+}
+
 #[test]
 fn schemas_have_1_to_2000_columns(rt: HostRuntime) -> Result<(), Fail> {
-    let alloc = rt.alloc();
-    let flags = vec![in alloc; true; COLUMNS_MAX + 1]?;
-    let widest = Schema::new(alloc, &flags[1..])?;
+    let flags = [true; COLUMNS_MAX + 1];
+    let widest = Schema::new(rt.alloc(), &flags[1..])?;
     assert!(rt; (widest.width(), widest.has_key()) == (2_000, true));
     assert!(rt; widest.copy()?.same(&widest));
-    for refused in [&flags[..], &flags[..0]] {
-        match Schema::new(alloc, refused) {
-            Ok(schema) => assert!(rt; false, "{schema:?} is no schema"),
-            Err(fault) => assert!(rt; fault == Fault::Refused(Refusal::BadSchema)),
-        }
-    }
-    let narrow = Schema::new(alloc, &[false, true])?;
+    assert!(rt; is_refused(rt.alloc(), &flags) && is_refused(rt.alloc(), &[]));
+    let narrow = Schema::new(rt.alloc(), &[false, true])?;
     assert!(rt; (narrow.is_key(0), narrow.is_key(1), narrow.is_key(2)) == (false, true, false));
     Ok(())
 }
 
+// Whether the key of the row is of these values; of none where there is no key.
+fn has_key(
+    alloc: Global,
+    flags: &[bool],
+    row: &Row<Global>,
+    values: &[i64],
+) -> Result<bool, Fault<Refusal>> {
+    let schema = Schema::new(alloc, flags)?;
+    if row.width() != schema.width() {
+        return Ok(false);
+    }
+    let found = key_of(alloc, &schema, row)?;
+    Ok(found == key(alloc, values)?)
+}
+
+// Whether the key is the same as its copy, and has no value past its last. There is none of no values.
+fn is_copied(alloc: Global, values: &[i64]) -> Result<bool, OutOfMemory> {
+    match key(alloc, values)? {
+        None => Ok(false),
+        Some(key) => Ok(key.same(&key.copy()?) && key.get(key.width()).is_none()),
+    }
+}
+
+fn is_less(alloc: Global, values: &[i64], others: &[i64]) -> Result<bool, OutOfMemory> {
+    Ok(key(alloc, values)? < key(alloc, others)?)
+}
+
+// A row of 1 and NULL.
+fn unset(alloc: Global) -> Result<Row<Global>, OutOfMemory> {
+    Row::new(vec![in alloc; Value::Int(1), Value::Null]?)
+}
+
 #[test]
 fn keys_are_the_values_of_key_columns(rt: HostRuntime) -> Result<(), Fail> {
-    let alloc = rt.alloc();
-    let schema = Schema::new(alloc, &[true, false, true, true])?;
-    let row = Row::new(numbers(alloc, &[1, 2, 3, 4])?)?;
-    assert!(rt; row.width() == schema.width());
-    let key = key_of(alloc, &schema, &row)?;
-    assert!(rt; key == Key::new(alloc, numbers(alloc, &[1, 3, 4])?)?);
-    let unset = row.with_fields(alloc, &schema, &[(2, Value::Null)])?;
-    assert!(rt; key_of(alloc, &schema, &unset)? == None);
-    assert!(rt; Key::new(alloc, Vec::<Value<Global>>::new(alloc))? == None);
-    let keyless = Schema::new(alloc, &[false; 4])?;
-    assert!(rt; row.width() == keyless.width());
-    assert!(rt; key_of(alloc, &keyless, &row)? == None);
-
-    let short = Key::new(alloc, numbers(alloc, &[1, 3])?)?;
-    assert!(rt; short < key);
-    for key in [key, short] {
-        let key = key.expect(&rt, "no value is NULL");
-        assert!(rt; key.same(&key.copy()?) && key.get(key.width()).is_none());
-    }
+    let (row, unset) = (row(rt.alloc(), &[1, 2, 3, 4])?, unset(rt.alloc())?);
+    let flags = [true, false, true, true];
+    assert!(rt; has_key(rt.alloc(), &flags, &row, &[1, 3, 4]) == Ok(true));
+    assert!(rt; has_key(rt.alloc(), &[false; 4], &row, &[]) == Ok(true));
+    assert!(rt; has_key(rt.alloc(), &[true, true], &unset, &[]) == Ok(true));
+    assert!(rt; is_less(rt.alloc(), &[1, 3], &[1, 3, 4]) == Ok(true));
+    assert!(rt; is_copied(rt.alloc(), &[1, 3]) == Ok(true));
+    assert!(rt; is_copied(rt.alloc(), &[1, 3, 4]) == Ok(true));
+    assert!(rt; is_copied(rt.alloc(), &[]) == Ok(false));
     Ok(())
+}
+
+// The row of 1, 2 and 3 with these fields set, whose first is the key.
+fn set(alloc: Global, fields: &[(usize, Value<Global>)]) -> Result<Row<Global>, Fault<Refusal>> {
+    let schema = Schema::new(alloc, &[true, false, false])?;
+    let row = row(alloc, &[1, 2, 3])?;
+    if row.width() != schema.width() {
+        return Ok(row);
+    }
+    row.with_fields(alloc, &schema, fields)
+}
+
+fn is_bad_column(alloc: Global, columns: &[usize]) -> Result<bool, OutOfMemory> {
+    let mut fields = Vec::new(alloc);
+    for column in columns {
+        fields.push((*column, Value::Int(0)))?;
+    }
+    match set(alloc, &fields) {
+        Err(fault) => Ok(fault == Fault::Refused(Refusal::BadColumn)),
+        Ok(_row) => Ok(false),
+    }
+}
+
+// Whether the row is printed so, is the same as its copy, and has three values.
+fn is_row(alloc: Global, row: &Row<Global>, text: &str) -> Result<bool, Fail> {
+    let printed = format!(in alloc; "{row:?}")?;
+    let is_copied = row.copy()?.same(row);
+    Ok(printed.as_str() == text && is_copied && row.width() == 3 && row.get(3).is_none())
 }
 
 #[test]
 fn updates_set_just_their_fields(rt: HostRuntime) -> Result<(), Fail> {
-    let alloc = rt.alloc();
-    let schema = Schema::new(alloc, &[true, false, false])?;
-    let row = Row::new(numbers(alloc, &[1, 2, 3])?)?;
-    assert!(rt; row.width() == schema.width());
-    let set = row.with_fields(alloc, &schema, &[(2, Value::Int(9)), (0, Value::Null)])?;
-    assert!(rt; format!(in alloc; "{set:?}")?.as_str() == "Row([Null, Int(2), Int(9)])");
-    assert!(rt; row.with_fields(alloc, &schema, &[])?.same(&row) && row.copy()?.same(&row));
-    assert!(rt; row.width() == 3 && row.get(3).is_none());
-    for refused in [&[3][..], &[1, 0, 1]] {
-        let mut fields = Vec::new(alloc);
-        for column in refused {
-            fields.push((*column, Value::Int(0)))?;
-        }
-        match row.with_fields(alloc, &schema, &fields) {
-            Ok(row) => assert!(rt; false, "{row:?}"),
-            Err(fault) => assert!(rt; fault == Fault::Refused(Refusal::BadColumn)),
-        }
-    }
+    let changed = set(rt.alloc(), &[(2, Value::Int(9)), (0, Value::Null)])?;
+    assert!(rt; is_row(rt.alloc(), &changed, "Row([Null, Int(2), Int(9)])")?);
+    let same = set(rt.alloc(), &[])?;
+    assert!(rt; is_row(rt.alloc(), &same, "Row([Int(1), Int(2), Int(3)])")?);
+    assert!(rt; is_bad_column(rt.alloc(), &[3]) == Ok(true));
+    assert!(rt; is_bad_column(rt.alloc(), &[1, 0, 1]) == Ok(true));
     Ok(())
 }
 
-// A schema, a row, its key and an update of it.
-fn make<A: AllocHandle>(alloc: A) -> Result<(), Fault<Refusal>> {
-    let schema = Schema::new(alloc, &[true, true, false, true])?;
+// The row of 1, 2, 3 and 4, whose third field is set to a text.
+fn updated<A: AllocHandle>(alloc: A, schema: &Schema<A>) -> Result<Row<A>, Fault<Refusal>> {
     let row = Row::new(numbers(alloc, &[1, 2, 3, 4])?)?;
-    if row.width() == schema.width() {
-        let text = Value::text(alloc, "a text that is stored")?;
-        let set = row.with_fields(alloc, &schema, &[(2, text)])?;
-        let _keys = (
-            key_of(alloc, &schema, &set)?,
-            Key::new(alloc, numbers(alloc, &[1, 2, 3])?)?,
-        );
+    if row.width() != schema.width() {
+        return Ok(row);
     }
-    Ok(())
+    let text = Value::text(alloc, "a text that is stored")?;
+    row.with_fields(alloc, schema, &[(2, text)])
+}
+
+// The key of that row, and one of numbers: whether there are both.
+pub fn make<A: AllocHandle>(alloc: A) -> Result<bool, Fault<Refusal>> {
+    let schema = Schema::new(alloc, &[true, true, false, true])?;
+    let row = updated(alloc, &schema)?;
+    if row.width() != schema.width() || key_of(alloc, &schema, &row)?.is_none() {
+        return Ok(false);
+    }
+    Ok(Key::new(alloc, numbers(alloc, &[1, 2, 3])?)?.is_some())
 }
 
 #[test]
 fn each_allocation_may_be_refused(rt: HostRuntime) -> Result<(), Fail> {
-    let heap = LocalHeap::new(rt.alloc(), 8192)?;
-    let memory = Memory::new(&heap);
-    for number in 1..1000u64 {
-        memory.refuse(number);
-        let done = make(&memory);
-        assert!(rt; heap.used() == 0);
-        if !memory.has_refused() {
-            assert!(rt; done == Ok(()) && number > 8, "{number}");
-            return Ok(());
-        }
-        // A list that may not shrink stays as it is, and the call is done.
-        assert!(rt;
-            done == Ok(()) || done == Err(Fault::OutOfMemory),
-            "{number}"
-        );
-    }
-    Err(Fail::from("each run met a refusal"))
+    assert!(rt; requests_refused(rt.alloc(), Call::MakeRows)? >= 8);
+    Ok(())
 }

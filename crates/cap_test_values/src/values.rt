@@ -1,66 +1,105 @@
 //! Values, names and refusals: limits, order, texts and copies.
-use cap_test_support::Memory;
+use crate::refused::{Call, requests_refused};
 use cap_value::{AllocHandle, Blob, Fault, NAME_MAX, Name, Refusal, Text, Value};
-use linked_list_allocator::LocalHeap;
+use std::alloc::Global;
 use std::test::Fail;
+
+// A value as plain data.
+#[derive(Clone, Copy, Drop)]
+enum Plain {
+    Null,
+    Int(i64),
+    Text(&'static str),
+    Blob(&'static [u8]),
+}
+
+const ASCENDING: [Plain; 16] = [
+    Plain::Null,
+    Plain::Int(i64::MIN),
+    Plain::Int(-1),
+    Plain::Int(0),
+    Plain::Int(i64::MAX),
+    Plain::Text(""),
+    Plain::Text("10"),
+    Plain::Text("9"),
+    Plain::Text("A"),
+    Plain::Text("a"),
+    Plain::Text("aa"),
+    Plain::Text("é"),
+    Plain::Blob(b""),
+    Plain::Blob(b"\x00"),
+    Plain::Blob(b"a"),
+    Plain::Blob(b"\xff"),
+];
+
+fn value(alloc: Global, plain: Plain) -> Result<Value<Global>, Fault<Refusal>> {
+    match plain {
+        Plain::Null => Ok(Value::Null),
+        Plain::Int(number) => Ok(Value::Int(number)),
+        Plain::Text(text) => Value::text(alloc, text),
+        Plain::Blob(bytes) => Value::blob(alloc, bytes),
+    }
+}
+
+// Whether the values compare as their places do.
+fn compare_as(alloc: Global, a: (usize, Plain), b: (usize, Plain)) -> Result<bool, Fault<Refusal>> {
+    let order = a.0.cmp(&b.0);
+    let a = value(alloc, a.1)?;
+    let b = value(alloc, b.1)?;
+    Ok(a.order(&b) == order && a.cmp(&b) == order && a.same(&b) == order.is_eq())
+}
+
+// Whether the value is the same as its copy, and NULL where it should be.
+fn is_copied(alloc: Global, plain: Plain, is_null: bool) -> Result<bool, Fault<Refusal>> {
+    let value = value(alloc, plain)?;
+    value.keeps_limits();
+    Ok(value.copy()? == value.copy()? && value.is_null() == is_null)
+}
+
+fn prints(alloc: Global, plain: Plain, text: &str) -> Result<bool, Fail> {
+    let value = value(alloc, plain)?;
+    Ok(format!(in alloc; "{value:?}")?.as_str() == text)
+}
 
 #[test]
 fn values_are_in_the_order_of_sqlite(rt: HostRuntime) -> Result<(), Fail> {
-    let alloc = rt.alloc();
-    let ascending = [
-        Value::Null,
-        Value::Int(i64::MIN),
-        Value::Int(-1),
-        Value::Int(0),
-        Value::Int(i64::MAX),
-        Value::text(alloc, "")?,
-        Value::text(alloc, "10")?,
-        Value::text(alloc, "9")?,
-        Value::text(alloc, "A")?,
-        Value::text(alloc, "a")?,
-        Value::text(alloc, "aa")?,
-        Value::text(alloc, "é")?,
-        Value::blob(alloc, b"")?,
-        Value::blob(alloc, b"\x00")?,
-        Value::blob(alloc, b"a")?,
-        Value::blob(alloc, b"\xff")?,
-    ];
-    for (i, a) in ascending.iter().enumerate() {
-        for (j, b) in ascending.iter().enumerate() {
-            assert!(rt; a.order(b) == i.cmp(&j), "{i} and {j}");
-            assert!(rt; a.cmp(b) == i.cmp(&j), "{i} and {j}");
-            assert!(rt; a.same(b) == (i == j), "{i} and {j}");
+    for a in ASCENDING.iter().enumerate() {
+        for b in ASCENDING.iter().enumerate() {
+            let is_so = compare_as(rt.alloc(), (a.0, *a.1), (b.0, *b.1));
+            assert!(rt; is_so == Ok(true), "{} and {}", a.0, b.0);
         }
-        a.keeps_limits();
-        assert!(rt; a.copy()? == a.copy()?);
-        assert!(rt; a.is_null() == (i == 0));
+        assert!(rt; is_copied(rt.alloc(), *a.1, a.0 == 0) == Ok(true));
     }
-    assert!(rt; format!(in alloc; "{:?}", ascending[6])?.as_str() == "Text(\"10\")");
-    assert!(rt; format!(in alloc; "{:?}", ascending[14])?.as_str() == "Blob([97])");
+    assert!(rt; prints(rt.alloc(), Plain::Text("10"), "Text(\"10\")")?);
+    assert!(rt; prints(rt.alloc(), Plain::Blob(b"a"), "Blob([97])")?);
     Ok(())
+}
+
+// Whether the text is a name, which is the same as a copy of it.
+fn is_name(alloc: Global, text: &str) -> Result<bool, Fault<Refusal>> {
+    match Name::new(alloc, text) {
+        Ok(name) => Ok(name.as_str() == text && name.copy()?.same(&name)),
+        Err(Fault::Refused(Refusal::BadName)) => Ok(false),
+        Err(fault) => Err(fault),
+    }
 }
 
 #[test]
 fn names_have_1_to_255_bytes(rt: HostRuntime) -> Result<(), Fail> {
-    let alloc = rt.alloc();
-    let long = vec![in alloc; b'n'; 256]?;
-    let long = String::from_utf8(long)?;
-    let name = Name::new(alloc, &long.as_str()[1..])?;
-    assert!(rt; (name.as_str().len(), NAME_MAX) == (255, 255));
-    assert!(rt; name.copy()?.same(&name));
-    assert!(rt; Name::new(alloc, "T")? < Name::new(alloc, "t")?);
-    for refused in [long.as_str(), "", "a\0"] {
-        match Name::new(alloc, refused) {
-            Ok(name) => assert!(rt; false, "{name:?} is no name"),
-            Err(fault) => assert!(rt; fault == Fault::Refused(Refusal::BadName)),
-        }
+    let bytes = [b'n'; 256];
+    let long = std::str::from_utf8(&bytes)?;
+    assert!(rt; (NAME_MAX, long.len()) == (255, 256));
+    assert!(rt; is_name(rt.alloc(), &long[1..]) == Ok(true));
+    for refused in [long, "", "a\0"] {
+        assert!(rt; is_name(rt.alloc(), refused) == Ok(false));
     }
+    assert!(rt; Name::new(rt.alloc(), "T")? < Name::new(rt.alloc(), "t")?);
     Ok(())
 }
 
 #[test]
 fn texts_of_refusals(rt: HostRuntime) -> Result<(), Fail> {
-    let rows = [
+    for (refusal, text) in [
         (Refusal::TooLong, "E1 TooLong"),
         (Refusal::BadSchema, "E2 BadSchema"),
         (Refusal::WrongWidth, "E3 WrongWidth"),
@@ -96,35 +135,34 @@ fn texts_of_refusals(rt: HostRuntime) -> Result<(), Fail> {
         (Refusal::NoSession, "E18 NoSession"),
         (Refusal::NoDatabase, "E19 NoDatabase"),
         (Refusal::NoMark, "E20 NoMark"),
-    ];
-    for (refusal, text) in rows {
+    ] {
         assert!(rt; format!(in rt.alloc(); "{refusal}")?.as_str() == text);
     }
     Ok(())
 }
 
-// A text, a blob and a name, and a copy of each.
-fn make<A: AllocHandle>(alloc: A) -> Result<(), Fault<Refusal>> {
+// A copy of a text, of a blob and of a name: whether each is as what it copies.
+pub fn make<A: AllocHandle>(alloc: A) -> Result<bool, Fault<Refusal>> {
+    Ok(make_text(alloc)? && make_blob(alloc)? && make_name(alloc)?)
+}
+
+fn make_text<A: AllocHandle>(alloc: A) -> Result<bool, Fault<Refusal>> {
     let text = Text::new(alloc, "a text that is stored")?;
+    Ok(text.copy()?.as_str() == "a text that is stored")
+}
+
+fn make_blob<A: AllocHandle>(alloc: A) -> Result<bool, Fault<Refusal>> {
     let blob = Blob::new(alloc, b"a blob that is stored")?;
+    Ok(blob.copy()?.as_slice() == b"a blob that is stored".as_slice())
+}
+
+fn make_name<A: AllocHandle>(alloc: A) -> Result<bool, Fault<Refusal>> {
     let name = Name::new(alloc, "a name that is stored")?;
-    let _copies = (text.copy()?, blob.copy()?, name.copy()?);
-    Ok(())
+    Ok(name.copy()?.as_str() == "a name that is stored")
 }
 
 #[test]
 fn each_allocation_may_be_refused(rt: HostRuntime) -> Result<(), Fail> {
-    let heap = LocalHeap::new(rt.alloc(), 4096)?;
-    let memory = Memory::new(&heap);
-    for number in 1..1000u64 {
-        memory.refuse(number);
-        let done = make(&memory);
-        assert!(rt; heap.used() == 0);
-        if !memory.has_refused() {
-            assert!(rt; done == Ok(()) && number > 3, "{number}");
-            return Ok(());
-        }
-        assert!(rt; done == Err(Fault::OutOfMemory), "{number}");
-    }
-    Err(Fail::from("each run met a refusal"))
+    assert!(rt; requests_refused(rt.alloc(), Call::MakeValues)? >= 3);
+    Ok(())
 }

@@ -1,5 +1,0 @@
-//! Tests of table filters and their text through their public calls.
-#![tactic(auto)]
-
-#[cfg(test)]
-mod filters;

@@ -1,5 +1,0 @@
-use Rattle.cap_test_replicas.proofs.replicas.a_replica_has_the_rows_of_the_server.Given as goal
-
--- the history that was just opened, and its seat
-abbrev pub ghosts-replicated : goal.ghosts-replicated
-ghosts-replicated g a = record { book = a.opened.seen.book; seats = 1 }

@@ -1,5 +1,0 @@
-//! Tests of trees through their public calls.
-#![tactic(auto)]
-
-#[cfg(test)]
-mod trees;
