@@ -1,17 +1,18 @@
 -- The history whose calls all seats have made is that of a closed server.
+use Rattle.std.specs.Prelude.{⊤}
 use Rattle.std.proofs.Common.{◌≡◌, ◌≢◌, ◌<◌, Any, slice_index, inl, inr, ℕ, ◌≤◌, List, [], length, ap, sym, subst, ◌∙◌, arith, All, slice_index_or}
 use Rattle.std.proofs.lemmas.Bool.{cases_lt}
 use mathlib.Core.List.{IsPrefix}
 use Rattle.cap_core.specs.declared.event.Event.{Event}
 use Rattle.cap_core.specs.Answer.{State, IsLegal, state}
 use Rattle.cap_core.specs.Table.{BlobsFit}
-use Rattle.cap_history.specs.Beginnings.{prefix-of-none, prefix-trans, prefix-whole}
+use Rattle.cap_history.specs.Beginnings.{prefix-either, prefix-of-none, prefix-trans, prefix-whole}
 use Rattle.cap_history.specs.History.{own}
-use Rattle.cap_history.specs.Own.{own-same}
+use Rattle.cap_history.specs.Own.{answered-in, own-same}
 use Rattle.cap_history.specs.Seat.{SeatState, calls}
-use Rattle.cap_server.specs.Close.{FirstHasSeen, HasAll, IsClosed}
+use Rattle.cap_server.specs.Close.{ClosesOvertaken, FirstHasSeen, HasAll, IsClosed, WasOvertaken}
 use Rattle.cap_server.specs.Code.Counts.{Agrees, IsCounted}
-use Rattle.cap_server.specs.Fault.{MatchCloseFault}
+use Rattle.cap_server.specs.Fault.{HasCalls, MatchCloseFault}
 use Rattle.cap_server.specs.declared.fault.CloseFault.{CloseFault}
 use Rattle.cap_server.specs.declared.fault.CloseFault.TheVariants.{MissingSeat, Overtaken}
 
@@ -41,6 +42,16 @@ module _ {A : Type 0} where
         ];
       }
 
+  -- the history under the lock has the calls of each seat whose number is counted
+  pub all_calls : (seats : List (SeatState A)) (count : ℕ) (counts : List ℕ) (history shown : List (Event A)) → IsCounted count counts history → All (Agrees count counts) seats → IsPrefix history shown
+      → All (λ seat. IsPrefix seat.seen shown) seats → All (λ seat. HasCalls seat history) seats
+  all_calls seats count counts history shown counted agrees begins seen = λ k d within.
+      let seat = slice_index_or seats k d in
+      let agreed = agrees k d within in
+      let same : length (own seat.number history) ≡ length (calls seat) = sym (counted.each seat.number agreed.known) ∙ agreed.counted in
+      let shows : IsPrefix seat.answered shown = prefix-trans seat.answered seat.seen shown agreed.begins (seen k d within) in
+      record { count = same; begins = answered-in seat.number seat.answered history agreed.ends (prefix-either seat.answered history shown shows begins) same }
+
   -- a seat of which other calls are counted
   abbrev pub IsOff : ℕ → List ℕ → SeatState A → Type 0
   IsOff count counts seat = (seat.number < count) × (slice_index counts seat.number ≢ length (calls seat))
@@ -55,3 +66,9 @@ module _ {A : Type 0} where
   shown_by_any (MissingSeat number) missing all old new least is = is
   shown_by_any (Overtaken front) missing all old new least is =
       (is.0, record { place = is.1.place; first = is.1.first; history = is.1.history; legal = is.1.legal; blobs = is.1.blobs; front_is = is.1.front_is; seen = is.1.seen; begins = prefix-of-none is.1.history; seats = is.1.seats })
+
+  -- the history under the lock is some history
+  pub overtaken_by_any : (fault : CloseFault) (missing : ℕ → Type 0) (all : Type 0) (old new : List (SeatState A)) (least : List (Event A)) → MatchCloseFault fault missing (λ front. all × FirstHasSeen old new least front)
+      → MatchCloseFault fault (λ number. ⊤) (WasOvertaken old least) → MatchCloseFault fault (λ number. ⊤) (ClosesOvertaken old new)
+  overtaken_by_any (MissingSeat number) missing all old new least is why = tt
+  overtaken_by_any (Overtaken front) missing all old new least is why = (least, is.1, why)

@@ -1,11 +1,12 @@
 -- The state of a closed server, and missing seats.
-use Rattle.std.specs.Prelude.{◌≡◌, ℕ, ◌<◌, Some, List, [], All, length, slice_get, slice_set}
+use Rattle.std.specs.Prelude.{◌≡◌, ◌≢◌, ◌⊎◌, ℕ, ◌<◌, Some, List, [], All, Any, length, slice_get, slice_set}
 use mathlib.Core.List.{IsPrefix}
 use Rattle.cap_core.specs.declared.event.Event.{Event}
 use Rattle.cap_core.specs.Answer.{State, IsLegal, state}
 use Rattle.cap_core.specs.Table.{BlobsFit}
 use Rattle.cap_history.specs.History.{own}
 use Rattle.cap_history.specs.Seat.{SeatState, calls}
+use Rattle.cap_server.specs.Fault.{HasCalls}
 
 module _ {A : Type 0} where
   -- the seat with this number has this index
@@ -46,3 +47,15 @@ module _ {A : Type 0} where
     pub seen : All (λ seat. IsPrefix seat.seen history) old
     pub begins : IsPrefix least history
     pub seats : new ≡ slice_set old place (record first.seat { seen = history })
+
+  -- Why a close is overtaken, where this history stood under the lock: it has each seat's calls, and the
+  -- history is longer by now, or it has not just the calls of one of them.
+  abbrev pub WasOvertaken : List (SeatState A) → List (Event A) → ℕ → Type 0
+  WasOvertaken seats locked front =
+      (All (λ seat. HasCalls seat locked) seats × (length locked < front))
+      ⊎ Any (λ seat. length (own seat.number locked) ≢ length (calls seat)) seats
+
+  -- the same, whatever history stood there, which the first seat has then seen with what the seats had seen
+  abbrev pub ClosesOvertaken : List (SeatState A) → List (SeatState A) → ℕ → Type 0
+  ClosesOvertaken old new front =
+      (locked : List (Event A)) × FirstHasSeen old new locked front × WasOvertaken old locked front

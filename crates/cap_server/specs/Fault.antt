@@ -1,6 +1,12 @@
 -- The faults of calls, and the seat after a call without a reply.
-use Rattle.std.specs.Prelude.{◌≡◌, ℕ, ◌+◌, ◌^◌, length}
-use Rattle.cap_history.specs.Seat.{SeatState, SeesMore}
+use Rattle.std.specs.Prelude.{◌≡◌, ◌≢◌, ◌⊎◌, ℕ, ◌+◌, ◌<◌, ◌^◌, None, List, length}
+use mathlib.Core.List.{IsPrefix}
+use Rattle.cap_core.specs.declared.command.Command.{Command}
+use Rattle.cap_core.specs.declared.event.Event.{Event}
+use Rattle.cap_core.specs.Answer.{state}
+use Rattle.cap_core.specs.RefusedFirst.{refused_first}
+use Rattle.cap_history.specs.History.{IsHistory, own}
+use Rattle.cap_history.specs.Seat.{SeatState, SeesMore, calls}
 use Rattle.cap_server.specs.declared.fault.CallFault.{CallFault}
 use Rattle.cap_server.specs.declared.fault.CallFault.TheVariants.{OutOfMemory, Overtaken, HistoryFull}
 use Rattle.cap_server.specs.declared.fault.CloseFault.{CloseFault}
@@ -23,3 +29,23 @@ module _ {A : Type 0} where
   LeavesSeat fault old new =
       MatchCallFault fault (new ≡ old) (λ front. SeesMore old new × (length new.seen ≡ front))
       (SeesMore old new × (length new.seen + 1 ≡ 2 ^ 63))
+
+  -- a history has just the seat's calls of the seat's events, and begins with what it had seen after its last
+  pub record HasCalls (seat : SeatState A) (history : List (Event A)) : Type 0 where
+    pub count : length (own seat.number history) ≡ length (calls seat)
+    pub begins : IsPrefix seat.answered history
+
+  -- Why a call has no reply, where this history stood under the lock. Out of memory: it has the seat's calls,
+  -- and after it no refusal of the command is known without memory. Overtaken: it has the seat's calls, and
+  -- the history is longer by now, or it has not just the seat's calls. Full: so it is.
+  abbrev pub HasCauseAfter : List (Event A) → CallFault → SeatState A → Command A → Type 0
+  HasCauseAfter locked fault seat command =
+      IsHistory locked × MatchCallFault fault
+      (HasCalls seat locked × (refused_first (state locked) command ≡ None))
+      (λ front. (HasCalls seat locked × (length locked < front))
+      ⊎ (length (own seat.number locked) ≢ length (calls seat)))
+      (length locked + 1 ≡ 2 ^ 63)
+
+  -- the same, whatever history stood there
+  abbrev pub HasCause : CallFault → SeatState A → Command A → Type 0
+  HasCause fault seat command = (locked : List (Event A)) × HasCauseAfter locked fault seat command

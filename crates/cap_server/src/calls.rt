@@ -8,7 +8,7 @@ ghost use Rattle.cap_core.specs.declared.command.Command.TheVariants.{Indirect, 
 ghost use Rattle.cap_core.specs.declared.command.Command.TheVariants.{Restart};
 ghost use Rattle.cap_history.specs.Seat.{HasCalled};
 ghost use Rattle.cap_server.specs.Commit.{CommitsAt};
-ghost use Rattle.cap_server.specs.Fault.{LeavesSeat};
+ghost use Rattle.cap_server.specs.Fault.{HasCause, LeavesSeat};
 
 use crate::{CallFault, Server};
 use cap_apply::Policy;
@@ -35,6 +35,7 @@ impl<J: Naming, A: AllocHandle> Server<J, A> {
     ) -> Result<Reply<A>, CallFault>
         ensures called { IfOk result (λ reply. HasCalled seat.old seat.new (CreateTable table schema) reply) }
         ensures refused { IfErr result (λ fault. LeavesSeat fault seat.old seat.new) }
+        ensures cause { IfErr result (λ fault. HasCause fault seat.old (CreateTable table schema)) }
     {
         self.call(rt, seat, &Command::CreateTable { table, schema })
     }
@@ -52,6 +53,7 @@ impl<J: Naming, A: AllocHandle> Server<J, A> {
         ensures called { IfOk result (λ reply. HasCalled seat.old seat.new (Commit batch) reply) }
         ensures judged { IfOk result (CommitsAt seat.new.seen batch) }
         ensures refused { IfErr result (λ fault. LeavesSeat fault seat.old seat.new) }
+        ensures cause { IfErr result (λ fault. HasCause fault seat.old (Commit batch)) }
     {
         legal_histories_grow::<A>();
         legal_histories_were_legal::<A>();
@@ -66,6 +68,7 @@ impl<J: Naming, A: AllocHandle> Server<J, A> {
     pub fn read<R: Wait>(&self, rt: &R, seat: &mut Seat<J, A>) -> Result<Reply<A>, CallFault>
         ensures called { IfOk result (λ reply. HasCalled seat.old seat.new Read reply) }
         ensures refused { IfErr result (λ fault. LeavesSeat fault seat.old seat.new) }
+        ensures cause { IfErr result (λ fault. HasCause fault seat.old Read) }
     {
         self.call(rt, seat, &Command::Read)
     }
@@ -74,6 +77,7 @@ impl<J: Naming, A: AllocHandle> Server<J, A> {
     pub fn new_session<R: Wait>(&self, rt: &R, seat: &mut Seat<J, A>) -> Result<Reply<A>, CallFault>
         ensures called { IfOk result (λ reply. HasCalled seat.old seat.new NewSession reply) }
         ensures refused { IfErr result (λ fault. LeavesSeat fault seat.old seat.new) }
+        ensures cause { IfErr result (λ fault. HasCause fault seat.old NewSession) }
     {
         self.call(rt, seat, &Command::NewSession)
     }
@@ -88,6 +92,7 @@ impl<J: Naming, A: AllocHandle> Server<J, A> {
     ) -> Result<Reply<A>, CallFault>
         ensures called { IfOk result (λ reply. HasCalled seat.old seat.new (Attach session table) reply) }
         ensures refused { IfErr result (λ fault. LeavesSeat fault seat.old seat.new) }
+        ensures cause { IfErr result (λ fault. HasCause fault seat.old (Attach session table)) }
     {
         self.call(rt, seat, &Command::Attach { session, table })
     }
@@ -101,6 +106,7 @@ impl<J: Naming, A: AllocHandle> Server<J, A> {
     ) -> Result<Reply<A>, CallFault>
         ensures called { IfOk result (λ reply. HasCalled seat.old seat.new (Capture session) reply) }
         ensures refused { IfErr result (λ fault. LeavesSeat fault seat.old seat.new) }
+        ensures cause { IfErr result (λ fault. HasCause fault seat.old (Capture session)) }
     {
         self.call(rt, seat, &Command::Capture { session })
     }
@@ -115,6 +121,7 @@ impl<J: Naming, A: AllocHandle> Server<J, A> {
     ) -> Result<Reply<A>, CallFault>
         ensures called { IfOk result (λ reply. HasCalled seat.old seat.new (Apply blob policy) reply) }
         ensures refused { IfErr result (λ fault. LeavesSeat fault seat.old seat.new) }
+        ensures cause { IfErr result (λ fault. HasCause fault seat.old (Apply blob policy)) }
     {
         self.call(rt, seat, &Command::Apply { blob, policy })
     }
@@ -128,6 +135,7 @@ impl<J: Naming, A: AllocHandle> Server<J, A> {
     ) -> Result<Reply<A>, CallFault>
         ensures called { IfOk result (λ reply. HasCalled seat.old seat.new (SaveAs database) reply) }
         ensures refused { IfErr result (λ fault. LeavesSeat fault seat.old seat.new) }
+        ensures cause { IfErr result (λ fault. HasCause fault seat.old (SaveAs database)) }
     {
         self.call(rt, seat, &Command::SaveAs { database })
     }
@@ -141,6 +149,7 @@ impl<J: Naming, A: AllocHandle> Server<J, A> {
     ) -> Result<Reply<A>, CallFault>
         ensures called { IfOk result (λ reply. HasCalled seat.old seat.new (DropSession session) reply) }
         ensures refused { IfErr result (λ fault. LeavesSeat fault seat.old seat.new) }
+        ensures cause { IfErr result (λ fault. HasCause fault seat.old (DropSession session)) }
     {
         self.call(rt, seat, &Command::DropSession { session })
     }
@@ -154,6 +163,7 @@ impl<J: Naming, A: AllocHandle> Server<J, A> {
     ) -> Result<Reply<A>, CallFault>
         ensures called { IfOk result (λ reply. HasCalled seat.old seat.new (AttachAll session) reply) }
         ensures refused { IfErr result (λ fault. LeavesSeat fault seat.old seat.new) }
+        ensures cause { IfErr result (λ fault. HasCause fault seat.old (AttachAll session)) }
     {
         self.call(rt, seat, &Command::AttachAll { session })
     }
@@ -168,6 +178,7 @@ impl<J: Naming, A: AllocHandle> Server<J, A> {
     ) -> Result<Reply<A>, CallFault>
         ensures called { IfOk result (λ reply. HasCalled seat.old seat.new (SetFilter session filter) reply) }
         ensures refused { IfErr result (λ fault. LeavesSeat fault seat.old seat.new) }
+        ensures cause { IfErr result (λ fault. HasCause fault seat.old (SetFilter session filter)) }
     {
         self.call(rt, seat, &Command::SetFilter { session, filter })
     }
@@ -182,6 +193,7 @@ impl<J: Naming, A: AllocHandle> Server<J, A> {
     ) -> Result<Reply<A>, CallFault>
         ensures called { IfOk result (λ reply. HasCalled seat.old seat.new (Enable session enabled) reply) }
         ensures refused { IfErr result (λ fault. LeavesSeat fault seat.old seat.new) }
+        ensures cause { IfErr result (λ fault. HasCause fault seat.old (Enable session enabled)) }
     {
         self.call(rt, seat, &Command::Enable { session, enabled })
     }
@@ -197,6 +209,7 @@ impl<J: Naming, A: AllocHandle> Server<J, A> {
         ensures called { IfOk result (λ reply.
             HasCalled seat.old seat.new (Indirect session indirect) reply) }
         ensures refused { IfErr result (λ fault. LeavesSeat fault seat.old seat.new) }
+        ensures cause { IfErr result (λ fault. HasCause fault seat.old (Indirect session indirect)) }
     {
         self.call(rt, seat, &Command::Indirect { session, indirect })
     }
@@ -210,6 +223,7 @@ impl<J: Naming, A: AllocHandle> Server<J, A> {
     ) -> Result<Reply<A>, CallFault>
         ensures called { IfOk result (λ reply. HasCalled seat.old seat.new (IsEmpty session) reply) }
         ensures refused { IfErr result (λ fault. LeavesSeat fault seat.old seat.new) }
+        ensures cause { IfErr result (λ fault. HasCause fault seat.old (IsEmpty session)) }
     {
         self.call(rt, seat, &Command::IsEmpty { session })
     }
@@ -225,6 +239,7 @@ impl<J: Naming, A: AllocHandle> Server<J, A> {
     ) -> Result<Reply<A>, CallFault>
         ensures called { IfOk result (λ reply. HasCalled seat.old seat.new (Diff session from table) reply) }
         ensures refused { IfErr result (λ fault. LeavesSeat fault seat.old seat.new) }
+        ensures cause { IfErr result (λ fault. HasCause fault seat.old (Diff session from table)) }
     {
         self.call(
             rt,
@@ -246,6 +261,7 @@ impl<J: Naming, A: AllocHandle> Server<J, A> {
     ) -> Result<Reply<A>, CallFault>
         ensures called { IfOk result (λ reply. HasCalled seat.old seat.new (Restart session) reply) }
         ensures refused { IfErr result (λ fault. LeavesSeat fault seat.old seat.new) }
+        ensures cause { IfErr result (λ fault. HasCause fault seat.old (Restart session)) }
     {
         self.call(rt, seat, &Command::Restart { session })
     }

@@ -2,6 +2,7 @@
 ghost use Rattle.std.specs.Prelude.{◌≡◌, ◌≢◌, ◌<◌, ◌⊎◌, [], ◌∷◌, ◌++◌, length, IfOk, IfErr, OnOk, OnErr};
 ghost use Rattle.cap_core.specs.Answer.{event_by, reply_of, state};
 ghost use Rattle.cap_core.specs.Past.{HasRoom};
+ghost use Rattle.cap_core.specs.RefusedFirst.{RepliesFirst, refused_first};
 ghost use Rattle.cap_history.specs.History.{own};
 ghost use Rattle.cap_history.specs.Seat.{HasCalled, SeesMore, calls};
 ghost use Rattle.cap_value.specs.Memory.{MatchFault};
@@ -68,6 +69,7 @@ pub(crate) fn step_with_hook<J: Naming, A: AllocHandle>(
         ≡ list.now ++ event_by seat.old.number command.now reply ∷ []) }
     ensures state { OnOk result (core.new ≡ state seat.new.seen) }
     ensures unchanged { OnErr result (core.new ≡ core.old) }
+    ensures first { RepliesFirst (refused_first (state list.now) command.now) result }
     ensures refused { IfErr result (λ fault. MatchFault fault (seat.new ≡ seat.old)
         (λ overtaken. SeesMore seat.old seat.new × (length seat.new.seen ≡ overtaken.front)
         × ((length list.now < overtaken.front)

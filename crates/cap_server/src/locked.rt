@@ -1,11 +1,11 @@
 //! The state under the lock of the server.
-ghost use Rattle.std.specs.Prelude.{◌≡◌, ◌≢◌, ◌+◌, ◌<◌, ◌^◌, ◌⊎◌, ⊤, Any, [], ◌∷◌, ◌++◌, length, IfOk, IfErr};
+ghost use Rattle.std.specs.Prelude.{◌≡◌, ◌≢◌, ◌+◌, ◌<◌, ◌^◌, ◌⊎◌, ⊤, [], ◌∷◌, ◌++◌, length, IfOk, IfErr};
 ghost use Rattle.std.specs.Prelude.{OnOk, OnErr, Err};
 ghost use Rattle.cap_core.specs.Answer.{event_by, reply_of};
 ghost use Rattle.cap_history.specs.History.{own};
 ghost use Rattle.cap_history.specs.Seat.{HasCalled, calls};
-ghost use Rattle.cap_server.specs.Close.{FirstHasSeen, HasAll, IsClosed, IsMissing};
-ghost use Rattle.cap_server.specs.Fault.{LeavesSeat, MatchCallFault, MatchCloseFault};
+ghost use Rattle.cap_server.specs.Close.{FirstHasSeen, HasAll, IsClosed, IsMissing, WasOvertaken};
+ghost use Rattle.cap_server.specs.Fault.{HasCauseAfter, LeavesSeat, MatchCallFault, MatchCloseFault};
 ghost use Rattle.cap_server.specs.declared.fault.CallFault.TheVariants.{HistoryFull};
 
 use crate::exchange::step_with_hook;
@@ -59,7 +59,8 @@ impl<J: Naming, A: AllocHandle> Locked<J, A> {
     }
 
     /// Carries out a seat's command, if the front word can be exchanged. Where there is no reply, only what
-    /// the seat has seen changes.
+    /// the seat has seen changes. Out of memory comes last: where the seat's calls are not those that are
+    /// counted, or where the command is refused and that is known without memory, that is the answer.
     pub fn step(
         &mut self,
         front: &Front<J, A>,
@@ -76,6 +77,7 @@ impl<J: Naming, A: AllocHandle> Locked<J, A> {
         ensures overtaken { IfErr result (λ fault. MatchCallFault fault ⊤
             (λ front. (length self.old < front)
             ⊎ (length (own seat.old.number self.old) ≢ length (calls seat.old))) ⊤) }
+        ensures cause { IfErr result (λ fault. HasCauseAfter self.old fault seat.old command.now) }
         // S2 comes exactly where the history is full.
         ensures full { IfErr result (λ fault. MatchCallFault fault ⊤ (λ _. ⊤)
             (length self.old + 1 ≡ 2 ^ 63)) }
@@ -87,6 +89,7 @@ impl<J: Naming, A: AllocHandle> Locked<J, A> {
         }
         let number = seat.number() as usize;
         let count = self.counts[number];
+        seat.calls_are_in(&self.list);
         match step_with_hook(&mut self.core, &self.list, count, front, seat, command) {
             Ok(reply) => {
                 self.list = seat.list();
@@ -96,7 +99,13 @@ impl<J: Naming, A: AllocHandle> Locked<J, A> {
             Err(Fault::Refused(overtaken)) => Err(CallFault::Overtaken {
                 front: overtaken.front,
             }),
-            Err(Fault::OutOfMemory) => Err(CallFault::OutOfMemory),
+            Err(Fault::OutOfMemory) => {
+                if seat.calls() != count {
+                    let front = front.look(seat);
+                    return Err(CallFault::Overtaken { front });
+                }
+                Err(CallFault::OutOfMemory)
+            }
         }
     }
 
@@ -115,8 +124,7 @@ impl<J: Naming, A: AllocHandle> Locked<J, A> {
             × HasAll seats.items number)
             (λ front. HasAll seats.items J.seats × FirstHasSeen seats.items r.1.items self front)) }
         ensures overtaken { IfErr result (λ r. MatchCloseFault r.2 (λ number. ⊤)
-            (λ front. (length self < front)
-            ⊎ Any (λ seat. length (own seat.number self) ≢ length (calls seat)) seats.items)) }
+            (WasOvertaken seats.items self)) }
     {
         let count = self.counts.len() as u64;
         if let Some(number) = missing_seat(seats.as_slice(), count) {

@@ -1,10 +1,10 @@
 //! The server: calls, and opening and closing.
-ghost use Rattle.std.specs.Prelude.{◌≡◌, ◌<◌, ◌≤◌, [], IfOk, IfErr, length};
+ghost use Rattle.std.specs.Prelude.{◌≡◌, ◌<◌, ◌≤◌, ⊤, [], IfOk, IfErr, length};
 ghost use mathlib.Core.List.{IsPrefix};
 ghost use Rattle.cap_history.specs.History.{longer};
 ghost use Rattle.cap_history.specs.Seat.{HasCalled, SeesMore, newcomers};
-ghost use Rattle.cap_server.specs.Close.{FirstHasSeen, HasAll, IsClosed, IsMissing};
-ghost use Rattle.cap_server.specs.Fault.{LeavesSeat, MatchCloseFault};
+ghost use Rattle.cap_server.specs.Close.{ClosesOvertaken, FirstHasSeen, HasAll, IsClosed, IsMissing};
+ghost use Rattle.cap_server.specs.Fault.{HasCause, LeavesSeat, MatchCloseFault};
 
 use crate::{CallFault, CloseFault, Closed, Locked};
 use cap_core::{Command, Reply};
@@ -40,7 +40,8 @@ impl<J: Naming, A: AllocHandle> Server<J, A> {
         Ok((Server { front, locked }, made))
     }
 
-    /// Carries out a seat's command. It takes the server's lock.
+    /// Carries out a seat's command. It takes the server's lock. A refusal that is known without memory is
+    /// the reply also where memory is out.
     pub fn call<R: Wait>(
         &self,
         rt: &R,
@@ -49,6 +50,7 @@ impl<J: Naming, A: AllocHandle> Server<J, A> {
     ) -> Result<Reply<A>, CallFault>
         ensures called { IfOk result (λ reply. HasCalled seat.old seat.new command.now reply) }
         ensures refused { IfErr result (λ fault. LeavesSeat fault seat.old seat.new) }
+        ensures cause { IfErr result (λ fault. HasCause fault seat.old command.now) }
     {
         self.lock(rt).step(&self.front, seat, command)
     }
@@ -97,6 +99,8 @@ impl<J: Naming, A: AllocHandle> Server<J, A> {
             (λ number. (r.1.items ≡ seats.items) × (number < J.seats) × IsMissing seats.items number
             × HasAll seats.items number)
             (λ front. HasAll seats.items J.seats × FirstHasSeen seats.items r.1.items [] front)) }
+        ensures overtaken { IfErr result (λ r. MatchCloseFault r.2 (λ number. ⊤)
+            (ClosesOvertaken seats.items r.1.items)) }
     {
         let Server { front, locked } = self;
         match locked.into_inner().close(&front, seats) {

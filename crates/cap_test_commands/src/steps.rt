@@ -66,6 +66,41 @@ const COMMANDS: [(&str, bool, bool); 19] = [
     ("scan t", false, true),
 ];
 
+// Refused commands to a server at its limits, with their replies. Each refusal is known without memory.
+const REFUSALS: [(&str, &str); 19] = [
+    ("create t kv", "refused: E9 TableExists"),
+    ("create z kv", "refused: E10 TooMany"),
+    ("save z", "refused: E10 TooMany"),
+    ("session", "refused: E10 TooMany"),
+    (
+        "commitat 1 insert t (3,30)",
+        "refused: E11 Stale base 1 now 67",
+    ),
+    (
+        "commit insert z (1,10) ; insert t (3,30)",
+        "refused at 0: E8 NoTable",
+    ),
+    ("commit insert t (1,2,3)", "refused at 0: E3 WrongWidth"),
+    (
+        "commit update t key(1) set 2 = 0",
+        "refused at 0: E4 BadColumn",
+    ),
+    ("commit update t key(7) set 1 = 0", "refused at 0: E6 NoRow"),
+    (
+        "commit delete t key(7) ; delete t key(1)",
+        "refused at 0: E6 NoRow",
+    ),
+    ("drop 65", "refused: E18 NoSession"),
+    ("attach 65 t", "refused: E18 NoSession"),
+    ("filter 65 is t", "refused: E18 NoSession"),
+    ("enable 65 off", "refused: E18 NoSession"),
+    ("diff 65 old t", "refused: E18 NoSession"),
+    ("changeset 65", "refused: E18 NoSession"),
+    ("restart 65", "refused: E18 NoSession"),
+    ("diff 1 new t", "refused: E19 NoDatabase"),
+    ("diff 1 old t0", "refused: E14 Incompatible"),
+];
+
 // Shows what they may change, on a server beside it.
 const CONTENT: &str = "scan t\n\
      scan u\n\
@@ -192,5 +227,59 @@ fn a_write_without_memory_or_vetoed_by_the_hook_changes_nothing(
     let memory = Memory::new(rt.alloc());
     let failed = first_that_fails(&memory, &memory).ok_or("workloads")?;
     assert!(rt; failed.is_empty(), "{failed}");
+    Ok(())
+}
+
+// A server with 64 tables, 64 sessions and 16 saved databases.
+fn full<A: AllocHandle>(alloc: A) -> Outcome<Core<A>> {
+    let mut core = Core::new(alloc);
+    give(alloc, &mut core, SERVER)?;
+    for number in 0..63u64 {
+        let text = format!(in alloc; "create t{number} kv\nsave s{number}\nsession")?;
+        give(alloc, &mut core, text.as_str())?;
+    }
+    Ok(core)
+}
+
+// Makes the step with each request refused in turn, until it meets none. Answers how many were refused, or
+// nothing where a step has another reply than this.
+fn refuse_each<'a>(
+    memory: &'a Memory<Global>,
+    core: &mut Core<&'a Memory<Global>>,
+    line: &Line<&'a Memory<Global>>,
+    reply: &str,
+) -> Outcome<Option<u64>> {
+    for number in 1..REQUESTS_MAX {
+        if core.events() >= REQUESTS_MAX {
+            return Ok(None);
+        }
+        memory.refuse(number);
+        let stepped = core.step(&line.command, &mut NoHook);
+        memory.refuse(0);
+        match stepped {
+            Ok(told) if print_reply(memory, line, &told)?.as_str() == reply => {}
+            _ => return Ok(None),
+        }
+        if !memory.has_refused() {
+            return Ok(Some(number - 1));
+        }
+    }
+    Ok(None)
+}
+
+#[test]
+fn a_refusal_that_needs_no_memory_is_the_reply_without_it(rt: HostRuntime) -> Result<(), Fail> {
+    let memory = Memory::new(rt.alloc());
+    let mut core = full(&memory)?;
+    let mut refused = 0u64;
+    for (command, reply) in REFUSALS {
+        let lines = parse(&memory, command)?.lines;
+        let line = lines.first().ok_or("no command")?;
+        match refuse_each(&memory, &mut core, line, reply)? {
+            Some(count) => refused = refused.saturating_add(count),
+            None => assert!(rt; false, "{command}"),
+        }
+    }
+    assert!(rt; refused > 0);
     Ok(())
 }

@@ -3,7 +3,7 @@ use Rattle.std.specs.Prelude.{◌≡◌, ℕ, ◌<◌, ◌≤◌, List, [], leng
 use mathlib.Core.List.{IsPrefix}
 use Rattle.cap_core.specs.declared.event.Event.{Event}
 use Rattle.cap_history.specs.History.{own}
-use Rattle.cap_history.specs.Seat.{SeatState, calls}
+use Rattle.cap_history.specs.Seat.{IsAnswered, SeatState, calls}
 
 module _ {A : Type 0} where
   -- the counts of this many seats, at least one, and no event of another
@@ -17,4 +17,5 @@ module _ {A : Type 0} where
   pub record Agrees (seats : ℕ) (counts : List ℕ) (seat : SeatState A) : Type 0 where
     pub known : seat.number < seats
     pub begins : IsPrefix seat.answered seat.seen
+    pub ends : IsAnswered seat.number seat.answered
     pub counted : slice_index counts seat.number ≡ length (calls seat)

@@ -12,6 +12,7 @@ loop-seat-preserved g c =
     let agrees : Agrees g.J.Naming.seats counts seat = record {
       known = omega (arith, c.number-number.ensures.number, c.number-number.ensures.known);
       begins = c.calls.ensures.seen;
+      ends = c.calls.ensures.answered;
       counted = ap (λ n. slice_index counts n) (sym c.number-number.ensures.number) ∙ c.if-counts-number.false ∙ c.calls.ensures.calls;
     } in
     All-more (Agrees g.J.Naming.seats counts) c.args.seats.now c.loop-seat.seat-index seat c.loop-seat-test.true c.loop-seat.invariant

@@ -1,8 +1,8 @@
-use Rattle.std.proofs.Common.{◌≡◌, inr, Any, ◌≤◌, ℕ, refl, subst, arith, All, List, length}
+use Rattle.std.proofs.Common.{◌≡◌, inl, inr, Any, ◌≤◌, ℕ, refl, subst, arith, All, List, length}
 use Rattle.cap_history.specs.Seat.{SeatState}
 use Rattle.cap_server.specs.Close.{HasAll, IsMissing}
 use Rattle.cap_server.specs.Code.Counts.{Agrees}
-use Rattle.cap_server.proofs.Closing.{IsOff, closed, differs}
+use Rattle.cap_server.proofs.Closing.{IsOff, all_calls, closed, differs}
 use Rattle.cap_server.proofs.Places.{has-first}
 use Rattle.cap_server.proofs.locked.Locked.close.Goals as goal
 
@@ -44,6 +44,19 @@ returns-then-events-len-clause-refused g c =
       subst (λ (n : ℕ). HasAll c.args.seats.items n) count all,
       rw (← c.self.view_is) c.first_sees_all-events.ensures,
     )
+
+pub returns-then-events-len-clause-overtaken : goal.returns-then-events-len-clause-overtaken
+returns-then-events-len-clause-overtaken g c =
+    let seats = c.args.seats.items in
+    let count = g.J.Naming.seats in
+    let counts = c.self.inside.counts.items in
+    let shown = c.first_sees_all-events.ensures in
+    let agree = subst (λ (l : List (SeatState g.row.A.Denot)). All (Agrees count counts) l) c.as_slice-2.ensures.value
+    (subst (λ (l : List ℕ). All (Agrees count l) c.as_slice-2.result.now) c.as_slice-3.ensures.value c.if-not-agree.ensures) in
+    rw (← c.self.view_is) (inl (
+      all_calls seats count counts c.self.inside.list shown.history c.self.invariant.1 agree shown.begins shown.seen,
+      omega (arith, c.len.ensures.length),
+    ))
 
 pub returns-clause-closed : goal.returns-clause-closed
 returns-clause-closed g c =

@@ -3,6 +3,7 @@ use Rattle.std.proofs.lemmas.Grind.{get_or_default_zero}
 use Rattle.cap_core.specs.Answer.{event_by, state}
 use Rattle.cap_history.specs.Beginnings.{prefix-length}
 use Rattle.cap_history.specs.Own.{own-few}
+use Rattle.cap_server.proofs.Causes.{overtaken_after}
 use Rattle.cap_server.proofs.Counting.{counted-push}
 use Rattle.cap_server.proofs.locked.Locked.step.Goals as goal
 
@@ -33,3 +34,13 @@ invariant_of-self g c =
       c.in-Ok.ensures.state ∙ ap state (sym c.list.ensures),
       counted-push g.J.Naming.seats number c.index-count.result.now counts list c.list.result command c.in-Ok.reply c.self.invariant.1 known count push,
     )
+
+pub returns-then-len-ge-EVENTS_MAX-clause-cause : goal.returns-then-len-ge-EVENTS_MAX-clause-cause
+returns-then-len-ge-EVENTS_MAX-clause-cause g c =
+    rw (← c.self.view_is) (c.len.ensures.history, omega (arith, c.len.ensures.length, c.len.ensures.history.few))
+
+pub returns-in-Err-Refused-clause-cause : goal.returns-in-Err-Refused-clause-cause
+returns-in-Err-Refused-clause-cause g c =
+    let told = rw c.in-Err-Refused.field-0-is at c.in-Err-Refused.ensures.refused in
+    rw (← c.self.view_is)
+    (c.len.ensures.history, overtaken_after c.args.seat.now c.self.inside.list c.in-Err-Refused.overtaken.front c.calls_are_in.ensures told.2)
