@@ -1,4 +1,4 @@
-"""Changesets and patchsets as bytes (docs/FORMAT.md), read and written apart from both sides that are compared.
+"""Changesets and patchsets as bytes (docs/manual/formats.md), read and written apart from both sides that are compared.
 
 A blob is a list of groups. What SQLite leaves open, the order of the changes within a group, is taken away by
 `in_key_order`, and the form of the key flags by `with_ones`.

@@ -1,4 +1,4 @@
-"""Table filters: a filter's text as a function from a table's name to a truth value (docs/FORMAT.md)."""
+"""Table filters: a filter's text as a function from a table's name to a truth value (docs/manual/formats.md)."""
 import re
 
 TOKEN = re.compile(r"([A-Za-z0-9_]+)|'((?:[^']|'')*)'|([(),])")

@@ -1,4 +1,4 @@
-"""A workload's text, read into commands, and values and rows as the program prints them (docs/FORMAT.md).
+"""A workload's text, read into commands, and values and rows as the program prints them (docs/manual/formats.md).
 
 Only workloads that the program accepts are read: a fault raises ValueError, without the program's words for it.
 """

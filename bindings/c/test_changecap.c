@@ -719,6 +719,7 @@ int main(int words, char **word){
   no_bytes_are_null();
   test_server();
   test_batches();
+  test_examples();
   read_known(word[1]);
   known_faults();
   for(size_t i = 0; i < number; i++){

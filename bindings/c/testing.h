@@ -59,6 +59,7 @@ void read_change(changecap_iter *it);
 
 void test_server(void);
 void test_batches(void);
+void test_examples(void);
 
 /* A blob is applied just where it has no fault. */
 void application_agrees(bytes blob, uint32_t status, changecap_fault fault);

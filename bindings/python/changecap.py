@@ -518,7 +518,7 @@ class Server:
         _check(_library.server_open(byref(self._handle)))
 
     def call(self, command):
-        """The text of the reply to one command of the workload language (docs/FORMAT.md)."""
+        """The text of the reply to one command of the workload language (docs/manual/formats.md)."""
         text = _text(command)
 
         def replied(handle, fault):

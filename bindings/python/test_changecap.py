@@ -667,6 +667,63 @@ class Servers(unittest.TestCase):
             self.assertEqual(server.call("scan t").split("\n")[0], "rows 800")
 
 
+class Examples(unittest.TestCase):
+    """The examples of README.md and of docs/manual/python.md."""
+
+    def test_a_session(self):
+        with changecap.Server() as server:
+            server.create_table("t", [True, False])
+            session = server.session()
+            session.attach("t")
+            server.commit(("insert", "t", (1, "x")))
+            changeset = session.changeset()
+        self.assertEqual((changeset, changecap.invert(changeset)), (INSERT, DELETE))
+
+    def test_an_application_with_conflicts(self):
+        with changecap.Server() as server:
+            server.create_table("t", [True, False])
+            for conflicts, changeset in ((0, INSERT), (1, INSERT)):
+                try:
+                    report = server.apply(changeset)
+                except changecap.Refused as refused:
+                    # Change refused.at met a conflict, and nothing was changed.
+                    self.assertEqual((refused.kind, refused.at), (15, 0))
+                    report = server.apply(changeset, data=changecap.REPLACE, notfound=changecap.OMIT,
+                                          conflict=changecap.REPLACE)
+                self.assertEqual((report.applied, report.conflicts), (1, conflicts))
+            self.assertEqual(server.get("t", (1,)).values, (1, "x"))
+
+    def test_changes(self):
+        inserted = []
+        for change in changecap.iterate(INSERT):
+            if change.operation == "insert":
+                inserted.append((change.table, change.key, change.new))
+        self.assertEqual(inserted, [("t", [True, False], {0: 1, 1: "x"})])
+
+    def test_rows(self):
+        with changecap.Server() as server:
+            server.create_table("t", [True, False])
+            version = server.commit(("insert", "t", (1, "x")), ("insert", "t", (None, "y")))
+            server.commit(("update", "t", (1,), {1: "z"}), ("delete", "t", changecap.RowId(1)), base=version)
+            rows = [row.values for row in server.scan("t")]
+        self.assertEqual(rows, [(1, "z")])
+
+    def test_threads(self):
+        with changecap.Server() as server:
+            server.create_table("t", [True, False])
+
+            def commit(first):
+                for number in range(first, first + 100):
+                    server.commit(("insert", "t", (number, None)))
+
+            threads = [threading.Thread(target=commit, args=(first,)) for first in (0, 100)]
+            for thread in threads:
+                thread.start()
+            for thread in threads:
+                thread.join()
+            self.assertEqual([row.values[0] for row in server.scan("t")], list(range(200)))
+
+
 class Libraries(unittest.TestCase):
     def test_a_missing_library(self):
         archive = os.path.join(os.path.dirname(os.environ.get("CHANGECAP_LIBRARY", "")), "libchangecap.a")

@@ -1,9 +1,11 @@
 """Blocks of code that stand in a file, which is compiled and run: the line before such a block is <!-- from PATH -->.
+Each block of a language of LANGUAGES has such a line.
 
 All but space and comments is compared. Behind a line that ends with '..' the file may go on elsewhere, further down.
 """
 import re
 
+LANGUAGES = "c", "python", "rust"
 COMMENT = re.compile(r"//.*|/\*.*?\*/|(?:^|(?<=\s))# .*", re.M)
 
 
@@ -28,6 +30,8 @@ def faults_of_code(page, sources, text_of):
     """The line and the text of each block of a page that its file has otherwise."""
     for block in page.blocks:
         if not block.source:
+            if block.language in LANGUAGES:
+                yield block.line, "say which file has the lines: <!-- from PATH -->"
             continue
         if block.source not in sources.paths:
             yield block.line, f"there is no file {block.source}"

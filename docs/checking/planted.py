@@ -34,6 +34,11 @@ def behind(pattern, more):
     return plant
 
 
+def without_file(_, text):
+    """Plants a block of code that is not said to be from a file."""
+    return re.sub(r"^<!-- from .*\n(?=```)", "", text, count=1, flags=re.M) if "\n<!-- from " in text else None
+
+
 def wrong_clause(check, text):
     """Plants the name of a clause that the function has not, though another has it."""
     found = CLAUSE.search(text)
@@ -122,6 +127,7 @@ PLANTS = [
     ("a member that a type in a block has not", member_of_block, "has no .*_anew"),
     ("a block that its file has otherwise", behind(re.compile(r"^<!-- from .*\n```.*\n.*[\w;{]", re.M), "x"),
      "has not the lines"),
+    ("a block that no file is said to have", without_file, "say which file has the lines"),
     ("a wrong limit", wrong_limit, "the limit is"),
     ("a file that moved", span(is_of("file"), lambda it: re.sub(r"([^/]+)$", r"moved/\1", it)), "no such file"),
     ("definitions that moved", span(is_of("definitions"), lambda it: re.sub(r"(\.antt)?$", "Anew\\1", it, count=1)),

@@ -67,7 +67,8 @@ impl Connection {
         Ok(Connection { handle: handle.into(), has_failed: Cell::new(false) })
     }
 
-    /// Carries out one command of the workload language (docs/FORMAT.md), and answers the text of its reply.
+    /// Carries out one command of the workload language (docs/manual/formats.md), and answers the text of its
+    /// reply.
     pub fn execute(&self, command: &str) -> Result<String> {
         let mut fault = ffi::Fault::default();
         // SAFETY: the handle is open as long as the connection is there, and no other call runs: the
