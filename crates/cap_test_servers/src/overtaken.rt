@@ -18,8 +18,11 @@ fn is_overtaken<J: Naming>(
     calls: u64,
 ) -> bool {
     match lock.step(front, seat, &Command::Read) {
-        Err(CallFault::Overtaken { front: 2 }) => (seat.seen(), seat.calls()) == (2, calls),
-        _ => false,
+        Ok(_reply) => false,
+        Err(fault) => {
+            let is_overtaken = fault == (CallFault::Overtaken { front: 2 });
+            is_overtaken && (seat.seen(), seat.calls()) == (2, calls)
+        }
     }
 }
 

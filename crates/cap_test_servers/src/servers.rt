@@ -6,7 +6,7 @@ use cap_core::{Command, Core, EVENTS_MAX, Reply};
 use cap_database::Snapshot;
 use cap_history::{Naming, Opened, Seat};
 use cap_script::read_line;
-use cap_server::{CallFault, CloseFault, Server};
+use cap_server::{CloseFault, Server};
 use cap_value::Name;
 use std::alloc::Global;
 use std::marker::Brand;
@@ -91,13 +91,22 @@ fn is_committed<J: Naming>(
         return false;
     };
     match read_line(alloc, 1, text.as_str()) {
-        Ok(Some(line)) => is_written(server.call(rt, seat, &line.command)),
+        Ok(Some(line)) => is_written(rt, server, seat, &line.command),
         _ => false,
     }
 }
 
-fn is_written(answer: Result<Reply<Global>, CallFault>) -> bool {
-    matches!(answer, Ok(Reply::Written { .. }))
+// Whether a command's reply is a new version.
+fn is_written<J: Naming>(
+    rt: &impl Wait,
+    server: &Server<J, Global>,
+    seat: &mut Seat<J, Global>,
+    command: &Command<Global>,
+) -> bool {
+    match server.call(rt, seat, command) {
+        Ok(reply) => matches!(&reply, Reply::Written { .. }),
+        Err(_) => false,
+    }
 }
 
 // One hundred commits of a seat, each of one insert with a key of its own.
