@@ -1,8 +1,8 @@
 //! Steps of the sequential server that are refused, by the commit hook or out of memory.
 use crate::calls::REQUESTS_MAX;
 use crate::carried::give;
-use cap_core::{Command, CommitHook, Core, EVENTS_MAX, Reply};
-use cap_script::{Line, parse, read_line};
+use cap_core::{Command, CommitHook, Core, EVENTS_MAX, NoHook, Reply};
+use cap_script::{Line, parse, print_reply, read_line};
 use cap_test_support::{CountingHook, Memory};
 use cap_value::AllocHandle;
 use std::alloc::Global;
@@ -231,55 +231,79 @@ fn a_write_without_memory_or_vetoed_by_the_hook_changes_nothing(
 }
 
 // A server with 64 tables, 64 sessions and 16 saved databases.
-fn full<A: AllocHandle>(alloc: A) -> Outcome<Core<A>> {
+fn full<A: AllocHandle>(alloc: A) -> Option<Core<A>> {
     let mut core = Core::new(alloc);
-    give(alloc, &mut core, SERVER)?;
+    let server = parse(alloc, SERVER).ok()?;
+    give(alloc, &mut core, &server.lines)?;
     for number in 0..63u64 {
-        let text = format!(in alloc; "create t{number} kv\nsave s{number}\nsession")?;
-        give(alloc, &mut core, text.as_str())?;
+        let text = format!(in alloc; "create t{number} kv\nsave s{number}\nsession").ok()?;
+        let more = parse(alloc, text.as_str()).ok()?;
+        give(alloc, &mut core, &more.lines)?;
     }
-    Ok(core)
+    Some(core)
+}
+
+// Makes the step with this request refused: whether the request was made, or None where the step has another
+// reply.
+fn reply_with_a_request_refused<A: AllocHandle>(
+    alloc: A,
+    memory: &Memory<Global>,
+    core: &mut Core<A>,
+    (line, reply): (&Line<A>, &str),
+    number: u64,
+) -> Option<bool> {
+    if core.events() >= EVENTS_MAX {
+        return None;
+    }
+    memory.refuse(number);
+    let stepped = core.step(&line.command, &mut NoHook).ok();
+    memory.refuse(0);
+    let is_refused = memory.has_refused();
+    let stepped = stepped?;
+    let text = print_reply(alloc, line, &stepped).ok()?;
+    (text.as_str() == reply).then_some(is_refused)
 }
 
 // Makes the step with each request refused in turn, until it meets none. Answers how many were refused, or
 // nothing where a step has another reply than this.
-fn refuse_each<'a>(
-    memory: &'a Memory<Global>,
-    core: &mut Core<&'a Memory<Global>>,
-    line: &Line<&'a Memory<Global>>,
-    reply: &str,
-) -> Outcome<Option<u64>> {
+fn refuse_each<A: AllocHandle>(
+    alloc: A,
+    memory: &Memory<Global>,
+    core: &mut Core<A>,
+    (command, reply): (&str, &str),
+) -> Option<u64> {
+    let line = read_line(alloc, 1, command).ok()??;
     for number in 1..REQUESTS_MAX {
-        if core.events() >= REQUESTS_MAX {
-            return Ok(None);
-        }
-        memory.refuse(number);
-        let stepped = core.step(&line.command, &mut NoHook);
-        memory.refuse(0);
-        match stepped {
-            Ok(told) if print_reply(memory, line, &told)?.as_str() == reply => {}
-            _ => return Ok(None),
-        }
-        if !memory.has_refused() {
-            return Ok(Some(number - 1));
+        let is_refused = reply_with_a_request_refused(alloc, memory, core, (&line, reply), number)?;
+        if !is_refused {
+            return Some(number - 1);
         }
     }
-    Ok(None)
+    None
+}
+
+// The first of the refusals that is not the reply with each request refused, or an empty text; and how many
+// requests were refused.
+fn first_that_waits<A: AllocHandle>(
+    alloc: A,
+    memory: &Memory<Global>,
+) -> Option<(&'static str, u64)> {
+    let mut core = full(alloc)?;
+    let mut refused = 0u64;
+    for (command, reply) in REFUSALS {
+        match refuse_each(alloc, memory, &mut core, (command, reply)) {
+            Some(count) => refused = refused.saturating_add(count),
+            None => return Some((command, refused)),
+        }
+    }
+    Some(("", refused))
 }
 
 #[test]
 fn a_refusal_that_needs_no_memory_is_the_reply_without_it(rt: HostRuntime) -> Result<(), Fail> {
     let memory = Memory::new(rt.alloc());
-    let mut core = full(&memory)?;
-    let mut refused = 0u64;
-    for (command, reply) in REFUSALS {
-        let lines = parse(&memory, command)?.lines;
-        let line = lines.first().ok_or("no command")?;
-        match refuse_each(&memory, &mut core, line, reply)? {
-            Some(count) => refused = refused.saturating_add(count),
-            None => assert!(rt; false, "{command}"),
-        }
-    }
+    let (failed, refused) = first_that_waits(&memory, &memory).ok_or("workloads")?;
+    assert!(rt; failed.is_empty(), "{failed}");
     assert!(rt; refused > 0);
     Ok(())
 }
