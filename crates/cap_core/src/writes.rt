@@ -12,10 +12,10 @@ ghost use Rattle.cap_core.specs.Outcome.{applied, change_refused, commit_unless,
 ghost use Rattle.cap_txn.specs.Stale.{stale};
 ghost use Rattle.cap_core.specs.Past.{HasRoom};
 ghost use Rattle.cap_core.specs.Transition.{after_write, written};
-ghost use Rattle.cap_session.specs.Sessions.{note_each};
+ghost use Rattle.cap_session.specs.Sessions.{record_commit_each};
 ghost use Rattle.cap_value.specs.Memory.{AnswersUnlessMemory, MatchFault};
 
-use crate::commit_hook::{NotingHook, ask};
+use crate::commit_hook::{RecordingHook, ask};
 use crate::{CommitHook, Core, Reply};
 use cap_apply::{Applied, Policy, applied_blobs_keep_columns};
 use cap_codec::Contents;
@@ -259,7 +259,7 @@ impl<A: AllocHandle> Core<A> {
             self.old self.new hook.old hook.new result }
     {
         self.main.rows_stand();
-        self.sessions.note(&self.main, changes)?;
+        self.sessions.stage_commit(&self.main, changes)?;
         ask(hook, &reply)?;
         self.sessions.publish();
         self.main = tables;
@@ -286,17 +286,17 @@ fn step_and_note<A: AllocHandle, C: CommitHook<A>>(
     ensures kept { OnErr result (main.new ≡ main.old) }
     ensures live { sessions.new.live ≡ sessions.old.live }
     ensures staged { OnOk result (sessions.new.staged
-        ≡ note_each main.old (changes main.old op.now) sessions.old.live) }
+        ≡ record_commit_each main.old (changes main.old op.now) sessions.old.live) }
 {
     changes_of_a_key_are_one_touch::<A>();
-    let mut noting = NotingHook {
+    let mut recording = RecordingHook {
         sessions,
         op,
         key,
         reply,
         hook,
     };
-    match main.step_keyed(op, key, &mut noting) {
+    match main.step_keyed(op, key, &mut recording) {
         Ok(()) => Ok(()),
         Err(NotMade::Refused(why)) => Err(NotMade::Refused(why)),
         Err(NotMade::OutOfMemory) => Err(NotMade::OutOfMemory),

@@ -8,7 +8,7 @@ ghost use Rattle.cap_session.specs.Code.AttachList.{IsWhole, attached_of, kept_i
 ghost use Rattle.cap_session.specs.Code.AttachList.{staged_of};
 ghost use Rattle.cap_session.specs.Code.Keep.{kept_count, kept_tables};
 ghost use Rattle.cap_session.specs.Code.Staging.{touches_by};
-ghost use Rattle.cap_session.specs.Note.{attach_by, attach_by_rule, touch_table, touch_tables};
+ghost use Rattle.cap_session.specs.Recording.{attach_by, attach_by_rule, touch_table, touch_tables};
 ghost use Rattle.cap_session.specs.Session.{records_of, stored};
 
 use crate::attached::Attached;

@@ -3,7 +3,7 @@ ghost use Rattle.std.specs.Prelude.{◌≡◌, ◌<◌, ◌^◌, length, nat_eq,
 ghost use Rattle.std.specs.Option.{option_copied};
 ghost use Rattle.cap_session.specs.Code.Keep.{kept_session};
 ghost use Rattle.cap_session.specs.Code.Staging.{staged_by};
-ghost use Rattle.cap_session.specs.Note.{note, note_diff};
+ghost use Rattle.cap_session.specs.Recording.{record_commit, record_diff};
 ghost use Rattle.cap_session.specs.Session.{attach_all, attached, changed_by, enabled_as, indirect_as};
 ghost use Rattle.cap_session.specs.Session.{new_session, record_of, records_of, restart, set_filter, settled};
 ghost use Rattle.cap_session.specs.Session.{stored};
@@ -156,8 +156,13 @@ impl<A: AllocHandle> Session<A> {
     }
 
     /// Records the changes of one commit. `before` is the database before it.
-    pub fn note(&mut self, before: &Database<A>, changes: &[Change<A>]) -> Result<(), OutOfMemory>
-        ensures noted { OnOk result (self.new ≡ settled (note before.now changes.now self.old.live)) }
+    pub fn record_commit(
+        &mut self,
+        before: &Database<A>,
+        changes: &[Change<A>],
+    ) -> Result<(), OutOfMemory>
+        ensures recorded { OnOk result
+            (self.new ≡ settled (record_commit before.now changes.now self.old.live)) }
         ensures err { OnErr result (self.new ≡ settled self.old.live) }
     {
         self.stage_and_publish(&Staging::Changes(before, changes))
@@ -165,13 +170,13 @@ impl<A: AllocHandle> Session<A> {
 
     /// Records a diff of a table (SQLite's sqlite3session_diff): attaches the table unless it is attached,
     /// and touches each key that differs, even where the session is disabled.
-    pub fn note_diff(
+    pub fn record_diff(
         &mut self,
         name: &Name<A>,
         differences: &[Difference<A>],
     ) -> Result<(), OutOfMemory>
-        ensures noted { OnOk result
-            (self.new ≡ settled (note_diff name.now differences.now self.old.live)) }
+        ensures recorded { OnOk result
+            (self.new ≡ settled (record_diff name.now differences.now self.old.live)) }
         ensures err { OnErr result (self.new ≡ settled self.old.live) }
     {
         self.stage_and_publish(&Staging::Diff(name, differences))

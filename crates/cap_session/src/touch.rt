@@ -4,7 +4,7 @@ ghost use Rattle.std.specs.Option.{option_copied, unwrap_or};
 ghost use Rattle.cap_row.specs.Key.{fields_cmp};
 ghost use Rattle.cap_tree.specs.Tree.{IsOrdered, get};
 ghost use Rattle.cap_session.specs.Code.Staging.{image_of, touches_by};
-ghost use Rattle.cap_session.specs.Note.{is_cascade, touch_of, touches_found};
+ghost use Rattle.cap_session.specs.Recording.{is_cascade, touch_of, touches_found};
 ghost use Rattle.cap_session.specs.Records.{Records, Touch, record_after, touch, touch_if, with_touches};
 
 use crate::{Record, Records};

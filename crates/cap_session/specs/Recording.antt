@@ -52,8 +52,8 @@ module _ {A : Type 0} where
   attach_by_rule rule changes tables = fold (attach_by rule) tables (map (λ change. change.table) changes)
 
   -- the session after a commit with these changes, given the tables before it
-  abbrev pub note : Tables A → List (Change A) → SessionState A → SessionState A
-  note before changes session =
+  abbrev pub record_commit : Tables A → List (Change A) → SessionState A → SessionState A
+  record_commit before changes session =
       if session.enabled
       then record session {
         tables =
@@ -74,8 +74,8 @@ module _ {A : Type 0} where
       if bytes_eq name attached.0 then (attached.0, with_touches attached.1 touches) else attached) tables
 
   -- the session after a commit that changes the row of this key alone, given the row before it
-  abbrev pub note_key : List ℕ → Fields A → Cause → Option (Fields A) → SessionState A → SessionState A
-  note_key name key cause image session =
+  abbrev pub record_key : List ℕ → Fields A → Cause → Option (Fields A) → SessionState A → SessionState A
+  record_key name key cause image session =
       if session.enabled
       then record session {
         tables =
@@ -87,7 +87,7 @@ module _ {A : Type 0} where
 
   -- the session after a diff of this table, which is attached whatever the rule, even where the session is
   -- disabled
-  abbrev pub note_diff : List ℕ → List (Difference A) → SessionState A → SessionState A
-  note_diff name differences session = record session {
+  abbrev pub record_diff : List ℕ → List (Difference A) → SessionState A → SessionState A
+  record_diff name differences session = record session {
     tables = touch_table name (touches_found session.indirect differences) (attach name session.tables);
   }

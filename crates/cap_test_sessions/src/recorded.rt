@@ -1,4 +1,4 @@
-//! What the tests of sessions share: tables, and commits that a session notes.
+//! What the tests of sessions share: tables, and commits that a session records.
 use cap_core::Command;
 use cap_database::{Database, Op, run_ops};
 use cap_row::Schema;
@@ -24,7 +24,7 @@ pub(crate) fn attach<A: AllocHandle>(alloc: A, session: &mut Session<A>, name: &
     }
 }
 
-// Commits operations, which a session notes.
+// Commits operations, which a session records.
 fn commit_ops<A: AllocHandle>(
     alloc: A,
     database: &mut Database<A>,
@@ -34,7 +34,7 @@ fn commit_ops<A: AllocHandle>(
     let Ok(outcome) = run_ops(alloc, database, ops) else {
         return false;
     };
-    if session.note(database, outcome.changes()).is_err() {
+    if session.record_commit(database, outcome.changes()).is_err() {
         return false;
     }
     let (after, _) = outcome.into_parts();

@@ -9,7 +9,7 @@ use Rattle.cap_database.specs.Read.{row_at}
 use Rattle.cap_database.specs.Tables.{Tables}
 use Rattle.cap_database.specs.declared.change.Change.{Change}
 use Rattle.cap_session.specs.declared.rule.AutomaticRule.{AutomaticRule}
-use Rattle.cap_session.specs.Note.{attach_by, attach_by_rule, is_cascade, note, touch_tables, touches_of}
+use Rattle.cap_session.specs.Recording.{attach_by, attach_by_rule, is_cascade, record_commit, touch_tables, touches_of}
 use Rattle.cap_session.specs.Records.{Records, Touch, with_touches}
 use Rattle.cap_session.specs.Session.{AttachedTables, SessionState, accepts_by, attach, is_listed, records_of}
 
@@ -137,14 +137,14 @@ module _ {A : Type 0} where
         | false ↦ rows_before before indirect name changes
       ]
 
-  abbrev noted : Tables A → List (Change A) → SessionState A → Bool → SessionState A
-  noted before changes session b = cond b (record session { tables = touch_tables before session.indirect changes (attach_by_rule session.rule changes session.tables) }) session
+  abbrev recorded : Tables A → List (Change A) → SessionState A → Bool → SessionState A
+  recorded before changes session b = cond b (record session { tables = touch_tables before session.indirect changes (attach_by_rule session.rule changes session.tables) }) session
 
-  pub note-records : (before : Tables A) (changes : List (Change A)) (session : SessionState A) (name : List ℕ) → session.enabled ≡ true
-      → records_of (note before changes session).tables name ≡ option_map (λ records. with_touches records (touches_of before session.indirect name changes)) (records_of (attach_by_rule session.rule changes session.tables) name)
-  note-records before changes session name enabled =
-      ap (λ b. records_of (noted before changes session b).tables name) enabled
+  pub record_commit-records : (before : Tables A) (changes : List (Change A)) (session : SessionState A) (name : List ℕ) → session.enabled ≡ true
+      → records_of (record_commit before changes session).tables name ≡ option_map (λ records. with_touches records (touches_of before session.indirect name changes)) (records_of (attach_by_rule session.rule changes session.tables) name)
+  record_commit-records before changes session name enabled =
+      ap (λ b. records_of (recorded before changes session b).tables name) enabled
       ∙ records_of-touch_tables before session.indirect changes (attach_by_rule session.rule changes session.tables) name
 
-  pub note-disabled : (before : Tables A) (changes : List (Change A)) (session : SessionState A) → session.enabled ≡ false → note before changes session ≡ session
-  note-disabled before changes session disabled = ap (noted before changes session) disabled
+  pub record_commit-disabled : (before : Tables A) (changes : List (Change A)) (session : SessionState A) → session.enabled ≡ false → record_commit before changes session ≡ session
+  record_commit-disabled before changes session disabled = ap (recorded before changes session) disabled
