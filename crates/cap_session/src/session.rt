@@ -1,7 +1,7 @@
 //! One session.
 ghost use Rattle.std.specs.Prelude.{◌≡◌, ◌<◌, ◌^◌, length, nat_eq, IfOk, OnOk, OnErr};
 ghost use Rattle.std.specs.Option.{option_copied};
-ghost use Rattle.cap_session.specs.Code.Keep.{kept_session};
+ghost use Rattle.cap_session.specs.Code.Ending.{session_after};
 ghost use Rattle.cap_session.specs.Code.Staging.{staged_by};
 ghost use Rattle.cap_session.specs.Recording.{record_commit, record_diff};
 ghost use Rattle.cap_session.specs.Session.{attach_all, attached, changed_by, enabled_as, indirect_as};
@@ -10,7 +10,7 @@ ghost use Rattle.cap_session.specs.Session.{stored};
 
 use crate::attach_list::AttachList;
 use crate::attached::Attached;
-use crate::keep::Keep;
+use crate::ending::Ending;
 use crate::staging::Staging;
 use crate::touch::Touches;
 use crate::{AutomaticRule, Record, Records, SessionChange};
@@ -145,13 +145,13 @@ impl<A: AllocHandle> Session<A> {
     pub fn change(&mut self, change: SessionChange<A>)
         ensures { self.new ≡ settled (changed_by change self.old.live) }
     {
-        self.keep(Keep::Published);
+        self.end_staging(Ending::Discard);
         match change {
             SessionChange::AttachAll => self.rule.accept_all(),
             SessionChange::SetFilter(filter) => self.rule = AutomaticRule::Filter(filter),
             SessionChange::Enable(asked) => self.enabled = asked.unwrap_or(self.enabled),
             SessionChange::Indirect(asked) => self.indirect = asked.unwrap_or(self.indirect),
-            SessionChange::Restart => self.keep(Keep::Nothing),
+            SessionChange::Restart => self.end_staging(Ending::Clear),
         }
     }
 
@@ -187,14 +187,14 @@ impl<A: AllocHandle> Session<A> {
         ensures made { OnOk result (self.new ≡ settled (staged_by what.now self.old.live)) }
         ensures err { OnErr result (self.new ≡ settled self.old.live) }
     {
-        self.keep(Keep::Published);
+        self.end_staging(Ending::Discard);
         match self.stage(what) {
             Ok(()) => {
-                self.keep(Keep::Staged);
+                self.end_staging(Ending::Publish);
                 Ok(())
             }
             Err(fault) => {
-                self.keep(Keep::Published);
+                self.end_staging(Ending::Discard);
                 Err(fault)
             }
         }
@@ -227,11 +227,11 @@ impl<A: AllocHandle> Session<A> {
         }
     }
 
-    // Keeps these records. Nothing is staged then.
-    pub(crate) fn keep(&mut self, what: Keep)
-        ensures { self.new ≡ settled (kept_session what self.old) }
+    // Ends what is staged.
+    pub(crate) fn end_staging(&mut self, ending: Ending)
+        ensures { self.new ≡ settled (session_after ending self.old) }
     {
-        self.list.keep(what);
+        self.list.end_staging(ending);
     }
 
     /// Whether there is no record (SQLite's sqlite3session_isempty). The row of a record may be unchanged.

@@ -11,8 +11,8 @@ ghost use Rattle.cap_session.specs.Sessions.{record_commit_each, record_key_each
 ghost use Rattle.cap_session.specs.Sessions.{with_session_if};
 ghost use Rattle.cap_session.specs.Sessions.{without_session};
 
-use crate::keep::Keep;
-use crate::numbered::{Numbered, change, copies_of, keep, place_of, stage};
+use crate::ending::Ending;
+use crate::numbered::{Numbered, change, copies_of, end_staging, place_of, stage};
 use crate::staging::Staging;
 use crate::{Session, SessionChange};
 use cap_compare::Difference;
@@ -99,7 +99,7 @@ impl<A: AllocHandle> Sessions<A> {
             (λ why. H.gives hook.old None (Some (settled new_session)) (Err why) hook.new)) }
         ensures nothing_staged { self.new.staged ≡ self.new.live }
     {
-        keep(&mut self.sessions, Keep::Published);
+        end_staging(&mut self.sessions, Ending::Discard);
         self.sessions.reserve(1)?;
         let session = Session::new(self.alloc);
         ask_to_add(hook, &session)?;
@@ -112,7 +112,7 @@ impl<A: AllocHandle> Sessions<A> {
         ensures removed { self.new.live ≡ without_session self.old.live number }
         ensures nothing_staged { self.new.staged ≡ self.new.live }
     {
-        keep(&mut self.sessions, Keep::Published);
+        end_staging(&mut self.sessions, Ending::Discard);
         if let Some(place) = place_of(&self.sessions, number) {
             self.sessions.remove(place);
         }
@@ -179,11 +179,11 @@ impl<A: AllocHandle> Sessions<A> {
         ensures staged { OnOk result (self.new.staged ≡ made_of (staged_by what.now) number self.old.live) }
         ensures nothing_staged { OnErr result (self.new.staged ≡ self.new.live) }
     {
-        keep(&mut self.sessions, Keep::Published);
+        end_staging(&mut self.sessions, Ending::Discard);
         match stage(&mut self.sessions, number, what) {
             Ok(()) => Ok(()),
             Err(fault) => {
-                keep(&mut self.sessions, Keep::Published);
+                end_staging(&mut self.sessions, Ending::Discard);
                 Err(fault)
             }
         }
@@ -194,7 +194,7 @@ impl<A: AllocHandle> Sessions<A> {
         ensures published { self.new.live ≡ self.old.staged }
         ensures nothing_staged { self.new.staged ≡ self.new.live }
     {
-        keep(&mut self.sessions, Keep::Staged);
+        end_staging(&mut self.sessions, Ending::Publish);
     }
 
     /// Changes the session with this number, if any.

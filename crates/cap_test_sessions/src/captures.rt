@@ -1,4 +1,4 @@
-//! Captures of sessions that no server has.
+//! Captures of sessions used without a server.
 use crate::recorded::{attach, commit, create};
 use cap_codec::write_changes;
 use cap_core::{can_capture, changes_of};

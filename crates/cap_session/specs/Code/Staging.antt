@@ -6,7 +6,7 @@ use Rattle.cap_database.specs.Read.{row_at}
 use Rattle.cap_session.specs.declared.staging.Staging.{Staging}
 use Rattle.cap_session.specs.declared.staging.Staging.TheVariants.{Attach, Changes, Key, Diff}
 use Rattle.cap_session.specs.declared.touch.Image.{Image}
-use Rattle.cap_session.specs.declared.touch.Image.TheVariants.{In, Shown}
+use Rattle.cap_session.specs.declared.touch.Image.TheVariants.{Given, In}
 use Rattle.cap_session.specs.declared.touch.Touches.{Touches}
 use Rattle.cap_session.specs.declared.touch.Touches.TheVariants.{OfChange, OfKey, OfDiff}
 use Rattle.cap_session.specs.Recording.{is_cascade, record_commit, record_diff, record_key, touches_found}
@@ -18,7 +18,7 @@ module _ {A : Type 0} where
   -- the row under the key before the commit
   abbrev pub image_of : Image A → Fields A → Option (Fields A)
   image_of (In tables name) key = row_at tables.now name.now key
-  image_of (Shown row) key = option_copied row
+  image_of (Given row) key = option_copied row
 
   -- the touches of one table
   abbrev pub touches_by : Bool → Touches A → List (Touch A)

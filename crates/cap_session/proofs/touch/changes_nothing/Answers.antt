@@ -2,7 +2,7 @@ use Rattle.std.proofs.Common.{◌≡◌, false, ◌∙◌, ◌||◌, not, ap, ru
 use Rattle.std.specs.Option.{option_copied}
 use Rattle.std.proofs.Math.Bool.{or-true}
 use Rattle.cap_session.proofs.RecordLemmas.{touch-unchanged}
-use Rattle.cap_session.proofs.touch.is_noted.Goals as goal
+use Rattle.cap_session.proofs.touch.changes_nothing.Goals as goal
 
 pub returns-then-not-record : goal.returns-then-not-record
 returns-then-not-record g c = λ _ records t ordered found same.
