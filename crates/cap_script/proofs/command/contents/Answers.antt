@@ -7,11 +7,11 @@ use Rattle.std.proofs.Common.{arith, true, false, length, sym, subst, ◌∙◌}
 use Rattle.std.proofs.lemmas.Bool.{le-leb, lt-leb}
 use Rattle.cap_codec.specs.BlobReading.{blob_at}
 use Rattle.cap_script.specs.LineFaults.{contents}
-use Rattle.cap_script.specs.Reading.{Fails, Outcome, misfit}
+use Rattle.cap_script.specs.Reading.{Fails, Outcome, unexpected}
 use Rattle.cap_script.specs.Refused.{blob_fault}
 use Rattle.cap_script.specs.Tokens.{behind_blanks}
 use Rattle.cap_script.proofs.FaultLemmas.{blob_here, contents_err, contents_ok, no_blob_here}
-use Rattle.cap_script.proofs.ReadLemmas.{misfit_or_memory, reads_err}
+use Rattle.cap_script.proofs.ReadLemmas.{reads_err, unexpected_or_memory}
 use Rattle.cap_script.proofs.command.contents.Goals as goal
 
 pub returns-in_err-bytes-clause-none : goal.returns-in_err-bytes-clause-none
@@ -34,7 +34,7 @@ returns-then-len-gt-BYTES_MAX-clause-none g c =
 pub returns-in_err-bytes-clause-reads : goal.returns-in_err-bytes-clause-reads
 returns-in_err-bytes-clause-reads g c =
     let line = c.args.cursor.now.rest.now in
-    misfit_or_memory c.from_residual.result c.blob.new.self.rest.now c.in_err-bytes.field-0.0 (misfit (behind_blanks line)) (contents g.row.A.Denot line) _ c.from_residual.ensures.1 c.in_err-bytes.ensures.none c.in_err-bytes.ensures.place (no_blob_here g.row.A.Denot line)
+    unexpected_or_memory c.from_residual.result c.blob.new.self.rest.now c.in_err-bytes.field-0.0 (unexpected (behind_blanks line)) (contents g.row.A.Denot line) _ c.from_residual.ensures.1 c.in_err-bytes.ensures.none c.in_err-bytes.ensures.place (no_blob_here g.row.A.Denot line)
 
 pub returns-then-len-gt-BYTES_MAX-clause-reads : goal.returns-then-len-gt-BYTES_MAX-clause-reads
 returns-then-len-gt-BYTES_MAX-clause-reads g c =
