@@ -38,7 +38,7 @@ impl<A: AllocHandle> Core<A> {
     {
         if self.sessions.len() >= SESSIONS_MAX {
             let why = Refusal::TooMany;
-            return self.keep(Reply::Refused { at: None, why }, hook);
+            return self.reply_only(Reply::Refused { at: None, why }, hook);
         }
         self.add_session(hook)
     }
@@ -89,7 +89,7 @@ impl<A: AllocHandle> Core<A> {
     {
         let Some(session) = self.sessions.get(number) else {
             let why = Refusal::NoSession;
-            return self.keep(Reply::Refused { at: None, why }, hook);
+            return self.reply_only(Reply::Refused { at: None, why }, hook);
         };
         match command {
             Command::DropSession { .. } => self.drop_session(number, hook),
@@ -108,12 +108,12 @@ impl<A: AllocHandle> Core<A> {
             }
             Command::IsEmpty { .. } => {
                 let empty = session.is_empty();
-                self.keep(Reply::Flag(empty), hook)
+                self.reply_only(Reply::Flag(empty), hook)
             }
             Command::Diff { from, table, .. } => self.diff(number, from, table, hook),
             Command::Capture { .. } => {
                 let reply = capture_reply(self.alloc, session, &self.main)?;
-                self.keep(reply, hook)
+                self.reply_only(reply, hook)
             }
             Command::Restart { .. } => {
                 let reply = capture_reply(self.alloc, session, &self.main)?;
@@ -195,8 +195,8 @@ impl<A: AllocHandle> Core<A> {
     {
         match differences(self.alloc, &self.main, &self.saved, from, name) {
             Ok(Some(found)) => self.record_found(number, name, &found, hook),
-            Ok(None) => self.keep(Reply::Done, hook),
-            Err(Fault::Refused(why)) => self.keep(Reply::Refused { at: None, why }, hook),
+            Ok(None) => self.reply_only(Reply::Done, hook),
+            Err(Fault::Refused(why)) => self.reply_only(Reply::Refused { at: None, why }, hook),
             Err(Fault::OutOfMemory) => Err(Fault::OutOfMemory),
         }
     }

@@ -2,7 +2,7 @@ use Rattle.std.proofs.Common.{arith, sym, ap, subst, ◌∙◌}
 use Rattle.cap_core.specs.Answer.{State}
 use Rattle.cap_core.specs.Code.Sound.{KeepsColumns, sessions_stand}
 use Rattle.cap_core.proofs.SoundLemmas.{record_commit_each-stand}
-use Rattle.cap_core.proofs.server.Core.write.Goals as goal
+use Rattle.cap_core.proofs.server.Core.reserve_and_publish.Goals as goal
 
 pub invariant_of-self-2 : goal.invariant_of-self-2
 invariant_of-self-2 g c =
