@@ -161,10 +161,10 @@ fn each_growth_refused(rt: HostRuntime) -> Result<(), Fail> {
     Ok(())
 }
 
-fn travels<T: Send + Sync>(_value: &T) {}
+fn assert_send_and_sync<T: Send + Sync>(_value: &T) {}
 
 #[test]
 fn lists_travel_between_threads(rt: HostRuntime) {
-    travels(&ChangeList::new(rt.alloc()));
-    travels(&PatchList::new(rt.alloc()));
+    assert_send_and_sync(&ChangeList::new(rt.alloc()));
+    assert_send_and_sync(&PatchList::new(rt.alloc()));
 }
