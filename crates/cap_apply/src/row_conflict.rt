@@ -1,26 +1,12 @@
-//! The row under the key of a change.
-ghost use Rattle.std.specs.Prelude.{◌≡◌, Some, length};
+//! The conflict of an update or a delete with the row under its key.
+ghost use Rattle.std.specs.Prelude.{◌≡◌};
 ghost use Rattle.std.specs.Option.{option_copied};
-ghost use Rattle.cap_table.specs.Table.{TableState};
-ghost use Rattle.cap_database.specs.Tables.{table_of};
 ghost use Rattle.cap_apply.specs.Row.{missed};
 
 use crate::ConflictKind;
 use crate::fields::has_old_values;
-use cap_database::Database;
 use cap_row::Row;
-use cap_value::{AllocHandle, Name, Value};
-
-// How many columns the table has.
-pub(crate) fn width_of<A: AllocHandle>(database: &Database<A>, table: &Name<A>) -> usize
-    ensures { (found : TableState A) → table_of database.now table.now ≡ Some found
-        → result ≡ length found.schema }
-{
-    match database.table(table) {
-        Some(table) => table.schema().width(),
-        None => 0,
-    }
-}
+use cap_value::{AllocHandle, Value};
 
 // The conflict of an update or a delete, if any.
 pub(crate) fn missed<A: AllocHandle>(

@@ -1,9 +1,11 @@
-//! The row after an applied update, made of the row that is found.
+//! What replaces the row that is there where an update is made: without a conflict, or where the answer to
+//! DATA is REPLACE. An insert that is answered so puts its whole row in that place (`Applied::insert`), and a
+//! delete takes the row out (`Applied::delete`). Where no row is there, `Decision::is_made` refuses REPLACE.
 
 use crate::ConflictKind;
 use crate::decision::Decision;
 use crate::fields::updated;
-use crate::present_row::missed;
+use crate::row_conflict::missed;
 use cap_row::Row;
 use cap_tree::Remake;
 use cap_value::{AllocHandle, Value};

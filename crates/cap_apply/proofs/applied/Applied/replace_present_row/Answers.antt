@@ -3,7 +3,7 @@ use Rattle.cap_row.specs.Fields.{Fields}
 use Rattle.cap_database.specs.Keyed.{IsOwnRow}
 use Rattle.cap_database.specs.Tables.{Tables}
 use Rattle.cap_apply.specs.Applied.{AppliedState}
-use Rattle.cap_apply.proofs.applied.Applied.replace.Goals as goal
+use Rattle.cap_apply.proofs.applied.Applied.replace_present_row.Goals as goal
 
 pub replace_row-requires-clause-own : goal.replace_row-requires-clause-own
 replace_row-requires-clause-own g c = λ row made new own gave.
