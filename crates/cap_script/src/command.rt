@@ -25,7 +25,7 @@ use cap_codec::{Contents, read_blob};
 use cap_core::Command;
 use cap_row::Schema;
 use cap_txn::Batch;
-use cap_value::{AllocHandle, BYTES_MAX, Refusal};
+use cap_value::{AllocHandle, Refusal, VALUE_BYTES_MAX};
 
 // Reads a command, and how its reply is printed.
 pub(crate) fn command<A: AllocHandle>(
@@ -160,7 +160,7 @@ fn contents<A: AllocHandle>(alloc: A, cursor: &mut Cursor<'_>) -> Result<Content
     ensures reads { Reads result cursor.new.rest.now (contents A cursor.old.rest.now) }
 {
     let bytes = cursor.blob(alloc)?;
-    if bytes.len() > BYTES_MAX {
+    if bytes.len() > VALUE_BYTES_MAX {
         return Err(LineFault::Limit(Refusal::TooLong));
     }
     Ok(read_blob(alloc, bytes.as_slice())?)
