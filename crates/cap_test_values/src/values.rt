@@ -142,7 +142,7 @@ fn texts_of_refusals(rt: HostRuntime) -> Result<(), Fail> {
 }
 
 // A copy of a text, of a blob and of a name: whether each is as what it copies.
-pub fn make<A: AllocHandle>(alloc: A) -> Result<bool, Fault<Refusal>> {
+pub(crate) fn make<A: AllocHandle>(alloc: A) -> Result<bool, Fault<Refusal>> {
     Ok(make_text(alloc)? && make_blob(alloc)? && make_name(alloc)?)
 }
 
