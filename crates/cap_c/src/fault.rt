@@ -37,6 +37,7 @@ impl PlacedFault {
     }
 }
 
+// The number, as `Refusal` has it.
 fn refusal_number(why: Refusal) -> u32
     ensures { result ≡ refusal_number why }
 {
