@@ -13,7 +13,7 @@ use cap_value::{AllocHandle, Fault};
 
 // A seat's call of a command, to be appended to the list under the lock.
 #[derive(Drop)]
-pub(crate) struct Exchange<'f, 's, 'l, 'c, J: Naming, A: AllocHandle> {
+pub(crate) struct CallHook<'f, 's, 'l, 'c, J: Naming, A: AllocHandle> {
     pub(crate) front: &'f Front<J, A>,
     pub(crate) seat: &'s mut Seat<J, A>,
     pub(crate) list: &'l List<J, A>,
@@ -22,7 +22,7 @@ pub(crate) struct Exchange<'f, 's, 'l, 'c, J: Naming, A: AllocHandle> {
     pub(crate) count: u64,
 }
 
-impl<'f, 's, 'l, 'c, J: Naming, A: AllocHandle> CommitHook<A> for Exchange<'f, 's, 'l, 'c, J, A> {
+impl<'f, 's, 'l, 'c, J: Naming, A: AllocHandle> CommitHook<A> for CallHook<'f, 's, 'l, 'c, J, A> {
     type Refusal = Overtaken;
 
     ghost use Rattle.std.specs.Prelude.{◌≡◌, ◌≢◌, ◌<◌, ◌⊎◌, [], ◌∷◌, ◌++◌, length, MatchResult};
@@ -77,14 +77,14 @@ pub(crate) fn step_with_hook<J: Naming, A: AllocHandle>(
 {
     legal_histories_grow::<A>();
     let _length = list.len();
-    let mut exchange = Exchange {
+    let mut hook = CallHook {
         front,
         seat,
         list,
         command,
         count,
     };
-    match core.step(command, &mut exchange) {
+    match core.step(command, &mut hook) {
         Ok(reply) => Ok(reply),
         Err(fault) => Err(fault),
     }

@@ -1,7 +1,7 @@
 use Rattle.std.proofs.Common.{sym, ap, ◌∙◌, ◌≡◌, ◌+◌, ◌<◌, ◌^◌, length, arith}
 use Rattle.cap_core.specs.Answer.{reply_of}
 use Rattle.cap_history.proofs.Adding.{adds_moves}
-use Rattle.cap_history.proofs.list.List.append.Goals as goal
+use Rattle.cap_history.proofs.list.List.exchange.Goals as goal
 
 pub compare_exchange-found-requires : goal.compare_exchange-found-requires
 compare_exchange-found-requires g c =
