@@ -2,7 +2,7 @@
  * changecap.h - changesets and patchsets of SQLite's session extension, from verified code.
  *
  * The calls of the static library libchangecap.a. Each is proved to do what is said of it here, as far as
- * docs/PROOFS.md of the sources says; what a caller has to see to, nothing checks.
+ * docs/design/promises.md of the sources says; what a caller has to see to, nothing checks.
  *
  * Every call
  *   - answers a status: CHANGECAP_OK, or why it did nothing;
@@ -57,7 +57,8 @@ extern "C" {
 
 /* ---- Faults of blobs ---- */
 
-/* The first fault from left to right: its number as in docs/FORMAT.md ("Reading"), and its offset in bytes from 0. */
+/* The first fault from left to right: its number as in docs/manual/formats.md ("Reading"), and its offset in bytes
+ * from 0. */
 typedef struct changecap_fault {
   uint32_t kind;
   size_t at;
@@ -266,22 +267,22 @@ typedef struct changecap_server {
  *   OK, NOMEM. */
 uint32_t changecap_server_open(changecap_server *server);
 
-/* Carries out the one command that the n bytes are, in the language of docs/FORMAT.md ("Workload text"), and keeps the
- * text of its reply until the next call. The rest takes an open server too.
+/* Carries out the one command that the n bytes are, in the language of docs/manual/formats.md ("Workload text"), and
+ * keeps the text of its reply until the next call. The rest takes an open server too.
  *   OK, REFUSED (the reply says why), COMMAND (*fault), NOMEM, FULL.
  * Of a fault, kind is 1 where a token does not fit, 2 where a limit is passed, 3 where the bytes to apply are no
  * blob, and 0 where the text is not UTF-8 or not just one command; at is the offset in the line, or in the bytes to
  * apply. Unless the status is OK or REFUSED, the server is as it was. */
 uint32_t changecap_server_call(changecap_server *server, const uint8_t *text, size_t n, changecap_fault *fault);
 
-/* Writes the text of the last reply, as docs/FORMAT.md has it, without a line feed at its end.
+/* Writes the text of the last reply, as docs/manual/formats.md has it, without a line feed at its end.
  *   OK (*len), ROOM (*len). */
 uint32_t changecap_server_reply(changecap_server *server, uint8_t *out, size_t room, size_t *len);
 
 /* ---- Commands by words and numbers ---- */
 
-/* Each is a command of docs/FORMAT.md that needs no text, and leaves the text of the last reply as it is. Where the
- * status is REFUSED, fault->kind is the number of the refusal, 1 to 20 as in E1 to E20 of docs/BEHAVIOUR.md, and
+/* Each is a command of docs/manual/formats.md that needs no text, and leaves the text of the last reply as it is. Where
+ * the status is REFUSED, fault->kind is the number of the refusal, 1 to 20 as in E1 to E20 of docs/manual/rules.md, and
  * fault->at is the number of the refused change of a blob, from 0, and 0 of any other command. Unless the status is
  * OK or REFUSED, the server is as it was. A name is 1 to 255 bytes of UTF-8 without a zero byte. */
 
@@ -332,7 +333,7 @@ uint32_t changecap_session_attach(changecap_server *server, uint64_t session, co
 uint32_t changecap_session_attach_all(changecap_server *server, uint64_t session, changecap_fault *fault);
 
 /* Attaches from now on each table of which a row changes and whose name the filter accepts, as
- * sqlite3session_table_filter. The filter's text is that of docs/FORMAT.md ("Filter text"), as in
+ * sqlite3session_table_filter. The filter's text is that of docs/manual/formats.md ("Filter text"), as in
  * and(starts 'a',not is 'ab').
  *   OK, REFUSED, FILTER (*fault), MISUSE (the text is not UTF-8), NOMEM, FULL.
  * Of a text that is no filter fault->kind is 12, and fault->at is where the first token does not fit; or 13 where it

@@ -6,8 +6,8 @@ use Rattle.cap_apply.specs.Policy.{is_made}
 use Rattle.cap_apply.specs.Row.{missed, set_fields}
 use Rattle.cap_apply.specs.declared.conflict.ConflictKind.{ConflictKind}
 use Rattle.cap_apply.specs.declared.policy.Policy.{Policy}
-use Rattle.cap_apply.specs.declared.row_update.NotUpdated.{NotUpdated}
-use Rattle.cap_apply.specs.declared.row_update.NotUpdated.TheVariants.{Unwanted, OutOfMemory}
+use Rattle.cap_apply.specs.declared.replace.NotUpdated.{NotUpdated}
+use Rattle.cap_apply.specs.declared.replace.NotUpdated.TheVariants.{Unwanted, OutOfMemory}
 
 module _ {A : Type 0} (policy : Policy) (number : ℕ) (flags : List Bool) (old new : RecordFields A) where
   -- the row with the fields set, where the policy applies the update to this row; and the row's conflict

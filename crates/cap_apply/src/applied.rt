@@ -16,7 +16,7 @@ ghost use Rattle.cap_apply.specs.declared.conflict.ConflictKind.TheVariants.{Not
 ghost use Rattle.cap_changes.specs.Patch.{update_record};
 
 use crate::decision::Decision;
-use crate::row_update::{NotUpdated, RowUpdate};
+use crate::replace::{NotUpdated, RowUpdate};
 use crate::target::has_target;
 use crate::{ConflictKind, Report};
 use cap_database::{Cause, Change, Database};
@@ -170,7 +170,7 @@ impl<A: AllocHandle> Applied<A> {
 
     // Replaces the row of a key by the row after an update, where there is a row and the policy applies the
     // update to it. Answers the conflict.
-    pub(crate) fn replace(
+    pub(crate) fn replace_present_row(
         &mut self,
         table: &Name<A>,
         key: &Key<A>,

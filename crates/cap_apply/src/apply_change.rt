@@ -15,8 +15,9 @@ ghost use Rattle.cap_apply.specs.Target.{target};
 
 use crate::decision::Decision;
 use crate::fields::{key_of_fields, new_row};
-use crate::present_row::{missed, width_of};
-use crate::row_update::RowUpdate;
+use crate::replace::RowUpdate;
+use crate::row_conflict::missed;
+use crate::target::width_of;
 use crate::{Applied, ConflictKind};
 use cap_row::Schema;
 use cap_value::{AllocHandle, Fault, Name, Refusal, Value};
@@ -88,7 +89,7 @@ impl<A: AllocHandle> Applied<A> {
             new,
             conflict: Some(ConflictKind::NotFound),
         };
-        let conflict = self.replace(table, &under, update)?;
+        let conflict = self.replace_present_row(table, &under, update)?;
         if !self.judge(decision, conflict)? {
             return Ok(());
         }

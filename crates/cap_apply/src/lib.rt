@@ -11,9 +11,9 @@ mod fields;
 mod fitting;
 mod laws;
 mod policy;
-mod present_row;
+mod replace;
 mod report;
-mod row_update;
+mod row_conflict;
 mod target;
 
 pub use applied::Applied;

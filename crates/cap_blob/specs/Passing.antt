@@ -10,13 +10,14 @@ use Rattle.cap_changes.specs.declared.record_kind.RecordKind.TheVariants.{Keyed}
 use Rattle.cap_codec.specs.BlobReading.{is_operation}
 use Rattle.cap_codec.specs.declared.fault.BlobFault.{BlobFault}
 use Rattle.cap_codec.specs.Field.{record_bytes}
+use Rattle.cap_codec.specs.KindByte.{changeset_kind}
 use Rattle.cap_codec.specs.Reading.{◌>>=◌}
 use Rattle.cap_codec.specs.RecordReading.{record_at}
 
 -- these bytes begin with a group of a changeset
 abbrev pub begins_changeset : List ℕ → Bool
 begins_changeset [] = false
-begins_changeset (kind ∷ bytes) = kind == 0x54
+begins_changeset (kind ∷ bytes) = kind == changeset_kind
 
 -- these bytes begin with a change
 abbrev pub begins_change : List ℕ → Bool

@@ -5,6 +5,7 @@ use Rattle.cap_changes.specs.Invert.{inverse_of, inverses_of, inverse_list_of}
 use Rattle.cap_changes.specs.Patch.{patch_of, patches_of, patch_list_of}
 use Rattle.cap_changes.specs.declared.row_change.RowChange.{RowChange}
 use Rattle.cap_codec.specs.Changeset.{change_bytes, group_bytes, list_bytes_with}
+use Rattle.cap_codec.specs.KindByte.{changeset_kind, patchset_kind}
 use Rattle.cap_codec.specs.Patchset.{patch_bytes, patch_group_bytes, patch_list_bytes_with}
 use Rattle.cap_codec.specs.Reading.{◌>>=◌}
 use Rattle.cap_codec.specs.declared.fault.BlobFault.{BlobFault}
@@ -14,8 +15,8 @@ use Rattle.cap_blob.specs.declared.target.Target.TheVariants.{Inverse, Patchset}
 
 -- the first byte of a group
 abbrev pub kind_byte : Target → ℕ
-kind_byte Inverse = 0x54
-kind_byte Patchset = 0x50
+kind_byte Inverse = changeset_kind
+kind_byte Patchset = patchset_kind
 
 module _ {A : Type 0} where
   -- the bytes of a change, in a group of these columns

@@ -18,7 +18,7 @@ ghost use Rattle.cap_blob.specs.declared.refusal.ChangesetRefusal.TheVariants.{M
 use crate::group::convert_groups;
 use crate::{ChangesetRefusal, Target};
 use cap_changes::ChangeList;
-use cap_codec::{CHANGESET, Contents, KeyFlags, read_blob};
+use cap_codec::{CHANGESET_KIND, Contents, KeyFlags, read_blob};
 use cap_value::{AllocHandle, Fault};
 
 /// The bytes of what a changeset is converted to, its inverse or its patchset, written with these key flags.
@@ -95,7 +95,7 @@ fn begins_changeset(bytes: &[u8]) -> bool
 {
     match bytes {
         [] => false,
-        [kind, ..] => *kind == CHANGESET,
+        [kind, ..] => *kind == CHANGESET_KIND,
     }
 }
 

@@ -5,13 +5,14 @@ ghost use Rattle.std.specs.List.{flat_map};
 ghost use Rattle.cap_value.specs.Memory.{ShowsUnlessMemory};
 ghost use Rattle.cap_codec.specs.BlobReading.{change_at, changes_at, group_at, groups_at};
 ghost use Rattle.cap_codec.specs.HeaderReading.{is_set};
+ghost use Rattle.cap_codec.specs.KindByte.{changeset_kind};
 ghost use Rattle.cap_blob.specs.Target.{converted, converted_group, listed};
 ghost use Rattle.cap_blob.specs.Passing.{appended, begins_change};
 
 use crate::change::convert_change;
 use crate::target::Target;
 use cap_codec::{
-    BlobFault, CHANGESET, KeyFlags, Operation, own_name, own_schema, place_of, push_header,
+    BlobFault, CHANGESET_KIND, KeyFlags, Operation, own_name, own_schema, place_of, push_header,
     take_header, wrong_kind,
 };
 use cap_value::{AllocHandle, Fault};
@@ -84,11 +85,11 @@ pub(crate) fn convert_groups<A: AllocHandle>(
 ) -> Result<(), Fault<BlobFault>>
     ensures { ShowsUnlessMemory (λ _. out.new.items) result
         (listed key_flags target out.old.items
-        (groups_at (group_at {A = A}) 0x54 (length bytes.now) total bytes.now)) }
+        (groups_at (group_at {A = A}) changeset_kind (length bytes.now) total bytes.now)) }
 {
     let mut rest = bytes;
     while let [kind, behind @ ..] = rest {
-        if *kind != CHANGESET {
+        if *kind != CHANGESET_KIND {
             return Err(Fault::Refused(wrong_kind(*kind, place_of(total, rest))));
         }
         rest = convert_group(alloc, out, target, key_flags, total, behind)?;

@@ -2,7 +2,7 @@
 ghost use Rattle.std.specs.Prelude.{◌≡◌};
 ghost use Rattle.cap_blob.specs.Target.{kind_byte};
 
-use cap_codec::{CHANGESET, PATCHSET};
+use cap_codec::{CHANGESET_KIND, PATCHSET_KIND};
 
 /// What a changeset is converted to.
 #[derive(Clone, Copy, Debug, PartialEq, Eq, Drop)]
@@ -19,8 +19,8 @@ impl Target {
         ensures { result ≡ kind_byte self }
     {
         match self {
-            Target::Inverse => CHANGESET,
-            Target::Patchset => PATCHSET,
+            Target::Inverse => CHANGESET_KIND,
+            Target::Patchset => PATCHSET_KIND,
         }
     }
 }

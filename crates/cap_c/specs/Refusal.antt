@@ -9,7 +9,7 @@ use Rattle.cap_value.specs.declared.refusal.Refusal.TheVariants.{TooDeep, Incomp
 use Rattle.cap_value.specs.declared.refusal.Refusal.TheVariants.{BadName, NoSession, NoDatabase, NoMark}
 use Rattle.cap_c.specs.declared.fault.PlacedFault.{PlacedFault}
 
--- the number in the text of a refusal: E1 to E20
+-- the number of a refusal, as `Refusal` of cap_value has it: E1 to E20
 abbrev pub refusal_number : Refusal → ℕ
 refusal_number TooLong = 1
 refusal_number BadSchema = 2

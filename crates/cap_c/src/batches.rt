@@ -26,7 +26,7 @@ use crate::server_handle::{ServerHandle, put, take};
 use crate::status::{FULL, MISUSE, NOMEM, OK, REFUSED};
 use cap_core::Command;
 use cap_txn::Batch;
-use cap_value::{BYTES_MAX, Refusal, Value};
+use cap_value::{Refusal, VALUE_BYTES_MAX, Value};
 use std::alloc::Global;
 
 /// Begins a batch that may be made on any version, and drops the one before it and what is bound.
@@ -290,7 +290,7 @@ impl OpenServer {
         ensures kept { ¬ (result ≡ OK) →
             ((result ≡ MISUSE) ⊎ (result ≡ NOMEM)) × (self.new ≡ self.old) }
     {
-        if text.len() > BYTES_MAX {
+        if text.len() > VALUE_BYTES_MAX {
             return MISUSE;
         }
         let Ok(text) = str::from_utf8(text) else {
@@ -309,7 +309,7 @@ impl OpenServer {
         ensures kept { ¬ (result ≡ OK) →
             ((result ≡ MISUSE) ⊎ (result ≡ NOMEM)) × (self.new ≡ self.old) }
     {
-        if blob.len() > BYTES_MAX {
+        if blob.len() > VALUE_BYTES_MAX {
             return MISUSE;
         }
         match Value::blob(alloc, blob) {

@@ -4,9 +4,9 @@ ghost use Rattle.std.specs.Prelude.{◌≡◌, IsSome, None, Option, Some};
 ghost use Rattle.cap_c.specs.DecoderHandle.{code};
 ghost use Rattle.cap_c.specs.declared.decoder.PieceDecoder.{PieceDecoder as Decoder};
 
+use crate::assert_send::assert_decoder_send;
 use crate::decoder::PieceDecoder;
 use crate::parts::Parts;
-use crate::travels::decoder_travels;
 use std::alloc::Global;
 use std::marker::Model;
 use std::{mem, ptr};
@@ -40,7 +40,7 @@ pub(crate) fn put(handle: &mut DecoderHandle, decoder: Box<PieceDecoder>)
     requires { handle.old.value ≡ None }
     ensures { handle.new.value ≡ Some decoder.value }
 {
-    decoder_travels(&decoder);
+    assert_decoder_send(&decoder);
     *handle = of_parts(Parts::of(decoder));
 }
 

@@ -6,10 +6,10 @@ ghost use Rattle.cap_c.specs.Refusal.{refusal_number, refused};
 use cap_codec::{BlobFault, FaultKind};
 use cap_value::Refusal;
 
-/// Why a call is refused, and where. For bytes that are no blob: the number of the fault (docs/FORMAT.md,
-/// "Reading"), and its offset. For a command: the number of the refusal (docs/BEHAVIOUR.md, "Refusals"), and
-/// that of the refused operation or change, from 0. For a text that is no command or no filter `changecap.h`
-/// has both.
+/// Why a call is refused, and where. For bytes that are no blob: the number of the fault
+/// (docs/manual/formats.md, "Reading"), and its offset. For a command: the number of the refusal
+/// (docs/manual/rules.md, "Refusals"), and that of the refused operation or change, from 0. For a text that
+/// is no command or no filter `changecap.h` has both.
 #[repr(C)]
 #[derive(Clone, Copy, Drop)]
 pub struct PlacedFault {
@@ -37,6 +37,7 @@ impl PlacedFault {
     }
 }
 
+// The number, as `Refusal` has it.
 fn refusal_number(why: Refusal) -> u32
     ensures { result ≡ refusal_number why }
 {

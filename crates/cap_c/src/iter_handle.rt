@@ -4,9 +4,9 @@ ghost use Rattle.std.specs.Prelude.{◌≡◌, IsSome, None, Option, Some};
 ghost use Rattle.cap_c.specs.IterHandle.{code};
 ghost use Rattle.cap_c.specs.declared.iter.BlobIter.{BlobIter as Iter};
 
+use crate::assert_send::assert_iter_send;
 use crate::iter::BlobIter;
 use crate::parts::Parts;
-use crate::travels::iter_travels;
 use std::alloc::Global;
 use std::marker::Model;
 use std::{mem, ptr};
@@ -40,7 +40,7 @@ pub(crate) fn put(handle: &mut IterHandle, it: Box<BlobIter>)
     requires { handle.old.value ≡ None }
     ensures { handle.new.value ≡ Some it.value }
 {
-    iter_travels(&it);
+    assert_iter_send(&it);
     *handle = of_parts(Parts::of(it));
 }
 

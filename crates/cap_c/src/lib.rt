@@ -4,6 +4,7 @@
 
 mod applies;
 mod apply_report;
+mod assert_send;
 mod batches;
 mod blobs;
 mod captured;
@@ -40,4 +41,3 @@ mod session_tables;
 mod sessions;
 mod status;
 mod tables;
-mod travels;

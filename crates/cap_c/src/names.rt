@@ -5,7 +5,7 @@ ghost use Rattle.cap_c.specs.Commands.{key_columns};
 ghost use Rattle.cap_c.specs.Names.{AreColumns, IsName};
 
 use cap_row::{COLUMNS_MAX, Schema};
-use cap_value::{NAME_MAX, OutOfMemory};
+use cap_value::{NAME_BYTES_MAX, OutOfMemory};
 use std::alloc::Global;
 
 /// The text of a name, where the bytes are one.
@@ -21,7 +21,7 @@ pub(crate) fn name_text(bytes: &[u8]) -> Option<&str>
 fn is_name(bytes: &[u8]) -> bool
     ensures { result ≡ is_name bytes.now }
 {
-    !bytes.is_empty() && bytes.len() <= NAME_MAX && !bytes.contains(&0)
+    !bytes.is_empty() && bytes.len() <= NAME_BYTES_MAX && !bytes.contains(&0)
 }
 
 /// Whether a table may have as many columns.

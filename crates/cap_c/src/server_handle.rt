@@ -4,9 +4,9 @@ ghost use Rattle.std.specs.Prelude.{◌≡◌, IsSome, None, Option, Some};
 ghost use Rattle.cap_c.specs.ServerHandle.{code};
 ghost use Rattle.cap_c.specs.declared.server.OpenServer.{OpenServer as Server};
 
+use crate::assert_send::assert_server_send;
 use crate::parts::Parts;
 use crate::server::OpenServer;
-use crate::travels::server_travels;
 use std::alloc::Global;
 use std::marker::Model;
 use std::{mem, ptr};
@@ -40,7 +40,7 @@ pub(crate) fn put(handle: &mut ServerHandle, server: Box<OpenServer>)
     requires { handle.old.value ≡ None }
     ensures { handle.new.value ≡ Some server.value }
 {
-    server_travels(&server);
+    assert_server_send(&server);
     *handle = of_parts(Parts::of(server));
 }
 

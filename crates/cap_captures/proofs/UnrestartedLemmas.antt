@@ -7,7 +7,7 @@ use Rattle.cap_database.specs.Read.{row_at}
 use Rattle.cap_database.specs.Snapshot.{SnapshotState}
 use Rattle.cap_database.specs.declared.change.Change.{Change}
 use Rattle.cap_compare.specs.declared.difference.Difference.{Difference}
-use Rattle.cap_session.specs.Note.{is_cascade}
+use Rattle.cap_session.specs.Recording.{is_cascade}
 use Rattle.cap_session.specs.Session.{accepts_by}
 use Rattle.cap_core.specs.declared.command.Command.{Command}
 use Rattle.cap_core.specs.declared.command.Command.TheVariants as command

@@ -17,13 +17,14 @@ use Rattle.cap_codec.specs.Reading.{◌>>=◌, fault, place, byte_at}
 use Rattle.cap_changes.specs.Requirements.{requirements, new_requirements}
 use Rattle.cap_codec.specs.RecordReading.{record_at}
 use Rattle.cap_codec.specs.HeaderReading.{is_set, header_at}
+use Rattle.cap_codec.specs.KindByte.{changeset_kind, patchset_kind}
 
 -- INSERT, UPDATE or DELETE
 abbrev pub is_operation : ℕ → Bool
 is_operation op = (op == 0x12) || (op == 0x17) || (op == 0x09)
 
 abbrev pub is_kind : ℕ → Bool
-is_kind kind = (kind == 0x54) || (kind == 0x50)
+is_kind kind = (kind == changeset_kind) || (kind == patchset_kind)
 
 module _ {A : Type 0} where
   -- a change of a changeset, behind its operation byte
@@ -107,10 +108,10 @@ module _ {A : Type 0} where
   unfoldable pub blob_at : List ℕ → Result (Contents A) BlobFault
   blob_at [] = Ok (Changes [])
   blob_at (kind ∷ bytes) =
-      if kind == 0x54
+      if kind == changeset_kind
       then groups_at group_at kind (length (kind ∷ bytes)) (length (kind ∷ bytes)) (kind ∷ bytes)
       >>= (λ groups. Ok (Changes groups))
-      else (if kind == 0x50
+      else (if kind == patchset_kind
       then groups_at patch_group_at kind (length (kind ∷ bytes)) (length (kind ∷ bytes)) (kind ∷ bytes)
       >>= (λ groups. Ok (Patches groups))
       else fault BadHeader 0)

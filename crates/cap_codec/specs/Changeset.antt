@@ -10,6 +10,7 @@ use Rattle.cap_codec.specs.declared.key_flags.KeyFlags.{KeyFlags}
 use Rattle.cap_codec.specs.declared.key_flags.KeyFlags.TheVariants.{Ones, Places}
 use Rattle.cap_codec.specs.Varint.{varint_bytes}
 use Rattle.cap_codec.specs.Field.{record_bytes}
+use Rattle.cap_codec.specs.KindByte.{changeset_kind}
 
 -- a flag is one byte, 1 where it is set
 abbrev pub flag_byte : Bool → ℕ
@@ -50,7 +51,7 @@ module _ {A : Type 0} where
   change_bytes (Delete indirect old) = 0x09 ∷ flag_byte indirect ∷ record_bytes old
 
   abbrev pub group_bytes : KeyFlags → TableChanges A → List ℕ
-  group_bytes key_flags group = entries_bytes key_flags 0x54 change_bytes group
+  group_bytes key_flags group = entries_bytes key_flags changeset_kind change_bytes group
 
   -- the groups in the list's order
   abbrev pub list_bytes_with : KeyFlags → List (TableChanges A) → List ℕ

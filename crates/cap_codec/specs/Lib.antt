@@ -1,5 +1,6 @@
 pub mod Varint
 pub mod Field
+pub mod KindByte
 pub mod Changeset
 pub mod Patchset
 pub mod Reading

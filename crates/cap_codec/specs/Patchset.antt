@@ -7,6 +7,7 @@ use Rattle.cap_changes.specs.PatchGroup.{TablePatches}
 use Rattle.cap_codec.specs.declared.key_flags.KeyFlags.{KeyFlags}
 use Rattle.cap_codec.specs.declared.key_flags.KeyFlags.TheVariants.{Ones}
 use Rattle.cap_codec.specs.Field.{record_bytes, key_bytes}
+use Rattle.cap_codec.specs.KindByte.{patchset_kind}
 use Rattle.cap_codec.specs.Changeset.{flag_byte, entries_bytes}
 
 module _ {A : Type 0} where
@@ -17,7 +18,7 @@ module _ {A : Type 0} where
   patch_bytes (Delete indirect key) = 0x09 ∷ flag_byte indirect ∷ key_bytes key
 
   abbrev pub patch_group_bytes : KeyFlags → TablePatches A → List ℕ
-  patch_group_bytes key_flags group = entries_bytes key_flags 0x50 patch_bytes group
+  patch_group_bytes key_flags group = entries_bytes key_flags patchset_kind patch_bytes group
 
   -- the groups in the list's order
   abbrev pub patch_list_bytes_with : KeyFlags → List (TablePatches A) → List ℕ

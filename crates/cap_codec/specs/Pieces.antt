@@ -14,6 +14,7 @@ use Rattle.cap_codec.specs.declared.scan.Advance.TheVariants.{On, Cut}
 use Rattle.cap_codec.specs.declared.change_cursor.ChangeCursor.{ChangeCursor}
 use Rattle.cap_codec.specs.Reading.{◌>>=◌}
 use Rattle.cap_codec.specs.HeaderReading.{header_at}
+use Rattle.cap_codec.specs.KindByte.{changeset_kind, patchset_kind}
 use Rattle.cap_codec.specs.BlobReading.{change_at, patch_at, changes_at, group_at, patch_group_at, groups_at}
 use Rattle.cap_codec.specs.BlobReading.{blob_at}
 use Rattle.cap_codec.specs.ChangeLeft.{tail_at}
@@ -39,8 +40,8 @@ outcome (Err fault) = Some fault
 
 -- the first byte of a group of this kind
 abbrev pub kind_byte : Kind → ℕ
-kind_byte kinds.Changes = 0x54
-kind_byte kinds.Patches = 0x50
+kind_byte kinds.Changes = changeset_kind
+kind_byte kinds.Patches = patchset_kind
 
 -- the columns that a header names
 abbrev pub columns_at : ℕ → List ℕ → Result (List Bool × List ℕ) BlobFault
@@ -58,10 +59,10 @@ module _ {X G : Type 0} (one_at : ℕ → List Bool → ℕ → List ℕ → Res
 module _ (A : Type 0) where
   abbrev pub GoesOnAs : Kind → ℕ → List Bool → Option (ChangeCursor A) → List ℕ → Option BlobFault → Type 0
   GoesOnAs kinds.Changes total flags within rest answer =
-      GoesOn (change_at {A = A}) (group_at {A = A}) 0x54 total flags rest
+      GoesOn (change_at {A = A}) (group_at {A = A}) changeset_kind total flags rest
       (tail_at within total flags rest) answer
   GoesOnAs kinds.Patches total flags within rest answer =
-      GoesOn (patch_at {A = A}) (patch_group_at {A = A}) 0x50 total flags rest
+      GoesOn (patch_at {A = A}) (patch_group_at {A = A}) patchset_kind total flags rest
       (tail_at within total flags rest) answer
 
   -- Whatever follows these bytes, the outcome is that of the rest of them, in a group of these columns,

@@ -13,6 +13,7 @@ use Rattle.cap_codec.specs.declared.read.Contents.TheVariants.{Changes, Patches}
 use Rattle.cap_codec.specs.Varint.{varint_bytes}
 use Rattle.cap_codec.specs.Field.{record_bytes, key_bytes}
 use Rattle.cap_codec.specs.HeaderReading.{is_set}
+use Rattle.cap_codec.specs.KindByte.{changeset_kind, patchset_kind}
 use Rattle.cap_codec.specs.Writable.{IsTable, HasValues, PatchHasValues}
 
 -- the bytes spell the items of the list in order, to the end
@@ -64,11 +65,11 @@ module _ {A : Type 0} where
 
   abbrev pub SpellsChanges : TableChanges A → List ℕ → Type 0
   SpellsChanges group bytes =
-      SpellsGroup 0x54 group.table group.schema (SpellsChange group.schema) group.changes bytes
+      SpellsGroup changeset_kind group.table group.schema (SpellsChange group.schema) group.changes bytes
 
   abbrev pub SpellsPatches : TablePatches A → List ℕ → Type 0
   SpellsPatches group bytes =
-      SpellsGroup 0x50 group.table group.schema (SpellsPatch group.schema) group.changes bytes
+      SpellsGroup patchset_kind group.table group.schema (SpellsPatch group.schema) group.changes bytes
 
   -- All groups are of one kind. An empty blob is a changeset without groups.
   abbrev pub Spells : Contents A → List ℕ → Type 0

@@ -2,7 +2,7 @@
 
 ghost use Rattle.std.specs.Prelude.{◌≡◌, ◌<◌, ◌≤◌, Option, Some, None, length, IfOk};
 ghost use Rattle.std.specs.Option.{option_map};
-ghost use Rattle.cap_value.specs.declared.text.TheConstants.{BYTES_MAX};
+ghost use Rattle.cap_value.specs.declared.limits.TheConstants.{VALUE_BYTES_MAX};
 ghost use Rattle.cap_codec.specs.Reading.{place, Reads, byte_at, bytes_at, varint_at};
 ghost use Rattle.cap_codec.specs.FieldReading.{allows, text_of, number_at, sized_at};
 ghost use Rattle.cap_codec.specs.FieldReading.{text_at, content_at, field_at, value_of, IsWithin};
@@ -10,7 +10,7 @@ ghost use Rattle.cap_codec.specs.FieldReading.{text_at, content_at, field_at, va
 use crate::fault::{BlobFault, FaultKind};
 use crate::field::{BLOB, INTEGER, NULL, REAL, TEXT, UNDEFINED};
 use cap_changes::FieldRequirement;
-use cap_value::{AllocHandle, BYTES_MAX};
+use cap_value::{AllocHandle, VALUE_BYTES_MAX};
 
 /// A field of a record, as a reference into a blob.
 #[derive(Clone, Copy)]
@@ -114,10 +114,10 @@ fn is_allowed(requirement: FieldRequirement, kind: u8) -> bool
 fn take_sized(total: usize, at: usize, bytes: &[u8]) -> Result<(&[u8], &[u8]), BlobFault>
     ensures reads { Reads (λ x. (x.0.now, x.1.now)) result (sized_at total at bytes.now) }
     ensures behind { IfOk result (λ x. length x.1.now ≤ length bytes.now) }
-    ensures within { IfOk result (λ x. length x.0.now ≤ BYTES_MAX) }
+    ensures within { IfOk result (λ x. length x.0.now ≤ VALUE_BYTES_MAX) }
 {
     let (count, rest) = take_varint(total, bytes)?;
-    if count > BYTES_MAX {
+    if count > VALUE_BYTES_MAX {
         return Err(BlobFault {
             at,
             kind: FaultKind::BadField,
@@ -143,7 +143,7 @@ fn take_number(total: usize, bytes: &[u8]) -> Result<(i64, &[u8]), BlobFault>
 fn take_text(total: usize, at: usize, bytes: &[u8]) -> Result<(&str, &[u8]), BlobFault>
     ensures reads { Reads (λ x. (x.0.now, x.1.now)) result (text_at total at bytes.now) }
     ensures behind { IfOk result (λ x. length x.1.now ≤ length bytes.now) }
-    ensures within { IfOk result (λ x. length x.0.now ≤ BYTES_MAX) }
+    ensures within { IfOk result (λ x. length x.0.now ≤ VALUE_BYTES_MAX) }
 {
     let (text, rest) = take_sized(total, at, bytes)?;
     match text_in(text) {

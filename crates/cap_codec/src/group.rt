@@ -4,7 +4,7 @@ ghost use Rattle.std.specs.Prelude.{◌≡◌, ◌≤◌, length, map, IfOk, IsT
 ghost use Rattle.cap_value.specs.Bytes.{is_name};
 ghost use Rattle.std.specs.List.{list_any};
 ghost use Rattle.cap_row.specs.Schema.{has_key};
-ghost use Rattle.cap_row.specs.declared.schema.TheConstants.{COLUMNS_MAX};
+ghost use Rattle.cap_row.specs.declared.limits.TheConstants.{COLUMNS_MAX};
 ghost use Rattle.cap_value.specs.Memory.{ShowsUnlessMemory};
 ghost use Rattle.cap_codec.specs.HeaderReading.{is_set};
 ghost use Rattle.cap_codec.specs.BlobReading.{changes_at, entries_at, with_changes};

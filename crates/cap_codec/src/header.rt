@@ -11,7 +11,7 @@ ghost use Rattle.cap_codec.specs.HeaderReading.{flags_at, name_at, header_at, he
 use crate::fault::{BlobFault, FaultKind};
 use crate::field_ref::{place_of, take_bytes, take_varint, text_in};
 use cap_row::COLUMNS_MAX;
-use cap_value::NAME_MAX;
+use cap_value::NAME_BYTES_MAX;
 
 /// A header, as references into a blob.
 #[derive(Clone, Copy)]
@@ -64,9 +64,12 @@ fn take_flags(total: usize, count: usize, bytes: &[u8]) -> Result<(&[u8], &[u8])
 // The offset of the first zero byte, where it is among the first 256.
 fn name_len(bytes: &[u8]) -> Option<usize>
     ensures first { result ≡ position is_zero (take 256 bytes.now) }
-    ensures within { IfSome result (λ len. (len < length bytes.now) × (len ≤ NAME_MAX)) }
+    ensures within { IfSome result (λ len. (len < length bytes.now) × (len ≤ NAME_BYTES_MAX)) }
 {
-    bytes.iter().take(NAME_MAX + 1).position(|byte| *byte == 0)
+    bytes
+        .iter()
+        .take(NAME_BYTES_MAX + 1)
+        .position(|byte| *byte == 0)
 }
 
 #[tactic(auto, unfolding(crate::specs::HeaderReading::name_at))]
@@ -76,7 +79,7 @@ fn take_name(total: usize, bytes: &[u8]) -> Result<(&str, &[u8]), BlobFault>
     ensures name { IfOk result (λ x. IsTrue (is_name x.0.now)) }
 {
     let Some(len) = name_len(bytes) else {
-        if bytes.len() <= NAME_MAX {
+        if bytes.len() <= NAME_BYTES_MAX {
             return Err(BlobFault {
                 at: total,
                 kind: FaultKind::Truncated,

@@ -3,7 +3,7 @@
 ghost use Rattle.std.specs.Prelude.{◌≡◌};
 ghost use Rattle.cap_codec.specs.Pieces.{kind_byte};
 
-use crate::write::{CHANGESET, PATCHSET};
+use crate::write::{CHANGESET_KIND, PATCHSET_KIND};
 
 /// Whether groups are of a changeset or of a patchset.
 #[derive(Clone, Copy)]
@@ -20,8 +20,8 @@ impl Kind {
         ensures { result ≡ kind_byte self }
     {
         match self {
-            Kind::Changes => CHANGESET,
-            Kind::Patches => PATCHSET,
+            Kind::Changes => CHANGESET_KIND,
+            Kind::Patches => PATCHSET_KIND,
         }
     }
 }

@@ -40,6 +40,6 @@ pub use stream::{ReadFault, WriteFault, read_from, write_changes_to, write_patch
 pub use touched::{is_changed, push_change_between, push_group_header};
 pub use writable::{changes_are_writable, patches_are_writable};
 pub use write::{
-    CHANGESET, PATCHSET, push_header, write_changes, write_changes_with, write_patches,
+    CHANGESET_KIND, PATCHSET_KIND, push_header, write_changes, write_changes_with, write_patches,
     write_patches_with,
 };

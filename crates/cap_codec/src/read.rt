@@ -6,13 +6,14 @@ ghost use Rattle.cap_codec.specs.declared.read.Contents.{Contents as Spelled};
 ghost use Rattle.cap_codec.specs.BlobReading as blob;
 ghost use Rattle.cap_codec.specs.BlobReading.{entries_at, group_at, patch_group_at, groups_at, blob_at};
 ghost use Rattle.cap_codec.specs.FirstByte.{first_fault};
+ghost use Rattle.cap_codec.specs.KindByte.{changeset_kind, patchset_kind};
 ghost use Rattle.cap_codec.specs.Spelling.{Spells};
 
 use crate::change::Decode;
 use crate::fault::{BlobFault, FaultKind};
 use crate::field_ref::place_of;
 use crate::group::take_group;
-use crate::write::{CHANGESET, PATCHSET};
+use crate::write::{CHANGESET_KIND, PATCHSET_KIND};
 use cap_changes::{ChangeList, GroupList, PatchList};
 use cap_value::{AllocHandle, Fault};
 
@@ -29,7 +30,7 @@ pub enum Contents<A: AllocHandle> {
 pub fn wrong_kind(kind: u8, at: usize) -> BlobFault
     ensures { result ≡ blob.wrong_kind kind at }
 {
-    if kind == CHANGESET || kind == PATCHSET {
+    if kind == CHANGESET_KIND || kind == PATCHSET_KIND {
         BlobFault {
             at,
             kind: FaultKind::Mixed,
@@ -69,7 +70,7 @@ fn take_changeset<A: AllocHandle>(
     bytes: &[u8],
 ) -> Result<ChangeList<A>, Fault<BlobFault>>
     ensures { ShowsUnlessMemory (λ list. list) result
-        (groups_at group_at 0x54 (length bytes.now) total bytes.now) }
+        (groups_at group_at changeset_kind (length bytes.now) total bytes.now) }
 {
     take_groups(alloc, total, bytes)
 }
@@ -80,7 +81,7 @@ fn take_patchset<A: AllocHandle>(
     bytes: &[u8],
 ) -> Result<PatchList<A>, Fault<BlobFault>>
     ensures { ShowsUnlessMemory (λ list. list) result
-        (groups_at patch_group_at 0x50 (length bytes.now) total bytes.now) }
+        (groups_at patch_group_at patchset_kind (length bytes.now) total bytes.now) }
 {
     take_groups(alloc, total, bytes)
 }
@@ -92,8 +93,8 @@ fn take_blob<A: AllocHandle>(alloc: A, bytes: &[u8]) -> Result<Contents<A>, Faul
 {
     match bytes {
         [] => Ok(Contents::Changes(ChangeList::new(alloc))),
-        [CHANGESET, ..] => Ok(Contents::Changes(take_changeset(alloc, bytes.len(), bytes)?)),
-        [PATCHSET, ..] => Ok(Contents::Patches(take_patchset(alloc, bytes.len(), bytes)?)),
+        [CHANGESET_KIND, ..] => Ok(Contents::Changes(take_changeset(alloc, bytes.len(), bytes)?)),
+        [PATCHSET_KIND, ..] => Ok(Contents::Patches(take_patchset(alloc, bytes.len(), bytes)?)),
         _ => Err(Fault::Refused(BlobFault {
             at: 0,
             kind: FaultKind::BadHeader,

@@ -1,7 +1,7 @@
 //! Decoding of the records of a change.
 
 ghost use Rattle.std.specs.Prelude.{◌≡◌, ◌≤◌, ◌++◌, ◌∷◌, [], length, IfOk, OnOk};
-ghost use Rattle.cap_value.specs.declared.text.TheConstants.{BYTES_MAX};
+ghost use Rattle.cap_value.specs.declared.limits.TheConstants.{VALUE_BYTES_MAX};
 ghost use Rattle.cap_value.specs.Memory.{ShowsUnlessMemory};
 ghost use Rattle.cap_codec.specs.FieldReading.{value_of, IsWithin};
 ghost use Rattle.cap_changes.specs.Requirements.{requirements, new_requirements};
@@ -13,7 +13,7 @@ use cap_changes::{FieldRecord, RecordKind, requirement_beside};
 use cap_value::{AllocHandle, Blob, Fault, OutOfMemory, Text, Value};
 
 fn text_value<A: AllocHandle>(alloc: A, text: &str) -> Result<Value<A>, Fault<BlobFault>>
-    requires { length text.now ≤ BYTES_MAX }
+    requires { length text.now ≤ VALUE_BYTES_MAX }
     ensures { ShowsUnlessMemory (λ value. value) result (Ok (Value.Text text.now)) }
 {
     match Text::new(alloc, text) {
@@ -24,7 +24,7 @@ fn text_value<A: AllocHandle>(alloc: A, text: &str) -> Result<Value<A>, Fault<Bl
 }
 
 fn blob_value<A: AllocHandle>(alloc: A, bytes: &[u8]) -> Result<Value<A>, Fault<BlobFault>>
-    requires { length bytes.now ≤ BYTES_MAX }
+    requires { length bytes.now ≤ VALUE_BYTES_MAX }
     ensures { ShowsUnlessMemory (λ value. value) result (Ok (Value.Blob bytes.now)) }
 {
     match Blob::new(alloc, bytes) {

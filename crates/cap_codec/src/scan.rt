@@ -15,7 +15,7 @@ use crate::header::take_header;
 use crate::kind::Kind;
 use crate::operation::Operation;
 use crate::read::wrong_kind;
-use crate::write::{CHANGESET, PATCHSET};
+use crate::write::{CHANGESET_KIND, PATCHSET_KIND};
 use cap_row::Schema;
 use cap_value::{AllocHandle, Fault};
 
@@ -205,8 +205,8 @@ fn first_place<A: AllocHandle>(
 {
     match bytes {
         [] => Ok(None),
-        [CHANGESET, behind @ ..] => place_behind(alloc, bytes, Kind::Changes, behind),
-        [PATCHSET, behind @ ..] => place_behind(alloc, bytes, Kind::Patches, behind),
+        [CHANGESET_KIND, behind @ ..] => place_behind(alloc, bytes, Kind::Changes, behind),
+        [PATCHSET_KIND, behind @ ..] => place_behind(alloc, bytes, Kind::Patches, behind),
         _ => Err(Fault::Refused(BlobFault {
             at: 0,
             kind: FaultKind::BadHeader,

@@ -8,12 +8,13 @@ ghost use Rattle.cap_changes.specs.Change as touched;
 ghost use Rattle.cap_changes.specs.Column.{by_column};
 ghost use Rattle.cap_codec.specs.Changeset.{change_bytes, header_bytes};
 ghost use Rattle.cap_codec.specs.Field.{record_bytes, field_bytes};
+ghost use Rattle.cap_codec.specs.KindByte.{changeset_kind};
 ghost use Rattle.cap_codec.specs.Touched.{is_changed};
 
 use crate::KeyFlags;
 use crate::field::{UNDEFINED, push_value};
 use crate::operation::Operation;
-use crate::write::{CHANGESET, push_header, push_operation};
+use crate::write::{CHANGESET_KIND, push_header, push_operation};
 use cap_changes::is_modified;
 use cap_row::{Row, Schema};
 use cap_value::{AllocHandle, Name, OutOfMemory, Value};
@@ -40,11 +41,11 @@ pub fn push_group_header<A: AllocHandle>(
     schema: &Schema<A>,
 ) -> Result<(), OutOfMemory>
     ensures bytes { OnOk result (out.new.items
-        ≡ out.old.items ++ header_bytes key_flags 0x54 table.now schema.now) }
+        ≡ out.old.items ++ header_bytes key_flags changeset_kind table.now schema.now) }
     ensures kept { OnErr result (out.new.items ≡ out.old.items) }
 {
     let before = out.len();
-    match push_header(out, key_flags, CHANGESET, table, schema) {
+    match push_header(out, key_flags, CHANGESET_KIND, table, schema) {
         Ok(()) => Ok(()),
         Err(_) => {
             out.truncate(before);

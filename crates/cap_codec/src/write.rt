@@ -18,9 +18,9 @@ use cap_row::Schema;
 use cap_value::{AllocHandle, Name, OutOfMemory};
 
 /// The first byte of a group of a changeset.
-pub const CHANGESET: u8 = 0x54;
+pub const CHANGESET_KIND: u8 = 0x54;
 /// The first byte of a group of a patchset.
-pub const PATCHSET: u8 = 0x50;
+pub const PATCHSET_KIND: u8 = 0x50;
 
 fn push_ones<A: AllocHandle>(out: &mut Vec<u8, A>, flags: &[bool]) -> Result<(), OutOfMemory>
     ensures bytes { OnOk result (out.new.items ≡ out.old.items ++ flags_bytes Ones flags.now) }
@@ -114,13 +114,14 @@ pub trait Encode<A: AllocHandle>: Entry {
 
 impl<A: AllocHandle> Encode<A> for RowChange<A> {
     ghost use Rattle.cap_codec.specs.Changeset.{change_bytes};
+    ghost use Rattle.cap_codec.specs.KindByte.{changeset_kind};
 
-    ghost kind = { 0x54 };
+    ghost kind = { changeset_kind };
 
     ghost bytes = { λ change. change_bytes change };
 
     fn kind() -> u8 {
-        CHANGESET
+        CHANGESET_KIND
     }
 
     fn push_to(&self, out: &mut Vec<u8, A>) -> Result<(), OutOfMemory> {
@@ -144,15 +145,16 @@ impl<A: AllocHandle> Encode<A> for RowChange<A> {
 }
 
 impl<A: AllocHandle> Encode<A> for Patch<A> {
+    ghost use Rattle.cap_codec.specs.KindByte.{patchset_kind};
     ghost use Rattle.cap_codec.specs.Operation.{operation_byte};
     ghost use Rattle.cap_codec.specs.Patchset.{patch_bytes};
 
-    ghost kind = { 0x50 };
+    ghost kind = { patchset_kind };
 
     ghost bytes = { λ patch. patch_bytes patch };
 
     fn kind() -> u8 {
-        PATCHSET
+        PATCHSET_KIND
     }
 
     fn push_to(&self, out: &mut Vec<u8, A>) -> Result<(), OutOfMemory> {

@@ -20,7 +20,7 @@ use Rattle.cap_database.specs.Tables.{AreRising, Tables, schema_of, table_of}
 use Rattle.cap_compare.specs.Compare.{AreDifferences, compare, differences, image_at, image_of}
 use Rattle.cap_compare.specs.declared.difference.Difference.{Difference}
 use Rattle.cap_session.specs.declared.record.Record.{Record}
-use Rattle.cap_session.specs.Note.{touch_table, touches_found}
+use Rattle.cap_session.specs.Recording.{touch_table, touches_found}
 use Rattle.cap_session.specs.Records.{Records, Touch as RowTouch, record_after, touch, with_touches}
 use Rattle.cap_session.specs.Session.{AttachedTables, SessionState, attach, attach_all, attached, enabled_as, indirect_as, is_listed, record_of, restart, set_filter, records_of as attached_records}
 use Rattle.cap_session.specs.Sessions.{session_numbered}
@@ -39,7 +39,7 @@ use Rattle.cap_core.specs.Transition.{compared}
 use Rattle.cap_core.proofs.AppliedCaptureLemmas.{found-rising}
 use Rattle.cap_core.proofs.KeyedLemmas.{ordered}
 use Rattle.cap_core.proofs.NumberLemmas.{same_number}
-use Rattle.cap_core.proofs.SessionLemmas.{and_false, note-nothing, session-refused}
+use Rattle.cap_core.proofs.SessionLemmas.{and_false, record_commit-nothing, session-refused}
 use Rattle.cap_core.proofs.SmallLemmas.{either_false, other_false}
 use Rattle.cap_core.proofs.FlagLemmas.{session-of-command, session_after_command}
 use Rattle.cap_core.proofs.TouchedLemmas.{fields_same, get-find, put_entry-put, tied}
@@ -188,12 +188,12 @@ module _ {A : Type 0} where
   record-after-command session (command.CreateTable table schema) now databases s name key writes renewed = cc
   record-after-command session (command.Commit batch) now databases s name key writes renewed = cc
   record-after-command session (command.Apply blob policy) now databases s name key writes renewed = cc
-  record-after-command session command.Read now databases s name key writes renewed = ap (λ t. record_of t.tables name key) (note-nothing now.database s)
-  record-after-command session (command.SaveAs table) now databases s name key writes renewed = ap (λ t. record_of t.tables name key) (note-nothing now.database s)
-  record-after-command session command.NewSession now databases s name key writes renewed = ap (λ t. record_of t.tables name key) (note-nothing now.database s)
-  record-after-command session (command.DropSession other) now databases s name key writes renewed = ap (λ t. record_of t.tables name key) (note-nothing now.database s)
-  record-after-command session (command.IsEmpty other) now databases s name key writes renewed = ap (λ t. record_of t.tables name key) (note-nothing now.database s)
-  record-after-command session (command.Capture other) now databases s name key writes renewed = ap (λ t. record_of t.tables name key) (note-nothing now.database s)
+  record-after-command session command.Read now databases s name key writes renewed = ap (λ t. record_of t.tables name key) (record_commit-nothing now.database s)
+  record-after-command session (command.SaveAs table) now databases s name key writes renewed = ap (λ t. record_of t.tables name key) (record_commit-nothing now.database s)
+  record-after-command session command.NewSession now databases s name key writes renewed = ap (λ t. record_of t.tables name key) (record_commit-nothing now.database s)
+  record-after-command session (command.DropSession other) now databases s name key writes renewed = ap (λ t. record_of t.tables name key) (record_commit-nothing now.database s)
+  record-after-command session (command.IsEmpty other) now databases s name key writes renewed = ap (λ t. record_of t.tables name key) (record_commit-nothing now.database s)
+  record-after-command session (command.Capture other) now databases s name key writes renewed = ap (λ t. record_of t.tables name key) (record_commit-nothing now.database s)
 
   quiet-record : (session : ℕ) (past : Past A) (event : Event A) (name : List ℕ) (key : Fields A) → (is_accepted event.reply && (is_write event.command || renews session event.command)) ≡ false
       → record_of (session_of (event ∷ past) session).tables name key ≡ record_of (session_of past session).tables name key

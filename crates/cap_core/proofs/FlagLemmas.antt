@@ -8,7 +8,7 @@ use Rattle.cap_value.specs.declared.refusal.Refusal.{Refusal}
 use Rattle.cap_database.specs.Snapshot.{SnapshotState}
 use Rattle.cap_filter.specs.Rule.{Rule}
 use Rattle.cap_compare.specs.declared.difference.Difference.{Difference}
-use Rattle.cap_session.specs.Note.{note, note_diff, touch_table, touches_found}
+use Rattle.cap_session.specs.Recording.{record_commit, record_diff, touch_table, touches_found}
 use Rattle.cap_session.specs.Records.{Records, with_touches}
 use Rattle.cap_session.specs.Session.{SessionState, all_unless_filter, attach_all, attached, enabled_as, indirect_as, restart, set_filter}
 use Rattle.cap_core.specs.declared.event.Event.{Event}
@@ -102,7 +102,7 @@ module _ {A : Type 0} where
       ∙ found-told number past name table false is differences
 
   diff-here : (past : Past A) (by number : ℕ) (from name : List ℕ) (differences : List (Difference A)) → diff (main past) (saved past) from name ≡ Ok (Some differences)
-      → note_diff name differences (session_of past number) ≡ session_of (event_by by (command.Diff number from name) Done ∷ past) number
+      → record_diff name differences (session_of past number) ≡ session_of (event_by by (command.Diff number from name) Done ∷ past) number
   diff-here past by number from name differences is =
       let event : Event A = event_by by (command.Diff number from name) Done in
       let moment : Attaching = attaching_at (length past) 0 name in
@@ -113,12 +113,12 @@ module _ {A : Type 0} where
       ∙ ap first_of_each (table_names-append (attachings number past) (moment ∷ []))
       ∙ first_of_each-push (table_names (attachings number past)) name in
       let more = map (touch_found number past name) differences in
-      let noted : touches number (event ∷ past) ≡ touches number past ++ more =
+      let touched : touches number (event ∷ past) ≡ touches number past ++ more =
       λ i. touches number past ++ (cond-same (is_enabled number past) [] i ++ diff_touches number past (found i)) in
       let told_found = touches_found (is_indirect number past) differences in
       let here : (table : List ℕ) → kept (event ∷ past) number table ≡ cond (bytes_eq name table) (with_touches (kept past number table) told_found) (kept past number table) =
       λ table.
-      ap (λ ts. records_of (touches_of table ts)) noted
+      ap (λ ts. records_of (touches_of table ts)) touched
       ∙ ap records_of (touches_of-append table (touches number past) more)
       ∙ records_of-append (touches_of table (touches number past)) (touches_of table more)
       ∙ ap (with_touches (kept past number table)) (found-told number past name table (bytes_eq table name) refl differences ∙ ap (λ b. cond b told_found []) (nat_list_eq_equiv.symm table name))
@@ -170,7 +170,7 @@ module _ {A : Type 0} where
   session_after_command number (command.Indirect other asked) now saved session = cond (nat_eq other number) (indirect_as asked session) session
   session_after_command number (command.Diff other from name) now saved session = cond (nat_eq other number) (compared name (diff now.database saved from name) session) session
   session_after_command number (command.Restart other) now saved session = cond (nat_eq other number) (restart session) session
-  session_after_command number c now saved session = note now.database (effect_of now.database (outcome now c)).changes session
+  session_after_command number c now saved session = record_commit now.database (effect_of now.database (outcome now c)).changes session
 
   abbrev done : Command A → Event A
   done c = event_by 0 c Done

@@ -26,7 +26,7 @@ use Rattle.cap_database.specs.Read.{row_at}
 use Rattle.cap_database.specs.Tables.{Tables, table_of}
 use Rattle.cap_database.specs.declared.cause.Cause.TheVariants.{Direct}
 use Rattle.cap_session.specs.declared.record.Record.{Record}
-use Rattle.cap_session.specs.Note.{touches_of as told_by}
+use Rattle.cap_session.specs.Recording.{touches_of as told_by}
 use Rattle.cap_session.specs.Records.{Records, record_after, touch as with_touch, with_touches}
 use Rattle.cap_core.specs.declared.event.Event.{Event}
 use Rattle.cap_core.specs.Answer.{State, answer, state_after, write_reply}

@@ -12,10 +12,10 @@ pub mod FitLemmas
 pub mod FlagLemmas
 pub mod GroupLemmas
 pub mod HistoryLemmas
+pub mod InPlaceLemmas
 pub mod InsertLemmas
 pub mod KeyedLemmas
 pub mod LawLemmas
-pub mod MakeLemmas
 pub mod NextLemmas
 pub mod NumberLemmas
 pub mod OutcomeLemmas

@@ -9,7 +9,7 @@ use Rattle.cap_value.specs.declared.refusal.Refusal.TheVariants.{TooMany, NoSess
 use Rattle.cap_filter.specs.Rule.{Rule}
 use Rattle.cap_tree.specs.Tree.{put_entry}
 use Rattle.cap_apply.specs.Report.{ReportState}
-use Rattle.cap_session.specs.Note.{note}
+use Rattle.cap_session.specs.Recording.{record_commit}
 use Rattle.cap_session.specs.Session.{SessionState, attach_all, attached, enabled_as, indirect_as, new_session, restart, set_filter, stored}
 use Rattle.cap_session.specs.Sessions.{session_numbered, with_session}
 use Rattle.cap_core.specs.declared.event.Event.{Event}
@@ -26,7 +26,7 @@ use Rattle.cap_core.specs.Past.{Past, is_accepted}
 use Rattle.cap_core.specs.Session.{session_of, sessions}
 use Rattle.cap_core.specs.Transition.{after_new_session, after_save, after_session, after_write, compared, next, one_more, session_left, with_left, with_sessions, written}
 use Rattle.cap_core.proofs.HistoryLemmas.{map-map}
-use Rattle.cap_core.proofs.SessionLemmas.{and_false, effect-refused, flags-elsewhere, note-new, session-elsewhere, session-quiet, session-refused, silent-elsewhere, speaks_to}
+use Rattle.cap_core.proofs.SessionLemmas.{and_false, effect-refused, flags-elsewhere, record_commit-new, session-elsewhere, session-quiet, session-refused, silent-elsewhere, speaks_to}
 use Rattle.cap_core.proofs.NumberLemmas.{apart_numbers, equal_numbers, lookup-beyond, lookup-passing, made_before, numbered, passing, passing-push, same_number, with-passing, without-passing}
 use Rattle.cap_core.proofs.SessionStandLemmas.{with-same}
 use Rattle.cap_core.proofs.FlagLemmas.{attach-here, attach_all-here, compared-here, enabled-here, filter-here, indirect-here, restart-here}
@@ -78,7 +78,7 @@ module _ {A : Type 0} where
       let changes = (event_effect (snapshot past) event).changes in (
         elim (speaks_to number event.command) as (λ b. speaks_to number event.command ≡ b → session_of (event ∷ past) number ≡ new_session) [
           | true ↦ λ speaks. session-refused number event past (ap is_accepted legal.0 ∙ unknown-refused (state_after past) number none event.command speaks) ∙ known.0
-          | false ↦ λ apart. session-elsewhere number event past apart ∙ ap (note (main past) changes) known.0 ∙ note-new (main past) changes
+          | false ↦ λ apart. session-elsewhere number event past apart ∙ ap (record_commit (main past) changes) known.0 ∙ record_commit-new (main past) changes
         ] refl,
         ap (λ reply. (is_accepted reply && drops number event.command) || is_dropped past number) legal.0
             ∙ ap₂ (λ a b. a || b) (unknown-stays (state_after past) number none event.command) known.1,
@@ -116,8 +116,8 @@ module _ {A : Type 0} where
       → written (state_after past) effect.database effect.changes ≡ state_after (event ∷ past)
   next-written past event effect write accepted is =
       let effected : event_effect (snapshot past) event ≡ effect = λ i. cond (accepted i) (effect_of (main past) (is i)) (no_effect (main past)) in
-      let noted : (number : ℕ) → note (main past) effect.changes (session_of past number) ≡ session_of (event ∷ past) number =
-      λ number. sym (session-elsewhere number event past (write.speaks number) ∙ ap (λ e. note (main past) e.changes (session_of past number)) effected) in
+      let recorded : (number : ℕ) → record_commit (main past) effect.changes (session_of past number) ≡ session_of (event ∷ past) number =
+      λ number. sym (session-elsewhere number event past (write.speaks number) ∙ ap (λ e. record_commit (main past) e.changes (session_of past number)) effected) in
       let made : sessions_made (event ∷ past) ≡ sessions_made past = λ i. cond (accepted i && write.makes i) (sessions_made past + 1) (sessions_made past) in
       let live : live_sessions (event ∷ past) ≡ live_sessions past = λ i. filter (λ number. not ((accepted i && write.drops number i) || is_dropped past number)) (range_with_len 1 (made i)) in
       same_state _ _ (add-one (length past))
@@ -125,8 +125,8 @@ module _ {A : Type 0} where
       (sym (λ i. cond (accepted i && write.writes i) (version past + 1) (version past)))
       (sym (λ i. cond (accepted i) (save_under (write.saves i) (main past) (saved past)) (saved past)))
       (sym made)
-      (map-map (λ session. (session.0, note (main past) effect.changes session.1)) (λ number. (number, session_of past number)) (live_sessions past)
-      ∙ (λ i. map (λ number. (number, noted number i)) (live_sessions past))
+      (map-map (λ session. (session.0, record_commit (main past) effect.changes session.1)) (λ number. (number, session_of past number)) (live_sessions past)
+      ∙ (λ i. map (λ number. (number, recorded number i)) (live_sessions past))
       ∙ ap (numbered (session_of (event ∷ past))) (sym live))
 
   next-write : (past : Past A) (by : ℕ) (c : Command A) → IsWrite c

@@ -25,7 +25,7 @@ use Rattle.cap_apply.specs.Captured.{AllBefore, AllDiffer, GivesAllRowsNow, Tabl
 use Rattle.cap_apply.specs.declared.policy.Policy.{Policy}
 use Rattle.cap_database.specs.Tables.{AreRising, Tables, create, schema_of, table_of}
 use Rattle.cap_database.specs.declared.change.Change.{Change}
-use Rattle.cap_session.specs.Note.{is_cascade, touches_of as told_by}
+use Rattle.cap_session.specs.Recording.{is_cascade, touches_of as told_by}
 use Rattle.cap_session.specs.declared.record.Record.{Record}
 use Rattle.cap_session.specs.Records.{Records, Touch as RowTouch}
 use Rattle.cap_session.specs.Session.{AttachedTables, record_of, records_of as attached_records}

@@ -10,7 +10,7 @@ use Rattle.cap_database.specs.Snapshot.{SnapshotState}
 use Rattle.cap_database.specs.Tables.{Tables}
 use Rattle.cap_database.specs.declared.change.Change.{Change}
 use Rattle.cap_session.specs.declared.rule.AutomaticRule.TheVariants.{Nothing}
-use Rattle.cap_session.specs.Note.{attach_by, attach_by_rule, note, touch_tables, touches_of as told_by}
+use Rattle.cap_session.specs.Recording.{attach_by, attach_by_rule, record_commit, touch_tables, touches_of as told_by}
 use Rattle.cap_session.specs.Records.{Records, Touch as RowTouch, with_touches}
 use Rattle.cap_session.specs.Session.{AttachedTables, SessionState, new_session}
 use Rattle.cap_core.specs.declared.command.Command.{Command}
@@ -148,16 +148,16 @@ module _ {A : Type 0} where
           | false ↦ λ off. tables-off off
         ] refl
 
-  -- ---- noting changes
+  -- ---- recording changes
 
-  note-is : (before : Tables A) (changes : List (Change A)) (s : SessionState A)
-      → note before changes s ≡ record s { tables = cond s.enabled (touch_tables before s.indirect changes (attach_by_rule s.rule changes s.tables)) s.tables }
-  note-is before changes s =
+  record_commit-is : (before : Tables A) (changes : List (Change A)) (s : SessionState A)
+      → record_commit before changes s ≡ record s { tables = cond s.enabled (touch_tables before s.indirect changes (attach_by_rule s.rule changes s.tables)) s.tables }
+  record_commit-is before changes s =
       let tables = touch_tables before s.indirect changes (attach_by_rule s.rule changes s.tables) in
       elim s.enabled as (λ b. cond b (record s { tables = tables }) s ≡ record s { tables = cond b tables s.tables }) [ true ↦ refl | false ↦ refl ]
 
-  pub note-nothing : (before : Tables A) (s : SessionState A) → note before [] s ≡ s
-  note-nothing before s =
+  pub record_commit-nothing : (before : Tables A) (s : SessionState A) → record_commit before [] s ≡ s
+  record_commit-nothing before s =
       ap (λ tables. cond s.enabled (record s { tables = tables }) s) (map-same s.tables) ∙ cond-same s.enabled s
 
   attach_by-nothing : (names : List (List ℕ)) (tables : AttachedTables A) → fold (attach_by Nothing) tables names ≡ tables
@@ -165,8 +165,8 @@ module _ {A : Type 0} where
   attach_by-nothing (name ∷ names) tables = attach_by-nothing names tables
 
   -- a new session attaches nothing, so that no change touches it
-  pub note-new : (before : Tables A) (changes : List (Change A)) → note before changes new_session ≡ new_session
-  note-new before changes =
+  pub record_commit-new : (before : Tables A) (changes : List (Change A)) → record_commit before changes new_session ≡ new_session
+  record_commit-new before changes =
       ap (λ tables. record new_session { tables = touch_tables before false changes tables }) (attach_by-nothing (map (λ change. change.table) changes) [])
 
   pub tables-quiet : (session : ℕ) (event : Event A) (past : Past A) → IsSilent session event past → (event_effect (snapshot past) event).changes ≡ []
@@ -185,11 +185,11 @@ module _ {A : Type 0} where
     pub indirect : is_indirect session (event ∷ past) ≡ is_indirect session past
     pub rule : rule_of session (event ∷ past) ≡ rule_of session past
 
-  pub session-noted : (session : ℕ) (event : Event A) (past : Past A) → IsSilent session event past → KeepsFlags session event past
-      → session_of (event ∷ past) session ≡ note (main past) (event_effect (snapshot past) event).changes (session_of past session)
-  session-noted session event past silent flags =
+  pub session-recorded : (session : ℕ) (event : Event A) (past : Past A) → IsSilent session event past → KeepsFlags session event past
+      → session_of (event ∷ past) session ≡ record_commit (main past) (event_effect (snapshot past) event).changes (session_of past session)
+  session-recorded session event past silent flags =
       same_session _ _ flags.enabled flags.indirect flags.rule (tables-silent session event past silent)
-      ∙ sym (note-is (main past) (event_effect (snapshot past) event).changes (session_of past session))
+      ∙ sym (record_commit-is (main past) (event_effect (snapshot past) event).changes (session_of past session))
 
   -- the command is to the session
   abbrev pub speaks_to : ℕ → Command A → Bool
@@ -274,12 +274,12 @@ module _ {A : Type 0} where
   pub session-quiet : (session : ℕ) (event : Event A) (past : Past A) → IsSilent session event past → KeepsFlags session event past → (event_effect (snapshot past) event).changes ≡ []
       → session_of (event ∷ past) session ≡ session_of past session
   session-quiet session event past silent flags none =
-      session-noted session event past silent flags ∙ ap (λ changes. note (main past) changes (session_of past session)) none ∙ note-nothing (main past) (session_of past session)
+      session-recorded session event past silent flags ∙ ap (λ changes. record_commit (main past) changes (session_of past session)) none ∙ record_commit-nothing (main past) (session_of past session)
 
   pub session-refused : (session : ℕ) (event : Event A) (past : Past A) → is_accepted event.reply ≡ false → session_of (event ∷ past) session ≡ session_of past session
   session-refused session event past refused =
       session-quiet session event past (silent-refused session event past refused) (flags-refused session event past refused) (ap (λ effect. effect.changes) (effect-refused event (snapshot past) refused))
 
   pub session-elsewhere : (session : ℕ) (event : Event A) (past : Past A) → speaks_to session event.command ≡ false
-      → session_of (event ∷ past) session ≡ note (main past) (event_effect (snapshot past) event).changes (session_of past session)
-  session-elsewhere session event past is = session-noted session event past (silent-elsewhere session event past is) (flags-elsewhere session event past is)
+      → session_of (event ∷ past) session ≡ record_commit (main past) (event_effect (snapshot past) event).changes (session_of past session)
+  session-elsewhere session event past is = session-recorded session event past (silent-elsewhere session event past is) (flags-elsewhere session event past is)

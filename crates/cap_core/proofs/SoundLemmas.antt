@@ -30,10 +30,10 @@ use Rattle.cap_database.specs.declared.op.Op.{Op}
 use Rattle.cap_database.proofs.KeptLemmas.{each-found}
 use Rattle.cap_session.specs.declared.record.Record.{Record}
 use Rattle.cap_session.specs.declared.rule.AutomaticRule.{AutomaticRule}
-use Rattle.cap_session.specs.Note.{attach_by, attach_by_rule, is_cascade, note, note_diff, touch_of, touch_tables, touches_found, touches_of}
+use Rattle.cap_session.specs.Recording.{attach_by, attach_by_rule, is_cascade, record_commit, record_diff, touch_of, touch_tables, touches_found, touches_of}
 use Rattle.cap_session.specs.Records.{Records, Touch, record_after, touch, with_touches}
 use Rattle.cap_session.specs.Session.{AttachedTables, SessionState, accepts_by, attach, forget, is_listed, new_session}
-use Rattle.cap_session.specs.Sessions.{NumberedSessions, note_each, session_numbered, with_session, without_session}
+use Rattle.cap_session.specs.Sessions.{NumberedSessions, record_commit_each, session_numbered, with_session, without_session}
 use Rattle.cap_core.specs.CanCapture.{image_stands, records_stand, session_stands, tables_stand}
 use Rattle.cap_core.specs.Code.Sound.{KeepsColumns, differences_stand, sessions_stand}
 use Rattle.cap_core.proofs.SmallLemmas.{both, first, second}
@@ -189,23 +189,23 @@ module _ {A : Type 0} where
   attach_by_rule-stands database rule (change ∷ changes) tables all =
       attach_by_rule-stands database rule changes (attach_by rule tables change.table) (attach_by-stands database rule change.table tables all)
 
-  note-stands : (before : Tables A) → EachRises before → (changes : List (Change A)) (session : SessionState A) → session_stands before session ≡ true → session_stands before (note before changes session) ≡ true
-  note-stands before rises changes session all =
+  record_commit-stands : (before : Tables A) → EachRises before → (changes : List (Change A)) (session : SessionState A) → session_stands before session ≡ true → session_stands before (record_commit before changes session) ≡ true
+  record_commit-stands before rises changes session all =
       elim session.enabled as (λ b. session_stands before (cond b (record session { tables = touch_tables before session.indirect changes (attach_by_rule session.rule changes session.tables) }) session) ≡ true) [
         | true ↦ touch_tables-stand before rises session.indirect changes (attach_by_rule session.rule changes session.tables) (attach_by_rule-stands before session.rule changes session.tables all)
         | false ↦ all
       ]
 
   -- the sessions after a commit that keeps the columns of the tables
-  pub note_each-stand : (before after : Tables A) → EachRises before → KeepsColumns before after → (changes : List (Change A)) (sessions : NumberedSessions A) → sessions_stand before sessions ≡ true → sessions_stand after (note_each before changes sessions) ≡ true
-  note_each-stand before after rises kept changes =
-      list_all-map (λ session. session_stands before session.1) (λ session. session_stands after session.1) (λ session. (session.0, note before changes session.1))
-      (λ session all. session_stands-kept before after kept (note before changes session.1) (note-stands before rises changes session.1 all))
+  pub record_commit_each-stand : (before after : Tables A) → EachRises before → KeepsColumns before after → (changes : List (Change A)) (sessions : NumberedSessions A) → sessions_stand before sessions ≡ true → sessions_stand after (record_commit_each before changes sessions) ≡ true
+  record_commit_each-stand before after rises kept changes =
+      list_all-map (λ session. session_stands before session.1) (λ session. session_stands after session.1) (λ session. (session.0, record_commit before changes session.1))
+      (λ session all. session_stands-kept before after kept (record_commit before changes session.1) (record_commit-stands before rises changes session.1 all))
 
   -- a session after a diff of a table, which found rows of the table's width under their own keys
-  pub note_diff-stands : (database : Tables A) (name : List ℕ) (differences : List (Difference A)) (session : SessionState A) → differences_stand (schema_of database name) differences ≡ true → session_stands database session ≡ true
-      → session_stands database (note_diff name differences session) ≡ true
-  note_diff-stands database name differences session new all =
+  pub record_diff-stands : (database : Tables A) (name : List ℕ) (differences : List (Difference A)) (session : SessionState A) → differences_stand (schema_of database name) differences ≡ true → session_stands database session ≡ true
+      → session_stands database (record_diff name differences session) ≡ true
+  record_diff-stands database name differences session new all =
       list_all-map (λ attached. records_stand (schema_of database attached.0) attached.1) (λ attached. records_stand (schema_of database attached.0) attached.1)
       (λ attached. cond (bytes_eq name attached.0) (attached.0, with_touches attached.1 touches) attached) each (attach name session.tables) (attach-stands database name session.tables all)
     where

@@ -8,10 +8,10 @@ use Rattle.cap_tree.specs.Tree.{put_entry}
 use Rattle.cap_database.specs.Tables.{Tables}
 use Rattle.cap_database.specs.declared.change.Change.{Change}
 use Rattle.cap_compare.specs.declared.difference.Difference.{Difference}
-use Rattle.cap_session.specs.Note.{note_diff}
+use Rattle.cap_session.specs.Recording.{record_diff}
 use Rattle.cap_session.specs.Session.{SessionState, attach_all, attached, enabled_as, indirect_as}
 use Rattle.cap_session.specs.Session.{new_session, restart, set_filter}
-use Rattle.cap_session.specs.Sessions.{NumberedSessions, note_each, session_numbered, with_session}
+use Rattle.cap_session.specs.Sessions.{NumberedSessions, record_commit_each, session_numbered, with_session}
 use Rattle.cap_session.specs.Sessions.{without_session}
 use Rattle.cap_core.specs.declared.command.Command.{Command}
 use Rattle.cap_core.specs.declared.command.Command.TheVariants as command
@@ -32,7 +32,7 @@ module _ {A : Type 0} where
       record (one_more state) {
         main = tables;
         version = state.version + 1;
-        sessions = note_each state.main changes state.sessions;
+        sessions = record_commit_each state.main changes state.sessions;
       }
 
   abbrev pub after_write : State A → Result (Effect A) Refused → State A
@@ -59,7 +59,7 @@ module _ {A : Type 0} where
 
   abbrev pub compared : List ℕ → Result (Option (List (Difference A))) Refusal → SessionState A
       → SessionState A
-  compared name (Ok (Some differences)) session = note_diff name differences session
+  compared name (Ok (Some differences)) session = record_diff name differences session
   compared name _ session = session
 
   -- What a command leaves of the session that it is to, or none where it ends the session. A command that is

@@ -5,6 +5,7 @@ ghost use Rattle.std.specs.List.{cons_option};
 ghost use Rattle.std.specs.Option.{option_copied, option_map};
 ghost use Rattle.cap_changes.specs.declared.row_change.RowChange.{RowChange};
 ghost use Rattle.cap_codec.specs.Changeset.{change_bytes, changes_under, header_bytes, list_bytes_with};
+ghost use Rattle.cap_codec.specs.KindByte.{changeset_kind};
 ghost use Rattle.cap_changes.specs.Change.{change_of};
 ghost use Rattle.cap_session.specs.Sessions.{session_numbered};
 ghost use Rattle.cap_core.specs.Capture.{change_now, changes_of, session_changes, table_changes};
@@ -114,8 +115,8 @@ fn push_touched<A: AllocHandle>(
     now: Option<&Row<A>>,
 ) -> Result<bool, OutOfMemory>
     ensures { IfOk result (λ some. (others : List (RowChange A))
-        → out.new.items ++ behind some (header_bytes key_flags 0x54 name.now schema.now) others
-        ≡ out.old.items ++ behind begun (header_bytes key_flags 0x54 name.now schema.now)
+        → out.new.items ++ behind some (header_bytes key_flags changeset_kind name.now schema.now) others
+        ≡ out.old.items ++ behind begun (header_bytes key_flags changeset_kind name.now schema.now)
         (cons_option (change_of schema.now kept.now.indirect kept.now.image (option_copied now.entry))
         others)) }
 {
@@ -137,7 +138,7 @@ fn push_header_unless<A: AllocHandle>(
     schema: &Schema<A>,
 ) -> Result<(), OutOfMemory>
     ensures { OnOk result (out.new.items
-        ≡ out.old.items ++ header_unless begun (header_bytes key_flags 0x54 name.now schema.now)) }
+        ≡ out.old.items ++ header_unless begun (header_bytes key_flags changeset_kind name.now schema.now)) }
 {
     if begun {
         return Ok(());

@@ -92,7 +92,7 @@ impl<'a, 'b, V, A: AllocHandle, C: CommitHook<A>> Hook<V> for ReplyHook<'a, 'b, 
 // The commit hook as a row's tree asks it about one operation: the row before it is staged in each session
 // first.
 #[derive(Drop)]
-pub(crate) struct NotingHook<'a, 'b, 'c, A: AllocHandle, C: CommitHook<A>> {
+pub(crate) struct RecordingHook<'a, 'b, 'c, A: AllocHandle, C: CommitHook<A>> {
     pub(crate) sessions: &'a mut Sessions<A>,
     pub(crate) op: &'b Op<A>,
     pub(crate) key: &'b Key<A>,
@@ -100,19 +100,20 @@ pub(crate) struct NotingHook<'a, 'b, 'c, A: AllocHandle, C: CommitHook<A>> {
     pub(crate) hook: &'c mut C,
 }
 
-impl<'a, 'b, 'c, A: AllocHandle, C: CommitHook<A>> Hook<Row<A>> for NotingHook<'a, 'b, 'c, A, C> {
+impl<'a, 'b, 'c, A: AllocHandle, C: CommitHook<A>> Hook<Row<A>>
+    for RecordingHook<'a, 'b, 'c, A, C> {
     type Refusal = Fault<C::Refusal>;
 
     ghost use Rattle.std.specs.Prelude.{◌≡◌};
-    ghost use Rattle.cap_session.specs.Sessions.{note_key_each};
-    ghost use Rattle.cap_core.specs.Code.CommandOutcome.{GivesNoted};
+    ghost use Rattle.cap_session.specs.Sessions.{record_key_each};
+    ghost use Rattle.cap_core.specs.Code.CommandOutcome.{GivesRecorded};
 
     ghost can_ask = { λ own present next. C.can_ask own.hook.now own.reply.now };
 
     ghost gives = { λ old present next answer new. (new.hook.ghost_name ≡ old.hook.ghost_name)
         × (new.sessions.ghost_name ≡ old.sessions.ghost_name)
-        × GivesNoted C.gives old.reply.now old.sessions.now.live
-        (note_key_each old.op.now.table old.key.now old.op.now.cause present old.sessions.now.live)
+        × GivesRecorded C.gives old.reply.now old.sessions.now.live
+        (record_key_each old.op.now.table old.key.now old.op.now.cause present old.sessions.now.live)
         new.sessions.now old.hook.now new.hook.now answer };
 
     fn before_change(
@@ -121,7 +122,7 @@ impl<'a, 'b, 'c, A: AllocHandle, C: CommitHook<A>> Hook<Row<A>> for NotingHook<'
         _next: Option<&Row<A>>,
     ) -> Result<(), Fault<C::Refusal>> {
         self.sessions
-            .note_key(&self.op.table, self.key, self.op.cause, present)?;
+            .stage_key(&self.op.table, self.key, self.op.cause, present)?;
         ask(self.hook, self.reply)
     }
 }

@@ -256,7 +256,7 @@ impl<A: AllocHandle> Core<A> {
             self.old self.new hook.old hook.new result }
     {
         let snapshot = Snapshot::new(self.version, self.main.snapshot()?);
-        self.keep(Reply::Snapshot(snapshot), hook)
+        self.reply_only(Reply::Snapshot(snapshot), hook)
     }
 
     // Saves the tables under a name, and replaces what was saved under it.
@@ -272,7 +272,7 @@ impl<A: AllocHandle> Core<A> {
     {
         if !has_room_for(&self.saved, name) {
             let why = Refusal::TooMany;
-            return self.keep(Reply::Refused { at: None, why }, hook);
+            return self.reply_only(Reply::Refused { at: None, why }, hook);
         }
         let database = self.main.snapshot()?;
         self.save(name.copy()?, database, hook)
@@ -306,7 +306,7 @@ impl<A: AllocHandle> Core<A> {
     }
 
     // Replies to a command that changes only the number of events.
-    pub(crate) fn keep<C: CommitHook<A>>(
+    pub(crate) fn reply_only<C: CommitHook<A>>(
         &mut self,
         reply: Reply<A>,
         hook: &mut C,

@@ -1,4 +1,4 @@
-//! The changes of a session that no server has.
+//! The changes of a session used without a server.
 ghost use Rattle.std.specs.Prelude.{◌≡◌, IfOk, IsTrue};
 ghost use Rattle.std.specs.Option.{option_copied, option_map};
 ghost use Rattle.cap_row.specs.Key.{fields_eq, key_fields};

@@ -12,7 +12,7 @@ ghost use Rattle.cap_core.specs.Flags.{session_named};
 ghost use Rattle.cap_core.specs.Past.{HasRoom};
 ghost use Rattle.cap_core.specs.Transition.{after_new_session, after_session, compared, one_more};
 ghost use Rattle.cap_core.specs.Transition.{session_left, with_sessions};
-ghost use Rattle.cap_session.specs.Note.{note_diff};
+ghost use Rattle.cap_session.specs.Recording.{record_diff};
 ghost use Rattle.cap_session.specs.Session.{attached, changed_by, new_session, set_filter};
 ghost use Rattle.cap_session.specs.Sessions.{session_numbered, without_session};
 ghost use Rattle.cap_database.specs.Tables.{schema_of};
@@ -38,7 +38,7 @@ impl<A: AllocHandle> Core<A> {
     {
         if self.sessions.len() >= SESSIONS_MAX {
             let why = Refusal::TooMany;
-            return self.keep(Reply::Refused { at: None, why }, hook);
+            return self.reply_only(Reply::Refused { at: None, why }, hook);
         }
         self.add_session(hook)
     }
@@ -89,7 +89,7 @@ impl<A: AllocHandle> Core<A> {
     {
         let Some(session) = self.sessions.get(number) else {
             let why = Refusal::NoSession;
-            return self.keep(Reply::Refused { at: None, why }, hook);
+            return self.reply_only(Reply::Refused { at: None, why }, hook);
         };
         match command {
             Command::DropSession { .. } => self.drop_session(number, hook),
@@ -108,12 +108,12 @@ impl<A: AllocHandle> Core<A> {
             }
             Command::IsEmpty { .. } => {
                 let empty = session.is_empty();
-                self.keep(Reply::Flag(empty), hook)
+                self.reply_only(Reply::Flag(empty), hook)
             }
             Command::Diff { from, table, .. } => self.diff(number, from, table, hook),
             Command::Capture { .. } => {
                 let reply = capture_reply(self.alloc, session, &self.main)?;
-                self.keep(reply, hook)
+                self.reply_only(reply, hook)
             }
             Command::Restart { .. } => {
                 let reply = capture_reply(self.alloc, session, &self.main)?;
@@ -154,7 +154,7 @@ impl<A: AllocHandle> Core<A> {
         ensures { Reports C.gives Reply.Done (changed_session self.old number (attached name.now))
             self.old self.new hook.old hook.new result }
     {
-        self.sessions.note_attached(number, name)?;
+        self.sessions.stage_attach(number, name)?;
         let reply = Reply::Done;
         ask(hook, &reply)?;
         self.sessions.publish();
@@ -194,15 +194,15 @@ impl<A: AllocHandle> Core<A> {
             self.old self.new hook.old hook.new result }
     {
         match differences(self.alloc, &self.main, &self.saved, from, name) {
-            Ok(Some(found)) => self.note_found(number, name, &found, hook),
-            Ok(None) => self.keep(Reply::Done, hook),
-            Err(Fault::Refused(why)) => self.keep(Reply::Refused { at: None, why }, hook),
+            Ok(Some(found)) => self.record_found(number, name, &found, hook),
+            Ok(None) => self.reply_only(Reply::Done, hook),
+            Err(Fault::Refused(why)) => self.reply_only(Reply::Refused { at: None, why }, hook),
             Err(Fault::OutOfMemory) => Err(Fault::OutOfMemory),
         }
     }
 
-    // Notes what a diff found in the session with this number.
-    fn note_found<C: CommitHook<A>>(
+    // Records what a diff found in the session with this number.
+    fn record_found<C: CommitHook<A>>(
         &mut self,
         number: u64,
         name: &Name<A>,
@@ -213,10 +213,10 @@ impl<A: AllocHandle> Core<A> {
         requires stand { IsTrue (differences_stand (schema_of self.old.main name.now) found.now) }
         requires can_ask { C.can_ask hook.old Reply.Done }
         ensures { Reports C.gives Reply.Done
-            (changed_session self.old number (note_diff name.now found.now))
+            (changed_session self.old number (record_diff name.now found.now))
             self.old self.new hook.old hook.new result }
     {
-        self.sessions.note_diff(number, name, found)?;
+        self.sessions.stage_diff(number, name, found)?;
         let reply = Reply::Done;
         ask(hook, &reply)?;
         self.sessions.publish();

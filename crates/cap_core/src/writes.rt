@@ -12,10 +12,10 @@ ghost use Rattle.cap_core.specs.Outcome.{applied, change_refused, commit_unless,
 ghost use Rattle.cap_txn.specs.Stale.{stale};
 ghost use Rattle.cap_core.specs.Past.{HasRoom};
 ghost use Rattle.cap_core.specs.Transition.{after_write, written};
-ghost use Rattle.cap_session.specs.Sessions.{note_each};
+ghost use Rattle.cap_session.specs.Sessions.{record_commit_each};
 ghost use Rattle.cap_value.specs.Memory.{AnswersUnlessMemory, MatchFault};
 
-use crate::commit_hook::{NotingHook, ask};
+use crate::commit_hook::{RecordingHook, ask};
 use crate::{CommitHook, Core, Reply};
 use cap_apply::{Applied, Policy, applied_blobs_keep_columns};
 use cap_codec::Contents;
@@ -46,9 +46,14 @@ impl<A: AllocHandle> Core<A> {
             Ok(tables) => {
                 let changes = Vec::new(self.alloc);
                 let version = self.version + 1;
-                self.write(tables, changes.as_slice(), Reply::Written { version }, hook)
+                self.reserve_and_publish(
+                    tables,
+                    changes.as_slice(),
+                    Reply::Written { version },
+                    hook,
+                )
             }
-            Err(Fault::Refused(why)) => self.keep(Reply::Refused { at: None, why }, hook),
+            Err(Fault::Refused(why)) => self.reply_only(Reply::Refused { at: None, why }, hook),
             Err(Fault::OutOfMemory) => Err(Fault::OutOfMemory),
         }
     }
@@ -68,7 +73,7 @@ impl<A: AllocHandle> Core<A> {
             self.old self.new hook.old hook.new result }
     {
         match batch.stale(self.version, &self.main) {
-            Some(why) => self.keep(Reply::Refused { at: None, why }, hook),
+            Some(why) => self.reply_only(Reply::Refused { at: None, why }, hook),
             None => self.commit_now(batch.ops(), hook),
         }
     }
@@ -115,7 +120,7 @@ impl<A: AllocHandle> Core<A> {
             Err(Fault::Refused(refused)) => {
                 let at = Some(refused.at as u64);
                 let why = refused.why;
-                self.keep(Reply::Refused { at, why }, hook)
+                self.reply_only(Reply::Refused { at, why }, hook)
             }
             Err(Fault::OutOfMemory) => Err(Fault::OutOfMemory),
         }
@@ -136,16 +141,19 @@ impl<A: AllocHandle> Core<A> {
             Reports C.gives (write_reply self.old effect) (after_write self.old effect)
             self.old self.new hook.old hook.new result }
     {
-        match self.make(op, key, hook) {
+        match self.commit_in_place(op, key, hook) {
             Ok(reply) => Ok(reply),
-            Err(NotMade::Refused(why)) => self.keep(Reply::Refused { at: Some(0), why }, hook),
+            Err(NotMade::Refused(why)) => self.reply_only(
+                Reply::Refused { at: Some(0), why },
+                hook,
+            ),
             Err(NotMade::OutOfMemory) => Err(Fault::OutOfMemory),
             Err(NotMade::Vetoed(why)) => Err(Fault::Refused(why)),
         }
     }
 
-    // Makes one operation in place, and records it in each session.
-    fn make<C: CommitHook<A>>(
+    // Commits one operation in place, and records it in each session.
+    fn commit_in_place<C: CommitHook<A>>(
         &mut self,
         op: &Op<A>,
         key: &Key<A>,
@@ -162,7 +170,7 @@ impl<A: AllocHandle> Core<A> {
         let reply = Reply::Written {
             version: self.version + 1,
         };
-        match step_and_note(&mut self.main, &mut self.sessions, op, key, &reply, hook) {
+        match reserve_and_step(&mut self.main, &mut self.sessions, op, key, &reply, hook) {
             Ok(()) => {
                 self.sessions.publish();
                 self.version += 1;
@@ -188,7 +196,7 @@ impl<A: AllocHandle> Core<A> {
     {
         let version = self.version + 1;
         let (database, changes) = outcome.into_parts();
-        self.write(
+        self.reserve_and_publish(
             database,
             changes.as_slice(),
             Reply::Written { version },
@@ -215,7 +223,7 @@ impl<A: AllocHandle> Core<A> {
             Ok(applied) => self.write_applied(applied, hook),
             Err(Fault::Refused(why)) => {
                 let at = change_refused(why);
-                self.keep(Reply::Refused { at, why }, hook)
+                self.reply_only(Reply::Refused { at, why }, hook)
             }
             Err(Fault::OutOfMemory) => Err(Fault::OutOfMemory),
         }
@@ -236,7 +244,7 @@ impl<A: AllocHandle> Core<A> {
     {
         let version = self.version + 1;
         let (database, changes, report) = blob.into_parts();
-        self.write(
+        self.reserve_and_publish(
             database,
             changes.as_slice(),
             Reply::Applied { version, report },
@@ -244,8 +252,9 @@ impl<A: AllocHandle> Core<A> {
         )
     }
 
-    // Publishes these tables as the next version, and records the changes in each session.
-    fn write<C: CommitHook<A>>(
+    // Reserves what memory the commit still needs, that of the sessions, asks the hook, and publishes these
+    // tables as the next version. The changes are recorded in each session.
+    fn reserve_and_publish<C: CommitHook<A>>(
         &mut self,
         tables: Database<A>,
         changes: &[Change<A>],
@@ -259,7 +268,7 @@ impl<A: AllocHandle> Core<A> {
             self.old self.new hook.old hook.new result }
     {
         self.main.rows_stand();
-        self.sessions.note(&self.main, changes)?;
+        self.sessions.stage_commit(&self.main, changes)?;
         ask(hook, &reply)?;
         self.sessions.publish();
         self.main = tables;
@@ -269,9 +278,9 @@ impl<A: AllocHandle> Core<A> {
     }
 }
 
-// Makes one operation on a row that keeps this key, in place. Before it takes effect it is staged in each
-// session, and the hook is asked.
-fn step_and_note<A: AllocHandle, C: CommitHook<A>>(
+// Reserves what memory one operation on a row that keeps this key still needs, asks the hook, and makes it in
+// place. It is staged in each session.
+fn reserve_and_step<A: AllocHandle, C: CommitHook<A>>(
     main: &mut Database<A>,
     sessions: &mut Sessions<A>,
     op: &Op<A>,
@@ -286,17 +295,17 @@ fn step_and_note<A: AllocHandle, C: CommitHook<A>>(
     ensures kept { OnErr result (main.new ≡ main.old) }
     ensures live { sessions.new.live ≡ sessions.old.live }
     ensures staged { OnOk result (sessions.new.staged
-        ≡ note_each main.old (changes main.old op.now) sessions.old.live) }
+        ≡ record_commit_each main.old (changes main.old op.now) sessions.old.live) }
 {
     changes_of_a_key_are_one_touch::<A>();
-    let mut noting = NotingHook {
+    let mut recording = RecordingHook {
         sessions,
         op,
         key,
         reply,
         hook,
     };
-    match main.step_keyed(op, key, &mut noting) {
+    match main.step_keyed(op, key, &mut recording) {
         Ok(()) => Ok(()),
         Err(NotMade::Refused(why)) => Err(NotMade::Refused(why)),
         Err(NotMade::OutOfMemory) => Err(NotMade::OutOfMemory),

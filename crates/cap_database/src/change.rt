@@ -1,4 +1,4 @@
-//! Changes of rows, as sessions note them.
+//! Changes of rows, as sessions record them.
 use crate::Cause;
 use cap_row::Key;
 use cap_value::{AllocHandle, Name};

@@ -18,6 +18,7 @@ ghost use Rattle.cap_database.specs.Replace.{MakesOwnRows, ReplacesRow};
 
 use crate::kept_key::kept_in;
 use crate::keyed::{put_under, replace_under, take_under};
+use crate::limits::TABLES_MAX;
 use crate::place::{copies, place_of, put_at, step_at, step_keyed_at};
 use crate::{Effect, Op};
 use cap_row::{Key, Row, Schema};
@@ -25,9 +26,6 @@ use cap_table::{NotMade, RowRef, Scan, Table, operations_keep_tables};
 use cap_tree::{Hook, Remake};
 use cap_value::{AllocHandle, Exact, Fault, Name, OutOfMemory, Refusal};
 use std::marker::Model;
-
-/// The most tables that a database may have.
-pub const TABLES_MAX: usize = 64;
 
 /// Tables by name.
 ///

@@ -9,6 +9,7 @@ mod effect;
 mod kept_key;
 mod keyed;
 mod laws;
+mod limits;
 mod op;
 mod outcome;
 mod place;
@@ -19,7 +20,7 @@ mod snapshot;
 pub use assignments::Assignments;
 pub use cause::Cause;
 pub use change::Change;
-pub use database::{Database, TABLES_MAX};
+pub use database::Database;
 pub use effect::Effect;
 pub use laws::{
     deletes_undo_inserts, first_refusal_ends_the_list, last_operation_adds_its_changes,
@@ -27,6 +28,7 @@ pub use laws::{
     operations_on_different_tables_commute, refused_batches_leave_nothing, tables_keep_columns,
     tables_keep_order,
 };
+pub use limits::TABLES_MAX;
 pub use op::{Action, Op};
 pub use outcome::Outcome;
 pub use refused_at::RefusedAt;

@@ -8,12 +8,6 @@ use crate::Word;
 use crate::token::split_at_quote;
 use cap_value::{AllocHandle, OutOfMemory};
 
-/// The greatest number of levels of a filter. A filter without a filter inside it has one level.
-pub const DEPTH_MAX: u32 = 32;
-
-/// The greatest number of filters in a filter: itself and those inside it at all levels.
-pub const NODES_MAX: u32 = 1000;
-
 /// A set of names.
 #[derive(Drop)]
 pub enum Filter<A: AllocHandle> {

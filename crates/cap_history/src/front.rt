@@ -61,7 +61,7 @@ impl<J: Naming, A: AllocHandle> Front<J, A> {
         ensures overtaken { IfErr result (λ overtaken. length at.now < overtaken.front) }
     {
         let number = seat.number;
-        match seat.seen.append(self, at, number, command, reply) {
+        match seat.seen.exchange(self, at, number, command, reply) {
             Ok(()) => {
                 seat.answered = seat.seen.again();
                 seat.calls += 1;

@@ -80,9 +80,9 @@ impl<J: Naming, A: AllocHandle> List<J, A> {
         self.len = front.word.load::<Look, Nothing>(&mut self.seen, &mut offer);
     }
 
-    // Appends a call to `at` where that is the whole history. Otherwise the history is longer, and this list
-    // sees it.
-    pub(crate) fn append(
+    // Appends a call to `at`, by one exchange of the front word, where that is the whole history. From then
+    // on the call is an event. Otherwise the history is longer, and this list sees it.
+    pub(crate) fn exchange(
         &mut self,
         front: &Front<J, A>,
         at: &List<J, A>,

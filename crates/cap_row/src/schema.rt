@@ -6,14 +6,11 @@ ghost use Rattle.std.specs.Result.{result_err};
 ghost use Rattle.cap_value.specs.Memory.{AnswersUnlessMemory, RefusesFirst};
 ghost use Rattle.cap_row.specs.Schema.{schema_of, has_key};
 
+use crate::limits::COLUMNS_MAX;
 use cap_value::{AllocHandle, Exact, Fault, OutOfMemory, Refusal};
 use std::fmt::{self, Debug, Formatter, Write};
 use std::marker::Model;
 use std::sync::ArcSlice;
-
-/// The most columns that a table may have: SQLite's default for "Maximum Number Of Columns"
-/// (Implementation Limits For SQLite).
-pub const COLUMNS_MAX: usize = 2_000;
 
 /// The columns of a table: 1 to `COLUMNS_MAX`, each in the primary key or not. Copies share the flags.
 #[derive(Drop)]
@@ -24,7 +21,7 @@ pub struct Schema<A: AllocHandle> {
 impl<A: AllocHandle> Model for Schema<A> {
     ghost use Rattle.std.specs.Prelude.{List, Bool, ◌≤◌, length};
     ghost use Rattle.std.specs.Arc.{arc_slice_items};
-    ghost use Rattle.cap_row.specs.declared.schema.TheConstants.{COLUMNS_MAX};
+    ghost use Rattle.cap_row.specs.declared.limits.TheConstants.{COLUMNS_MAX};
 
     ghost Value = { List Bool };
 

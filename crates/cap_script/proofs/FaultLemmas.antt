@@ -20,7 +20,7 @@ use Rattle.cap_codec.specs.BlobReading.{blob_at}
 use Rattle.cap_row.specs.Schema.{is_schema}
 use Rattle.cap_script.specs.Forms.{NotSpelled, Sign, Without}
 use Rattle.cap_script.specs.LineFaults.{FaultIs, line, line_fault, beyond_if, commands, contents_read, is_key_letter, on_contents, contents, on_schema, more_operations, on_operation, on_value, operation, row, row_words, value, values, verbs}
-use Rattle.cap_script.specs.Reading.{Fails, Outcome, Reading, Reads, Verdict, goes_on, unfit, exceeds, no_blob, fits_if, within_if, judged, misfit, on_word, scanned, any_of, behind, keyword, natural, one_of, at_most, ◌>>=◌, ◌⋙◌}
+use Rattle.cap_script.specs.Reading.{Fails, Outcome, Reading, Reads, Verdict, goes_on, unfit, exceeds, no_blob, fits_if, within_if, judged, unexpected, on_word, scanned, any_of, behind, keyword, natural, one_of, at_most, ◌>>=◌, ◌⋙◌}
 use Rattle.cap_script.specs.Refused.{blob_fault, limit_fault}
 use Rattle.cap_script.specs.Scanning.{Scanned, token_at}
 use Rattle.cap_script.specs.Starts.{start_at, start_of}
@@ -99,7 +99,7 @@ blob_start bytes here rest p = rw p.1 refl
 two_starts : (a b c : Start) → a ≡ b → a ≡ c → (b ≡ c → ⊥) → ⊥
 two_starts a b c e f unlike = unlike (sym e ∙ f)
 
-pub no_text_value : (line : List ℕ) → start_of (behind_blanks line) ≡ Quote → ((t : List ℕ) → NotSpelled (Next (text t)) line) → value line ≡ Err (misfit (behind_blanks line))
+pub no_text_value : (line : List ℕ) → start_of (behind_blanks line) ≡ Quote → ((t : List ℕ) → NotSpelled (Next (text t)) line) → value line ≡ Err (unexpected (behind_blanks line))
 no_text_value line at none = other_token on_value (behind_blanks line) by
   where
     by : (token : Token) (rest : List ℕ) → Begins token (behind_blanks line) rest → on_value token ≡ unfit
@@ -109,7 +109,7 @@ no_text_value line at none = other_token on_value (behind_blanks line) by
     by (blob bytes) rest h = absurd (two_starts (start_of (behind_blanks line)) Quote X at (blob_start bytes (behind_blanks line) rest h) (λ e. absurd cc))
     by (sign s) rest h = refl
 
-pub no_blob_value : (line : List ℕ) → start_of (behind_blanks line) ≡ X → ((bytes : List ℕ) → NotSpelled (Next (blob bytes)) line) → value line ≡ Err (misfit (behind_blanks line))
+pub no_blob_value : (line : List ℕ) → start_of (behind_blanks line) ≡ X → ((bytes : List ℕ) → NotSpelled (Next (blob bytes)) line) → value line ≡ Err (unexpected (behind_blanks line))
 no_blob_value line at none = other_token on_value (behind_blanks line) by
   where
     null_start : (w rest : List ℕ) → Begins (word w) (behind_blanks line) rest → w ≡ codes "null" → start_of (behind_blanks line) ≡ Other
@@ -122,7 +122,7 @@ no_blob_value line at none = other_token on_value (behind_blanks line) by
     by (blob bytes) rest h = absurd (none bytes rest h)
     by (sign s) rest h = refl
 
-pub no_number_value : (line : List ℕ) → start_of (behind_blanks line) ≡ Digit → ((number : _) → NotSpelled (NextInteger number) line) → value line ≡ Err (misfit (behind_blanks line))
+pub no_number_value : (line : List ℕ) → start_of (behind_blanks line) ≡ Digit → ((number : _) → NotSpelled (NextInteger number) line) → value line ≡ Err (unexpected (behind_blanks line))
 no_number_value line at none = other_token on_value (behind_blanks line) by
   where
     by : (token : Token) (rest : List ℕ) → Begins token (behind_blanks line) rest → on_value token ≡ unfit
@@ -225,7 +225,7 @@ pub cascade : (is_full b : Bool) (line rest found : List ℕ) → operation is_f
 cascade is_full b line rest found e is full = e ∙ ap₂ (λ (f : Bool) (w : List ℕ). judged (behind_blanks line) rest (beyond_if f (on_operation w))) full is
 
 pub no_operation_here : (is_full : Bool) (line rest found : List ℕ) → operation is_full line ≡ judged (behind_blanks line) rest (beyond_if is_full (on_operation found)) → (found ≡ codes "cascade" → ⊥) → ((v : Verb) → found ≢ verb_word v)
-    → operation is_full line ≡ Err (misfit (behind_blanks line))
+    → operation is_full line ≡ Err (unexpected (behind_blanks line))
 no_operation_here is_full line rest found e other none =
     e ∙ ap (λ (v : Verdict). judged (behind_blanks line) rest (beyond_if is_full v)) (no_operation_word found other none) ∙ ap (λ (v : Verdict). judged (behind_blanks line) rest v) (never_fits is_full)
 
@@ -263,7 +263,7 @@ last_operation (suc left) here rest none = no_sign 59 (operation false ⋙ more_
 
 pub no_head_word : (A : Type 0) (w : List ℕ) → ((h : Head) → w ≢ head_word h) → one_of (commands A) w ≡ unfit
 no_head_word A w none =
-    none_of (commands A) w (none head.Create, (none head.Commit, (none head.CommitAt, (none head.Apply, (none head.Get, (none head.Scan, (none head.Save, (none head.Session, (none (head.Of session.Drop), (none (head.Of session.Attach), (none (head.Of session.AttachAll), (none (head.Of session.Filter), (none (head.Of session.Enable), (none (head.Of session.Indirect), (none (head.Of session.IsEmpty), (none (head.Of session.Diff), (none (head.Of session.Changeset), (none (head.Of session.Patchset), (none (head.Of session.Restart), tt)))))))))))))))))))
+    none_of (commands A) w (none head.Create, (none head.Commit, (none head.CommitAt, (none head.Apply, (none head.Get, (none head.Scan, (none head.Save, (none head.Session, (none (head.OnSession session.Drop), (none (head.OnSession session.Attach), (none (head.OnSession session.AttachAll), (none (head.OnSession session.Filter), (none (head.OnSession session.Enable), (none (head.OnSession session.Indirect), (none (head.OnSession session.IsEmpty), (none (head.OnSession session.Diff), (none (head.OnSession session.Changeset), (none (head.OnSession session.Patchset), (none (head.OnSession session.Restart), tt)))))))))))))))))))
 
 session_fits : (A : Type 0) (here rest : List ℕ) (w : SessionWord) → judged here rest (one_of (commands A) (session_word w)) ≡ behind (commands A) (session_word w) rest
 session_fits A here rest session.Drop = refl
@@ -287,7 +287,7 @@ head_fits A here rest head.Get = refl
 head_fits A here rest head.Scan = refl
 head_fits A here rest head.Save = refl
 head_fits A here rest head.Session = refl
-head_fits A here rest (head.Of w) = session_fits A here rest w
+head_fits A here rest (head.OnSession w) = session_fits A here rest w
 
 -- ---- answers and flags
 
@@ -342,7 +342,7 @@ pub contents_err : {X : Type 0} (read : Result X BlobFault) (refused : Fault Blo
 contents_err read fault.OutOfMemory here rest e = tt
 contents_err read (Refused why) here rest e = ap (λ r. judged here rest (contents_read r)) e
 
-pub no_blob_here : (A : Type 0) (line : List ℕ) → ((bytes : List ℕ) → NotSpelled (Next (blob bytes)) line) → contents A line ≡ Err (misfit (behind_blanks line))
+pub no_blob_here : (A : Type 0) (line : List ℕ) → ((bytes : List ℕ) → NotSpelled (Next (blob bytes)) line) → contents A line ≡ Err (unexpected (behind_blanks line))
 no_blob_here A line none = other_token (on_contents A) (behind_blanks line) by
   where
     by : (token : Token) (rest : List ℕ) → Begins token (behind_blanks line) rest → on_contents A token ≡ unfit

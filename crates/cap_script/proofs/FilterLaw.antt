@@ -14,9 +14,9 @@ use Rattle.cap_script.specs.declared.fault.LineFault.TheVariants.{Syntax}
 use Rattle.cap_script.proofs.LocalLemmas.{blanks_of, longer_end, same_end}
 use Rattle.cap_script.proofs.NoneLemmas.{alike}
 use Rattle.cap_script.proofs.OpenForms.{form_filter_word}
-use Rattle.cap_script.proofs.OpenLaw.{misfit_begins, worker_moved}
+use Rattle.cap_script.proofs.OpenLaw.{unexpected_begins, worker_moved}
 use Rattle.cap_script.proofs.OpenLemmas.{Reached, Tail, only_blanks}
-use Rattle.cap_script.proofs.PlaceLaw.{SetsFilter, local_keyword, local_natural, local_worker, misfit_kept, of_err, to_filter}
+use Rattle.cap_script.proofs.PlaceLaw.{SetsFilter, local_keyword, local_natural, local_worker, of_err, to_filter, unexpected_kept}
 use Rattle.cap_script.proofs.PlaceLemmas.{Local, local_both, read_to, same_left, same_rest}
 
 -- ---- up to the session's number
@@ -157,7 +157,7 @@ module _ (A : Type 0) where
     so.long,
     λ more alike.
         let said = local_to_filter.goes so.front so.middle so.behind more alike so.said in
-        let unfit = local_natural.misfits so.middle so.behind more alike so.unfit in
+        let unfit = local_natural.refuses so.middle so.behind more alike so.unfit in
         ap result_err (filter_line (so.front ++ more) (so.middle ++ more) said ∙ ap on_number unfit),
   )
 
@@ -177,12 +177,12 @@ module _ (A : Type 0) where
   fault_kept bytes left e none = by (to_filter bytes) refl
     where
       by : (o : Outcome) → to_filter bytes ≡ o → KeepsSyntaxFault A bytes left
-      by (Err fault) is = misfit_kept A bytes left e (no_word bytes fault is)
+      by (Err fault) is = unexpected_kept A bytes left e (no_word bytes fault is)
       by (Ok mid) is = number_kept bytes left (at_number bytes mid left (natural mid) refl is e none)
 
   pub fault_begins : (bytes : List ℕ) (left : ℕ) → HasSyntaxFault A bytes left → (ReachesFilter bytes → ⊥) → BeginsLine A bytes left
   fault_begins bytes left e none = by (to_filter bytes) refl
     where
       by : (o : Outcome) → to_filter bytes ≡ o → BeginsLine A bytes left
-      by (Err fault) is = misfit_begins A bytes left e (no_word bytes fault is)
+      by (Err fault) is = unexpected_begins A bytes left e (no_word bytes fault is)
       by (Ok mid) is = number_begins bytes left (at_number bytes mid left (natural mid) refl is e none)

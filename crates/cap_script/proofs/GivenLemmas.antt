@@ -41,7 +41,7 @@ use Rattle.cap_script.specs.LineFaults.{answer, command, commands, contents, fie
 use Rattle.cap_script.specs.LineFaults.{line as whole_line, values as row_values}
 use Rattle.cap_script.specs.LineLimits.{CommandWithin, LineWithin, SchemaWithin, ShowWithin}
 use Rattle.cap_script.specs.Operations.{MoreOperations, MoreValues, SpelledAction, SpelledField, SpelledFields, SpelledOperation, SpelledOperations, SpelledRow, SpelledValue, SpelledValues}
-use Rattle.cap_script.specs.Reading.{Outcome, Reading, Verdict, goes_on, unfit, exceeds, scanned, by_sign, fits, fits_if, within_if, judged, misfit, a_sign, a_word, any_of, at_end, at_most, behind, each, keyword, keyword_or_end, natural, on_natural, on_word, one_of, right_here, space_here, unless_end, ◌>>=◌, ◌⋙◌}
+use Rattle.cap_script.specs.Reading.{Outcome, Reading, Verdict, goes_on, unfit, exceeds, scanned, by_sign, fits, fits_if, within_if, judged, unexpected, a_sign, a_word, any_of, at_end, at_most, behind, each, keyword, keyword_or_end, natural, on_natural, on_word, one_of, right_here, space_here, unless_end, ◌>>=◌, ◌⋙◌}
 use Rattle.cap_script.specs.Scanning.{Scanned, token_at}
 use Rattle.cap_script.specs.Script.{SpelledWorker, SpellsLine}
 use Rattle.cap_script.specs.Tokens.{Begins, Next, is_blank, sign, signed, begins, behind_blanks, blob, integer, text, word}
@@ -148,10 +148,10 @@ natural_given line rest = by (token_at (behind_blanks line)) (token_found (behin
 sign_given : (s : ℕ) → Gives {X = ⊤} (a_sign s) Always (λ x. Sign s)
 sign_given s line rest = by (behind_blanks line) refl
   where
-    by : (here : List ℕ) → behind_blanks line ≡ here → by_sign s (λ l. Ok l) (λ l. Err (misfit l)) here ≡ Ok rest → (x : ⊤) × ⊤ × Sign s line rest
+    by : (here : List ℕ) → behind_blanks line ≡ here → by_sign s (λ l. Ok l) (λ l. Err (unexpected l)) here ≡ Ok rest → (x : ⊤) × ⊤ × Sign s line rest
     by [] is e = absurd cc
     by (byte ∷ here) is e =
-        cond_both (eqb byte s) (Ok here) (Err (misfit (byte ∷ here))) (λ o. o ≡ Ok rest → (x : ⊤) × ⊤ × Sign s line rest)
+        cond_both (eqb byte s) (Ok here) (Err (unexpected (byte ∷ here))) (λ o. o ≡ Ok rest → (x : ⊤) × ⊤ × Sign s line rest)
         (λ like f. (tt, tt, is ∙ ap₂ (λ (c : ℕ) (l : List ℕ). c ∷ l) (eqb-true byte s like) (same_rest here rest f))) (λ other f. absurd cc) e
 
 -- ---- items behind a sign
@@ -395,7 +395,7 @@ report_given A line rest e = by (last_given (codes "report") line rest e)
 -- ---- workers
 
 space_said : (here rest : List ℕ) → space_here here ≡ Ok rest → (begins is_blank here ≡ true) × (here ≡ rest)
-space_said here rest = cond_both (begins is_blank here) (Ok here) (Err (misfit here)) (λ o. o ≡ Ok rest → (begins is_blank here ≡ true) × (here ≡ rest)) (λ is e. (is, same_rest here rest e)) (λ is e. absurd cc)
+space_said here rest = cond_both (begins is_blank here) (Ok here) (Err (unexpected here)) (λ o. o ≡ Ok rest → (begins is_blank here ≡ true) × (here ≡ rest)) (λ is e. (is, same_rest here rest e)) (λ is e. absurd cc)
 
 number_given : (digits rest : List ℕ) → right_here (on_natural on_worker) digits ≡ Ok rest → (n : ℕ) × (n ≤ 63) × Begins (integer false n) digits rest
 number_given digits rest = by (token_at digits) (token_found digits)
@@ -485,19 +485,19 @@ module _ {A : Type 0} (filters : FiltersSpelled) (blobs : BlobsSpelled A) where
   said_given head.Scan mid rest e = let (table, within, h) = name_given mid rest e in (table, (tt, within), h)
   said_given head.Save mid rest e = let (database, within, h) = name_given mid rest e in (database, (within, tt), h)
   said_given head.Session mid rest e = (tt, (tt, tt), sym (same_rest mid rest e))
-  said_given (head.Of session.Drop) mid rest e = let (n, u, h) = natural_given mid rest e in (n, (tt, tt), h)
-  said_given (head.Of session.Attach) mid rest e = let (p, (u, within), h) = session_given name NameWithin Word name_given mid rest e in (p, (within, tt), h)
-  said_given (head.Of session.AttachAll) mid rest e = let (n, u, h) = natural_given mid rest e in (n, (tt, tt), h)
-  said_given (head.Of session.Filter) mid rest e = let (p, (u, within), h) = session_given filter (λ r. IsTrue (is_within_limits r)) SpelledFilter filter_given mid rest e in (p, (within, tt), h)
-  said_given (head.Of session.Enable) mid rest e = let (p, u, h) = session_given flag Always (λ asked. Word (flag_word asked)) flag_given mid rest e in (p, (tt, tt), h)
-  said_given (head.Of session.Indirect) mid rest e = let (p, u, h) = session_given flag Always (λ asked. Word (flag_word asked)) flag_given mid rest e in (p, (tt, tt), h)
-  said_given (head.Of session.IsEmpty) mid rest e = let (n, u, h) = natural_given mid rest e in (n, (tt, tt), h)
-  said_given (head.Of session.Diff) mid rest e =
+  said_given (head.OnSession session.Drop) mid rest e = let (n, u, h) = natural_given mid rest e in (n, (tt, tt), h)
+  said_given (head.OnSession session.Attach) mid rest e = let (p, (u, within), h) = session_given name NameWithin Word name_given mid rest e in (p, (within, tt), h)
+  said_given (head.OnSession session.AttachAll) mid rest e = let (n, u, h) = natural_given mid rest e in (n, (tt, tt), h)
+  said_given (head.OnSession session.Filter) mid rest e = let (p, (u, within), h) = session_given filter (λ r. IsTrue (is_within_limits r)) SpelledFilter filter_given mid rest e in (p, (within, tt), h)
+  said_given (head.OnSession session.Enable) mid rest e = let (p, u, h) = session_given flag Always (λ asked. Word (flag_word asked)) flag_given mid rest e in (p, (tt, tt), h)
+  said_given (head.OnSession session.Indirect) mid rest e = let (p, u, h) = session_given flag Always (λ asked. Word (flag_word asked)) flag_given mid rest e in (p, (tt, tt), h)
+  said_given (head.OnSession session.IsEmpty) mid rest e = let (n, u, h) = natural_given mid rest e in (n, (tt, tt), h)
+  said_given (head.OnSession session.Diff) mid rest e =
       let (p, (u, within), h) = session_given (name ⋙ name) (λ (q : List ℕ × List ℕ). NameWithin q.0 × NameWithin q.1) (λ q. Word q.0 ▸ Word q.1) (both_give name name NameWithin NameWithin Word Word name_given name_given) mid rest e in
       ((p.0, p.1.0, p.1.1), (within, tt), h)
-  said_given (head.Of session.Changeset) mid rest e = let (p, u, h) = session_given (keyword_or_end (codes "places")) Always SpelledKeyFlags key_flags_given mid rest e in (p, (tt, tt), h)
-  said_given (head.Of session.Patchset) mid rest e = let (p, u, h) = session_given (keyword_or_end (codes "places")) Always SpelledKeyFlags key_flags_given mid rest e in (p, (tt, tt), h)
-  said_given (head.Of session.Restart) mid rest e = let (p, u, h) = session_given (keyword_or_end (codes "places")) Always SpelledKeyFlags key_flags_given mid rest e in (p, (tt, tt), h)
+  said_given (head.OnSession session.Changeset) mid rest e = let (p, u, h) = session_given (keyword_or_end (codes "places")) Always SpelledKeyFlags key_flags_given mid rest e in (p, (tt, tt), h)
+  said_given (head.OnSession session.Patchset) mid rest e = let (p, u, h) = session_given (keyword_or_end (codes "places")) Always SpelledKeyFlags key_flags_given mid rest e in (p, (tt, tt), h)
+  said_given (head.OnSession session.Restart) mid rest e = let (p, u, h) = session_given (keyword_or_end (codes "places")) Always SpelledKeyFlags key_flags_given mid rest e in (p, (tt, tt), h)
 
   -- a word and what was said behind it are a command
   spelled : (w : Head) (said : Said A w) (line mid rest : List ℕ) → Word (head_word w) line mid → SpelledSaid A w said mid rest → SpelledCommand (command_of w said) (show_of w said) line rest
@@ -509,17 +509,17 @@ module _ {A : Type 0} (filters : FiltersSpelled) (blobs : BlobsSpelled A) where
   spelled head.Scan x line mid rest p h = (mid, p, h)
   spelled head.Save x line mid rest p h = (mid, p, h)
   spelled head.Session x line mid rest p h = moved_rest (Word (codes "session")) line mid rest (sym h) p
-  spelled (head.Of session.Drop) x line mid rest p h = (mid, p, h)
-  spelled (head.Of session.Attach) x line mid rest p h = (mid, p, h)
-  spelled (head.Of session.AttachAll) x line mid rest p h = (mid, p, h)
-  spelled (head.Of session.Filter) x line mid rest p h = (mid, p, h)
-  spelled (head.Of session.Enable) x line mid rest p h = (mid, p, h)
-  spelled (head.Of session.Indirect) x line mid rest p h = (mid, p, h)
-  spelled (head.Of session.IsEmpty) x line mid rest p h = (mid, p, h)
-  spelled (head.Of session.Diff) x line mid rest p h = (mid, p, h)
-  spelled (head.Of session.Changeset) x line mid rest p h = (mid, p, h)
-  spelled (head.Of session.Patchset) x line mid rest p h = (mid, p, h)
-  spelled (head.Of session.Restart) x line mid rest p h = (mid, p, h)
+  spelled (head.OnSession session.Drop) x line mid rest p h = (mid, p, h)
+  spelled (head.OnSession session.Attach) x line mid rest p h = (mid, p, h)
+  spelled (head.OnSession session.AttachAll) x line mid rest p h = (mid, p, h)
+  spelled (head.OnSession session.Filter) x line mid rest p h = (mid, p, h)
+  spelled (head.OnSession session.Enable) x line mid rest p h = (mid, p, h)
+  spelled (head.OnSession session.Indirect) x line mid rest p h = (mid, p, h)
+  spelled (head.OnSession session.IsEmpty) x line mid rest p h = (mid, p, h)
+  spelled (head.OnSession session.Diff) x line mid rest p h = (mid, p, h)
+  spelled (head.OnSession session.Changeset) x line mid rest p h = (mid, p, h)
+  spelled (head.OnSession session.Patchset) x line mid rest p h = (mid, p, h)
+  spelled (head.OnSession session.Restart) x line mid rest p h = (mid, p, h)
 
   abbrev Commanded : List ℕ → List ℕ → Type 0
   Commanded line rest = (p : Command A × Show A) × (CommandWithin p.0 × ShowWithin p.1) × SpelledCommand p.0 p.1 line rest
@@ -530,12 +530,12 @@ module _ {A : Type 0} (filters : FiltersSpelled) (blobs : BlobsSpelled A) where
       let given : (w : Head) → so.w ≡ head_word w → behind (commands A) (head_word w) so.mid ≡ Ok rest → Commanded line rest = λ w is f.
       let (said, within, h) = said_given w so.mid rest f in
       ((command_of w said, show_of w said), within, spelled w said line so.mid rest (said_as so.w (head_word w) line so.mid is so.said) h) in
-      one_found (commands A) (behind_blanks line) so.mid rest so.w (given head.Create, (given head.Commit, (given head.CommitAt, (given head.Apply, (given head.Get, (given head.Scan, (given head.Save, (given head.Session, (given (head.Of session.Drop), (given (head.Of session.Attach), (given (head.Of session.AttachAll), (given (head.Of session.Filter), (given (head.Of session.Enable), (given (head.Of session.Indirect), (given (head.Of session.IsEmpty), (given (head.Of session.Diff), (given (head.Of session.Changeset), (given (head.Of session.Patchset), (given (head.Of session.Restart), tt))))))))))))))))))) so.goes
+      one_found (commands A) (behind_blanks line) so.mid rest so.w (given head.Create, (given head.Commit, (given head.CommitAt, (given head.Apply, (given head.Get, (given head.Scan, (given head.Save, (given head.Session, (given (head.OnSession session.Drop), (given (head.OnSession session.Attach), (given (head.OnSession session.AttachAll), (given (head.OnSession session.Filter), (given (head.OnSession session.Enable), (given (head.OnSession session.Indirect), (given (head.OnSession session.IsEmpty), (given (head.OnSession session.Diff), (given (head.OnSession session.Changeset), (given (head.OnSession session.Patchset), (given (head.OnSession session.Restart), tt))))))))))))))))))) so.goes
 
   at_end_said : (mid rest : List ℕ) → at_end mid ≡ Ok rest → behind_blanks mid ≡ []
   at_end_said mid rest = by (behind_blanks mid)
     where
-      by : (here : List ℕ) → unless_end (λ l. Err (misfit l)) here ≡ Ok rest → here ≡ []
+      by : (here : List ℕ) → unless_end (λ l. Err (unexpected l)) here ≡ Ok rest → here ≡ []
       by [] e = refl
       by (byte ∷ here) e = absurd cc
 

@@ -118,7 +118,7 @@ module _ (A : Type 0) where
 
   -- ---- commands on a session
 
-  pub no_session : (fault : LineFault) (word : SessionWord) (here : List ℕ) → ((n : ℕ) → NotSpelled (Natural n) here) → NoSaid A fault (head.Of word) here
+  pub no_session : (fault : LineFault) (word : SessionWord) (here : List ℕ) → ((n : ℕ) → NotSpelled (Natural n) here) → NoSaid A fault (head.OnSession word) here
   no_session fault session.Drop here none x rest p = absurd (none x rest p)
   no_session fault session.Attach here none x rest p = absurd (none x.0 p.0 p.1)
   no_session fault session.AttachAll here none x rest p = absurd (none x rest p)
@@ -135,32 +135,32 @@ module _ (A : Type 0) where
   behind_number : {X : Type 0} (form : X → Form) (n m : ℕ) (x : X) (here mid rest : List ℕ) → Natural n here mid → (Natural m ▸ form x) here rest → form x mid rest
   behind_number form n m x here mid rest number p = moved (form x) mid p.0 rest (same_natural n m here mid p.0 number p.1).1 p.2
 
-  pub no_attached : (fault : LineFault) (n : ℕ) (here mid : List ℕ) → Natural n here mid → NoName fault mid → NoSaid A fault (head.Of session.Attach) here
+  pub no_attached : (fault : LineFault) (n : ℕ) (here mid : List ℕ) → Natural n here mid → NoName fault mid → NoSaid A fault (head.OnSession session.Attach) here
   no_attached fault n here mid number none (m, table) rest p = leaves_map fault (λ within. within.0) (none table rest (behind_number Word n m table here mid rest number p))
 
-  pub no_filter : (fault : LineFault) (n : ℕ) (here mid : List ℕ) → Natural n here mid → NoFilter fault mid → NoSaid A fault (head.Of session.Filter) here
+  pub no_filter : (fault : LineFault) (n : ℕ) (here mid : List ℕ) → Natural n here mid → NoFilter fault mid → NoSaid A fault (head.OnSession session.Filter) here
   no_filter fault n here mid number none (m, filter) rest p = leaves_map fault (λ within. within.0) (none filter rest (behind_number SpelledFilter n m filter here mid rest number p))
 
-  pub no_enabled : (fault : LineFault) (n : ℕ) (here mid : List ℕ) → Natural n here mid → ((flag : Option Bool) → NotSpelled (Word (flag_word flag)) mid) → NoSaid A fault (head.Of session.Enable) here
+  pub no_enabled : (fault : LineFault) (n : ℕ) (here mid : List ℕ) → Natural n here mid → ((flag : Option Bool) → NotSpelled (Word (flag_word flag)) mid) → NoSaid A fault (head.OnSession session.Enable) here
   no_enabled fault n here mid number none (m, flag) rest p = absurd (none flag rest (behind_number (λ f. Word (flag_word f)) n m flag here mid rest number p))
 
-  pub no_indirect : (fault : LineFault) (n : ℕ) (here mid : List ℕ) → Natural n here mid → ((flag : Option Bool) → NotSpelled (Word (flag_word flag)) mid) → NoSaid A fault (head.Of session.Indirect) here
+  pub no_indirect : (fault : LineFault) (n : ℕ) (here mid : List ℕ) → Natural n here mid → ((flag : Option Bool) → NotSpelled (Word (flag_word flag)) mid) → NoSaid A fault (head.OnSession session.Indirect) here
   no_indirect fault n here mid number none (m, flag) rest p = absurd (none flag rest (behind_number (λ f. Word (flag_word f)) n m flag here mid rest number p))
 
-  pub no_changeset : (fault : LineFault) (n : ℕ) (here mid : List ℕ) → Natural n here mid → ((flags : KeyFlags) → NotSpelled (SpelledKeyFlags flags) mid) → NoSaid A fault (head.Of session.Changeset) here
+  pub no_changeset : (fault : LineFault) (n : ℕ) (here mid : List ℕ) → Natural n here mid → ((flags : KeyFlags) → NotSpelled (SpelledKeyFlags flags) mid) → NoSaid A fault (head.OnSession session.Changeset) here
   no_changeset fault n here mid number none (m, flags) rest p = absurd (none flags rest (behind_number SpelledKeyFlags n m flags here mid rest number p))
 
-  pub no_patchset : (fault : LineFault) (n : ℕ) (here mid : List ℕ) → Natural n here mid → ((flags : KeyFlags) → NotSpelled (SpelledKeyFlags flags) mid) → NoSaid A fault (head.Of session.Patchset) here
+  pub no_patchset : (fault : LineFault) (n : ℕ) (here mid : List ℕ) → Natural n here mid → ((flags : KeyFlags) → NotSpelled (SpelledKeyFlags flags) mid) → NoSaid A fault (head.OnSession session.Patchset) here
   no_patchset fault n here mid number none (m, flags) rest p = absurd (none flags rest (behind_number SpelledKeyFlags n m flags here mid rest number p))
 
-  pub no_restart : (fault : LineFault) (n : ℕ) (here mid : List ℕ) → Natural n here mid → ((flags : KeyFlags) → NotSpelled (SpelledKeyFlags flags) mid) → NoSaid A fault (head.Of session.Restart) here
+  pub no_restart : (fault : LineFault) (n : ℕ) (here mid : List ℕ) → Natural n here mid → ((flags : KeyFlags) → NotSpelled (SpelledKeyFlags flags) mid) → NoSaid A fault (head.OnSession session.Restart) here
   no_restart fault n here mid number none (m, flags) rest p = absurd (none flags rest (behind_number SpelledKeyFlags n m flags here mid rest number p))
 
-  pub no_diff_from : (fault : LineFault) (n : ℕ) (here mid : List ℕ) → Natural n here mid → NoName fault mid → NoSaid A fault (head.Of session.Diff) here
+  pub no_diff_from : (fault : LineFault) (n : ℕ) (here mid : List ℕ) → Natural n here mid → NoName fault mid → NoSaid A fault (head.OnSession session.Diff) here
   no_diff_from fault n here mid number none (m, from, table) rest p =
       leaves_map fault (λ within. within.0.0) (none from p.2.0 (moved (Word from) mid p.0 p.2.0 (same_natural n m here mid p.0 number p.1).1 p.2.1))
 
-  pub no_diff_table : (fault : LineFault) (n : ℕ) (name here mid there : List ℕ) → Natural n here mid → Word name mid there → NoName fault there → NoSaid A fault (head.Of session.Diff) here
+  pub no_diff_table : (fault : LineFault) (n : ℕ) (name here mid there : List ℕ) → Natural n here mid → Word name mid there → NoName fault there → NoSaid A fault (head.OnSession session.Diff) here
   no_diff_table fault n name here mid there number named none (m, from, table) rest p =
       let at = (same_natural n m here mid p.0 number p.1).1 in
       let behind = (same_word name from mid there p.2.0 named (moved (Word from) mid p.0 p.2.0 at p.2.1)).1 in

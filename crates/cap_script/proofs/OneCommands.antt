@@ -68,33 +68,33 @@ one_head head.Get head.Get e = refl
 one_head head.Scan head.Scan e = refl
 one_head head.Save head.Save e = refl
 one_head head.Session head.Session e = refl
-one_head (head.Of session.Drop) (head.Of session.Drop) e = refl
-one_head (head.Of session.Attach) (head.Of session.Attach) e = refl
-one_head (head.Of session.AttachAll) (head.Of session.AttachAll) e = refl
-one_head (head.Of session.Filter) (head.Of session.Filter) e = refl
-one_head (head.Of session.Enable) (head.Of session.Enable) e = refl
-one_head (head.Of session.Indirect) (head.Of session.Indirect) e = refl
-one_head (head.Of session.IsEmpty) (head.Of session.IsEmpty) e = refl
-one_head (head.Of session.Diff) (head.Of session.Diff) e = refl
-one_head (head.Of session.Changeset) (head.Of session.Changeset) e = refl
-one_head (head.Of session.Patchset) (head.Of session.Patchset) e = refl
-one_head (head.Of session.Restart) (head.Of session.Restart) e = refl
-one_head head.Create (head.Of session.Drop) e = absurd (differ (head_word head.Create) (codes "drop") refl e)
-one_head (head.Of session.Drop) head.Create e = absurd (differ (codes "drop") (head_word head.Create) refl e)
-one_head head.Commit (head.Of session.Drop) e = absurd (differ (head_word head.Commit) (codes "drop") refl e)
-one_head (head.Of session.Drop) head.Commit e = absurd (differ (codes "drop") (head_word head.Commit) refl e)
-one_head head.CommitAt (head.Of session.Drop) e = absurd (differ (head_word head.CommitAt) (codes "drop") refl e)
-one_head (head.Of session.Drop) head.CommitAt e = absurd (differ (codes "drop") (head_word head.CommitAt) refl e)
-one_head head.Apply (head.Of session.Drop) e = absurd (differ (head_word head.Apply) (codes "drop") refl e)
-one_head (head.Of session.Drop) head.Apply e = absurd (differ (codes "drop") (head_word head.Apply) refl e)
-one_head head.Get (head.Of session.Drop) e = absurd (differ (head_word head.Get) (codes "drop") refl e)
-one_head (head.Of session.Drop) head.Get e = absurd (differ (codes "drop") (head_word head.Get) refl e)
-one_head head.Scan (head.Of session.Drop) e = absurd (differ (head_word head.Scan) (codes "drop") refl e)
-one_head (head.Of session.Drop) head.Scan e = absurd (differ (codes "drop") (head_word head.Scan) refl e)
-one_head head.Save (head.Of session.Drop) e = absurd (differ (head_word head.Save) (codes "drop") refl e)
-one_head (head.Of session.Drop) head.Save e = absurd (differ (codes "drop") (head_word head.Save) refl e)
-one_head head.Session (head.Of session.Drop) e = absurd (differ (head_word head.Session) (codes "drop") refl e)
-one_head (head.Of session.Drop) head.Session e = absurd (differ (codes "drop") (head_word head.Session) refl e)
+one_head (head.OnSession session.Drop) (head.OnSession session.Drop) e = refl
+one_head (head.OnSession session.Attach) (head.OnSession session.Attach) e = refl
+one_head (head.OnSession session.AttachAll) (head.OnSession session.AttachAll) e = refl
+one_head (head.OnSession session.Filter) (head.OnSession session.Filter) e = refl
+one_head (head.OnSession session.Enable) (head.OnSession session.Enable) e = refl
+one_head (head.OnSession session.Indirect) (head.OnSession session.Indirect) e = refl
+one_head (head.OnSession session.IsEmpty) (head.OnSession session.IsEmpty) e = refl
+one_head (head.OnSession session.Diff) (head.OnSession session.Diff) e = refl
+one_head (head.OnSession session.Changeset) (head.OnSession session.Changeset) e = refl
+one_head (head.OnSession session.Patchset) (head.OnSession session.Patchset) e = refl
+one_head (head.OnSession session.Restart) (head.OnSession session.Restart) e = refl
+one_head head.Create (head.OnSession session.Drop) e = absurd (differ (head_word head.Create) (codes "drop") refl e)
+one_head (head.OnSession session.Drop) head.Create e = absurd (differ (codes "drop") (head_word head.Create) refl e)
+one_head head.Commit (head.OnSession session.Drop) e = absurd (differ (head_word head.Commit) (codes "drop") refl e)
+one_head (head.OnSession session.Drop) head.Commit e = absurd (differ (codes "drop") (head_word head.Commit) refl e)
+one_head head.CommitAt (head.OnSession session.Drop) e = absurd (differ (head_word head.CommitAt) (codes "drop") refl e)
+one_head (head.OnSession session.Drop) head.CommitAt e = absurd (differ (codes "drop") (head_word head.CommitAt) refl e)
+one_head head.Apply (head.OnSession session.Drop) e = absurd (differ (head_word head.Apply) (codes "drop") refl e)
+one_head (head.OnSession session.Drop) head.Apply e = absurd (differ (codes "drop") (head_word head.Apply) refl e)
+one_head head.Get (head.OnSession session.Drop) e = absurd (differ (head_word head.Get) (codes "drop") refl e)
+one_head (head.OnSession session.Drop) head.Get e = absurd (differ (codes "drop") (head_word head.Get) refl e)
+one_head head.Scan (head.OnSession session.Drop) e = absurd (differ (head_word head.Scan) (codes "drop") refl e)
+one_head (head.OnSession session.Drop) head.Scan e = absurd (differ (codes "drop") (head_word head.Scan) refl e)
+one_head head.Save (head.OnSession session.Drop) e = absurd (differ (head_word head.Save) (codes "drop") refl e)
+one_head (head.OnSession session.Drop) head.Save e = absurd (differ (codes "drop") (head_word head.Save) refl e)
+one_head head.Session (head.OnSession session.Drop) e = absurd (differ (head_word head.Session) (codes "drop") refl e)
+one_head (head.OnSession session.Drop) head.Session e = absurd (differ (codes "drop") (head_word head.Session) refl e)
 one_head x y e = absurd (differ (head_word x) (head_word y) refl e)
 
 -- ---- the lines of a text
@@ -216,17 +216,17 @@ Said A head.Get = List ℕ × RowRef A
 Said A head.Scan = List ℕ
 Said A head.Save = List ℕ
 Said A head.Session = Unit {0}
-Said A (head.Of session.Drop) = ℕ
-Said A (head.Of session.Attach) = ℕ × List ℕ
-Said A (head.Of session.AttachAll) = ℕ
-Said A (head.Of session.Filter) = ℕ × Rule
-Said A (head.Of session.Enable) = ℕ × Option Bool
-Said A (head.Of session.Indirect) = ℕ × Option Bool
-Said A (head.Of session.IsEmpty) = ℕ
-Said A (head.Of session.Diff) = ℕ × List ℕ × List ℕ
-Said A (head.Of session.Changeset) = ℕ × KeyFlags
-Said A (head.Of session.Patchset) = ℕ × KeyFlags
-Said A (head.Of session.Restart) = ℕ × KeyFlags
+Said A (head.OnSession session.Drop) = ℕ
+Said A (head.OnSession session.Attach) = ℕ × List ℕ
+Said A (head.OnSession session.AttachAll) = ℕ
+Said A (head.OnSession session.Filter) = ℕ × Rule
+Said A (head.OnSession session.Enable) = ℕ × Option Bool
+Said A (head.OnSession session.Indirect) = ℕ × Option Bool
+Said A (head.OnSession session.IsEmpty) = ℕ
+Said A (head.OnSession session.Diff) = ℕ × List ℕ × List ℕ
+Said A (head.OnSession session.Changeset) = ℕ × KeyFlags
+Said A (head.OnSession session.Patchset) = ℕ × KeyFlags
+Said A (head.OnSession session.Restart) = ℕ × KeyFlags
 
 -- bytes spell one blob
 abbrev pub OneBlob : Type 0 → Type 0
@@ -241,17 +241,17 @@ SpelledSaid A head.Get x = Word x.0 ▸ SpelledRow x.1
 SpelledSaid A head.Scan x = Word x
 SpelledSaid A head.Save x = Word x
 SpelledSaid A head.Session x = λ line rest. rest ≡ line
-SpelledSaid A (head.Of session.Attach) x = Natural x.0 ▸ Word x.1
-SpelledSaid A (head.Of session.Filter) x = Natural x.0 ▸ SpelledFilter x.1
-SpelledSaid A (head.Of session.Enable) x = Natural x.0 ▸ Word (flag_word x.1)
-SpelledSaid A (head.Of session.Indirect) x = Natural x.0 ▸ Word (flag_word x.1)
-SpelledSaid A (head.Of session.Diff) x = Natural x.0 ▸ Word x.1 ▸ Word x.2
-SpelledSaid A (head.Of session.Drop) x = Natural x
-SpelledSaid A (head.Of session.AttachAll) x = Natural x
-SpelledSaid A (head.Of session.IsEmpty) x = Natural x
-SpelledSaid A (head.Of session.Changeset) x = Natural x.0 ▸ SpelledKeyFlags x.1
-SpelledSaid A (head.Of session.Patchset) x = Natural x.0 ▸ SpelledKeyFlags x.1
-SpelledSaid A (head.Of session.Restart) x = Natural x.0 ▸ SpelledKeyFlags x.1
+SpelledSaid A (head.OnSession session.Attach) x = Natural x.0 ▸ Word x.1
+SpelledSaid A (head.OnSession session.Filter) x = Natural x.0 ▸ SpelledFilter x.1
+SpelledSaid A (head.OnSession session.Enable) x = Natural x.0 ▸ Word (flag_word x.1)
+SpelledSaid A (head.OnSession session.Indirect) x = Natural x.0 ▸ Word (flag_word x.1)
+SpelledSaid A (head.OnSession session.Diff) x = Natural x.0 ▸ Word x.1 ▸ Word x.2
+SpelledSaid A (head.OnSession session.Drop) x = Natural x
+SpelledSaid A (head.OnSession session.AttachAll) x = Natural x
+SpelledSaid A (head.OnSession session.IsEmpty) x = Natural x
+SpelledSaid A (head.OnSession session.Changeset) x = Natural x.0 ▸ SpelledKeyFlags x.1
+SpelledSaid A (head.OnSession session.Patchset) x = Natural x.0 ▸ SpelledKeyFlags x.1
+SpelledSaid A (head.OnSession session.Restart) x = Natural x.0 ▸ SpelledKeyFlags x.1
 
 -- a number and what follows it
 numbered : {X : Type 0} (form : X → Form) → ((x y : X) (line a b : List ℕ) → form x line a → form y line b → (x ≡ y) × (a ≡ b)) → (m n : ℕ) (x y : X) (line a b : List ℕ) → (Natural m ▸ form x) line a → (Natural n ▸ form y) line b
@@ -271,25 +271,25 @@ module _ {A : Type 0} where
   command_of head.Scan x = command.Read
   command_of head.Save x = command.SaveAs x
   command_of head.Session x = command.NewSession
-  command_of (head.Of session.Drop) x = command.DropSession x
-  command_of (head.Of session.Attach) x = command.Attach x.0 x.1
-  command_of (head.Of session.AttachAll) x = command.AttachAll x
-  command_of (head.Of session.Filter) x = command.SetFilter x.0 x.1
-  command_of (head.Of session.Enable) x = command.Enable x.0 x.1
-  command_of (head.Of session.Indirect) x = command.Indirect x.0 x.1
-  command_of (head.Of session.IsEmpty) x = command.IsEmpty x
-  command_of (head.Of session.Diff) x = command.Diff x.0 x.1 x.2
-  command_of (head.Of session.Changeset) x = command.Capture x.0
-  command_of (head.Of session.Patchset) x = command.Capture x.0
-  command_of (head.Of session.Restart) x = command.Restart x.0
+  command_of (head.OnSession session.Drop) x = command.DropSession x
+  command_of (head.OnSession session.Attach) x = command.Attach x.0 x.1
+  command_of (head.OnSession session.AttachAll) x = command.AttachAll x
+  command_of (head.OnSession session.Filter) x = command.SetFilter x.0 x.1
+  command_of (head.OnSession session.Enable) x = command.Enable x.0 x.1
+  command_of (head.OnSession session.Indirect) x = command.Indirect x.0 x.1
+  command_of (head.OnSession session.IsEmpty) x = command.IsEmpty x
+  command_of (head.OnSession session.Diff) x = command.Diff x.0 x.1 x.2
+  command_of (head.OnSession session.Changeset) x = command.Capture x.0
+  command_of (head.OnSession session.Patchset) x = command.Capture x.0
+  command_of (head.OnSession session.Restart) x = command.Restart x.0
 
   abbrev pub show_of : (word : Head) → Said A word → Show A
   show_of head.Apply x = x.2
   show_of head.Get x = Get x.0 x.1
   show_of head.Scan x = Scan x
-  show_of (head.Of session.Changeset) x = Changeset x.1
-  show_of (head.Of session.Patchset) x = Patchset x.1
-  show_of (head.Of session.Restart) x = Changeset x.1
+  show_of (head.OnSession session.Changeset) x = Changeset x.1
+  show_of (head.OnSession session.Patchset) x = Patchset x.1
+  show_of (head.OnSession session.Restart) x = Changeset x.1
   show_of _ x = Plain
 
   -- a command by its word
@@ -315,17 +315,17 @@ module _ {A : Type 0} where
   by_word command.Read (Scan table) line rest p = record { word = head.Scan; said = table; behind = p.0; first = p.1; others = p.2; made_is = refl; show_is = refl }
   by_word (command.SaveAs database) Plain line rest p = record { word = head.Save; said = database; behind = p.0; first = p.1; others = p.2; made_is = refl; show_is = refl }
   by_word command.NewSession Plain line rest p = record { word = head.Session; said = tt; behind = rest; first = p; others = refl; made_is = refl; show_is = refl }
-  by_word (command.DropSession number) Plain line rest p = record { word = head.Of session.Drop; said = number; behind = p.0; first = p.1; others = p.2; made_is = refl; show_is = refl }
-  by_word (command.Attach number table) Plain line rest p = record { word = head.Of session.Attach; said = (number, table); behind = p.0; first = p.1; others = p.2; made_is = refl; show_is = refl }
-  by_word (command.AttachAll number) Plain line rest p = record { word = head.Of session.AttachAll; said = number; behind = p.0; first = p.1; others = p.2; made_is = refl; show_is = refl }
-  by_word (command.SetFilter number filter) Plain line rest p = record { word = head.Of session.Filter; said = (number, filter); behind = p.0; first = p.1; others = p.2; made_is = refl; show_is = refl }
-  by_word (command.Enable number asked) Plain line rest p = record { word = head.Of session.Enable; said = (number, asked); behind = p.0; first = p.1; others = p.2; made_is = refl; show_is = refl }
-  by_word (command.Indirect number asked) Plain line rest p = record { word = head.Of session.Indirect; said = (number, asked); behind = p.0; first = p.1; others = p.2; made_is = refl; show_is = refl }
-  by_word (command.IsEmpty number) Plain line rest p = record { word = head.Of session.IsEmpty; said = number; behind = p.0; first = p.1; others = p.2; made_is = refl; show_is = refl }
-  by_word (command.Diff number from table) Plain line rest p = record { word = head.Of session.Diff; said = (number, from, table); behind = p.0; first = p.1; others = p.2; made_is = refl; show_is = refl }
-  by_word (command.Capture number) (Changeset flags) line rest p = record { word = head.Of session.Changeset; said = (number, flags); behind = p.0; first = p.1; others = p.2; made_is = refl; show_is = refl }
-  by_word (command.Capture number) (Patchset flags) line rest p = record { word = head.Of session.Patchset; said = (number, flags); behind = p.0; first = p.1; others = p.2; made_is = refl; show_is = refl }
-  by_word (command.Restart number) (Changeset flags) line rest p = record { word = head.Of session.Restart; said = (number, flags); behind = p.0; first = p.1; others = p.2; made_is = refl; show_is = refl }
+  by_word (command.DropSession number) Plain line rest p = record { word = head.OnSession session.Drop; said = number; behind = p.0; first = p.1; others = p.2; made_is = refl; show_is = refl }
+  by_word (command.Attach number table) Plain line rest p = record { word = head.OnSession session.Attach; said = (number, table); behind = p.0; first = p.1; others = p.2; made_is = refl; show_is = refl }
+  by_word (command.AttachAll number) Plain line rest p = record { word = head.OnSession session.AttachAll; said = number; behind = p.0; first = p.1; others = p.2; made_is = refl; show_is = refl }
+  by_word (command.SetFilter number filter) Plain line rest p = record { word = head.OnSession session.Filter; said = (number, filter); behind = p.0; first = p.1; others = p.2; made_is = refl; show_is = refl }
+  by_word (command.Enable number asked) Plain line rest p = record { word = head.OnSession session.Enable; said = (number, asked); behind = p.0; first = p.1; others = p.2; made_is = refl; show_is = refl }
+  by_word (command.Indirect number asked) Plain line rest p = record { word = head.OnSession session.Indirect; said = (number, asked); behind = p.0; first = p.1; others = p.2; made_is = refl; show_is = refl }
+  by_word (command.IsEmpty number) Plain line rest p = record { word = head.OnSession session.IsEmpty; said = number; behind = p.0; first = p.1; others = p.2; made_is = refl; show_is = refl }
+  by_word (command.Diff number from table) Plain line rest p = record { word = head.OnSession session.Diff; said = (number, from, table); behind = p.0; first = p.1; others = p.2; made_is = refl; show_is = refl }
+  by_word (command.Capture number) (Changeset flags) line rest p = record { word = head.OnSession session.Changeset; said = (number, flags); behind = p.0; first = p.1; others = p.2; made_is = refl; show_is = refl }
+  by_word (command.Capture number) (Patchset flags) line rest p = record { word = head.OnSession session.Patchset; said = (number, flags); behind = p.0; first = p.1; others = p.2; made_is = refl; show_is = refl }
+  by_word (command.Restart number) (Changeset flags) line rest p = record { word = head.OnSession session.Restart; said = (number, flags); behind = p.0; first = p.1; others = p.2; made_is = refl; show_is = refl }
   by_word made show line rest p = absurd p
 
   same_blob : OneBlob A → (x y : Contents A) (line a b : List ℕ) → SpelledBlob x line a → SpelledBlob y line b → (x ≡ y) × (a ≡ b)
@@ -352,21 +352,21 @@ module _ {A : Type 0} where
   same_said blobs filters head.Scan x y line a b p q = same_word x y line a b p q
   same_said blobs filters head.Save x y line a b p q = same_word x y line a b p q
   same_said blobs filters head.Session x y line a b p q = (refl, p ∙ sym q)
-  same_said blobs filters (head.Of session.Attach) x y line a b p q = numbered Word same_word x.0 y.0 x.1 y.1 line a b p q
-  same_said blobs filters (head.Of session.Filter) x y line a b p q = numbered SpelledFilter (same_filter filters) x.0 y.0 x.1 y.1 line a b p q
-  same_said blobs filters (head.Of session.Enable) x y line a b p q = numbered (λ z. Word (flag_word z)) same_flag x.0 y.0 x.1 y.1 line a b p q
-  same_said blobs filters (head.Of session.Indirect) x y line a b p q = numbered (λ z. Word (flag_word z)) same_flag x.0 y.0 x.1 y.1 line a b p q
-  same_said blobs filters (head.Of session.Diff) x y line a b p q =
+  same_said blobs filters (head.OnSession session.Attach) x y line a b p q = numbered Word same_word x.0 y.0 x.1 y.1 line a b p q
+  same_said blobs filters (head.OnSession session.Filter) x y line a b p q = numbered SpelledFilter (same_filter filters) x.0 y.0 x.1 y.1 line a b p q
+  same_said blobs filters (head.OnSession session.Enable) x y line a b p q = numbered (λ z. Word (flag_word z)) same_flag x.0 y.0 x.1 y.1 line a b p q
+  same_said blobs filters (head.OnSession session.Indirect) x y line a b p q = numbered (λ z. Word (flag_word z)) same_flag x.0 y.0 x.1 y.1 line a b p q
+  same_said blobs filters (head.OnSession session.Diff) x y line a b p q =
       let number = same_natural x.0 y.0 line p.0 q.0 p.1 q.1 in
       let from = same_word x.1 y.1 p.0 p.2.0 q.2.0 p.2.1 (moved (Word y.1) p.0 q.0 q.2.0 number.1 q.2.1) in
       let table = same_word x.2 y.2 p.2.0 a b p.2.2 (moved (Word y.2) p.2.0 q.2.0 b from.1 q.2.2) in
       (rw (number.0, from.0, table.0) refl, table.1)
-  same_said blobs filters (head.Of session.Drop) x y line a b p q = same_natural x y line a b p q
-  same_said blobs filters (head.Of session.AttachAll) x y line a b p q = same_natural x y line a b p q
-  same_said blobs filters (head.Of session.IsEmpty) x y line a b p q = same_natural x y line a b p q
-  same_said blobs filters (head.Of session.Changeset) x y line a b p q = numbered SpelledKeyFlags same_key_flags x.0 y.0 x.1 y.1 line a b p q
-  same_said blobs filters (head.Of session.Patchset) x y line a b p q = numbered SpelledKeyFlags same_key_flags x.0 y.0 x.1 y.1 line a b p q
-  same_said blobs filters (head.Of session.Restart) x y line a b p q = numbered SpelledKeyFlags same_key_flags x.0 y.0 x.1 y.1 line a b p q
+  same_said blobs filters (head.OnSession session.Drop) x y line a b p q = same_natural x y line a b p q
+  same_said blobs filters (head.OnSession session.AttachAll) x y line a b p q = same_natural x y line a b p q
+  same_said blobs filters (head.OnSession session.IsEmpty) x y line a b p q = same_natural x y line a b p q
+  same_said blobs filters (head.OnSession session.Changeset) x y line a b p q = numbered SpelledKeyFlags same_key_flags x.0 y.0 x.1 y.1 line a b p q
+  same_said blobs filters (head.OnSession session.Patchset) x y line a b p q = numbered SpelledKeyFlags same_key_flags x.0 y.0 x.1 y.1 line a b p q
+  same_said blobs filters (head.OnSession session.Restart) x y line a b p q = numbered SpelledKeyFlags same_key_flags x.0 y.0 x.1 y.1 line a b p q
 
   pub same_by_word : OneBlob A → OneFilter → (v w : Head) (x : Said A v) (y : Said A w) (line a b : List ℕ) → v ≡ w → SpelledSaid A v x line a → SpelledSaid A w y line b
       → (command_of v x ≡ command_of w y) × (show_of v x ≡ show_of w y) × (a ≡ b)

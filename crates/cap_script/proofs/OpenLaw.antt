@@ -10,7 +10,7 @@ use Rattle.hex.specs.Hex.{decode_of, decode_pairs}
 use Rattle.cap_filter.specs.Printed.{quote}
 use Rattle.cap_script.specs.FaultPlace.{BeginsLine, HasSyntaxFault}
 use Rattle.cap_script.specs.LineFaults.{contents, contents_read, flag, line, line_fault, name, on_contents, on_worker, operations, policy, row, schema, worker}
-use Rattle.cap_script.specs.Reading.{Outcome, Reading, Verdict, exceeds, fits, fits_if, judged, scanned, misfit, at_end, by_sign, keyword, keyword_or_end, natural, next, on_natural, on_word, one_of, right_here, space_here, unless_end, ◌>>=◌, ◌⋙◌}
+use Rattle.cap_script.specs.Reading.{Outcome, Reading, Verdict, exceeds, fits, fits_if, judged, scanned, unexpected, at_end, by_sign, keyword, keyword_or_end, natural, next, on_natural, on_word, one_of, right_here, space_here, unless_end, ◌>>=◌, ◌⋙◌}
 use Rattle.cap_script.specs.Scanning.{Scanned, token_at}
 use Rattle.cap_script.specs.Tokens.{Token, begins, behind_blanks, blob, integer, is_blank, sign, text, word}
 use Rattle.cap_script.specs.declared.fault.LineFault.TheVariants.{Limit, Syntax}
@@ -18,7 +18,7 @@ use Rattle.cap_script.proofs.LocalLemmas.{blanks_of, found_some, longer_end, sam
 use Rattle.cap_script.proofs.OpenForms.{goes_64, form_flag, form_name, form_natural, form_operations, form_places, form_policy, form_report, form_row, form_schema, open_on_word, open_one_of, session_sample}
 use Rattle.cap_script.proofs.OpenLemmas.{Ends, Finish, Form, Here, Nothing, Open, OpenVerdict, Reached, Sample, Skips, Tail, blanks_at, ends_at, form_both, form_next, found_tail, goes_with, never_idle, nothing_tail, only_blanks, open_both, open_next, open_ok, open_skip, reached, reached_at, sample_both, tail_sign, weaker}
 use Rattle.cap_script.proofs.PlaceLaw.{line_agrees, local_at_end, local_keyword_or_end, local_on_contents, local_on_natural, local_on_others, local_on_word, local_other_command, local_other_line, local_worker, never, no_filter_in, of_err, other_command, other_line, others, SetsFilter}
-use Rattle.cap_script.proofs.PlaceLemmas.{Local, LocalVerdict, local_end_here, local_here, local_misfit, local_ok, local_sign, local_test, local_both, none_before, read_to, same_left, same_rest, some_front}
+use Rattle.cap_script.proofs.PlaceLemmas.{Local, LocalVerdict, local_end_here, local_here, local_unexpected, local_ok, local_sign, local_test, local_both, none_before, read_to, same_left, same_rest, some_front}
 use Rattle.cap_script.proofs.ScanLemmas.{blob_is}
 use Rattle.cap_script.proofs.TokenLemmas.{blanks_twice}
 
@@ -110,13 +110,13 @@ abbrev pub Goes : List ℕ → List ℕ → Type 0
 Goes q line = (0 < length q) ⊎ ((rest : List ℕ) × (line ≡ 32 ∷ rest))
 
 space_kept : (here rest : List ℕ) → space_here here ≡ Ok rest → here ≡ rest
-space_kept here rest = cond_both (begins is_blank here) (Ok here) (Err (misfit here)) (λ o. o ≡ Ok rest → here ≡ rest) (λ is e. same_rest here rest e) (λ is e. absurd cc)
+space_kept here rest = cond_both (begins is_blank here) (Ok here) (Err (unexpected here)) (λ o. o ≡ Ok rest → here ≡ rest) (λ is e. same_rest here rest e) (λ is e. absurd cc)
 
 space_moved : (q behind line : List ℕ) → Goes q line → space_here (q ++ behind) ≡ Ok (q ++ behind) → space_here (q ++ line) ≡ Ok (q ++ line)
 space_moved [] behind line (inl some) e = absurd (omega (arith, some))
 space_moved [] behind line (inr (rest, is)) e = subst (λ (l : List ℕ). space_here l ≡ Ok l) (sym is) refl
 space_moved (c ∷ q) behind line goes e =
-    cond_both (is_blank c) (Ok (c ∷ q ++ behind)) (Err (misfit (c ∷ q ++ behind))) (λ o. o ≡ Ok (c ∷ q ++ behind) → cond (is_blank c) (Ok (c ∷ q ++ line)) (Err (misfit (c ∷ q ++ line))) ≡ Ok (c ∷ q ++ line)) (λ is f. rw is refl) (λ is f. absurd cc) e
+    cond_both (is_blank c) (Ok (c ∷ q ++ behind)) (Err (unexpected (c ∷ q ++ behind))) (λ o. o ≡ Ok (c ∷ q ++ behind) → cond (is_blank c) (Ok (c ∷ q ++ line)) (Err (unexpected (c ∷ q ++ line))) ≡ Ok (c ∷ q ++ line)) (λ is f. rw is refl) (λ is f. absurd cc) e
 
 abbrev numbered : Reading
 numbered = number ⋙ space_here
@@ -132,7 +132,7 @@ abbrev at_sign : Reading
 at_sign = by_sign 64 numbered (λ here. Ok here)
 
 local_numbered : Local numbered
-local_numbered = local_both number space_here (local_here on_number (local_on_natural on_worker (λ n. local_verdict (leb n 63)))) (local_test is_blank (λ here. Ok here) (λ here. Err (misfit here)) local_ok local_misfit)
+local_numbered = local_both number space_here (local_here on_number (local_on_natural on_worker (λ n. local_verdict (leb n 63)))) (local_test is_blank (λ here. Ok here) (λ here. Err (unexpected here)) local_ok local_unexpected)
   where
     local_verdict : (b : Bool) → LocalVerdict (fits_if b)
     local_verdict true = local_ok
@@ -192,7 +192,7 @@ number_done front behind (Ok mid) is e =
     local_verdict false = tt
 
     space_left : (here : List ℕ) → space_here here ≡ Err (Syntax (length behind)) → length here ≡ length behind
-    space_left here = cond_both (begins is_blank here) (Ok here) (Err (misfit here)) (λ o. o ≡ Err (Syntax (length behind)) → length here ≡ length behind) (λ is f. absurd cc) (λ is f. same_left (length here) (length behind) f)
+    space_left here = cond_both (begins is_blank here) (Ok here) (Err (unexpected here)) (λ o. o ≡ Err (Syntax (length behind)) → length here ≡ length behind) (λ is f. absurd cc) (λ is f. same_left (length here) (length behind) f)
 
 at_sign_done : (c : ℕ) (front behind : List ℕ) → at_sign (c ∷ front ++ behind) ≡ Err (Syntax (length behind)) → (more : List ℕ) × (at_sign (c ∷ front ++ more) ≡ Ok session_text)
 at_sign_done c front behind e =
@@ -308,9 +308,9 @@ module _ (A : Type 0) where
   -- ---- lines
 
   end_ok : (rest : List ℕ) → behind_blanks rest ≡ [] → at_end rest ≡ Ok []
-  end_ok rest e = ap (unless_end (λ here. Err (misfit here))) e
+  end_ok rest e = ap (unless_end (λ here. Err (unexpected here))) e
 
-  end_refused : (here behind : List ℕ) → unless_end (λ l. Err (misfit l)) here ≡ Err (Syntax (length behind)) → length here ≡ length behind
+  end_refused : (here behind : List ℕ) → unless_end (λ l. Err (unexpected l)) here ≡ Err (Syntax (length behind)) → length here ≡ length behind
   end_refused [] behind e = absurd cc
   end_refused (c ∷ here) behind e = same_left (length (c ∷ here)) (length behind) e
 
@@ -382,9 +382,9 @@ module _ (A : Type 0) where
   ended_fault bytes (inl (rest, is, same)) = inl (ap result_err (line_agrees A bytes (no_filter_in A bytes (Ok rest) is (λ f. absurd cc)) ∙ is))
   ended_fault bytes (inr many) = inr (ap result_err (line_agrees A bytes (no_filter_in A bytes (Err (Limit TooMany)) many (λ f. absurd cc)) ∙ many))
 
-  pub misfit_begins : (bytes : List ℕ) (left : ℕ) → HasSyntaxFault A bytes left → (SetsFilter bytes → ⊥) → BeginsLine A bytes left
+  pub unexpected_begins : (bytes : List ℕ) (left : ℕ) → HasSyntaxFault A bytes left → (SetsFilter bytes → ⊥) → BeginsLine A bytes left
   unfolding line_fault BeginsLine
-  misfit_begins bytes left e none =
+  unexpected_begins bytes left e none =
       let read = sym (line_agrees A bytes none) ∙ of_err A left (line A bytes) e in
       let known = local_other_line A in
       let few = known.stops bytes left read in

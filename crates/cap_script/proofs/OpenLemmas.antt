@@ -7,14 +7,14 @@ use Rattle.std.proofs.lemmas.List.{append_cancel_right}
 use Rattle.cap_value.specs.declared.refusal.Refusal.TheVariants.{TooMany}
 use Rattle.cap_filter.specs.Printed.{quote, quoted}
 use Rattle.cap_filter.specs.Tokens.{is_word_byte}
-use Rattle.cap_script.specs.Reading.{Outcome, Reading, Verdict, goes_on, unfit, exceeds, no_blob, judged, misfit, scanned, right_here, next, by_sign, where_sign, a_sign, at_most, each, ◌>>=◌, ◌⋙◌}
+use Rattle.cap_script.specs.Reading.{Outcome, Reading, Verdict, goes_on, unfit, exceeds, no_blob, judged, unexpected, scanned, right_here, next, by_sign, where_sign, a_sign, at_most, each, ◌>>=◌, ◌⋙◌}
 use Rattle.cap_script.specs.Scanning.{Scanned, token_at}
 use Rattle.cap_script.specs.Tokens.{Begins, Token, begins, begins_blob, behind_blanks, blob, integer, is_blank, is_quote, minus, sign, text, word}
 use Rattle.cap_script.specs.declared.fault.LineFault.{LineFault}
 use Rattle.cap_script.specs.declared.fault.LineFault.TheVariants.{Limit, Syntax}
 use Rattle.cap_script.proofs.LocalLemmas.{NoSign, blanks_of, first_no_blank, found_some, is_found, longer_end, moved_end, no_more_blanks, no_sign_at}
 use Rattle.cap_script.proofs.OneTokens.{eqb_itself}
-use Rattle.cap_script.proofs.PlaceLemmas.{Local, LocalVerdict, enough_at, local_a_sign, local_both, local_each, local_here, local_misfit, local_next, local_ok, local_sign, local_skip, local_where, read_to, same_left, same_rest}
+use Rattle.cap_script.proofs.PlaceLemmas.{Local, LocalVerdict, enough_at, local_a_sign, local_both, local_each, local_here, local_next, local_ok, local_sign, local_skip, local_unexpected, local_where, read_to, same_left, same_rest}
 use Rattle.cap_script.proofs.ScanLemmas.{Found, token_found}
 use Rattle.cap_script.proofs.TokenLemmas.{blanks_twice}
 
@@ -253,17 +253,17 @@ module _ (T : List ℕ → Type 0) (first second : Reading) (local : Local first
 
 -- ---- signs
 
-no_misfit : (c : ℕ) (front behind : List ℕ) → length (c ∷ front ++ behind) ≡ length behind → ⊥
-no_misfit c front behind e = omega (arith, e, length-append front behind)
+no_unexpected : (c : ℕ) (front behind : List ℕ) → length (c ∷ front ++ behind) ≡ length behind → ⊥
+no_unexpected c front behind e = omega (arith, e, length-append front behind)
 
 module _ (s : ℕ) (plain : is_blank s ≡ false) (other : goes_with s ≡ false) where
   abbrev this : Reading
-  this = by_sign s (λ rest. Ok rest) (λ here. Err (misfit here))
+  this = by_sign s (λ rest. Ok rest) (λ here. Err (unexpected here))
 
   sign_idles : (behind line : List ℕ) → this behind ≡ Ok behind → Reached (this (behind_blanks line)) line
   sign_idles [] line e = absurd cc
   sign_idles (byte ∷ behind) line e =
-      cond_both (eqb byte s) (Ok behind) (Err (misfit (byte ∷ behind))) (λ o. o ≡ Ok (byte ∷ behind) → Reached (this (behind_blanks line)) line)
+      cond_both (eqb byte s) (Ok behind) (Err (unexpected (byte ∷ behind))) (λ o. o ≡ Ok (byte ∷ behind) → Reached (this (behind_blanks line)) line)
       (λ is f. let long = ap length (same_rest behind (byte ∷ behind) f) in absurd (omega (arith, long))) (λ is f. absurd cc) e
 
   sign_text : (line : List ℕ) → Tail line → Reached (this (behind_blanks (32 ∷ s ∷ line))) line
@@ -275,13 +275,13 @@ module _ (s : ℕ) (plain : is_blank s ≡ false) (other : goes_with s ≡ false
   sign_here : Here Tail this
   sign_here = record {
     passes = λ c front rest behind line tail e.
-        cond_both (eqb c s) (Ok (front ++ behind)) (Err (misfit (c ∷ front ++ behind))) (λ o. o ≡ Ok (rest ++ behind) → Reached (this (c ∷ front ++ line)) (rest ++ line))
+        cond_both (eqb c s) (Ok (front ++ behind)) (Err (unexpected (c ∷ front ++ behind))) (λ o. o ≡ Ok (rest ++ behind) → Reached (this (c ∷ front ++ line)) (rest ++ line))
         (λ is f. reached_at (this (c ∷ front ++ line)) (Ok (rest ++ line)) (rest ++ line) (rw is (ap (λ (l : List ℕ). Ok (l ++ line)) (append_cancel_right front rest behind (same_rest (front ++ behind) (rest ++ behind) f)))) (reached (rest ++ line)))
         (λ is f. absurd cc) e;
     idles = λ behind line tail e. sign_idles behind line e;
     finishes = λ c front behind e.
-        cond_both (eqb c s) (Ok (front ++ behind)) (Err (misfit (c ∷ front ++ behind))) (λ o. o ≡ Err (Syntax (length behind)) → Finish Tail this (c ∷ front)) (λ is f. absurd cc)
-        (λ is f. absurd (no_misfit c front behind (same_left (length (c ∷ front ++ behind)) (length behind) f))) e;
+        cond_both (eqb c s) (Ok (front ++ behind)) (Err (unexpected (c ∷ front ++ behind))) (λ o. o ≡ Err (Syntax (length behind)) → Finish Tail this (c ∷ front)) (λ is f. absurd cc)
+        (λ is f. absurd (no_unexpected c front behind (same_left (length (c ∷ front ++ behind)) (length behind) f))) e;
     begins_at = λ behind e. record { text = s ∷ []; tail = sign_tail; ends = λ line tail. inl (sign_text line tail) };
   }
 
@@ -391,12 +391,12 @@ module _ (T : List ℕ → Type 0) (tails : (l : List ℕ) → T l → Tail l) (
             let moved = found_tail t (c ∷ front) q behind (32 ∷ (more.text ++ line)) (omega arith) (more.tail line tail) (is ∙ ap (λ (l : List ℕ). Some (t, l)) end) in
             ends_at (right_here judge (c ∷ front ++ (32 ∷ (more.text ++ line)))) (read (q ++ (32 ∷ (more.text ++ line)))) line (ap (scanned judge (c ∷ front ++ (32 ∷ (more.text ++ line)))) moved ∙ ap (judged (c ∷ front ++ (32 ∷ (more.text ++ line))) (q ++ (32 ∷ (more.text ++ line)))) verdict) (more.ends line tail);
       }
-  verdict_finishes c front behind p r t unfit verdict l o is same e = absurd (no_misfit c front behind (same_left (length (c ∷ front ++ behind)) (length behind) e))
+  verdict_finishes c front behind p r t unfit verdict l o is same e = absurd (no_unexpected c front behind (same_left (length (c ∷ front ++ behind)) (length behind) e))
   verdict_finishes c front behind p r t (exceeds why) verdict l o is same e = absurd cc
   verdict_finishes c front behind p r t (no_blob why) verdict l o is same e = absurd cc
 
   token_finishes : (c : ℕ) (front behind : List ℕ) (found : Scanned) → token_at (c ∷ front ++ behind) ≡ found → scanned judge (c ∷ front ++ behind) found ≡ Err (Syntax (length behind)) → Finish T (right_here judge) (c ∷ front)
-  token_finishes c front behind None is e = absurd (no_misfit c front behind (same_left (length (c ∷ front ++ behind)) (length behind) e))
+  token_finishes c front behind None is e = absurd (no_unexpected c front behind (same_left (length (c ∷ front ++ behind)) (length behind) e))
   token_finishes c front behind (Some (t, r)) is e =
       let (p, same, some) = found_some t (c ∷ front ++ behind) r is in
       verdict_finishes c front behind p r t (judge t) refl (local t) (known t) is same e
@@ -459,8 +459,8 @@ form_both first second one two = record {
 pub form_a_sign : (s : ℕ) → is_blank s ≡ false → goes_with s ≡ false → Form (a_sign s)
 form_a_sign s plain other = record {
   local = local_a_sign s;
-  inner = open_a_sign s plain other (local_sign s (λ rest. Ok rest) (λ here. Err (misfit here)) local_ok local_misfit);
-  skips = λ line. ap (by_sign s (λ rest. Ok rest) (λ here. Err (misfit here))) (sym (blanks_twice line));
+  inner = open_a_sign s plain other (local_sign s (λ rest. Ok rest) (λ here. Err (unexpected here)) local_ok local_unexpected);
+  skips = λ line. ap (by_sign s (λ rest. Ok rest) (λ here. Err (unexpected here))) (sym (blanks_twice line));
   sample = sample_a_sign s plain other;
 }
 

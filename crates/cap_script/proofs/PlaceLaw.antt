@@ -10,13 +10,13 @@ use Rattle.cap_codec.specs.declared.fault.BlobFault.{BlobFault}
 use Rattle.cap_row.specs.Schema.{is_schema}
 use Rattle.cap_script.specs.FaultPlace.{HasSyntaxFault, KeepsSyntaxFault}
 use Rattle.cap_script.specs.LineFaults.{answer, beyond_if, command, commands, contents, contents_read, field, fields, filter, flag, is_key_letter, line, line_fault, more_operations, name, on_contents, on_operation, on_schema, on_value, on_worker, operation, operations, policy, row, row_words, schema, value, values, verbs, worker}
-use Rattle.cap_script.specs.Reading.{Outcome, Reading, Verdict, fits_if, judged, scanned, ◌>>=◌, within_if, goes_on, unfit, exceeds, no_blob, a_sign, a_word, at_end, each, keyword, keyword_or_end, misfit, natural, on_natural, on_word, one_of, right_here, space_here, ◌⋙◌}
+use Rattle.cap_script.specs.Reading.{Outcome, Reading, Verdict, fits_if, judged, scanned, ◌>>=◌, within_if, goes_on, unfit, exceeds, no_blob, a_sign, a_word, at_end, each, keyword, keyword_or_end, unexpected, natural, on_natural, on_word, one_of, right_here, space_here, ◌⋙◌}
 use Rattle.cap_script.specs.Scanning.{Scanned, token_at}
 use Rattle.cap_script.specs.Tokens.{Token, behind_blanks, blob, integer, is_blank, sign, text, word}
 use Rattle.cap_script.specs.declared.fault.LineFault.{LineFault}
 use Rattle.cap_script.specs.declared.fault.LineFault.TheVariants.{OutOfMemory, Syntax}
 use Rattle.cap_script.proofs.NoneLemmas.{alike}
-use Rattle.cap_script.proofs.PlaceLemmas.{Local, LocalVerdict, local_a_sign, local_any_of, local_both, local_each, local_fits_if, local_here, local_misfit, local_next, local_ok, local_one_of, local_test, local_unless_end, local_where, local_within_if}
+use Rattle.cap_script.proofs.PlaceLemmas.{Local, LocalVerdict, local_a_sign, local_any_of, local_both, local_each, local_fits_if, local_here, local_next, local_ok, local_one_of, local_test, local_unexpected, local_unless_end, local_where, local_within_if}
 
 -- ---- tokens
 
@@ -48,7 +48,7 @@ pub local_keyword_or_end : (w : List ℕ) → Local (keyword_or_end w)
 local_keyword_or_end w = local_unless_end (keyword w) (local_keyword w)
 
 pub local_at_end : Local at_end
-local_at_end = local_unless_end (λ here. Err (misfit here)) local_misfit
+local_at_end = local_unless_end (λ here. Err (unexpected here)) local_unexpected
 
 pub local_name : Local name
 local_name = local_word _ (λ w. local_within_if (is_name w) BadName)
@@ -131,7 +131,7 @@ local_flag = local_word _ (local_any_of (codes "on" ∷ codes "off" ∷ codes "a
 pub local_worker : Local worker
 local_worker =
     local_where 64 (right_here (on_natural on_worker) ⋙ space_here)
-    (local_both (right_here (on_natural on_worker)) space_here (local_here (on_natural on_worker) (local_on_natural on_worker (λ n. local_fits_if (leb n 63)))) (local_test is_blank (λ here. Ok here) (λ here. Err (misfit here)) local_ok local_misfit))
+    (local_both (right_here (on_natural on_worker)) space_here (local_here (on_natural on_worker) (local_on_natural on_worker (λ n. local_fits_if (leb n 63)))) (local_test is_blank (λ here. Ok here) (λ here. Err (unexpected here)) local_ok local_unexpected))
 
 -- ---- lines that set no filter
 
@@ -148,7 +148,7 @@ abbrev pub never : Reading
 never bytes = Err OutOfMemory
 
 pub local_never : Local never
-local_never = record { ends = λ bytes rest e. absurd cc; stops = λ bytes left e. absurd cc; goes = λ front rest behind more alike e. absurd cc; misfits = λ front behind more alike e. absurd cc }
+local_never = record { ends = λ bytes rest e. absurd cc; stops = λ bytes left e. absurd cc; goes = λ front rest behind more alike e. absurd cc; refuses = λ front behind more alike e. absurd cc }
 
 words_agree : (front others : List (List ℕ × Reading)) (w : List ℕ) (one two : Reading) (found : List ℕ) → bytes_eq found w ≡ false → one_of (front ++ (w, one) ∷ others) found ≡ one_of (front ++ (w, two) ∷ others) found
 words_agree [] others w one two found e = rw e refl
@@ -270,9 +270,9 @@ module _ (A : Type 0) where
   of_err left (Err fault) e = ap (λ (f : LineFault). Err f) (some_same fault (Syntax left) e)
 
   -- where no filter is at fault
-  pub misfit_kept : (bytes : List ℕ) (left : ℕ) → HasSyntaxFault A bytes left → (SetsFilter bytes → ⊥) → KeepsSyntaxFault A bytes left
+  pub unexpected_kept : (bytes : List ℕ) (left : ℕ) → HasSyntaxFault A bytes left → (SetsFilter bytes → ⊥) → KeepsSyntaxFault A bytes left
   unfolding line_fault KeepsSyntaxFault
-  misfit_kept bytes left e none =
+  unexpected_kept bytes left e none =
       let read = sym (line_agrees bytes none) ∙ of_err left (line A bytes) e in
       let few = local_other_line.stops bytes left read in
       let n = length bytes - left in
@@ -283,6 +283,6 @@ module _ (A : Type 0) where
         whole,
         sym long,
         λ more alike.
-            let again = local_other_line.misfits (take n bytes) (drop n bytes) more alike (ap other_line (sym whole) ∙ read ∙ ap (λ (m : ℕ). Err (Syntax m)) (sym long)) in
+            let again = local_other_line.refuses (take n bytes) (drop n bytes) more alike (ap other_line (sym whole) ∙ read ∙ ap (λ (m : ℕ). Err (Syntax m)) (sym long)) in
             ap result_err (line_agrees (take n bytes ++ more) (no_filter_in (take n bytes ++ more) (Err (Syntax (length more))) again (λ f. absurd cc)) ∙ again),
       )

@@ -8,7 +8,7 @@ use Rattle.std.proofs.lemmas.List.{append_cancel_right}
 use Rattle.cap_value.specs.Bytes.{bytes_eq}
 use Rattle.cap_value.specs.declared.refusal.Refusal.{Refusal}
 use Rattle.cap_script.specs.FaultPlace.{BeginAlike}
-use Rattle.cap_script.specs.Reading.{Outcome, Reading, Verdict, goes_on, unfit, exceeds, no_blob, fits, fits_if, within_if, judged, misfit, scanned, right_here, next, one_of, any_of, by_sign, where_sign, a_sign, at_most, each, unless_end, ◌>>=◌, ◌⋙◌}
+use Rattle.cap_script.specs.Reading.{Outcome, Reading, Verdict, goes_on, unfit, exceeds, no_blob, fits, fits_if, within_if, judged, unexpected, scanned, right_here, next, one_of, any_of, by_sign, where_sign, a_sign, at_most, each, unless_end, ◌>>=◌, ◌⋙◌}
 use Rattle.cap_script.specs.Scanning.{Scanned, token_at}
 use Rattle.cap_script.specs.Tokens.{Token, begins, behind_blanks}
 use Rattle.cap_script.specs.declared.fault.LineFault.TheVariants.{Syntax}
@@ -21,7 +21,7 @@ pub record Local (read : Reading) : Type 0 where
   pub ends : (line rest : List ℕ) → read line ≡ Ok rest → (front : List ℕ) × (line ≡ front ++ rest)
   pub stops : (line : List ℕ) (left : ℕ) → read line ≡ Err (Syntax left) → left ≤ length line
   pub goes : (front rest behind more : List ℕ) → BeginAlike behind more → read (front ++ behind) ≡ Ok (rest ++ behind) → read (front ++ more) ≡ Ok (rest ++ more)
-  pub misfits : (front behind more : List ℕ) → BeginAlike behind more → read (front ++ behind) ≡ Err (Syntax (length behind)) → read (front ++ more) ≡ Err (Syntax (length more))
+  pub refuses : (front behind more : List ℕ) → BeginAlike behind more → read (front ++ behind) ≡ Err (Syntax (length behind)) → read (front ++ more) ≡ Err (Syntax (length more))
 
 -- ---- outcomes
 
@@ -53,17 +53,17 @@ local_ok = record {
   ends = λ line rest e. ([], same_rest line rest e);
   stops = λ line left e. absurd cc;
   goes = λ front rest behind more alike e. ap (λ (l : List ℕ). Ok (l ++ more)) (append_cancel_right front rest behind (same_rest (front ++ behind) (rest ++ behind) e));
-  misfits = λ front behind more alike e. absurd cc;
+  refuses = λ front behind more alike e. absurd cc;
 }
 
-pub local_misfit : Local (λ here. Err (misfit here))
-local_misfit = record {
+pub local_unexpected : Local (λ here. Err (unexpected here))
+local_unexpected = record {
   ends = λ line rest e. absurd cc;
   stops = λ line left e. let same = same_left (length line) left e in omega (arith, same);
   goes = λ front rest behind more alike e. absurd cc;
-  misfits = λ front behind more alike e.
+  refuses = λ front behind more alike e.
       let empty = none_before front behind (same_left (length (front ++ behind)) (length behind) e) in
-      ap (λ (l : List ℕ). Err (misfit (l ++ more))) empty;
+      ap (λ (l : List ℕ). Err (unexpected (l ++ more))) empty;
 }
 
 -- ---- behind spaces
@@ -80,12 +80,12 @@ local_skip read local = record {
       let here = is ∙ sym (append_assoc before rest behind) in
       let moved = blanks_moved front (before ++ rest) behind more alike (blanks_twice (front ++ behind)) here in
       ap read moved ∙ local.goes (before ++ rest) rest behind more alike (sym (ap read here) ∙ e);
-  misfits = λ front behind more alike e.
+  refuses = λ front behind more alike e.
       let (blanks, same, skips) = blanks_of (front ++ behind) in
       let few = local.stops (behind_blanks (front ++ behind)) (length behind) e in
       let (before, here) = longer_end front blanks behind (behind_blanks (front ++ behind)) same few in
       let moved = blanks_moved front before behind more alike (blanks_twice (front ++ behind)) here in
-      ap read moved ∙ local.misfits before behind more alike (sym (ap read here) ∙ e);
+      ap read moved ∙ local.refuses before behind more alike (sym (ap read here) ∙ e);
 }
 
 -- ---- one reading behind another
@@ -117,22 +117,22 @@ module _ (first second : Reading) (one : Local first) (two : Local second) where
       let gone = one.goes front (before ++ rest) behind more alike (is ∙ ap read_to here) in
       ap (λ (o : Outcome). o >>= second) gone ∙ two.goes (before ++ rest) rest behind more alike (sym (ap second here) ∙ e)
 
-  both_misfits : (front behind more : List ℕ) (o : Outcome) → BeginAlike behind more → first (front ++ behind) ≡ o → (o >>= second) ≡ Err (Syntax (length behind)) → both (front ++ more) ≡ Err (Syntax (length more))
-  both_misfits front behind more (Err fault) alike is e = ap (λ (o : Outcome). o >>= second) (one.misfits front behind more alike (is ∙ e))
-  both_misfits front behind more (Ok mid) alike is e =
+  both_refuses : (front behind more : List ℕ) (o : Outcome) → BeginAlike behind more → first (front ++ behind) ≡ o → (o >>= second) ≡ Err (Syntax (length behind)) → both (front ++ more) ≡ Err (Syntax (length more))
+  both_refuses front behind more (Err fault) alike is e = ap (λ (o : Outcome). o >>= second) (one.refuses front behind more alike (is ∙ e))
+  both_refuses front behind more (Ok mid) alike is e =
       let (a, same) = one.ends (front ++ behind) mid is in
       let few = two.stops mid (length behind) e in
       let (before, here) = longer_end front a behind mid same few in
       let gone = one.goes front before behind more alike (is ∙ ap read_to here) in
       ap (λ (o : Outcome). o >>= second) gone
-      ∙ two.misfits before behind more alike (sym (ap second here) ∙ e)
+      ∙ two.refuses before behind more alike (sym (ap second here) ∙ e)
 
   pub local_both : Local (first ⋙ second)
   local_both = record {
     ends = λ line rest e. both_ends line rest (first line) refl e;
     stops = λ line left e. both_stops line left (first line) refl e;
     goes = λ front rest behind more alike e. both_goes front rest behind more (first (front ++ behind)) alike refl e;
-    misfits = λ front behind more alike e. both_misfits front behind more (first (front ++ behind)) alike refl e;
+    refuses = λ front behind more alike e. both_refuses front behind more (first (front ++ behind)) alike refl e;
   }
 
 -- ---- signs
@@ -167,25 +167,25 @@ module _ (s : ℕ) (next other : Reading) (yes : Local next) (no : Local other) 
       cond_both (eqb c s) (next (front ++ behind)) (other (c ∷ (front ++ behind))) (λ o. o ≡ Ok (rest ++ behind) → read (c ∷ (front ++ more)) ≡ Ok (rest ++ more))
       (λ is f. rw is (yes.goes front rest behind more alike f)) (λ is f. rw is (no.goes (c ∷ front) rest behind more alike f)) e
 
-  sign_misfits : (front behind more : List ℕ) → BeginAlike behind more → read (front ++ behind) ≡ Err (Syntax (length behind)) → read (front ++ more) ≡ Err (Syntax (length more))
-  sign_misfits [] [] more alike e = subst (λ (m : List ℕ). read m ≡ Err (Syntax (length m))) (sym alike) e
-  sign_misfits [] (byte ∷ behind) [] alike e = absurd alike
-  sign_misfits [] (byte ∷ behind) (c ∷ more) alike e =
+  sign_refuses : (front behind more : List ℕ) → BeginAlike behind more → read (front ++ behind) ≡ Err (Syntax (length behind)) → read (front ++ more) ≡ Err (Syntax (length more))
+  sign_refuses [] [] more alike e = subst (λ (m : List ℕ). read m ≡ Err (Syntax (length m))) (sym alike) e
+  sign_refuses [] (byte ∷ behind) [] alike e = absurd alike
+  sign_refuses [] (byte ∷ behind) (c ∷ more) alike e =
       cond_both (eqb byte s) (next behind) (other (byte ∷ behind)) (λ o. o ≡ Err (Syntax (length (byte ∷ behind))) → read (c ∷ more) ≡ Err (Syntax (length (c ∷ more))))
       (λ is f. let few = yes.stops behind (length (byte ∷ behind)) f in absurd (omega (arith, few)))
-      (λ is f. rw (subst (λ (b : ℕ). eqb b s ≡ false) alike.0 is) (no.misfits [] (byte ∷ behind) (c ∷ more) alike f)) e
-  sign_misfits (c ∷ front) behind more alike e =
+      (λ is f. rw (subst (λ (b : ℕ). eqb b s ≡ false) alike.0 is) (no.refuses [] (byte ∷ behind) (c ∷ more) alike f)) e
+  sign_refuses (c ∷ front) behind more alike e =
       cond_both (eqb c s) (next (front ++ behind)) (other (c ∷ (front ++ behind))) (λ o. o ≡ Err (Syntax (length behind)) → read (c ∷ (front ++ more)) ≡ Err (Syntax (length more)))
-      (λ is f. rw is (yes.misfits front behind more alike f)) (λ is f. rw is (no.misfits (c ∷ front) behind more alike f)) e
+      (λ is f. rw is (yes.refuses front behind more alike f)) (λ is f. rw is (no.refuses (c ∷ front) behind more alike f)) e
 
   pub local_sign : Local (by_sign s next other)
-  local_sign = record { ends = sign_ends; stops = sign_stops; goes = sign_goes; misfits = sign_misfits }
+  local_sign = record { ends = sign_ends; stops = sign_stops; goes = sign_goes; refuses = sign_refuses }
 
   pub local_next_sign : Local (λ line. by_sign s next other (behind_blanks line))
   local_next_sign = local_skip (by_sign s next other) local_sign
 
 pub local_a_sign : (s : ℕ) → Local (a_sign s)
-local_a_sign s = local_next_sign s (λ rest. Ok rest) (λ here. Err (misfit here)) local_ok local_misfit
+local_a_sign s = local_next_sign s (λ rest. Ok rest) (λ here. Err (unexpected here)) local_ok local_unexpected
 
 pub local_where : (s : ℕ) (next : Reading) → Local next → Local (where_sign s next)
 local_where s next local = local_next_sign s next (λ here. Ok here) local local_ok
@@ -207,14 +207,14 @@ module _ (next : Reading) (local : Local next) where
   end_goes [] rest (byte ∷ behind) (c ∷ more) alike e = local.goes [] rest (byte ∷ behind) (c ∷ more) alike e
   end_goes (c ∷ front) rest behind more alike e = local.goes (c ∷ front) rest behind more alike e
 
-  end_misfits : (front behind more : List ℕ) → BeginAlike behind more → unless_end next (front ++ behind) ≡ Err (Syntax (length behind)) → unless_end next (front ++ more) ≡ Err (Syntax (length more))
-  end_misfits [] [] more alike e = absurd cc
-  end_misfits [] (byte ∷ behind) [] alike e = absurd alike
-  end_misfits [] (byte ∷ behind) (c ∷ more) alike e = local.misfits [] (byte ∷ behind) (c ∷ more) alike e
-  end_misfits (c ∷ front) behind more alike e = local.misfits (c ∷ front) behind more alike e
+  end_refuses : (front behind more : List ℕ) → BeginAlike behind more → unless_end next (front ++ behind) ≡ Err (Syntax (length behind)) → unless_end next (front ++ more) ≡ Err (Syntax (length more))
+  end_refuses [] [] more alike e = absurd cc
+  end_refuses [] (byte ∷ behind) [] alike e = absurd alike
+  end_refuses [] (byte ∷ behind) (c ∷ more) alike e = local.refuses [] (byte ∷ behind) (c ∷ more) alike e
+  end_refuses (c ∷ front) behind more alike e = local.refuses (c ∷ front) behind more alike e
 
   pub local_end_here : Local (unless_end next)
-  local_end_here = record { ends = end_ends; stops = end_stops; goes = end_goes; misfits = end_misfits }
+  local_end_here = record { ends = end_ends; stops = end_stops; goes = end_goes; refuses = end_refuses }
 
   pub local_unless_end : Local (λ line. unless_end next (behind_blanks line))
   local_unless_end = local_skip (unless_end next) local_end_here
@@ -231,8 +231,8 @@ module _ (test : ℕ → Bool) (next other : Reading) (yes : Local next) (no : L
     stops = λ line left. cond_both (begins test line) (next line) (other line) (λ o. o ≡ Err (Syntax left) → left ≤ length line) (λ is e. yes.stops line left e) (λ is e. no.stops line left e);
     goes = λ front rest behind more alike. cond_both (begins test (front ++ behind)) (next (front ++ behind)) (other (front ++ behind)) (λ o. o ≡ Ok (rest ++ behind) → tested (front ++ more) ≡ Ok (rest ++ more))
         (λ is e. rw (sym (begin_after test front behind more alike) ∙ is) (yes.goes front rest behind more alike e)) (λ is e. rw (sym (begin_after test front behind more alike) ∙ is) (no.goes front rest behind more alike e));
-    misfits = λ front behind more alike. cond_both (begins test (front ++ behind)) (next (front ++ behind)) (other (front ++ behind)) (λ o. o ≡ Err (Syntax (length behind)) → tested (front ++ more) ≡ Err (Syntax (length more)))
-        (λ is e. rw (sym (begin_after test front behind more alike) ∙ is) (yes.misfits front behind more alike e)) (λ is e. rw (sym (begin_after test front behind more alike) ∙ is) (no.misfits front behind more alike e));
+    refuses = λ front behind more alike. cond_both (begins test (front ++ behind)) (next (front ++ behind)) (other (front ++ behind)) (λ o. o ≡ Err (Syntax (length behind)) → tested (front ++ more) ≡ Err (Syntax (length more)))
+        (λ is e. rw (sym (begin_after test front behind more alike) ∙ is) (yes.refuses front behind more alike e)) (λ is e. rw (sym (begin_after test front behind more alike) ∙ is) (no.refuses front behind more alike e));
   }
 
 -- ---- tokens
@@ -314,36 +314,36 @@ module _ (judge : Token → Verdict) (local : (t : Token) → LocalVerdict (judg
       ap (scanned judge (front ++ more)) moved
       ∙ judged_goes (front ++ behind) (front ++ more) q rest behind more (judge t) (local t) alike (subst (λ (l : List ℕ). judged (front ++ behind) l (judge t) ≡ Ok (rest ++ behind)) tail e)
 
-  judged_misfits : (front behind more p r : List ℕ) (t : Token) (v : Verdict) → judge t ≡ v → LocalVerdict v → BeginAlike behind more → token_at (front ++ behind) ≡ Some (t, r) → front ++ behind ≡ p ++ r → 0 < length p
+  judged_refuses : (front behind more p r : List ℕ) (t : Token) (v : Verdict) → judge t ≡ v → LocalVerdict v → BeginAlike behind more → token_at (front ++ behind) ≡ Some (t, r) → front ++ behind ≡ p ++ r → 0 < length p
       → judged (front ++ behind) r v ≡ Err (Syntax (length behind)) → right_here judge (front ++ more) ≡ Err (Syntax (length more))
-  judged_misfits front behind more p r t (goes_on read) verdict known alike is same some e =
+  judged_refuses front behind more p r t (goes_on read) verdict known alike is same some e =
       let few = known.stops r (length behind) e in
       let (q, tail) = longer_end front p behind r same few in
       let moved = found_moved t front q behind more (some_front front behind p r q same tail some) alike (is ∙ ap (λ (l : List ℕ). Some (t, l)) tail) in
       ap (scanned judge (front ++ more)) moved ∙ ap (judged (front ++ more) (q ++ more)) verdict
-      ∙ known.misfits q behind more alike (sym (ap read tail) ∙ e)
-  judged_misfits front behind more p r t unfit verdict known alike is same some e =
+      ∙ known.refuses q behind more alike (sym (ap read tail) ∙ e)
+  judged_refuses front behind more p r t unfit verdict known alike is same some e =
       let empty = none_before front behind (same_left (length (front ++ behind)) (length behind) e) in
       let (q, found) = some_alike t r behind more alike (subst (λ (l : List ℕ). token_at (l ++ behind) ≡ Some (t, r)) empty is) in
       ap (λ (l : List ℕ). right_here judge (l ++ more)) empty ∙ ap (scanned judge more) found ∙ ap (judged more q) verdict
-  judged_misfits front behind more p r t (exceeds why) verdict known alike is same some e = absurd cc
-  judged_misfits front behind more p r t (no_blob why) verdict known alike is same some e = absurd cc
+  judged_refuses front behind more p r t (exceeds why) verdict known alike is same some e = absurd cc
+  judged_refuses front behind more p r t (no_blob why) verdict known alike is same some e = absurd cc
 
-  here_misfits : (front behind more : List ℕ) (found : Scanned) → BeginAlike behind more → token_at (front ++ behind) ≡ found → scanned judge (front ++ behind) found ≡ Err (Syntax (length behind)) → right_here judge (front ++ more) ≡ Err (Syntax (length more))
-  here_misfits front behind more None alike is e =
+  here_refuses : (front behind more : List ℕ) (found : Scanned) → BeginAlike behind more → token_at (front ++ behind) ≡ found → scanned judge (front ++ behind) found ≡ Err (Syntax (length behind)) → right_here judge (front ++ more) ≡ Err (Syntax (length more))
+  here_refuses front behind more None alike is e =
       let empty = none_before front behind (same_left (length (front ++ behind)) (length behind) e) in
       let found = none_alike behind more alike (subst (λ (l : List ℕ). token_at (l ++ behind) ≡ None) empty is) in
       ap (λ (l : List ℕ). right_here judge (l ++ more)) empty ∙ ap (scanned judge more) found
-  here_misfits front behind more (Some (t, r)) alike is e =
+  here_refuses front behind more (Some (t, r)) alike is e =
       let (p, same, some) = found_some t (front ++ behind) r is in
-      judged_misfits front behind more p r t (judge t) refl (local t) alike is same some e
+      judged_refuses front behind more p r t (judge t) refl (local t) alike is same some e
 
   pub local_here : Local (right_here judge)
   local_here = record {
     ends = λ line rest e. here_ends line rest (token_at line) refl e;
     stops = λ line left e. here_stops line left (token_at line) refl e;
     goes = λ front rest behind more alike e. here_goes front rest behind more (token_at (front ++ behind)) alike refl e;
-    misfits = λ front behind more alike e. here_misfits front behind more (token_at (front ++ behind)) alike refl e;
+    refuses = λ front behind more alike e. here_refuses front behind more (token_at (front ++ behind)) alike refl e;
   }
 
   pub local_next : Local (next judge)
@@ -409,7 +409,7 @@ module _ (s : ℕ) (item : Reading) (local : Local item) where
     goes = λ front rest behind more alike e.
         let n = length (front ++ behind) + length (front ++ more) in
         enough_at n (front ++ more) (omega arith) ∙ (local_at_most n).goes front rest behind more alike (sym (enough_at n (front ++ behind) (omega arith)) ∙ e);
-    misfits = λ front behind more alike e.
+    refuses = λ front behind more alike e.
         let n = length (front ++ behind) + length (front ++ more) in
-        enough_at n (front ++ more) (omega arith) ∙ (local_at_most n).misfits front behind more alike (sym (enough_at n (front ++ behind) (omega arith)) ∙ e);
+        enough_at n (front ++ more) (omega arith) ∙ (local_at_most n).refuses front behind more alike (sym (enough_at n (front ++ behind) (omega arith)) ∙ e);
   }

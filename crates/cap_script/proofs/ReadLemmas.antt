@@ -3,7 +3,7 @@ use Rattle.std.proofs.Common.{◌≡◌, ℕ, true, false, eqb, List, [], ◌∷
 use Rattle.cap_script.specs.Forms.{NotSpelled, Sign, Without, Word}
 use Rattle.cap_script.specs.declared.fault.LineFault.{LineFault}
 use Rattle.cap_script.specs.declared.fault.LineFault.TheVariants.{BadBlob, Limit, OutOfMemory, Syntax}
-use Rattle.cap_script.specs.Reading.{Fails, Outcome, Reading, Reads, ◌>>=◌, Verdict, unfit, judged, misfit, scanned, right_here, on_word, a_word, on_natural, by_sign}
+use Rattle.cap_script.specs.Reading.{Fails, Outcome, Reading, Reads, ◌>>=◌, Verdict, unfit, judged, unexpected, scanned, right_here, on_word, a_word, on_natural, by_sign}
 use Rattle.cap_script.specs.Scanning.{Scanned, token_at}
 use Rattle.cap_script.specs.Tokens.{Begins, Token, begins, behind_blanks, blob, integer, sign, text, word}
 use Rattle.cap_script.proofs.OneTokens.{eqb_itself}
@@ -56,15 +56,15 @@ pub memory_at : {X : Type 0} (r : Result X LineFault) (rest : List ℕ) (fault :
 memory_at r rest fault read is e = reads_err r rest fault read is (subst (λ (f : LineFault). Fails f read) (sym e) tt)
 
 -- a fault for want of memory, or that of a token that does not fit
-pub misfit_or_memory : {X : Type 0} (r : Result X LineFault) (rest : List ℕ) (fault place : LineFault) (read : Outcome) (NoneHere : Type 0) → IsErrAnd r (λ e. e ≡ fault) → (fault ≡ OutOfMemory) ⊎ NoneHere → Fails fault (Err place) → (NoneHere → read ≡ Err place) → Reads r rest read
-misfit_or_memory r rest fault place read NoneHere is (inl memory) at e = reads_err r rest fault read is (subst (λ (f : LineFault). Fails f read) (sym memory) tt)
-misfit_or_memory r rest fault place read NoneHere is (inr none) at e = reads_err r rest fault read is (subst (λ (o : Outcome). Fails fault o) (sym (e none)) at)
+pub unexpected_or_memory : {X : Type 0} (r : Result X LineFault) (rest : List ℕ) (fault place : LineFault) (read : Outcome) (NoneHere : Type 0) → IsErrAnd r (λ e. e ≡ fault) → (fault ≡ OutOfMemory) ⊎ NoneHere → Fails fault (Err place) → (NoneHere → read ≡ Err place) → Reads r rest read
+unexpected_or_memory r rest fault place read NoneHere is (inl memory) at e = reads_err r rest fault read is (subst (λ (f : LineFault). Fails f read) (sym memory) tt)
+unexpected_or_memory r rest fault place read NoneHere is (inr none) at e = reads_err r rest fault read is (subst (λ (o : Outcome). Fails fault o) (sym (e none)) at)
 
 -- no token is here that fits
-pub other_token : (judge : Token → Verdict) (here : List ℕ) → ((token : Token) (rest : List ℕ) → Begins token here rest → judge token ≡ unfit) → right_here judge here ≡ Err (misfit here)
+pub other_token : (judge : Token → Verdict) (here : List ℕ) → ((token : Token) (rest : List ℕ) → Begins token here rest → judge token ≡ unfit) → right_here judge here ≡ Err (unexpected here)
 other_token judge here none = by (token_at here) (token_found here)
   where
-    by : (found : Scanned) → Found here found → scanned judge here found ≡ Err (misfit here)
+    by : (found : Scanned) → Found here found → scanned judge here found ≡ Err (unexpected here)
     by None h = refl
     by (Some (token, rest)) h = ap (judged here rest) (none token rest h)
 
@@ -81,7 +81,7 @@ this_token judge token here rest e = ap (scanned judge here) e
 
 -- ---- words
 
-pub no_word : (judge : List ℕ → Verdict) (line : List ℕ) → ((w : List ℕ) → NotSpelled (Word w) line) → a_word judge line ≡ Err (misfit (behind_blanks line))
+pub no_word : (judge : List ℕ → Verdict) (line : List ℕ) → ((w : List ℕ) → NotSpelled (Word w) line) → a_word judge line ≡ Err (unexpected (behind_blanks line))
 no_word judge line none = other_token (on_word judge) (behind_blanks line) by
   where
     by : (token : Token) (rest : List ℕ) → Begins token (behind_blanks line) rest → on_word judge token ≡ unfit
@@ -96,7 +96,7 @@ this_word judge w line rest h = this_token (on_word judge) (word w) (behind_blan
 
 -- ---- integers without `-`
 
-pub no_natural_here : (judge : ℕ → Verdict) (here : List ℕ) → ((n : ℕ) → NotSpelled (Begins (integer false n)) here) → right_here (on_natural judge) here ≡ Err (misfit here)
+pub no_natural_here : (judge : ℕ → Verdict) (here : List ℕ) → ((n : ℕ) → NotSpelled (Begins (integer false n)) here) → right_here (on_natural judge) here ≡ Err (unexpected here)
 no_natural_here judge here none = other_token (on_natural judge) here by
   where
     by : (token : Token) (rest : List ℕ) → Begins token here rest → on_natural judge token ≡ unfit

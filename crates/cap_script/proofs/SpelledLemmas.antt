@@ -37,7 +37,7 @@ use Rattle.cap_script.specs.LineFaults.{answer, command, commands, contents, fie
 use Rattle.cap_script.specs.LineFaults.{values as row_values}
 use Rattle.cap_script.specs.LineLimits.{CommandWithin, LineWithin, SchemaWithin, ShowWithin}
 use Rattle.cap_script.specs.Operations.{MoreOperations, MoreValues, SpelledAction, SpelledCause, SpelledField, SpelledFields, SpelledOperation, SpelledOperations, SpelledRow, SpelledValue, SpelledValues}
-use Rattle.cap_script.specs.Reading.{Outcome, Reading, Verdict, goes_on, fits, fits_if, within_if, judged, misfit, a_sign, a_word, any_of, at_end, at_most, behind, each, keyword, keyword_or_end, natural, on_natural, on_word, one_of, right_here, space_here, unless_end, ◌>>=◌, ◌⋙◌}
+use Rattle.cap_script.specs.Reading.{Outcome, Reading, Verdict, goes_on, fits, fits_if, within_if, judged, unexpected, a_sign, a_word, any_of, at_end, at_most, behind, each, keyword, keyword_or_end, natural, on_natural, on_word, one_of, right_here, space_here, unless_end, ◌>>=◌, ◌⋙◌}
 use Rattle.cap_script.specs.Script.{SpelledWorker, SpellsLine}
 use Rattle.cap_script.specs.Tokens.{begins, behind_blanks, blob, integer, is_letter, text, word}
 use Rattle.cap_script.specs.Words.{answer_word, flag_word, head_word, letters}
@@ -75,7 +75,7 @@ natural_read : (n : ℕ) → IsReadBy natural (Natural n)
 natural_read n line rest h = natural_here (λ m. fits) n (behind_blanks line) rest h
 
 sign_read : (s : ℕ) → IsReadBy (a_sign s) (Sign s)
-sign_read s line rest at = this_sign s (λ l. Ok l) (λ here. Err (misfit here)) line rest at
+sign_read s line rest at = this_sign s (λ l. Ok l) (λ here. Err (unexpected here)) line rest at
 
 within_fits : (b : Bool) (why : Refusal) → IsTrue b → within_if b why ≡ fits
 within_fits b why h = ap (λ (c : Bool). within_if c why) h
@@ -273,18 +273,18 @@ module _ {A : Type 0} (filters : FiltersRead) (blobs : BlobsRead A) where
   said_read head.Scan table within shown = name_read table shown
   said_read head.Save database within shown = name_read database within
   said_read head.Session none within shown = λ line rest same. ap (λ (l : List ℕ). Ok l) (sym same)
-  said_read (head.Of session.Drop) n within shown = natural_read n
-  said_read (head.Of session.Attach) (n, table) within shown = session_read n name (Word table) (name_read table within)
-  said_read (head.Of session.AttachAll) n within shown = natural_read n
-  said_read (head.Of session.Filter) (n, r) within shown = session_read n filter (SpelledFilter r) (filter_spelled r within)
-  said_read (head.Of session.Enable) (n, asked) within shown = session_read n flag (Word (flag_word asked)) (flag_read asked)
-  said_read (head.Of session.Indirect) (n, asked) within shown = session_read n flag (Word (flag_word asked)) (flag_read asked)
-  said_read (head.Of session.IsEmpty) n within shown = natural_read n
-  said_read (head.Of session.Diff) (n, from, table) (named, within) shown =
+  said_read (head.OnSession session.Drop) n within shown = natural_read n
+  said_read (head.OnSession session.Attach) (n, table) within shown = session_read n name (Word table) (name_read table within)
+  said_read (head.OnSession session.AttachAll) n within shown = natural_read n
+  said_read (head.OnSession session.Filter) (n, r) within shown = session_read n filter (SpelledFilter r) (filter_spelled r within)
+  said_read (head.OnSession session.Enable) (n, asked) within shown = session_read n flag (Word (flag_word asked)) (flag_read asked)
+  said_read (head.OnSession session.Indirect) (n, asked) within shown = session_read n flag (Word (flag_word asked)) (flag_read asked)
+  said_read (head.OnSession session.IsEmpty) n within shown = natural_read n
+  said_read (head.OnSession session.Diff) (n, from, table) (named, within) shown =
       session_read n (name ⋙ name) (Word from ▸ Word table) (both_read name name (Word from) (Word table) (name_read from named) (name_read table within))
-  said_read (head.Of session.Changeset) (n, flags) within shown = session_read n (keyword_or_end (codes "places")) (SpelledKeyFlags flags) (key_flags_read flags)
-  said_read (head.Of session.Patchset) (n, flags) within shown = session_read n (keyword_or_end (codes "places")) (SpelledKeyFlags flags) (key_flags_read flags)
-  said_read (head.Of session.Restart) (n, flags) within shown = session_read n (keyword_or_end (codes "places")) (SpelledKeyFlags flags) (key_flags_read flags)
+  said_read (head.OnSession session.Changeset) (n, flags) within shown = session_read n (keyword_or_end (codes "places")) (SpelledKeyFlags flags) (key_flags_read flags)
+  said_read (head.OnSession session.Patchset) (n, flags) within shown = session_read n (keyword_or_end (codes "places")) (SpelledKeyFlags flags) (key_flags_read flags)
+  said_read (head.OnSession session.Restart) (n, flags) within shown = session_read n (keyword_or_end (codes "places")) (SpelledKeyFlags flags) (key_flags_read flags)
 
   command_read : (made : Command A) (show : Show A) → CommandWithin made → ShowWithin show → IsReadBy (command A) (SpelledCommand made show)
   command_read made show within shown line rest h =
@@ -298,4 +298,4 @@ module _ {A : Type 0} (filters : FiltersRead) (blobs : BlobsRead A) where
       no_line_fault A bytes []
       (ap (λ (o : Outcome). o >>= (command A ⋙ at_end)) (worker_read made.worker bytes here by)
       ∙ ap (λ (o : Outcome). o >>= at_end) (command_read made.command made.show within shown here rest said)
-      ∙ ap (unless_end (λ l. Err (misfit l))) end)
+      ∙ ap (unless_end (λ l. Err (unexpected l))) end)

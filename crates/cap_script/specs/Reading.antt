@@ -18,8 +18,8 @@ abbrev pub Reading : Type 0
 Reading = List ℕ → Outcome
 
 -- a token that does not fit begins here, or the line ends here too early
-abbrev pub misfit : List ℕ → LineFault
-misfit here = Syntax (length here)
+abbrev pub unexpected : List ℕ → LineFault
+unexpected here = Syntax (length here)
 
 infixl 10 ◌>>=◌
 abbrev pub ◌>>=◌ : Outcome → Reading → Outcome
@@ -51,12 +51,12 @@ within_if is_within why = if is_within then fits else exceeds why
 -- a token that begins here, with this rest, is judged so
 abbrev pub judged : List ℕ → List ℕ → Verdict → Outcome
 judged here rest (goes_on next) = next rest
-judged here rest unfit = Err (misfit here)
+judged here rest unfit = Err (unexpected here)
 judged here rest (exceeds why) = Err (Limit why)
 judged here rest (no_blob why) = Err (BadBlob why)
 
 abbrev pub scanned : (Token → Verdict) → List ℕ → Scanned → Outcome
-scanned judge here None = Err (misfit here)
+scanned judge here None = Err (unexpected here)
 scanned judge here (Some (token, rest)) = judged here rest (judge token)
 
 -- the token right here
@@ -108,7 +108,7 @@ by_sign s next other (byte ∷ rest) = if byte == s then next rest else other (b
 
 -- this sign
 abbrev pub a_sign : ℕ → Reading
-a_sign s line = by_sign s (λ rest. Ok rest) (λ here. Err (misfit here)) (behind_blanks line)
+a_sign s line = by_sign s (λ rest. Ok rest) (λ here. Err (unexpected here)) (behind_blanks line)
 
 -- what is read behind this sign, where it is next
 abbrev pub where_sign : ℕ → Reading → Reading
@@ -129,7 +129,7 @@ unless_end next (byte ∷ rest) = next (byte ∷ rest)
 
 -- the line's end
 abbrev pub at_end : Reading
-at_end line = unless_end (λ here. Err (misfit here)) (behind_blanks line)
+at_end line = unless_end (λ here. Err (unexpected here)) (behind_blanks line)
 
 -- this word, or the line's end
 abbrev pub keyword_or_end : List ℕ → Reading
@@ -137,7 +137,7 @@ keyword_or_end w line = unless_end (keyword w) (behind_blanks line)
 
 -- a space right here
 abbrev pub space_here : Reading
-space_here here = if begins is_blank here then Ok here else Err (misfit here)
+space_here here = if begins is_blank here then Ok here else Err (unexpected here)
 
 -- this reading has the fault of the call, unless memory ran out
 abbrev pub Fails : LineFault → Outcome → Type 0

@@ -7,7 +7,7 @@ use Rattle.cap_value.specs.declared.refusal.Refusal.TheVariants.{TableExists, To
 use Rattle.cap_value.specs.declared.refusal.Refusal.TheVariants.{TooDeep, Incompatible, Aborted, Misuse}
 use Rattle.cap_value.specs.declared.refusal.Refusal.TheVariants.{BadName, NoSession, NoDatabase, NoMark}
 
--- the number and the name of a refusal
+-- the number and the name of a refusal, as `Refusal` of cap_value has them
 unfoldable pub refusal_name : Refusal → List ℕ
 refusal_name TooLong = codes "E1 TooLong"
 refusal_name BadSchema = codes "E2 BadSchema"

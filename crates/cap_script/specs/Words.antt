@@ -35,7 +35,7 @@ head_word head.Get = codes "get"
 head_word head.Scan = codes "scan"
 head_word head.Save = codes "save"
 head_word head.Session = codes "session"
-head_word (head.Of word) = session_word word
+head_word (head.OnSession word) = session_word word
 
 -- the first word of an operation
 abbrev pub verb_word : Verb → List ℕ

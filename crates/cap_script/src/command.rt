@@ -25,7 +25,7 @@ use cap_codec::{Contents, read_blob};
 use cap_core::Command;
 use cap_row::Schema;
 use cap_txn::Batch;
-use cap_value::{AllocHandle, BYTES_MAX, Refusal};
+use cap_value::{AllocHandle, Refusal, VALUE_BYTES_MAX};
 
 // Reads a command, and how its reply is printed.
 pub(crate) fn command<A: AllocHandle>(
@@ -39,7 +39,7 @@ pub(crate) fn command<A: AllocHandle>(
     ensures reads { Reads result cursor.new.rest.now (command A cursor.old.rest.now) }
 {
     let word = cursor.word()?;
-    let head = head_of(word.text).ok_or(word.misfit)?;
+    let head = head_of(word.text).ok_or(word.unexpected)?;
     command_of(alloc, cursor, head)
 }
 
@@ -66,7 +66,7 @@ fn command_of<A: AllocHandle>(
         Head::Scan => scan(alloc, cursor),
         Head::Save => save(alloc, cursor),
         Head::Session => Ok((Command::NewSession, Show::Plain)),
-        Head::Of(word) => session_command(alloc, cursor, word),
+        Head::OnSession(word) => session_command(alloc, cursor, word),
     }
 }
 
@@ -95,7 +95,7 @@ fn schema<A: AllocHandle>(alloc: A, cursor: &mut Cursor<'_>) -> Result<Schema<A>
     ensures reads { Reads result cursor.new.rest.now (schema cursor.old.rest.now) }
 {
     let word = cursor.word()?;
-    let flags = flags_of(alloc, word.text)?.ok_or(word.misfit)?;
+    let flags = flags_of(alloc, word.text)?.ok_or(word.unexpected)?;
     Ok(Schema::new(alloc, flags.as_slice())?)
 }
 
@@ -160,7 +160,7 @@ fn contents<A: AllocHandle>(alloc: A, cursor: &mut Cursor<'_>) -> Result<Content
     ensures reads { Reads result cursor.new.rest.now (contents A cursor.old.rest.now) }
 {
     let bytes = cursor.blob(alloc)?;
-    if bytes.len() > BYTES_MAX {
+    if bytes.len() > VALUE_BYTES_MAX {
         return Err(LineFault::Limit(Refusal::TooLong));
     }
     Ok(read_blob(alloc, bytes.as_slice())?)
@@ -186,7 +186,7 @@ fn answer(cursor: &mut Cursor<'_>) -> Result<Answer, LineFault>
     ensures reads { Reads result cursor.new.rest.now (answer cursor.old.rest.now) }
 {
     let word = cursor.word()?;
-    answer_of(word.text).ok_or(word.misfit)
+    answer_of(word.text).ok_or(word.unexpected)
 }
 
 // Reads how the outcome of an apply is printed: `report`, or nothing for its counts alone.

@@ -5,7 +5,7 @@ ghost use Rattle.std.specs.Prelude.{MatchResult};
 ghost use Rattle.cap_script.specs.Forms.{AtEnd, NotSpelled, Without};
 ghost use Rattle.cap_script.specs.LineFaults.{worker};
 ghost use Rattle.cap_script.specs.Reading.{Fails, Reads, Verdict, a_sign, a_word, at_end, judged, keyword};
-ghost use Rattle.cap_script.specs.Reading.{misfit};
+ghost use Rattle.cap_script.specs.Reading.{unexpected};
 ghost use Rattle.cap_script.specs.Reading.{natural, on_natural, right_here};
 ghost use Rattle.cap_script.specs.Tokens.{Begins, Next, NextInteger, behind_blanks, blob, integer, sign};
 ghost use Rattle.cap_script.specs.Tokens.{text, word};
@@ -37,7 +37,7 @@ pub(crate) struct Cursor<'a> {
 #[derive(Clone, Copy, Drop)]
 pub(crate) struct Word<'a> {
     pub(crate) text: &'a str,
-    pub(crate) misfit: LineFault,
+    pub(crate) unexpected: LineFault,
 }
 
 impl<'a> Cursor<'a> {
@@ -48,8 +48,8 @@ impl<'a> Cursor<'a> {
     }
 
     // The fault of a token that begins here and is not expected.
-    pub(crate) fn misfit(&self) -> LineFault
-        ensures { result ≡ misfit self.now.rest.now }
+    pub(crate) fn unexpected(&self) -> LineFault
+        ensures { result ≡ unexpected self.now.rest.now }
     {
         LineFault::Syntax {
             left: self.rest.len(),
@@ -57,7 +57,7 @@ impl<'a> Cursor<'a> {
     }
 
     // The fault of a token that begins at this offset in the rest and is not expected.
-    pub(crate) fn misfit_at(&self, at: u64) -> LineFault
+    pub(crate) fn unexpected_at(&self, at: u64) -> LineFault
         ensures { result ≡ LineFault.Syntax (length self.now.rest.now - at) }
     {
         LineFault::Syntax {
@@ -122,7 +122,7 @@ impl<'a> Cursor<'a> {
         if self.takes_sign(wanted) {
             Ok(())
         } else {
-            Err(self.misfit())
+            Err(self.unexpected())
         }
     }
 
@@ -146,7 +146,7 @@ impl<'a> Cursor<'a> {
         if self.takes_end() {
             Ok(())
         } else {
-            Err(self.misfit())
+            Err(self.unexpected())
         }
     }
 
@@ -154,8 +154,9 @@ impl<'a> Cursor<'a> {
     pub(crate) fn word(&mut self) -> Result<Word<'a>, LineFault>
         ensures next { IfOk result (λ found. Next (word found.text.now) self.old.rest.now self.new.rest.now) }
         ensures none { OnErr result ((w : List ℕ) → NotSpelled (Next (word w)) self.old.rest.now) }
-        ensures misfit { IfOk result (λ found. found.misfit ≡ misfit (behind_blanks self.old.rest.now)) }
-        ensures place { IfErr result (λ fault. fault ≡ misfit (behind_blanks self.old.rest.now)) }
+        ensures unexpected { IfOk result
+            (λ found. found.unexpected ≡ unexpected (behind_blanks self.old.rest.now)) }
+        ensures place { IfErr result (λ fault. fault ≡ unexpected (behind_blanks self.old.rest.now)) }
         ensures reads { (judge : List ℕ → Verdict) → MatchResult result
             (λ found. a_word judge self.old.rest.now
             ≡ judged (behind_blanks self.old.rest.now) self.new.rest.now (judge found.text.now))
@@ -163,13 +164,13 @@ impl<'a> Cursor<'a> {
         ensures left { length self.new.rest.now ≤ length self.old.rest.now }
     {
         self.skip_spaces();
-        let misfit = self.misfit();
+        let unexpected = self.unexpected();
         if !begins_name(self.rest) || after_blob_start(self.rest).is_some() {
-            return Err(misfit);
+            return Err(unexpected);
         }
         let (text, rest) = split_word(self.rest);
         self.rest = rest;
-        Ok(Word { text, misfit })
+        Ok(Word { text, unexpected })
     }
 
     // Skips this word, which must be the next token.
@@ -183,7 +184,7 @@ impl<'a> Cursor<'a> {
         if found.text == wanted {
             Ok(())
         } else {
-            Err(found.misfit)
+            Err(found.unexpected)
         }
     }
 
@@ -191,13 +192,13 @@ impl<'a> Cursor<'a> {
     pub(crate) fn integer(&mut self) -> Result<i64, LineFault>
         ensures next { IfOk result (λ number. NextInteger number self.old.rest.now self.new.rest.now) }
         ensures none { OnErr result ((number : ℤ) → NotSpelled (NextInteger number) self.old.rest.now) }
-        ensures place { IfErr result (λ fault. fault ≡ misfit (behind_blanks self.old.rest.now)) }
+        ensures place { IfErr result (λ fault. fault ≡ unexpected (behind_blanks self.old.rest.now)) }
         ensures left { length self.new.rest.now ≤ length self.old.rest.now }
     {
         self.skip_spaces();
-        let misfit = self.misfit();
+        let unexpected = self.unexpected();
         let (digits, rest) = split_integer(self.rest);
-        let number = integer_of(digits).ok_or(misfit)?;
+        let number = integer_of(digits).ok_or(unexpected)?;
         self.rest = rest;
         Ok(number)
     }
@@ -218,7 +219,7 @@ impl<'a> Cursor<'a> {
     fn digits(&mut self) -> Result<u64, LineFault>
         ensures here { IfOk result (λ n. Begins (integer false n) self.old.rest.now self.new.rest.now) }
         ensures none { OnErr result ((n : ℕ) → NotSpelled (Begins (integer false n)) self.old.rest.now) }
-        ensures place { IfErr result (λ fault. fault ≡ misfit self.old.rest.now) }
+        ensures place { IfErr result (λ fault. fault ≡ unexpected self.old.rest.now) }
         ensures reads { (judge : ℕ → Verdict) → MatchResult result
             (λ n. right_here (on_natural judge) self.old.rest.now
             ≡ judged self.old.rest.now self.new.rest.now (judge n))
@@ -226,11 +227,11 @@ impl<'a> Cursor<'a> {
         ensures left { length self.new.rest.now ≤ length self.old.rest.now }
         ensures fits { IfOk result (λ n. n < 2 ^ 63) }
     {
-        let misfit = self.misfit();
+        let unexpected = self.unexpected();
         let (digits, rest) = split_digits(self.rest);
-        let number = natural_of(digits).ok_or(misfit)?;
+        let number = natural_of(digits).ok_or(unexpected)?;
         if number > INTEGER_MAX {
-            return Err(misfit);
+            return Err(unexpected);
         }
         self.rest = rest;
         Ok(number)
@@ -248,15 +249,15 @@ impl<'a> Cursor<'a> {
         if !self.takes_sign('@') {
             return Ok(None);
         }
-        let misfit = self.misfit();
+        let unexpected = self.unexpected();
         let worker = self.digits()?;
         if worker > WORKER_MAX {
-            return Err(misfit);
+            return Err(unexpected);
         }
         if begins_blank(self.rest) {
             Ok(Some(worker))
         } else {
-            Err(self.misfit())
+            Err(self.unexpected())
         }
     }
 
@@ -265,13 +266,14 @@ impl<'a> Cursor<'a> {
         ensures next { IfOk result (λ t. Next (text (string_bytes t)) self.old.rest.now self.new.rest.now) }
         ensures none { IfErr result (λ fault. (fault ≡ LineFault.OutOfMemory)
             ⊎ ((t : List ℕ) → NotSpelled (Next (text t)) self.old.rest.now)) }
-        ensures place { IfErr result (λ fault. Fails fault (Err (misfit (behind_blanks self.old.rest.now)))) }
+        ensures place { IfErr result (λ fault.
+            Fails fault (Err (unexpected (behind_blanks self.old.rest.now)))) }
         ensures left { length self.new.rest.now ≤ length self.old.rest.now }
     {
         self.skip_spaces();
-        let misfit = self.misfit();
-        let begun = after(self.rest, '\'').ok_or(misfit)?;
-        let (text, rest) = split_quoted(alloc, begun)?.ok_or(misfit)?;
+        let unexpected = self.unexpected();
+        let begun = after(self.rest, '\'').ok_or(unexpected)?;
+        let (text, rest) = split_quoted(alloc, begun)?.ok_or(unexpected)?;
         self.rest = rest;
         Ok(text)
     }
@@ -281,14 +283,15 @@ impl<'a> Cursor<'a> {
         ensures next { IfOk result (λ bytes. Next (blob bytes.items) self.old.rest.now self.new.rest.now) }
         ensures none { IfErr result (λ fault. (fault ≡ LineFault.OutOfMemory)
             ⊎ ((bytes : List ℕ) → NotSpelled (Next (blob bytes)) self.old.rest.now)) }
-        ensures place { IfErr result (λ fault. Fails fault (Err (misfit (behind_blanks self.old.rest.now)))) }
+        ensures place { IfErr result (λ fault.
+            Fails fault (Err (unexpected (behind_blanks self.old.rest.now)))) }
         ensures left { length self.new.rest.now ≤ length self.old.rest.now }
     {
         self.skip_spaces();
-        let misfit = self.misfit();
-        let begun = after_blob_start(self.rest).ok_or(misfit)?;
-        let (digits, rest) = split_at_quote(begun).ok_or(misfit)?;
-        let bytes = bytes_of(alloc, digits)?.ok_or(misfit)?;
+        let unexpected = self.unexpected();
+        let begun = after_blob_start(self.rest).ok_or(unexpected)?;
+        let (digits, rest) = split_at_quote(begun).ok_or(unexpected)?;
+        let bytes = bytes_of(alloc, digits)?.ok_or(unexpected)?;
         self.rest = rest;
         Ok(bytes)
     }

@@ -90,7 +90,7 @@ fn operation<A: AllocHandle>(
         }
         None => {
             if word.text != "cascade" {
-                return Err(word.misfit);
+                return Err(word.unexpected);
             }
             has_room(is_full)?;
             cascaded(alloc, cursor)
@@ -122,7 +122,7 @@ fn cascaded<A: AllocHandle>(alloc: A, cursor: &mut Cursor<'_>) -> Result<Op<A>, 
     ensures left { length cursor.new.rest.now ≤ length cursor.old.rest.now }
 {
     let word = cursor.word()?;
-    let verb = verb_of(word.text).ok_or(word.misfit)?;
+    let verb = verb_of(word.text).ok_or(word.unexpected)?;
     operation_of(alloc, cursor, Cause::Cascade, verb)
 }
 

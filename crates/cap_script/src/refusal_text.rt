@@ -35,6 +35,7 @@ impl Display for RefusalText {
     }
 }
 
+// The number and the name, as `Refusal` has them.
 #[tactic(auto, unfolding(crate::specs::RefusalText::refusal_name))]
 fn refusal_name(why: Refusal) -> &'static str
     ensures { result.now ≡ refusal_name why }

@@ -112,7 +112,7 @@ fn filter<A: AllocHandle>(alloc: A, cursor: &mut Cursor<'_>) -> Result<TableFilt
             cursor.finish();
             Ok(filter)
         }
-        Err(Fault::Refused(Refusal::BadFilter { at })) => Err(cursor.misfit_at(at)),
+        Err(Fault::Refused(Refusal::BadFilter { at })) => Err(cursor.unexpected_at(at)),
         Err(Fault::Refused(why)) => Err(LineFault::Limit(why)),
         Err(Fault::OutOfMemory) => Err(LineFault::OutOfMemory),
     }
@@ -154,5 +154,5 @@ fn flag(cursor: &mut Cursor<'_>) -> Result<Option<bool>, LineFault>
     ensures reads { Reads result cursor.new.rest.now (flag cursor.old.rest.now) }
 {
     let word = cursor.word()?;
-    flag_of(word.text).ok_or(word.misfit)
+    flag_of(word.text).ok_or(word.unexpected)
 }

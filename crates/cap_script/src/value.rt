@@ -105,7 +105,7 @@ pub(crate) fn row_ref<A: AllocHandle>(
     if word.text == "loose" {
         return Ok(RowRef::Loose(cursor.natural()?));
     }
-    Err(word.misfit)
+    Err(word.unexpected)
 }
 
 // Reads the key after the word `key`. A key with a NULL is read as `loose 0`, which names no row.

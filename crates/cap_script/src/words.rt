@@ -21,7 +21,7 @@ pub(crate) enum Head {
     Scan,
     Save,
     Session,
-    Of(SessionWord),
+    OnSession(SessionWord),
 }
 
 // The first word of a command on one session.
@@ -62,7 +62,7 @@ pub(crate) fn head_of(word: &str) -> Option<Head>
         "scan" => Some(Head::Scan),
         "save" => Some(Head::Save),
         "session" => Some(Head::Session),
-        _ => Some(Head::Of(session_word_of(word)?)),
+        _ => Some(Head::OnSession(session_word_of(word)?)),
     }
 }
 

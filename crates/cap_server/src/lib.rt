@@ -1,9 +1,9 @@
 //! The server that threads share: each call is one event of one history.
 #![tactic(auto)]
 
+mod call_hook;
 mod calls;
 mod closed;
-mod exchange;
 mod fault;
 mod handed_back;
 mod limits;

@@ -8,7 +8,7 @@ ghost use Rattle.cap_server.specs.Close.{FirstHasSeen, HasAll, IsClosed, IsMissi
 ghost use Rattle.cap_server.specs.Fault.{HasCauseAfter, LeavesSeat, MatchCallFault, MatchCloseFault};
 ghost use Rattle.cap_server.specs.declared.fault.CallFault.TheVariants.{HistoryFull};
 
-use crate::exchange::step_with_hook;
+use crate::call_hook::step_with_hook;
 use crate::handed_back::{calls_agree, first_sees_all, missing_seat};
 use crate::{CallFault, CloseFault, Closed};
 use cap_core::{Command, Core, EVENTS_MAX, Reply};

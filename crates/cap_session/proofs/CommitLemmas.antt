@@ -9,7 +9,7 @@ use Rattle.cap_database.specs.Read.{row_at}
 use Rattle.cap_database.specs.Tables.{Tables}
 use Rattle.cap_database.specs.declared.change.Change.{Change}
 use Rattle.cap_session.specs.declared.rule.AutomaticRule.{AutomaticRule}
-use Rattle.cap_session.specs.Note.{attach_by, attach_by_rule, is_cascade, touch_of, touch_table, touch_tables, touches_of}
+use Rattle.cap_session.specs.Recording.{attach_by, attach_by_rule, is_cascade, touch_of, touch_table, touch_tables, touches_of}
 use Rattle.cap_session.specs.Records.{Records, touch, with_touches}
 use Rattle.cap_session.specs.Session.{AttachedTables, accepts_by, attach}
 use Rattle.cap_session.proofs.RecordLemmas.{touch-first}

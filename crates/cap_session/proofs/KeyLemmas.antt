@@ -13,10 +13,10 @@ use Rattle.cap_database.specs.declared.change.Change.{Change}
 use Rattle.cap_database.proofs.BackLemmas.{again}
 use Rattle.cap_session.specs.declared.record.Record.{Record}
 use Rattle.cap_session.specs.declared.rule.AutomaticRule.{AutomaticRule}
-use Rattle.cap_session.specs.Note.{attach_by, attach_by_rule, is_cascade, note, note_key, touch_of, touch_table, touch_tables, touches_of}
+use Rattle.cap_session.specs.Recording.{attach_by, attach_by_rule, is_cascade, record_commit, record_key, touch_of, touch_table, touch_tables, touches_of}
 use Rattle.cap_session.specs.Records.{Records, Touch, record_after, touch, with_touches}
 use Rattle.cap_session.specs.Session.{AttachedTables, SessionState, accepts_by, attach}
-use Rattle.cap_session.specs.Sessions.{NumberedSessions, note_each, note_key_each}
+use Rattle.cap_session.specs.Sessions.{NumberedSessions, record_commit_each, record_key_each}
 use Rattle.cap_session.proofs.CommitLemmas.{one-table}
 use Rattle.cap_session.proofs.RecordLemmas.{and_twice, found-touched}
 use Rattle.cap_session.proofs.StageLemmas.{listed-attached}
@@ -56,8 +56,8 @@ module _ {A : Type 0} where
         ap₂ (λ (records : Records A) others. (t.0, records) ∷ others) (with-twice t.1 (touch_of before indirect t.0 change)) (tables-twice indirect change ts)
 
     -- the same change twice is one change
-    note-twice : (change : Change A) (session : SessionState A) → note before (change ∷ change ∷ []) session ≡ note before (change ∷ []) session
-    note-twice change session =
+    record_commit-twice : (change : Change A) (session : SessionState A) → record_commit before (change ∷ change ∷ []) session ≡ record_commit before (change ∷ []) session
+    record_commit-twice change session =
         ap (λ (tables : AttachedTables A). cond session.enabled (record session { tables = tables }) session)
         (ap (touch_tables before session.indirect (change ∷ change ∷ [])) (attach-twice session.rule change.table session.tables)
         ∙ tables-twice session.indirect change (attach_by session.rule session.tables change.table))
@@ -66,17 +66,17 @@ module _ {A : Type 0} where
         → touches_of before indirect change.table (change ∷ []) ≡ record { key = key; image = row_at before change.table key; indirect = indirect || is_cascade change.cause } ∷ []
     touch-of-key indirect change key is = rw ((bytes_decides change.table change.table).1 refl, is) refl
 
-    note-one : (change : Change A) (key : Fields A) → change.key ≡ Some key → (session : SessionState A) → note before (change ∷ []) session ≡ note_key change.table key change.cause (row_at before change.table key) session
-    note-one change key is session =
+    record_commit-one : (change : Change A) (key : Fields A) → change.key ≡ Some key → (session : SessionState A) → record_commit before (change ∷ []) session ≡ record_key change.table key change.cause (row_at before change.table key) session
+    record_commit-one change key is session =
         let tables = attach_by session.rule session.tables change.table in
         ap (λ (tables : AttachedTables A). cond session.enabled (record session { tables = tables }) session)
         (sym (one-table before session.indirect change tables) ∙ ap (λ touches. touch_table change.table touches tables) (touch-of-key session.indirect change key is))
 
-    pub one-change : (change : Change A) (key : Fields A) (sessions : NumberedSessions A) → change.key ≡ Some key → note_each before (change ∷ []) sessions ≡ note_key_each change.table key change.cause (row_at before change.table key) sessions
+    pub one-change : (change : Change A) (key : Fields A) (sessions : NumberedSessions A) → change.key ≡ Some key → record_commit_each before (change ∷ []) sessions ≡ record_key_each change.table key change.cause (row_at before change.table key) sessions
     one-change change key [] is = refl
-    one-change change key (s ∷ ss) is = ap₂ (λ (one : SessionState A) others. (s.0, one) ∷ others) (note-one change key is s.1) (one-change change key ss is)
+    one-change change key (s ∷ ss) is = ap₂ (λ (one : SessionState A) others. (s.0, one) ∷ others) (record_commit-one change key is s.1) (one-change change key ss is)
 
-    pub same-change : (change : Change A) (key : Fields A) (sessions : NumberedSessions A) → change.key ≡ Some key → note_each before (change ∷ change ∷ []) sessions ≡ note_key_each change.table key change.cause (row_at before change.table key) sessions
+    pub same-change : (change : Change A) (key : Fields A) (sessions : NumberedSessions A) → change.key ≡ Some key → record_commit_each before (change ∷ change ∷ []) sessions ≡ record_key_each change.table key change.cause (row_at before change.table key) sessions
     same-change change key [] is = refl
     same-change change key (s ∷ ss) is =
-        ap₂ (λ (one : SessionState A) others. (s.0, one) ∷ others) (note-twice change s.1 ∙ note-one change key is s.1) (same-change change key ss is)
+        ap₂ (λ (one : SessionState A) others. (s.0, one) ∷ others) (record_commit-twice change s.1 ∙ record_commit-one change key is s.1) (same-change change key ss is)

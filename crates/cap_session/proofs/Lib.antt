@@ -3,7 +3,7 @@ pub mod Crossing
 mod LatestLemmas
 mod KeyLemmas
 mod ListLemmas
-mod NoteLemmas
+mod RecordingLemmas
 mod NumberLemmas
 mod PlaceLemmas
 mod RecordLemmas

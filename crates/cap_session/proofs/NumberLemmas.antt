@@ -2,9 +2,9 @@
 use Rattle.std.proofs.Common.{◌≡◌, ℕ, zero, suc, Bool, false, cond, Option, Some, None, List, [], ◌∷◌, map, set, get_or, drop, refl, sym, ap, ap₂, ◌∙◌, nat_eq}
 use Rattle.std.specs.List.{remove}
 use Rattle.std.specs.Option.{option_map}
-use Rattle.cap_session.specs.declared.keep.Keep.{Keep}
+use Rattle.cap_session.specs.declared.ending.Ending.{Ending}
 use Rattle.cap_session.specs.declared.numbered.Numbered.{Numbered}
-use Rattle.cap_session.specs.Code.Keep.{kept_session}
+use Rattle.cap_session.specs.Code.Ending.{session_after}
 use Rattle.cap_session.specs.Code.Numbered.{made_of}
 use Rattle.cap_session.specs.Session.{SessionState, StagedSession, settled}
 use Rattle.cap_session.specs.Sessions.{NumberedSessions, session_numbered, with_session, with_session_if, without_session}
@@ -14,8 +14,8 @@ module _ {A : Type 0} where
   abbrev pub see : Numbered A → ℕ × StagedSession A
   see numbered = (numbered.number, numbered.session)
 
-  abbrev pub keeps : Keep → ℕ × StagedSession A → ℕ × StagedSession A
-  keeps what s = (s.0, settled (kept_session what s.1))
+  abbrev pub ended : Ending → ℕ × StagedSession A → ℕ × StagedSession A
+  ended ending s = (s.0, settled (session_after ending s.1))
 
 module _ {A : Type 0} (number : ℕ) where
   abbrev pub has_number : Numbered A → Bool

@@ -26,19 +26,19 @@ module _ {K V : Type 0} (R : K → K → Ordering) (o : IsTotalOrder R) where
         | Greater ↦ λ p found. ap (λ x. e ∷ x) (put_entry-there same es k v s.1 found)
       ] refl is
 
-noted_mark : (a b : Bool) → (not a || b) ≡ true → (a && b) ≡ a
-noted_mark true b is = is
-noted_mark false b is = refl
+unchanged_mark : (a b : Bool) → (not a || b) ≡ true → (a && b) ≡ a
+unchanged_mark true b is = is
+unchanged_mark false b is = refl
 
 module _ {A : Type 0} where
   pub fields_same : IsAntisymmetric (fields_cmp {A = A})
   fields_same a b = (fields_cmp-Equal a b).0
 
   -- a key that was touched directly, or indirectly as now, stays as it is
-  pub touch-noted : (records : Records A) (t : Touch A) (r : Record A) → IsOrdered fields_cmp records → get fields_cmp records t.key ≡ Some r → (not r.indirect || t.indirect) ≡ true → touch records t ≡ records
-  touch-noted records t r ordered is noted =
+  pub touch-unchanged : (records : Records A) (t : Touch A) (r : Record A) → IsOrdered fields_cmp records → get fields_cmp records t.key ≡ Some r → (not r.indirect || t.indirect) ≡ true → touch records t ≡ records
+  touch-unchanged records t r ordered is unchanged =
       let kept : record_after (get fields_cmp records t.key) t.image t.indirect ≡ r =
-      ap (λ found. record_after found t.image t.indirect) is ∙ ap (λ b. record { image = r.image; indirect = b }) (noted_mark r.indirect t.indirect noted) in
+      ap (λ found. record_after found t.image t.indirect) is ∙ ap (λ b. record { image = r.image; indirect = b }) (unchanged_mark r.indirect t.indirect unchanged) in
       ap (put_entry fields_cmp records t.key) kept ∙ put_entry-there fields_cmp fields_cmp_total fields_same records t.key r ordered is
 
   -- a touch more or none, and then others

@@ -10,11 +10,11 @@ use Rattle.std.specs.Prelude.{slice_get}
 use Rattle.cap_value.specs.Bytes.{bytes_eq}
 use Rattle.indexmap.specs.IndexMap.{insert_entry}
 use Rattle.indexmap.specs.Layout.{set_value_at}
-use Rattle.cap_session.specs.declared.keep.Keep.{Keep}
+use Rattle.cap_session.specs.declared.ending.Ending.{Ending}
 use Rattle.cap_session.specs.declared.table_records.TableRecords.{TableRecords}
-use Rattle.cap_session.specs.declared.keep.Keep.TheVariants.{Published, Staged, Nothing}
-use Rattle.cap_session.specs.Code.AttachList.{kept_in, live_in, staged_in}
-use Rattle.cap_session.specs.Code.Keep.{kept, kept_count, kept_tables}
+use Rattle.cap_session.specs.declared.ending.Ending.TheVariants.{Discard, Publish, Clear}
+use Rattle.cap_session.specs.Code.AttachList.{after_in, live_in, staged_in}
+use Rattle.cap_session.specs.Code.Ending.{count_after, records_after, tables_after}
 use Rattle.cap_session.specs.Session.{forget}
 use Rattle.cap_session.specs.Records.{Records}
 use Rattle.cap_session.proofs.ListLemmas.{changed, loop-step}
@@ -37,36 +37,36 @@ module _ (name : List ℕ) where
   pub position-last : (names : List (List ℕ)) → NonePass (bytes_eq name) names → Some (length names) ≡ position (bytes_eq name) (names ++ name ∷ [])
   position-last names none = ap Some (omega arith) ∙ last-from names 0 none ∙ sym (position_from-zero (bytes_eq name) (names ++ name ∷ []))
 
-count-within : (what : Keep) (n all : ℕ) → n ≤ all → kept_count what n all ≤ all
-count-within Published n all le = le
-count-within Staged n all le = omega arith
-count-within Nothing n all le = le
+count-within : (ending : Ending) (n all : ℕ) → n ≤ all → count_after ending n all ≤ all
+count-within Discard n all le = le
+count-within Publish n all le = omega arith
+count-within Clear n all le = le
 
 module _ {A : Type 0} where
   abbrev pub see : List ℕ × TableRecords A → List ℕ × Records A × Records A
   see table = (table.0, table.1.records, unwrap_or table.1.staged table.1.records)
 
-  abbrev pub keeps : Keep → List ℕ × Records A × Records A → List ℕ × Records A × Records A
-  keeps what s = (s.0, kept what s.1 s.2, kept what s.1 s.2)
+  abbrev pub ended : Ending → List ℕ × Records A × Records A → List ℕ × Records A × Records A
+  ended ending s = (s.0, records_after ending s.1 s.2, records_after ending s.1 s.2)
 
-  kept-first : (what : Keep) (es : List (List ℕ × TableRecords A)) (n : ℕ) → kept_in what (take (kept_count what n (length es)) es) ≡ kept_tables what (take n (live_in es)) (staged_in es)
-  kept-first Published es n = sym (take-map (λ e. (e.0, e.1.records)) n es)
-  kept-first Staged es n = ap staged_in (take_all (length es) es (omega arith))
-  kept-first Nothing es n = forgotten (take n es) ∙ ap forget (sym (take-map (λ e. (e.0, e.1.records)) n es))
+  after-first : (ending : Ending) (es : List (List ℕ × TableRecords A)) (n : ℕ) → after_in ending (take (count_after ending n (length es)) es) ≡ tables_after ending (take n (live_in es)) (staged_in es)
+  after-first Discard es n = sym (take-map (λ e. (e.0, e.1.records)) n es)
+  after-first Publish es n = ap staged_in (take_all (length es) es (omega arith))
+  after-first Clear es n = forgotten (take n es) ∙ ap forget (sym (take-map (λ e. (e.0, e.1.records)) n es))
     where
-      forgotten : (ts : List (List ℕ × TableRecords A)) → kept_in Nothing ts ≡ forget (live_in ts)
+      forgotten : (ts : List (List ℕ × TableRecords A)) → after_in Clear ts ≡ forget (live_in ts)
       forgotten [] = refl
       forgotten (t ∷ ts) = ap (λ others. (t.0, []) ∷ others) (forgotten ts)
 
-  -- what stays of an attach list
-  pub kept-whole : (what : Keep) (es final : List (List ℕ × TableRecords A)) (n k : ℕ) → n ≤ length es → k ≡ kept_count what n (length es) → live_in final ≡ kept_in what (take k es)
-      → (take k (live_in final) ≡ kept_tables what (take n (live_in es)) (staged_in es)) × (kept_in what (take k es) ≡ kept_tables what (take n (live_in es)) (staged_in es)) × (k ≤ length final)
-  kept-whole what es final n k among counted is =
-      let stays : kept_in what (take k es) ≡ kept_tables what (take n (live_in es)) (staged_in es) = ap (λ m. kept_in what (take m es)) counted ∙ kept-first what es n in
+  -- what is left of an attach list
+  pub after-whole : (ending : Ending) (es final : List (List ℕ × TableRecords A)) (n k : ℕ) → n ≤ length es → k ≡ count_after ending n (length es) → live_in final ≡ after_in ending (take k es)
+      → (take k (live_in final) ≡ tables_after ending (take n (live_in es)) (staged_in es)) × (after_in ending (take k es) ≡ tables_after ending (take n (live_in es)) (staged_in es)) × (k ≤ length final)
+  after-whole ending es final n k among counted is =
+      let stays : after_in ending (take k es) ≡ tables_after ending (take n (live_in es)) (staged_in es) = ap (λ m. after_in ending (take m es)) counted ∙ after-first ending es n in
       let live : length (live_in final) ≡ length final = length-map final (λ e. (e.0, e.1.records)) in
-      let mid : length (kept_in what (take k es)) ≡ length (take k es) = length-map (take k es) (λ e. (e.0, kept what e.1.records (unwrap_or e.1.staged e.1.records))) in
+      let mid : length (after_in ending (take k es)) ≡ length (take k es) = length-map (take k es) (λ e. (e.0, records_after ending e.1.records (unwrap_or e.1.staged e.1.records))) in
       let long : length final ≡ length (take k es) = sym live ∙ ap length is ∙ mid in
-      let within : k ≤ length es = omega (arith, counted, count-within what n (length es) among) in (
+      let within : k ≤ length es = omega (arith, counted, count-within ending n (length es) among) in (
         take_all k (live_in final) (omega (arith, live, long, length-take k es)) ∙ is ∙ stays,
         stays,
         omega (arith, long, length-take k es, within),
@@ -85,16 +85,16 @@ module _ {V : Type 0} where
   value-at (e ∷ es) (suc i) v d is = value-at es i v d is
 
 module _ {A : Type 0} where
-  -- a table more whose records stay so
-  pub kept-step : (what : Keep) (es : List (List ℕ × TableRecords A)) (start : List (List ℕ × Records A × Records A)) (i : ℕ) (new old : TableRecords A) → i < length es → slice_get (values_of es) i ≡ Some old
-      → new.records ≡ kept what old.records (unwrap_or old.staged old.records) → new.staged ≡ None → map see es ≡ changed see (keeps what) i start → map see (set_value_at es i new) ≡ changed see (keeps what) (i + 1) start
-  kept-step what es start i new old lt is records none sofar =
+  -- a table more with its records then
+  pub after-step : (ending : Ending) (es : List (List ℕ × TableRecords A)) (start : List (List ℕ × Records A × Records A)) (i : ℕ) (new old : TableRecords A) → i < length es → slice_get (values_of es) i ≡ Some old
+      → new.records ≡ records_after ending old.records (unwrap_or old.staged old.records) → new.staged ≡ None → map see es ≡ changed see (ended ending) i start → map see (set_value_at es i new) ≡ changed see (ended ending) (i + 1) start
+  after-step ending es start i new old lt is records none sofar =
       let d : List ℕ × TableRecords A = ([], old) in
-      let live : new.records ≡ kept what (get_or es i d).1.records (unwrap_or (get_or es i d).1.staged (get_or es i d).1.records) =
-      records ∙ ap (λ (t : TableRecords A). kept what t.records (unwrap_or t.staged t.records)) (sym (value-at es i old d is)) in
+      let live : new.records ≡ records_after ending (get_or es i d).1.records (unwrap_or (get_or es i d).1.staged (get_or es i d).1.records) =
+      records ∙ ap (λ (t : TableRecords A). records_after ending t.records (unwrap_or t.staged t.records)) (sym (value-at es i old d is)) in
       ap (map see) (written es i new d)
-      ∙ loop-step see (keeps what) es start i ((get_or es i d).0, new) d lt (ap₂ (λ a b. ((get_or es i d).0, a, b)) live (ap (λ s. unwrap_or s new.records) none ∙ live)) sofar
-      ∙ ap (λ n. changed see (keeps what) n start) (sym (add-one i))
+      ∙ loop-step see (ended ending) es start i ((get_or es i d).0, new) d lt (ap₂ (λ a b. ((get_or es i d).0, a, b)) live (ap (λ s. unwrap_or s new.records) none ∙ live)) sofar
+      ∙ ap (λ n. changed see (ended ending) n start) (sym (add-one i))
 
 module _ {V : Type 0} where
   -- a table that is not there is put last

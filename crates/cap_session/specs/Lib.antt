@@ -1,5 +1,5 @@
 pub mod Code
-pub mod Note
+pub mod Recording
 pub mod Records
 pub mod Session
 pub mod Sessions

@@ -97,7 +97,7 @@ module _ {A : Type 0} where
   abbrev pub restart : SessionState A → SessionState A
   restart session = record session { tables = forget session.tables }
 
-  -- the session after a change by its caller
+  -- the session with a setting changed, or its records cleared
   abbrev pub changed_by : SessionChange A → SessionState A → SessionState A
   changed_by AttachAll session = attach_all session
   changed_by (SetFilter rule) session = set_filter rule session

@@ -5,7 +5,7 @@ use Rattle.cap_row.specs.Fields.{Fields}
 use Rattle.cap_database.specs.Tables.{Tables}
 use Rattle.cap_database.specs.declared.cause.Cause.{Cause}
 use Rattle.cap_database.specs.declared.change.Change.{Change}
-use Rattle.cap_session.specs.Note.{note, note_key}
+use Rattle.cap_session.specs.Recording.{record_commit, record_key}
 use Rattle.cap_session.specs.Session.{SessionState}
 
 -- the sessions in the order in which they were created, each with its number
@@ -40,11 +40,12 @@ module _ {A : Type 0} where
       if nat_eq number session.0 then sessions else session ∷ without_session sessions number
 
   -- each session after the changes of a commit, given the tables before it
-  abbrev pub note_each : Tables A → List (Change A) → NumberedSessions A → NumberedSessions A
-  note_each before changes sessions = map (λ session. (session.0, note before changes session.1)) sessions
+  abbrev pub record_commit_each : Tables A → List (Change A) → NumberedSessions A → NumberedSessions A
+  record_commit_each before changes sessions =
+      map (λ session. (session.0, record_commit before changes session.1)) sessions
 
   -- each session after a commit that changes the row of this key alone, given the row before it
-  abbrev pub note_key_each : List ℕ → Fields A → Cause → Option (Fields A) → NumberedSessions A
+  abbrev pub record_key_each : List ℕ → Fields A → Cause → Option (Fields A) → NumberedSessions A
       → NumberedSessions A
-  note_key_each name key cause image sessions =
-      map (λ session. (session.0, note_key name key cause image session.1)) sessions
+  record_key_each name key cause image sessions =
+      map (λ session. (session.0, record_key name key cause image session.1)) sessions

@@ -4,15 +4,15 @@ ghost use Rattle.std.specs.List.{IsDistinct, position};
 ghost use Rattle.std.specs.Map.{keys_of};
 ghost use Rattle.std.specs.Option.{option_copied};
 ghost use Rattle.cap_value.specs.Bytes.{bytes_eq};
-ghost use Rattle.cap_session.specs.Code.AttachList.{IsWhole, attached_of, kept_in, live_in, staged_in};
+ghost use Rattle.cap_session.specs.Code.AttachList.{IsWhole, after_in, attached_of, live_in, staged_in};
 ghost use Rattle.cap_session.specs.Code.AttachList.{staged_of};
-ghost use Rattle.cap_session.specs.Code.Keep.{kept_count, kept_tables};
+ghost use Rattle.cap_session.specs.Code.Ending.{count_after, tables_after};
 ghost use Rattle.cap_session.specs.Code.Staging.{touches_by};
-ghost use Rattle.cap_session.specs.Note.{attach_by, attach_by_rule, touch_table, touch_tables};
+ghost use Rattle.cap_session.specs.Recording.{attach_by, attach_by_rule, touch_table, touch_tables};
 ghost use Rattle.cap_session.specs.Session.{records_of, stored};
 
 use crate::attached::Attached;
-use crate::keep::Keep;
+use crate::ending::Ending;
 use crate::table_records::TableRecords;
 use crate::touch::Touches;
 use crate::{AutomaticRule, Records};
@@ -48,26 +48,28 @@ impl<A: AllocHandle> AttachList<A> {
         }
     }
 
-    // Keeps these records. Staged tables are attached where staged records stay, and else discarded.
-    pub(crate) fn keep(&mut self, what: Keep)
+    // Ends what is staged. Staged tables are attached where it is published, and else discarded.
+    pub(crate) fn end_staging(&mut self, ending: Ending)
         requires whole { IsWhole self.old }
-        ensures kept { attached_of self.new ≡ kept_tables what (attached_of self.old) (staged_of self.old) }
-        ensures none { staged_of self.new ≡ kept_tables what (attached_of self.old) (staged_of self.old) }
+        ensures kept { attached_of self.new
+            ≡ tables_after ending (attached_of self.old) (staged_of self.old) }
+        ensures none { staged_of self.new
+            ≡ tables_after ending (attached_of self.old) (staged_of self.old) }
         ensures whole { IsWhole self.new }
     {
-        let count = self.count_kept(what);
+        let count = self.count_after(ending);
         self.tables.truncate(count);
-        keep_each(self.alloc, &mut self.tables, what);
+        end_each(self.alloc, &mut self.tables, ending);
         self.attached = count;
     }
 
-    // How many of the tables stay.
-    fn count_kept(&self, what: Keep) -> usize
-        ensures { result ≡ kept_count what self.now.attached (length self.now.tables.entries) }
+    // How many of the tables are left.
+    fn count_after(&self, ending: Ending) -> usize
+        ensures { result ≡ count_after ending self.now.attached (length self.now.tables.entries) }
     {
-        match what {
-            Keep::Staged => self.tables.len(),
-            Keep::Published | Keep::Nothing => self.attached,
+        match ending {
+            Ending::Publish => self.tables.len(),
+            Ending::Discard | Ending::Clear => self.attached,
         }
     }
 
@@ -235,12 +237,12 @@ impl<A: AllocHandle> AttachList<A> {
     }
 }
 
-// Keeps these records of each table.
-fn keep_each<A: AllocHandle>(alloc: A, tables: &mut Tables<A>, what: Keep)
-    ensures live { live_in tables.new.entries ≡ kept_in what tables.old.entries }
-    ensures staged { staged_in tables.new.entries ≡ kept_in what tables.old.entries }
+// Ends what is staged in each table.
+fn end_each<A: AllocHandle>(alloc: A, tables: &mut Tables<A>, ending: Ending)
+    ensures live { live_in tables.new.entries ≡ after_in ending tables.old.entries }
+    ensures staged { staged_in tables.new.entries ≡ after_in ending tables.old.entries }
 {
     for place in 0..tables.len() {
-        tables[place].keep(alloc, what);
+        tables[place].end_staging(alloc, ending);
     }
 }

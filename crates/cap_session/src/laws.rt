@@ -13,11 +13,11 @@ ghost use Rattle.cap_database.specs.Tables.{Tables};
 ghost use Rattle.cap_database.specs.declared.change.Change.{Change};
 ghost use Rattle.cap_session.specs.declared.record.Record.{Record};
 ghost use Rattle.cap_session.specs.declared.rule.AutomaticRule.{AutomaticRule};
-ghost use Rattle.cap_session.specs.Note.{attach_by_rule, note, touches_of};
+ghost use Rattle.cap_session.specs.Recording.{attach_by_rule, record_commit, touches_of};
 ghost use Rattle.cap_session.specs.Records.{AreTouched, Records, Touch, with_touches};
 ghost use Rattle.cap_session.specs.Session.{AttachedTables, SessionState, accepts_by, attach_all, records_of};
 ghost use Rattle.cap_session.specs.Session.{set_filter};
-ghost use Rattle.cap_session.specs.Sessions.{NumberedSessions, note_each, note_key_each};
+ghost use Rattle.cap_session.specs.Sessions.{NumberedSessions, record_commit_each, record_key_each};
 
 use cap_value::AllocHandle;
 
@@ -45,7 +45,7 @@ pub fn images_are_the_rows_before<A: AllocHandle>()
 /// A commit touches the rows of exactly the tables that are attached after it, each with its own changes.
 pub fn commits_touch_attached_tables<A: AllocHandle>()
     ensures { (before : Tables A) (changes : List (Change A)) (session : SessionState A) (name : List ℕ)
-        → session.enabled ≡ true → records_of (note before changes session).tables name
+        → session.enabled ≡ true → records_of (record_commit before changes session).tables name
         ≡ option_map (λ records. with_touches records (touches_of before session.indirect name changes))
         (records_of (attach_by_rule session.rule changes session.tables) name) }
 {}
@@ -66,17 +66,17 @@ pub fn rule_attaches_changed_tables<A: AllocHandle>()
 /// A commit leaves a disabled session unchanged.
 pub fn disabled_session_gains_nothing<A: AllocHandle>()
     ensures { (before : Tables A) (changes : List (Change A)) (session : SessionState A)
-        → session.enabled ≡ false → note before changes session ≡ session }
+        → session.enabled ≡ false → record_commit before changes session ≡ session }
 {}
 
 /// A commit that makes one change of a key, or the same change twice, is one touch of the key.
 pub fn changes_of_a_key_are_one_touch<A: AllocHandle>()
     ensures once { (before : Tables A) (change : Change A) (key : Fields A) (sessions : NumberedSessions A)
-        → change.key ≡ Some key → note_each before (change ∷ []) sessions
-        ≡ note_key_each change.table key change.cause (row_at before change.table key) sessions }
+        → change.key ≡ Some key → record_commit_each before (change ∷ []) sessions
+        ≡ record_key_each change.table key change.cause (row_at before change.table key) sessions }
     ensures twice { (before : Tables A) (change : Change A) (key : Fields A) (sessions : NumberedSessions A)
-        → change.key ≡ Some key → note_each before (change ∷ change ∷ []) sessions
-        ≡ note_key_each change.table key change.cause (row_at before change.table key) sessions }
+        → change.key ≡ Some key → record_commit_each before (change ∷ change ∷ []) sessions
+        ≡ record_key_each change.table key change.cause (row_at before change.table key) sessions }
 {}
 
 /// A filter takes precedence over attaching every table, in whatever order they are set.

@@ -3,7 +3,7 @@
 
 mod attach_list;
 mod attached;
-mod keep;
+mod ending;
 mod laws;
 mod numbered;
 mod record;

@@ -1,11 +1,11 @@
 //! Sessions by number: staging and publishing their changes.
 ghost use Rattle.std.specs.Prelude.{◌≡◌, IfOk, OnOk, Some, None, nat_eq};
 ghost use Rattle.std.specs.List.{position};
-ghost use Rattle.cap_session.specs.Code.Numbered.{kept_of, live_of, made_of, staged_of};
+ghost use Rattle.cap_session.specs.Code.Numbered.{after_of, live_of, made_of, staged_of};
 ghost use Rattle.cap_session.specs.Code.Staging.{staged_by};
 ghost use Rattle.cap_session.specs.Session.{changed_by};
 
-use crate::keep::Keep;
+use crate::ending::Ending;
 use crate::staging::Staging;
 use crate::{Session, SessionChange};
 use cap_value::{AllocHandle, OutOfMemory};
@@ -26,13 +26,13 @@ pub(crate) fn place_of<A: AllocHandle>(sessions: &[Numbered<A>], number: u64) ->
         .position(|numbered| number == numbered.number)
 }
 
-// Keeps these records of each session. Nothing is staged then.
-pub(crate) fn keep<A: AllocHandle>(sessions: &mut Vec<Numbered<A>, A>, what: Keep)
-    ensures live { live_of sessions.new.items ≡ kept_of what sessions.old.items }
-    ensures staged { staged_of sessions.new.items ≡ kept_of what sessions.old.items }
+// Ends what is staged in each session.
+pub(crate) fn end_staging<A: AllocHandle>(sessions: &mut Vec<Numbered<A>, A>, ending: Ending)
+    ensures live { live_of sessions.new.items ≡ after_of ending sessions.old.items }
+    ensures staged { staged_of sessions.new.items ≡ after_of ending sessions.old.items }
 {
     for place in 0..sessions.len() {
-        sessions[place].session.keep(what);
+        sessions[place].session.end_staging(ending);
     }
 }
 
@@ -92,7 +92,7 @@ pub(crate) fn change<A: AllocHandle>(
         ≡ made_of (changed_by change) (Some number) (live_of sessions.old.items) }
     ensures none { staged_of sessions.new.items ≡ live_of sessions.new.items }
 {
-    keep(sessions, Keep::Published);
+    end_staging(sessions, Ending::Discard);
     if let Some(place) = place_of(sessions, number) {
         sessions[place].session.change(change);
     }

@@ -1,16 +1,16 @@
 //! One session.
 ghost use Rattle.std.specs.Prelude.{◌≡◌, ◌<◌, ◌^◌, length, nat_eq, IfOk, OnOk, OnErr};
 ghost use Rattle.std.specs.Option.{option_copied};
-ghost use Rattle.cap_session.specs.Code.Keep.{kept_session};
+ghost use Rattle.cap_session.specs.Code.Ending.{session_after};
 ghost use Rattle.cap_session.specs.Code.Staging.{staged_by};
-ghost use Rattle.cap_session.specs.Note.{note, note_diff};
+ghost use Rattle.cap_session.specs.Recording.{record_commit, record_diff};
 ghost use Rattle.cap_session.specs.Session.{attach_all, attached, changed_by, enabled_as, indirect_as};
 ghost use Rattle.cap_session.specs.Session.{new_session, record_of, records_of, restart, set_filter, settled};
 ghost use Rattle.cap_session.specs.Session.{stored};
 
 use crate::attach_list::AttachList;
 use crate::attached::Attached;
-use crate::keep::Keep;
+use crate::ending::Ending;
 use crate::staging::Staging;
 use crate::touch::Touches;
 use crate::{AutomaticRule, Record, Records, SessionChange};
@@ -145,19 +145,24 @@ impl<A: AllocHandle> Session<A> {
     pub fn change(&mut self, change: SessionChange<A>)
         ensures { self.new ≡ settled (changed_by change self.old.live) }
     {
-        self.keep(Keep::Published);
+        self.end_staging(Ending::Discard);
         match change {
             SessionChange::AttachAll => self.rule.accept_all(),
             SessionChange::SetFilter(filter) => self.rule = AutomaticRule::Filter(filter),
             SessionChange::Enable(asked) => self.enabled = asked.unwrap_or(self.enabled),
             SessionChange::Indirect(asked) => self.indirect = asked.unwrap_or(self.indirect),
-            SessionChange::Restart => self.keep(Keep::Nothing),
+            SessionChange::Restart => self.end_staging(Ending::Clear),
         }
     }
 
     /// Records the changes of one commit. `before` is the database before it.
-    pub fn note(&mut self, before: &Database<A>, changes: &[Change<A>]) -> Result<(), OutOfMemory>
-        ensures noted { OnOk result (self.new ≡ settled (note before.now changes.now self.old.live)) }
+    pub fn record_commit(
+        &mut self,
+        before: &Database<A>,
+        changes: &[Change<A>],
+    ) -> Result<(), OutOfMemory>
+        ensures recorded { OnOk result
+            (self.new ≡ settled (record_commit before.now changes.now self.old.live)) }
         ensures err { OnErr result (self.new ≡ settled self.old.live) }
     {
         self.stage_and_publish(&Staging::Changes(before, changes))
@@ -165,13 +170,13 @@ impl<A: AllocHandle> Session<A> {
 
     /// Records a diff of a table (SQLite's sqlite3session_diff): attaches the table unless it is attached,
     /// and touches each key that differs, even where the session is disabled.
-    pub fn note_diff(
+    pub fn record_diff(
         &mut self,
         name: &Name<A>,
         differences: &[Difference<A>],
     ) -> Result<(), OutOfMemory>
-        ensures noted { OnOk result
-            (self.new ≡ settled (note_diff name.now differences.now self.old.live)) }
+        ensures recorded { OnOk result
+            (self.new ≡ settled (record_diff name.now differences.now self.old.live)) }
         ensures err { OnErr result (self.new ≡ settled self.old.live) }
     {
         self.stage_and_publish(&Staging::Diff(name, differences))
@@ -182,14 +187,14 @@ impl<A: AllocHandle> Session<A> {
         ensures made { OnOk result (self.new ≡ settled (staged_by what.now self.old.live)) }
         ensures err { OnErr result (self.new ≡ settled self.old.live) }
     {
-        self.keep(Keep::Published);
+        self.end_staging(Ending::Discard);
         match self.stage(what) {
             Ok(()) => {
-                self.keep(Keep::Staged);
+                self.end_staging(Ending::Publish);
                 Ok(())
             }
             Err(fault) => {
-                self.keep(Keep::Published);
+                self.end_staging(Ending::Discard);
                 Err(fault)
             }
         }
@@ -222,11 +227,11 @@ impl<A: AllocHandle> Session<A> {
         }
     }
 
-    // Keeps these records. Nothing is staged then.
-    pub(crate) fn keep(&mut self, what: Keep)
-        ensures { self.new ≡ settled (kept_session what self.old) }
+    // Ends what is staged.
+    pub(crate) fn end_staging(&mut self, ending: Ending)
+        ensures { self.new ≡ settled (session_after ending self.old) }
     {
-        self.list.keep(what);
+        self.list.end_staging(ending);
     }
 
     /// Whether there is no record (SQLite's sqlite3session_isempty). The row of a record may be unchanged.

@@ -1,4 +1,4 @@
-//! Changes of a session by its caller.
+//! Session settings: the rule, the flags, and clearing the records.
 
 use cap_filter::TableFilter;
 use cap_value::AllocHandle;

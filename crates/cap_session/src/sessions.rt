@@ -5,13 +5,14 @@ ghost use Rattle.std.specs.Option.{option_copied, option_map};
 ghost use Rattle.cap_value.specs.Memory.{MatchFault};
 ghost use Rattle.cap_session.specs.Code.Numbered.{made_of};
 ghost use Rattle.cap_session.specs.Code.Staging.{staged_by};
-ghost use Rattle.cap_session.specs.Note.{note_diff};
+ghost use Rattle.cap_session.specs.Recording.{record_diff};
 ghost use Rattle.cap_session.specs.Session.{attached, changed_by, new_session, settled};
-ghost use Rattle.cap_session.specs.Sessions.{note_each, note_key_each, session_numbered, with_session_if};
+ghost use Rattle.cap_session.specs.Sessions.{record_commit_each, record_key_each, session_numbered};
+ghost use Rattle.cap_session.specs.Sessions.{with_session_if};
 ghost use Rattle.cap_session.specs.Sessions.{without_session};
 
-use crate::keep::Keep;
-use crate::numbered::{Numbered, change, copies_of, keep, place_of, stage};
+use crate::ending::Ending;
+use crate::numbered::{Numbered, change, copies_of, end_staging, place_of, stage};
 use crate::staging::Staging;
 use crate::{Session, SessionChange};
 use cap_compare::Difference;
@@ -98,7 +99,7 @@ impl<A: AllocHandle> Sessions<A> {
             (λ why. H.gives hook.old None (Some (settled new_session)) (Err why) hook.new)) }
         ensures nothing_staged { self.new.staged ≡ self.new.live }
     {
-        keep(&mut self.sessions, Keep::Published);
+        end_staging(&mut self.sessions, Ending::Discard);
         self.sessions.reserve(1)?;
         let session = Session::new(self.alloc);
         ask_to_add(hook, &session)?;
@@ -111,23 +112,28 @@ impl<A: AllocHandle> Sessions<A> {
         ensures removed { self.new.live ≡ without_session self.old.live number }
         ensures nothing_staged { self.new.staged ≡ self.new.live }
     {
-        keep(&mut self.sessions, Keep::Published);
+        end_staging(&mut self.sessions, Ending::Discard);
         if let Some(place) = place_of(&self.sessions, number) {
             self.sessions.remove(place);
         }
     }
 
     /// Stages the changes of one commit in each session. `before` is the database before it.
-    pub fn note(&mut self, before: &Database<A>, changes: &[Change<A>]) -> Result<(), OutOfMemory>
+    pub fn stage_commit(
+        &mut self,
+        before: &Database<A>,
+        changes: &[Change<A>],
+    ) -> Result<(), OutOfMemory>
         ensures kept { self.new.live ≡ self.old.live }
-        ensures staged { OnOk result (self.new.staged ≡ note_each before.now changes.now self.old.live) }
+        ensures staged { OnOk result
+            (self.new.staged ≡ record_commit_each before.now changes.now self.old.live) }
         ensures nothing_staged { OnErr result (self.new.staged ≡ self.new.live) }
     {
         self.stage(None, &Staging::Changes(before, changes))
     }
 
     /// Stages a commit that changes the row of this key alone in each session. `image` is the row before it.
-    pub fn note_key(
+    pub fn stage_key(
         &mut self,
         table: &Name<A>,
         key: &Key<A>,
@@ -136,14 +142,14 @@ impl<A: AllocHandle> Sessions<A> {
     ) -> Result<(), OutOfMemory>
         ensures kept { self.new.live ≡ self.old.live }
         ensures staged { OnOk result (self.new.staged
-            ≡ note_key_each table.now key.now cause (option_copied image.entry) self.old.live) }
+            ≡ record_key_each table.now key.now cause (option_copied image.entry) self.old.live) }
         ensures nothing_staged { OnErr result (self.new.staged ≡ self.new.live) }
     {
         self.stage(None, &Staging::Key(table, key, cause, image))
     }
 
     /// Stages attaching a table to the session with this number, if any.
-    pub fn note_attached(&mut self, number: u64, name: &Name<A>) -> Result<(), OutOfMemory>
+    pub fn stage_attach(&mut self, number: u64, name: &Name<A>) -> Result<(), OutOfMemory>
         ensures kept { self.new.live ≡ self.old.live }
         ensures staged { OnOk result (self.new.staged ≡ with_session_if self.old.live number
             (option_map (attached name.now) (session_numbered self.old.live number))) }
@@ -153,7 +159,7 @@ impl<A: AllocHandle> Sessions<A> {
     }
 
     /// Stages a diff of a table in the session with this number, if any.
-    pub fn note_diff(
+    pub fn stage_diff(
         &mut self,
         number: u64,
         name: &Name<A>,
@@ -161,7 +167,7 @@ impl<A: AllocHandle> Sessions<A> {
     ) -> Result<(), OutOfMemory>
         ensures kept { self.new.live ≡ self.old.live }
         ensures staged { OnOk result (self.new.staged ≡ with_session_if self.old.live number
-            (option_map (note_diff name.now differences.now) (session_numbered self.old.live number))) }
+            (option_map (record_diff name.now differences.now) (session_numbered self.old.live number))) }
         ensures nothing_staged { OnErr result (self.new.staged ≡ self.new.live) }
     {
         self.stage(Some(number), &Staging::Diff(name, differences))
@@ -173,11 +179,11 @@ impl<A: AllocHandle> Sessions<A> {
         ensures staged { OnOk result (self.new.staged ≡ made_of (staged_by what.now) number self.old.live) }
         ensures nothing_staged { OnErr result (self.new.staged ≡ self.new.live) }
     {
-        keep(&mut self.sessions, Keep::Published);
+        end_staging(&mut self.sessions, Ending::Discard);
         match stage(&mut self.sessions, number, what) {
             Ok(()) => Ok(()),
             Err(fault) => {
-                keep(&mut self.sessions, Keep::Published);
+                end_staging(&mut self.sessions, Ending::Discard);
                 Err(fault)
             }
         }
@@ -188,7 +194,7 @@ impl<A: AllocHandle> Sessions<A> {
         ensures published { self.new.live ≡ self.old.staged }
         ensures nothing_staged { self.new.staged ≡ self.new.live }
     {
-        keep(&mut self.sessions, Keep::Staged);
+        end_staging(&mut self.sessions, Ending::Publish);
     }
 
     /// Changes the session with this number, if any.

@@ -1,12 +1,12 @@
 //! The records of a table of an attach list.
 ghost use Rattle.std.specs.Prelude.{◌≡◌, None, OnOk};
 ghost use Rattle.std.specs.Option.{unwrap_or};
-ghost use Rattle.cap_session.specs.Code.Keep.{kept};
+ghost use Rattle.cap_session.specs.Code.Ending.{records_after};
 ghost use Rattle.cap_session.specs.Code.Staging.{touches_by};
 ghost use Rattle.cap_session.specs.Records.{with_touches};
 
 use crate::Records;
-use crate::keep::Keep;
+use crate::ending::Ending;
 use crate::touch::{Touches, after_touches};
 use cap_value::{AllocHandle, OutOfMemory};
 
@@ -46,21 +46,21 @@ impl<A: AllocHandle> TableRecords<A> {
         Ok(())
     }
 
-    // Keeps these records.
-    pub(crate) fn keep(&mut self, alloc: A, what: Keep)
+    // Ends what is staged.
+    pub(crate) fn end_staging(&mut self, alloc: A, ending: Ending)
         ensures records { self.new.records
-            ≡ kept what self.old.records (unwrap_or self.old.staged self.old.records) }
+            ≡ records_after ending self.old.records (unwrap_or self.old.staged self.old.records) }
         ensures none { self.new.staged ≡ None }
     {
         let staged = self.staged.take();
-        match what {
-            Keep::Published => {}
-            Keep::Staged => {
+        match ending {
+            Ending::Discard => {}
+            Ending::Publish => {
                 if let Some(records) = staged {
                     self.records = records;
                 }
             }
-            Keep::Nothing => self.records = Records::empty(alloc),
+            Ending::Clear => self.records = Records::empty(alloc),
         }
     }
 }

@@ -4,7 +4,7 @@ ghost use Rattle.std.specs.Option.{option_copied, unwrap_or};
 ghost use Rattle.cap_row.specs.Key.{fields_cmp};
 ghost use Rattle.cap_tree.specs.Tree.{IsOrdered, get};
 ghost use Rattle.cap_session.specs.Code.Staging.{image_of, touches_by};
-ghost use Rattle.cap_session.specs.Note.{is_cascade, touch_of, touches_found};
+ghost use Rattle.cap_session.specs.Recording.{is_cascade, touch_of, touches_found};
 ghost use Rattle.cap_session.specs.Records.{Records, Touch, record_after, touch, touch_if, with_touches};
 
 use crate::{Record, Records};
@@ -30,7 +30,7 @@ pub(crate) enum Image<'a, A: AllocHandle> {
     // In the table of this name.
     In(&'a Database<A>, &'a Name<A>),
     // Here.
-    Shown(Option<&'a Row<A>>),
+    Given(Option<&'a Row<A>>),
 }
 
 // `after`, or where it is `None` the records, after touches.
@@ -47,7 +47,7 @@ pub(crate) fn after_touches<A: AllocHandle>(
         Touches::OfChange(before, change) => after_change(records, after, before, indirect, change),
         Touches::OfKey(key, cause, image) => {
             let indirect = indirect || is_cascade(cause);
-            after_touch(records, after, indirect, key, Image::Shown(image))
+            after_touch(records, after, indirect, key, Image::Given(image))
         }
         Touches::OfDiff(differences) => {
             let after = after_or_copy(records, after)?;
@@ -105,7 +105,7 @@ fn after_touch<A: AllocHandle>(
     let now = current(records, &after);
     now.in_order();
     let found = now.get(key);
-    if is_noted(found, indirect) {
+    if changes_nothing(found, indirect) {
         return Ok(after);
     }
     let record = record_after(found, row_of(image, key), indirect)?;
@@ -146,13 +146,13 @@ fn row_of<'a, A: AllocHandle>(image: Image<'a, A>, key: &Key<A>) -> Option<&'a R
 {
     match image {
         Image::In(tables, name) => tables.table(name)?.get_keyed(key),
-        Image::Shown(row) => row,
+        Image::Given(row) => row,
     }
 }
 
 // Whether a touch of a key with this record leaves the records as they are, whatever its image: the record is
 // direct, or this touch is indirect too.
-fn is_noted<A: AllocHandle>(found: Option<&Record<A>>, indirect: bool) -> bool
+fn changes_nothing<A: AllocHandle>(found: Option<&Record<A>>, indirect: bool) -> bool
     ensures { IsTrue result → (records : Records A) (t : Touch A) → IsOrdered fields_cmp records
         → get fields_cmp records t.key ≡ option_copied found.entry → t.indirect ≡ indirect
         → touch records t ≡ records }

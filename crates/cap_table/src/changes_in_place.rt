@@ -9,7 +9,8 @@ ghost use Rattle.cap_table.specs.Operation.{insert_row, update_row, delete_row, 
 ghost use Rattle.cap_table.specs.Operation.{under_next_id, with_id, without, row_of, refused_delete};
 ghost use Rattle.cap_table.specs.Operation.{refused_insert, refused_update};
 
-use crate::table::{IDS_END, Table};
+use crate::limits::ROW_IDS_END;
+use crate::table::Table;
 use crate::{Replaced, RowRef};
 use cap_row::{Key, Row, are_columns, key_of};
 use cap_value::{AllocHandle, Fault, OutOfMemory, Refusal, Value};
@@ -161,7 +162,7 @@ impl<A: AllocHandle> Table<A> {
         ensures table { LeavesUnlessMemory result (under_next_id self.old row) self.new }
         ensures kept { OnErr result (self.new ≡ self.old) }
     {
-        if self.next_id >= IDS_END {
+        if self.next_id >= ROW_IDS_END {
             return Err(Fault::Refused(Refusal::IdsSpent));
         }
         self.loose.insert(self.next_id, row)?;
@@ -198,7 +199,7 @@ impl<A: AllocHandle> Table<A> {
             (without self.old (RowRef.Key old.now)) row) self.new }
         ensures kept { OnErr result (self.new ≡ self.old) }
     {
-        if self.next_id >= IDS_END {
+        if self.next_id >= ROW_IDS_END {
             return Err(Fault::Refused(Refusal::IdsSpent));
         }
         let mut keyed = self.keyed.snapshot()?;

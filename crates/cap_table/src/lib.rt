@@ -5,6 +5,7 @@ mod changes_in_place;
 mod hooked;
 mod keyed_rows;
 mod laws;
+mod limits;
 mod not_made;
 mod replaced;
 mod row_name;
@@ -17,10 +18,11 @@ pub use laws::{
     delete_undoes_insert, ids_are_given_once, insert_takes_next_id, keyed_rows_go_back,
     keyed_rows_keep_tables, operations_keep_columns, operations_keep_tables,
 };
+pub use limits::ROW_IDS_END;
 pub use not_made::NotMade;
 pub use replaced::Replaced;
 pub use row_name::RowName;
 pub use row_ref::RowRef;
 pub use rows::Rows;
 pub use scan::Scan;
-pub use table::{IDS_END, Table};
+pub use table::Table;

@@ -11,10 +11,6 @@ use cap_tree::Tree;
 use cap_value::{AllocHandle, Exact, OutOfMemory};
 use std::marker::Model;
 
-/// What comes after the last id that a table gives, 2^63 - 1: the largest rowid of SQLite
-/// (Rowid Tables).
-pub const IDS_END: u64 = 1 << 63;
-
 /// A table: its columns and its rows. A row whose key columns are all there and not NULL is stored under its
 /// primary key; every other row is stored under an id. The ids start at 1, count upwards, and are never given
 /// again.
@@ -95,7 +91,7 @@ impl<A: AllocHandle> Table<A> {
         &self.schema
     }
 
-    /// The id that the next row without a key takes, or `IDS_END` where the last one was given.
+    /// The id that the next row without a key takes, or `ROW_IDS_END` where the last one was given.
     pub fn next_id(&self) -> u64
         ensures id { result ≡ self.now.next_id }
         ensures first { 1 ≤ result }

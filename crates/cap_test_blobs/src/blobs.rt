@@ -144,7 +144,7 @@ fn the_text_of_a_fault(rt: HostRuntime) -> Result<(), Fail> {
     Ok(())
 }
 
-// How many rows a changeset inserts. It stands in README.md too.
+// How many rows a changeset inserts. It stands in docs/manual/rattle.md too.
 fn inserted_rows(alloc: Global, bytes: &[u8]) -> Result<usize, Fault<BlobFault>> {
     let Contents::Changes(list) = read_blob(alloc, bytes)? else {
         return Ok(0);

@@ -133,12 +133,12 @@ fn an_inverse_takes_each_change_back(rt: HostRuntime) -> Result<(), Fail> {
 }
 
 /// Reads a list, and makes its patches: whether they are of one table.
-pub fn make_patches<A: AllocHandle>(alloc: A) -> Result<bool, Fault<BlobFault>> {
+pub(crate) fn make_patches<A: AllocHandle>(alloc: A) -> Result<bool, Fault<BlobFault>> {
     Ok(to_patches(alloc, &changes(alloc)?)?.groups().len() == 1)
 }
 
 /// Reads a list, and makes its inverse: whether it is of one table.
-pub fn make_inverse<A: AllocHandle>(alloc: A) -> Result<bool, Fault<BlobFault>> {
+pub(crate) fn make_inverse<A: AllocHandle>(alloc: A) -> Result<bool, Fault<BlobFault>> {
     Ok(invert(alloc, &changes(alloc)?)?.groups().len() == 1)
 }
 
@@ -161,10 +161,10 @@ fn each_growth_refused(rt: HostRuntime) -> Result<(), Fail> {
     Ok(())
 }
 
-fn travels<T: Send + Sync>(_value: &T) {}
+fn assert_send_and_sync<T: Send + Sync>(_value: &T) {}
 
 #[test]
 fn lists_travel_between_threads(rt: HostRuntime) {
-    travels(&ChangeList::new(rt.alloc()));
-    travels(&PatchList::new(rt.alloc()));
+    assert_send_and_sync(&ChangeList::new(rt.alloc()));
+    assert_send_and_sync(&PatchList::new(rt.alloc()));
 }

@@ -54,7 +54,10 @@ pub const PATCHES: [u8; 31] = [
     0, 0, 0, 1,
 ];
 
-pub fn write<A: AllocHandle>(alloc: A, blob: &Contents<A>) -> Result<Vec<u8, A>, OutOfMemory> {
+pub(crate) fn write<A: AllocHandle>(
+    alloc: A,
+    blob: &Contents<A>,
+) -> Result<Vec<u8, A>, OutOfMemory> {
     match blob {
         Contents::Changes(list) => write_changes(alloc, list),
         Contents::Patches(list) => write_patches(alloc, list),
@@ -62,7 +65,7 @@ pub fn write<A: AllocHandle>(alloc: A, blob: &Contents<A>) -> Result<Vec<u8, A>,
 }
 
 /// Whether the blob is written as these bytes.
-pub fn is_written<A: AllocHandle>(
+pub(crate) fn is_written<A: AllocHandle>(
     alloc: A,
     blob: &Contents<A>,
     bytes: &[u8],
@@ -71,13 +74,20 @@ pub fn is_written<A: AllocHandle>(
 }
 
 /// Whether the blob of the first bytes is written as the others.
-pub fn reads_as(alloc: Global, bytes: &[u8], written: &[u8]) -> Result<bool, Fault<BlobFault>> {
+pub(crate) fn reads_as(
+    alloc: Global,
+    bytes: &[u8],
+    written: &[u8],
+) -> Result<bool, Fault<BlobFault>> {
     let blob = read_blob(alloc, bytes)?;
     Ok(is_written(alloc, &blob, written)?)
 }
 
 /// The answer for a blob that is fed byte by byte.
-pub fn read_slowly(alloc: Global, bytes: &[u8]) -> Result<Contents<Global>, Fault<BlobFault>> {
+pub(crate) fn read_slowly(
+    alloc: Global,
+    bytes: &[u8],
+) -> Result<Contents<Global>, Fault<BlobFault>> {
     let mut decoder = Decoder::new(alloc);
     for byte in bytes {
         decoder.feed(&[*byte])?;

@@ -56,7 +56,11 @@ fn change(
 }
 
 /// A group without changes.
-pub fn group(alloc: Global, table: &str, flags: &[bool]) -> Result<Group<Global>, Fault<Refusal>> {
+pub(crate) fn group(
+    alloc: Global,
+    table: &str,
+    flags: &[bool],
+) -> Result<Group<Global>, Fault<Refusal>> {
     let name = Name::new(alloc, table)?;
     let schema = Schema::new(alloc, flags)?;
     if !schema.has_key() {
@@ -74,7 +78,7 @@ fn put(group: &mut Group<Global>, change: RowChange<Global>) -> Result<(), Fault
 }
 
 /// The changeset of one change of the table `t`, a key and a value.
-pub fn of_one(
+pub(crate) fn of_one(
     alloc: Global,
     change: RowChange<Global>,
 ) -> Result<ChangeList<Global>, Fault<Refusal>> {
@@ -86,7 +90,7 @@ pub fn of_one(
 }
 
 /// Whether the changeset of this change is written as these bytes, and its patchset as those.
-pub fn is_list(
+pub(crate) fn is_list(
     alloc: Global,
     (old, new): (Option<Fields>, Option<Fields>),
     changeset: &[u8],
@@ -104,7 +108,7 @@ pub fn is_list(
 }
 
 /// The bytes of a value as the second field of an insert, which stand behind the first 17 bytes.
-pub fn field(alloc: Global, value: Value<Global>) -> Result<Vec<u8>, Fail> {
+pub(crate) fn field(alloc: Global, value: Value<Global>) -> Result<Vec<u8>, Fail> {
     let new = pair(alloc, Some(Value::Int(1)), Some(value))?;
     let insert = RowChange::Insert {
         indirect: true,
@@ -123,7 +127,7 @@ fn numbers(alloc: Global, count: usize) -> Result<FieldRecord<Global>, OutOfMemo
 }
 
 /// A group of 2,000 key columns, and an insert.
-pub fn wide_insert(alloc: Global) -> Result<Group<Global>, Fault<Refusal>> {
+pub(crate) fn wide_insert(alloc: Global) -> Result<Group<Global>, Fault<Refusal>> {
     let mut wide = group(alloc, "t", &[true; 2000])?;
     let new = numbers(alloc, 2000)?;
     let indirect = false;

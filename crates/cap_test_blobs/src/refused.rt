@@ -58,7 +58,7 @@ fn is_out_of_memory<A: AllocHandle>(
 /// How many requests the call makes, each of which is refused in turn; and how many of them it is spared:
 /// done all the same. For each other one it is out of memory, and is done when it is made again. Nothing is
 /// left of it. (0, 0) where anything else comes of it.
-pub fn requests_refused(alloc: Global, call: Call<'_>) -> Result<(u64, u64), Fail> {
+pub(crate) fn requests_refused(alloc: Global, call: Call<'_>) -> Result<(u64, u64), Fail> {
     let heap = LocalHeap::new(alloc, 32768)?;
     let memory = Memory::new(&heap);
     let mut spared = 0u64;

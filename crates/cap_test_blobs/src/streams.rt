@@ -254,7 +254,7 @@ fn feed_or_feed_again<A: AllocHandle>(
 
 /// Decodes the bytes in two pieces: whether they are written as the same bytes. Where a piece is out of
 /// memory and fed again, so is the whole, once it is found to be written so.
-pub fn decode<A: AllocHandle>(alloc: A, bytes: &[u8]) -> Result<bool, Fault<BlobFault>> {
+pub(crate) fn decode<A: AllocHandle>(alloc: A, bytes: &[u8]) -> Result<bool, Fault<BlobFault>> {
     let (front, rest) = bytes.split_at(bytes.len() / 2);
     let mut decoder = Decoder::new(alloc);
     let is_front_taken = feed_or_feed_again(&mut decoder, front)?;
@@ -268,7 +268,10 @@ pub fn decode<A: AllocHandle>(alloc: A, bytes: &[u8]) -> Result<bool, Fault<Blob
 }
 
 /// Reads the bytes: whether they are written as the same bytes.
-pub fn read_and_write<A: AllocHandle>(alloc: A, bytes: &[u8]) -> Result<bool, Fault<BlobFault>> {
+pub(crate) fn read_and_write<A: AllocHandle>(
+    alloc: A,
+    bytes: &[u8],
+) -> Result<bool, Fault<BlobFault>> {
     let blob = read_blob(alloc, bytes)?;
     Ok(is_written(alloc, &blob, bytes)?)
 }

@@ -11,7 +11,7 @@ use cap_value::{Name, Value};
 use std::alloc::Global;
 use std::test::Fail;
 
-// It is the first example of README.md.
+// It is the first example of docs/manual/rattle.md.
 #[test]
 fn a_session_and_what_it_captures(rt: HostRuntime) -> Result<(), Fail> {
     let alloc = rt.alloc();

@@ -1,6 +1,6 @@
 //! Blobs are applied with each request for memory refused. What comes of a change under each answer of a
 //! policy is in the program's examples (examples/apply).
-use crate::noted::create;
+use crate::recorded::create;
 use cap_apply::{Answer, Applied, Policy, apply};
 use cap_codec::{Contents, read_blob};
 use cap_database::Database;

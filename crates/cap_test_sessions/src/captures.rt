@@ -1,5 +1,5 @@
-//! Captures of sessions that no server has.
-use crate::noted::{attach, commit, create};
+//! Captures of sessions used without a server.
+use crate::recorded::{attach, commit, create};
 use cap_codec::write_changes;
 use cap_core::{can_capture, changes_of};
 use cap_database::Database;

@@ -10,6 +10,6 @@ mod groups;
 #[cfg(test)]
 mod memory;
 #[cfg(test)]
-mod noted;
+mod recorded;
 #[cfg(test)]
 mod sessions;

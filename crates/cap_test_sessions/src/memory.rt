@@ -1,5 +1,5 @@
 //! The calls of a session that take memory, with each request refused in turn.
-use crate::noted::{attach, commit, create};
+use crate::recorded::{attach, commit, create};
 use cap_compare::{Difference, compare};
 use cap_core::Command;
 use cap_database::{Database, Outcome, run_ops};
@@ -14,8 +14,8 @@ use std::test::Fail;
 #[derive(Clone, Copy, Drop)]
 enum Call {
     Attach,
-    Note,
-    NoteDiff,
+    Commit,
+    Diff,
     Copy,
 }
 
@@ -23,8 +23,8 @@ enum Call {
 // tables are attached and one image held.
 const CALLS: [(Call, usize, u128); 4] = [
     (Call::Attach, 10, 1),
-    (Call::Note, 10, 4),
-    (Call::NoteDiff, 10, 3),
+    (Call::Commit, 10, 4),
+    (Call::Diff, 10, 3),
     (Call::Copy, 9, 1),
 ];
 
@@ -48,8 +48,8 @@ fn made_call<A: AllocHandle>(
 ) -> Result<(), OutOfMemory> {
     match call {
         Call::Attach => session.attach(&given.name),
-        Call::Note => session.note(&given.before, given.outcome.changes()),
-        Call::NoteDiff => session.note_diff(&given.name, given.differences.as_slice()),
+        Call::Commit => session.record_commit(&given.before, given.outcome.changes()),
+        Call::Diff => session.record_diff(&given.name, given.differences.as_slice()),
         Call::Copy => {
             *session = session.copy()?;
             Ok(())

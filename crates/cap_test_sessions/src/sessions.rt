@@ -1,5 +1,5 @@
-//! Sessions that note commits and diffs.
-use crate::noted::{attach, commit, commit_lines, create};
+//! Sessions that record commits and diffs.
+use crate::recorded::{attach, commit, commit_lines, create};
 use cap_compare::compare;
 use cap_database::Database;
 use cap_row::Row;
@@ -48,8 +48,8 @@ fn has_direct(
     }
 }
 
-// Lets a session note how t differs in two databases.
-fn note_diff(
+// Lets a session record how t differs in two databases.
+fn record_diff(
     alloc: Global,
     session: &mut Session<Global>,
     from: &Database<Global>,
@@ -57,13 +57,13 @@ fn note_diff(
 ) -> Option<()> {
     let name = Name::new(alloc, "t").ok()?;
     let found = compare(alloc, from.table(&name), to.table(&name)?).ok()?;
-    session.note_diff(&name, &found).ok()
+    session.record_diff(&name, &found).ok()
 }
 
 // A diff attaches its table, also where the session is not enabled, and leaves the image of a key that has a
 // record.
 #[test]
-fn diff_is_noted(rt: HostRuntime) -> Result<(), Fail> {
+fn diff_is_recorded(rt: HostRuntime) -> Result<(), Fail> {
     let alloc = rt.alloc();
     let mut database = Database::empty(alloc);
     let mut session = Session::new(alloc);
@@ -80,11 +80,11 @@ fn diff_is_noted(rt: HostRuntime) -> Result<(), Fail> {
     assert!(rt; !session.enable(Some(false)));
     let text = "commit delete t key(1) ; insert t (2,'y')";
     assert!(rt; commit(alloc, &mut database, &mut session, text));
-    assert!(rt; note_diff(alloc, &mut session, &from, &database) == Some(()));
+    assert!(rt; record_diff(alloc, &mut session, &from, &database) == Some(()));
     assert!(rt; has_direct(alloc, &session, "get t key(1)", None));
     assert!(rt; has_direct(alloc, &session, "get t key(2)", None));
     let mut other = Session::new(alloc);
-    assert!(rt; note_diff(alloc, &mut other, &from, &database) == Some(()));
+    assert!(rt; record_diff(alloc, &mut other, &from, &database) == Some(()));
     assert!(rt; has_direct(alloc, &other, "get t key(1)", Some((1, "x"))));
     assert!(rt; other.stored() == 2 && other.clone()?.stored() == 2);
     Ok(())

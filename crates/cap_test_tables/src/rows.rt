@@ -11,14 +11,14 @@ pub enum At {
 }
 
 /// The value of a key column, NULL where there is no key.
-pub fn key_value<A: AllocHandle>(key: Option<i64>) -> Value<A> {
+pub(crate) fn key_value<A: AllocHandle>(key: Option<i64>) -> Value<A> {
     match key {
         None => Value::Null,
         Some(key) => Value::Int(key),
     }
 }
 
-pub fn row<A: AllocHandle>(
+pub(crate) fn row<A: AllocHandle>(
     alloc: A,
     key: Option<i64>,
     text: &str,
@@ -31,14 +31,14 @@ fn pair<A: AllocHandle>(alloc: A, key: Value<A>, text: Value<A>) -> Result<Row<A
     Row::new(vec![in alloc; key, text]?)
 }
 
-pub fn key<A: AllocHandle>(alloc: A, number: i64) -> Result<Key<A>, OutOfMemory> {
+pub(crate) fn key<A: AllocHandle>(alloc: A, number: i64) -> Result<Key<A>, OutOfMemory> {
     match Key::new(alloc, vec![in alloc; Value::Int(number)]?)? {
         Some(key) => Ok(key),
         None => Err(OutOfMemory),
     }
 }
 
-pub fn named<A: AllocHandle>(alloc: A, at: At) -> Result<RowRef<A>, OutOfMemory> {
+pub(crate) fn named<A: AllocHandle>(alloc: A, at: At) -> Result<RowRef<A>, OutOfMemory> {
     match at {
         At::Key(number) => Ok(RowRef::Key(key(alloc, number)?)),
         At::Loose(id) => Ok(RowRef::Loose(id)),
@@ -46,11 +46,11 @@ pub fn named<A: AllocHandle>(alloc: A, at: At) -> Result<RowRef<A>, OutOfMemory>
 }
 
 /// The schema of a key and a text.
-pub fn schema<A: AllocHandle>(alloc: A) -> Result<Schema<A>, Fault<Refusal>> {
+pub(crate) fn schema<A: AllocHandle>(alloc: A) -> Result<Schema<A>, Fault<Refusal>> {
     Schema::new(alloc, &[true, false])
 }
 
-pub fn has_text<A: AllocHandle>(row: &Row<A>, text: &str) -> bool {
+pub(crate) fn has_text<A: AllocHandle>(row: &Row<A>, text: &str) -> bool {
     match row.get(1) {
         Some(Value::Text(found)) => found.as_str() == text,
         _ => false,
@@ -66,7 +66,7 @@ fn is_named<A: AllocHandle>(name: RowName<'_, A>, at: At) -> bool {
 }
 
 /// Whether the table has just these rows, in their order.
-pub fn has_rows<A: AllocHandle>(table: &Table<A>, expected: &[(At, &str)]) -> bool {
+pub(crate) fn has_rows<A: AllocHandle>(table: &Table<A>, expected: &[(At, &str)]) -> bool {
     let mut rest = expected.iter();
     for (name, row) in table.scan() {
         let Some((at, text)) = rest.next() else {
@@ -80,7 +80,7 @@ pub fn has_rows<A: AllocHandle>(table: &Table<A>, expected: &[(At, &str)]) -> bo
 }
 
 /// Why a call is refused by the rules, or nothing where it is not.
-pub fn refusal<T: Drop>(answer: Result<T, Fault<Refusal>>) -> Option<Refusal> {
+pub(crate) fn refusal<T: Drop>(answer: Result<T, Fault<Refusal>>) -> Option<Refusal> {
     match answer {
         Err(Fault::Refused(why)) => Some(why),
         _ => None,

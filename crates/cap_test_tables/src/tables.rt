@@ -1,7 +1,7 @@
 //! Tables: rows that change, ids, commit hooks, and memory of which each request is refused.
 use crate::rows::{At, has_rows, key, key_value, named, refusal, row, schema};
 use cap_row::{Key, Row};
-use cap_table::{IDS_END, NotMade, RowName, RowRef, Table};
+use cap_table::{NotMade, ROW_IDS_END, RowName, RowRef, Table};
 use cap_test_support::{CountingHook, Memory};
 use cap_value::{AllocHandle, Fault, Refusal, Value};
 use linked_list_allocator::LocalHeap;
@@ -167,8 +167,8 @@ fn keyed_rows_come_first(rt: HostRuntime) -> Result<(), Fail> {
 
 #[test]
 fn the_last_id_is_given_once(rt: HostRuntime) -> Result<(), Fail> {
-    let last = At::Loose(IDS_END - 1);
-    let mut table = Table::with_next_id(rt.alloc(), schema(rt.alloc())?, IDS_END - 1);
+    let last = At::Loose(ROW_IDS_END - 1);
+    let mut table = Table::with_next_id(rt.alloc(), schema(rt.alloc())?, ROW_IDS_END - 1);
     assert!(rt; insert(rt.alloc(), &mut table, Some(1), "x") == Ok(true));
     assert!(rt; insert(rt.alloc(), &mut table, None, "a") == Ok(true));
     assert!(rt; has_rows(&table, &[(At::Key(1), "x"), (last, "a")]));
@@ -177,10 +177,10 @@ fn the_last_id_is_given_once(rt: HostRuntime) -> Result<(), Fail> {
     assert!(rt; refusal(set_key(rt.alloc(), &mut table, (At::Key(1), "x"), None)) == spent);
     assert!(rt;
         table
-            .update(&RowRef::Loose(IDS_END - 1), &[(1, Value::Int(5))])
+            .update(&RowRef::Loose(ROW_IDS_END - 1), &[(1, Value::Int(5))])
             .is_ok()
     );
-    assert!(rt; table.next_id() == IDS_END);
+    assert!(rt; table.next_id() == ROW_IDS_END);
     Ok(())
 }
 

@@ -251,7 +251,7 @@ fn a_filter_past_a_limit_is_handed_back(rt: HostRuntime) -> Result<(), Fail> {
 }
 
 /// Whether there is a filter of the text.
-pub fn read<A: AllocHandle>(alloc: A, text: &str) -> Result<bool, Fault<Refusal>> {
+pub(crate) fn read<A: AllocHandle>(alloc: A, text: &str) -> Result<bool, Fault<Refusal>> {
     let _filter = TableFilter::parse(alloc, text)?;
     Ok(true)
 }
@@ -285,7 +285,7 @@ fn is_printed<A: AllocHandle>(
 
 /// Reads a filter, and prints it: whether that is the text. Where the print is out of memory, it is made
 /// again of the same filter.
-pub fn print<A: AllocHandle>(alloc: A, text: &str) -> Result<bool, Fault<Refusal>> {
+pub(crate) fn print<A: AllocHandle>(alloc: A, text: &str) -> Result<bool, Fault<Refusal>> {
     let filter = TableFilter::parse(alloc, text)?;
     match is_printed(alloc, &filter, text) {
         Ok(is_so) => Ok(is_so),
@@ -317,7 +317,7 @@ fn not_one_of_one<A: AllocHandle>(alloc: A) -> Result<Filter<A>, OutOfMemory> {
 }
 
 /// Makes that filter: whether it is within the limits.
-pub fn make<A: AllocHandle>(alloc: A) -> Result<bool, Fault<Refusal>> {
+pub(crate) fn make<A: AllocHandle>(alloc: A) -> Result<bool, Fault<Refusal>> {
     Ok(TableFilter::new(not_one_of_one(alloc)?).is_ok())
 }
 
@@ -328,7 +328,7 @@ fn each_request_of_making_is_refused_in_turn(rt: HostRuntime) -> Result<(), Fail
 }
 
 /// Makes that filter, and copies it. Where the copy is out of memory, it is made again of the same filter.
-pub fn copy<A: AllocHandle>(alloc: A) -> Result<bool, Fault<Refusal>> {
+pub(crate) fn copy<A: AllocHandle>(alloc: A) -> Result<bool, Fault<Refusal>> {
     let Ok(filter) = TableFilter::new(not_one_of_one(alloc)?) else {
         return Ok(false);
     };

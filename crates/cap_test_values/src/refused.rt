@@ -54,7 +54,7 @@ fn is_out_of_memory<A: AllocHandle>(
 /// How many requests the call makes, where for each that is refused it is out of memory, leaves nothing,
 /// and has its answer when it is made again; else 0. A row's list that may not shrink stays as it is, and
 /// the call is done.
-pub fn requests_refused(alloc: Global, call: Call<'_>) -> Result<u64, Fail> {
+pub(crate) fn requests_refused(alloc: Global, call: Call<'_>) -> Result<u64, Fail> {
     let expected = make(alloc, call);
     let heap = LocalHeap::new(alloc, 32768)?;
     let memory = Memory::new(&heap);

@@ -136,7 +136,7 @@ fn updated<A: AllocHandle>(alloc: A, schema: &Schema<A>) -> Result<Row<A>, Fault
 }
 
 // The key of that row, and one of numbers: whether there are both.
-pub fn make<A: AllocHandle>(alloc: A) -> Result<bool, Fault<Refusal>> {
+pub(crate) fn make<A: AllocHandle>(alloc: A) -> Result<bool, Fault<Refusal>> {
     let schema = Schema::new(alloc, &[true, true, false, true])?;
     let row = updated(alloc, &schema)?;
     if row.width() != schema.width() || key_of(alloc, &schema, &row)?.is_none() {

@@ -341,7 +341,7 @@ fn put_and_taken_in_each_direction(rt: HostRuntime) -> Result<(), Fail> {
     Ok(())
 }
 
-// It stands in README.md too.
+// It stands in docs/manual/rattle.md too.
 #[test]
 fn a_snapshot_keeps_what_it_had(rt: HostRuntime) -> Result<(), Fail> {
     let mut scores: Tree<u64, u64, Global> = Tree::empty(rt.alloc());

@@ -1,6 +1,6 @@
 //! Values, names and refusals: limits, order, texts and copies.
 use crate::refused::{Call, requests_refused};
-use cap_value::{AllocHandle, Blob, Fault, NAME_MAX, Name, Refusal, Text, Value};
+use cap_value::{AllocHandle, Blob, Fault, NAME_BYTES_MAX, Name, Refusal, Text, Value};
 use std::alloc::Global;
 use std::test::Fail;
 
@@ -88,7 +88,7 @@ fn is_name(alloc: Global, text: &str) -> Result<bool, Fault<Refusal>> {
 fn names_have_1_to_255_bytes(rt: HostRuntime) -> Result<(), Fail> {
     let bytes = [b'n'; 256];
     let long = std::str::from_utf8(&bytes)?;
-    assert!(rt; (NAME_MAX, long.len()) == (255, 256));
+    assert!(rt; (NAME_BYTES_MAX, long.len()) == (255, 256));
     assert!(rt; is_name(rt.alloc(), &long[1..]) == Ok(true));
     for refused in [long, "", "a\0"] {
         assert!(rt; is_name(rt.alloc(), refused) == Ok(false));
@@ -142,7 +142,7 @@ fn texts_of_refusals(rt: HostRuntime) -> Result<(), Fail> {
 }
 
 // A copy of a text, of a blob and of a name: whether each is as what it copies.
-pub fn make<A: AllocHandle>(alloc: A) -> Result<bool, Fault<Refusal>> {
+pub(crate) fn make<A: AllocHandle>(alloc: A) -> Result<bool, Fault<Refusal>> {
     Ok(make_text(alloc)? && make_blob(alloc)? && make_name(alloc)?)
 }
 

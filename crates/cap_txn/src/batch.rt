@@ -7,13 +7,10 @@ ghost use Rattle.cap_txn.specs.Stale.{IsJudged, StandsFor, stale};
 
 use crate::changed::first_changed;
 use crate::seen::Seen;
-use crate::{Item, Look, footprints_judge_batches};
+use crate::{Item, Look, OPS_MAX, footprints_judge_batches};
 use cap_database::{Database, Op};
 use cap_value::{AllocHandle, Fault, Refusal};
 use std::marker::Model;
-
-/// The most operations of a batch, and of a transaction those that are not undone.
-pub const OPS_MAX: usize = 10_000;
 
 /// Operations that are made whole or not at all: on any version, on one alone, or, where a transaction made
 /// them, where all that it looked at is still as it was.

@@ -11,15 +11,12 @@ ghost use Rattle.cap_txn.specs.Workspace.{numbered, up_to};
 ghost use Rattle.cap_txn.specs.declared.savepoint.Savepoint as saved;
 
 use crate::savepoint::Savepoint;
-use crate::{Mark, OPS_MAX};
+use crate::{Mark, OPS_MAX, SAVEPOINTS_MAX};
 use cap_database::{Database, Op, Snapshot};
 use cap_row::Row;
 use cap_table::{RowRef, Rows};
 use cap_value::{AllocHandle, Fault, Name, OutOfMemory, Refusal};
 use std::marker::Model;
-
-/// The most savepoints that a transaction may make.
-pub const SAVEPOINTS_MAX: u64 = 10_000;
 
 // What a transaction leaves to be committed: the snapshot that it began with, and the operations that stand.
 #[derive(Drop)]

@@ -3,6 +3,7 @@
 
 mod blob;
 mod exact;
+mod limits;
 mod memory;
 mod name;
 mod refusal;
@@ -11,8 +12,9 @@ mod value;
 
 pub use blob::Blob;
 pub use exact::Exact;
+pub use limits::{NAME_BYTES_MAX, VALUE_BYTES_MAX};
 pub use memory::{AllocHandle, Fault, OutOfMemory};
-pub use name::{NAME_MAX, Name};
+pub use name::Name;
 pub use refusal::Refusal;
-pub use text::{BYTES_MAX, Text};
+pub use text::Text;
 pub use value::Value;

@@ -5,6 +5,7 @@ ghost use Rattle.cap_value.specs.Memory.{AnswersUnlessMemory, RefusesFirst};
 ghost use Rattle.cap_value.specs.Bytes.{AreBytes, name_of, is_name, bytes_cmp, bytes_eq};
 
 use crate::blob::are_bytes;
+use crate::limits::NAME_BYTES_MAX;
 use crate::{AllocHandle, Exact, Fault, OutOfMemory, Refusal};
 use std::cmp::Ordering;
 use std::fmt::{self, Debug, Formatter, Write};
@@ -12,10 +13,7 @@ use std::hash::{Hash, Hasher};
 use std::marker::Model;
 use std::sync::ArcStr;
 
-/// The most bytes that the name of a table or a saved database may have.
-pub const NAME_MAX: usize = 255;
-
-/// The name of a table or a saved database: 1 to `NAME_MAX` bytes of UTF-8 without a zero byte.
+/// The name of a table or a saved database: 1 to `NAME_BYTES_MAX` bytes of UTF-8 without a zero byte.
 /// Names are compared byte for byte, case included. Copies share the bytes.
 #[derive(Drop)]
 pub struct Name<A: AllocHandle> {
@@ -35,8 +33,8 @@ impl<A: AllocHandle> Model for Name<A> {
 }
 
 impl<A: AllocHandle> Name<A> {
-    /// The name with these bytes. Refused with `BadName` where it is empty, longer than `NAME_MAX` bytes,
-    /// or has a zero byte.
+    /// The name with these bytes. Refused with `BadName` where it is empty, longer than `NAME_BYTES_MAX`
+    /// bytes, or has a zero byte.
     pub fn new(alloc: A, name: &str) -> Result<Self, Fault<Refusal>>
         ensures name { AnswersUnlessMemory result (name_of name.now) }
         ensures first { RefusesFirst (result_err (name_of name.now)) result }
@@ -49,7 +47,7 @@ impl<A: AllocHandle> Name<A> {
         })
     }
 
-    /// The name, which has 1 to `NAME_MAX` bytes and no zero byte.
+    /// The name, which has 1 to `NAME_BYTES_MAX` bytes and no zero byte.
     pub fn as_str(&self) -> &str
         ensures bytes { result.now ≡ self.now }
         ensures fits { IsTrue (is_name self.now) }
@@ -89,7 +87,7 @@ impl<A: AllocHandle> Name<A> {
 fn fits(bytes: &[u8]) -> bool
     ensures { result ≡ is_name bytes.now }
 {
-    !bytes.is_empty() && bytes.len() <= NAME_MAX && !bytes.contains(&0)
+    !bytes.is_empty() && bytes.len() <= NAME_BYTES_MAX && !bytes.contains(&0)
 }
 
 impl<A: AllocHandle> PartialEq for Name<A> {

@@ -5,17 +5,14 @@ ghost use Rattle.cap_value.specs.Memory.{AnswersUnlessMemory, RefusesFirst};
 ghost use Rattle.cap_value.specs.Bytes.{AreBytes, within_limit};
 
 use crate::blob::are_bytes;
+use crate::limits::VALUE_BYTES_MAX;
 use crate::{AllocHandle, Exact, Fault, OutOfMemory, Refusal};
 use std::cmp::Ordering;
 use std::fmt::{self, Debug, Formatter, Write};
 use std::marker::Model;
 use std::sync::ArcStr;
 
-/// The most bytes that a text or a blob may have: SQLite's default for "Maximum length of a string or
-/// BLOB" (Implementation Limits For SQLite).
-pub const BYTES_MAX: usize = 1_000_000_000;
-
-/// A text of at most `BYTES_MAX` bytes of UTF-8. Copies share the bytes.
+/// A text of at most `VALUE_BYTES_MAX` bytes of UTF-8. Copies share the bytes.
 #[derive(Drop)]
 pub struct Text<A: AllocHandle> {
     text: ArcStr<A>,
@@ -24,22 +21,22 @@ pub struct Text<A: AllocHandle> {
 impl<A: AllocHandle> Model for Text<A> {
     ghost use Rattle.std.specs.Prelude.{List, ℕ, ◌≤◌, length};
     ghost use Rattle.std.specs.Arc.{arc_str_bytes};
-    ghost use Rattle.cap_value.specs.declared.text.TheConstants.{BYTES_MAX};
+    ghost use Rattle.cap_value.specs.declared.limits.TheConstants.{VALUE_BYTES_MAX};
 
     ghost Value = { List ℕ };
 
     ghost view = { λ t. arc_str_bytes t.text };
 
-    ghost invariant = { λ t. length (arc_str_bytes t.text) ≤ BYTES_MAX };
+    ghost invariant = { λ t. length (arc_str_bytes t.text) ≤ VALUE_BYTES_MAX };
 }
 
 impl<A: AllocHandle> Text<A> {
-    /// The text with these bytes. Refused with `TooLong` where they are more than `BYTES_MAX`.
+    /// The text with these bytes. Refused with `TooLong` where they are more than `VALUE_BYTES_MAX`.
     pub fn new(alloc: A, text: &str) -> Result<Self, Fault<Refusal>>
         ensures text { AnswersUnlessMemory result (within_limit text.now) }
         ensures first { RefusesFirst (result_err (within_limit text.now)) result }
     {
-        if text.len() > BYTES_MAX {
+        if text.len() > VALUE_BYTES_MAX {
             return Err(Fault::Refused(Refusal::TooLong));
         }
         Ok(Text {
@@ -47,10 +44,10 @@ impl<A: AllocHandle> Text<A> {
         })
     }
 
-    /// The text, which is at most `BYTES_MAX` bytes long.
+    /// The text, which is at most `VALUE_BYTES_MAX` bytes long.
     pub fn as_str(&self) -> &str
         ensures bytes { result.now ≡ self.now }
-        ensures fits { length self.now ≤ BYTES_MAX }
+        ensures fits { length self.now ≤ VALUE_BYTES_MAX }
         ensures utf8 { IsUtf8 self.now }
         ensures each { AreBytes self.now }
     {

@@ -26,7 +26,7 @@ impl<A: AllocHandle> Value<A> {
     ghost use Rattle.cap_value.specs.Value.{IsValue, value_cmp, storage_class, is_null, text_value};
     ghost use Rattle.cap_value.specs.Value.{blob_value};
 
-    /// A text value. Refused with `TooLong` where it has more than `BYTES_MAX` bytes.
+    /// A text value. Refused with `TooLong` where it has more than `VALUE_BYTES_MAX` bytes.
     pub fn text(alloc: A, text: &str) -> Result<Self, Fault<Refusal>>
         ensures value { AnswersUnlessMemory result (text_value text.now) }
         ensures first { RefusesFirst (result_err (within_limit text.now)) result }
@@ -34,7 +34,7 @@ impl<A: AllocHandle> Value<A> {
         Ok(Value::Text(Text::new(alloc, text)?))
     }
 
-    /// A blob value. Refused with `TooLong` where it has more than `BYTES_MAX` bytes.
+    /// A blob value. Refused with `TooLong` where it has more than `VALUE_BYTES_MAX` bytes.
     pub fn blob(alloc: A, bytes: &[u8]) -> Result<Self, Fault<Refusal>>
         ensures value { AnswersUnlessMemory result (blob_value bytes.now) }
         ensures first { RefusesFirst (result_err (within_limit bytes.now)) result }

@@ -35,9 +35,9 @@ module _ {A S E : Type 0} (gives : S → Reply A → Result Unit E → S → Typ
 
   -- The live sessions stay. The touch is staged and the hook allowed the reply; or memory ran out before the
   -- hook was asked; or the hook refused.
-  abbrev pub GivesNoted : Reply A → NumberedSessions A → NumberedSessions A → SessionsState A → S → S
+  abbrev pub GivesRecorded : Reply A → NumberedSessions A → NumberedSessions A → SessionsState A → S → S
       → Result Unit (Fault E) → Type 0
-  GivesNoted reply live touched sessions before after (Ok done) =
+  GivesRecorded reply live touched sessions before after (Ok done) =
       (sessions.live ≡ live) × (sessions.staged ≡ touched) × gives before reply (Ok tt) after
-  GivesNoted reply live touched sessions before after (Err fault) =
+  GivesRecorded reply live touched sessions before after (Err fault) =
       (sessions.live ≡ live) × MatchFault fault (after ≡ before) (λ why. gives before reply (Err why) after)

@@ -2,10 +2,10 @@
 use Rattle.std.specs.Prelude.{◌≤◌, ℕ, Bool, List, length, map, take}
 use Rattle.std.specs.Option.{unwrap_or}
 use Rattle.cap_session.specs.declared.attach_list.AttachList.{AttachList}
-use Rattle.cap_session.specs.declared.keep.Keep.{Keep}
+use Rattle.cap_session.specs.declared.ending.Ending.{Ending}
 use Rattle.cap_session.specs.declared.table_records.TableRecords.{TableRecords}
 use Rattle.cap_session.specs.declared.rule.AutomaticRule.{AutomaticRule}
-use Rattle.cap_session.specs.Code.Keep.{kept}
+use Rattle.cap_session.specs.Code.Ending.{records_after}
 use Rattle.cap_session.specs.Session.{AttachedTables, SessionState}
 
 module _ {A : Type 0} where
@@ -17,10 +17,11 @@ module _ {A : Type 0} where
   abbrev pub staged_in : List (List ℕ × TableRecords A) → AttachedTables A
   staged_in tables = map (λ table. (table.0, unwrap_or table.1.staged table.1.records)) tables
 
-  -- the tables with the records that stay
-  abbrev pub kept_in : Keep → List (List ℕ × TableRecords A) → AttachedTables A
-  kept_in what tables =
-      map (λ table. (table.0, kept what table.1.records (unwrap_or table.1.staged table.1.records))) tables
+  -- the tables with their records once the staging has ended
+  abbrev pub after_in : Ending → List (List ℕ × TableRecords A) → AttachedTables A
+  after_in ending tables =
+      map (λ table.
+      (table.0, records_after ending table.1.records (unwrap_or table.1.staged table.1.records))) tables
 
   -- the attached tables; those behind them are staged
   abbrev pub attached_of : AttachList A → AttachedTables A

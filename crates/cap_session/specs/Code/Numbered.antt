@@ -1,9 +1,9 @@
 -- Sessions by number in the code.
 use Rattle.std.specs.Prelude.{ℕ, Option, Some, None, List, map}
 use Rattle.std.specs.Option.{option_map}
-use Rattle.cap_session.specs.declared.keep.Keep.{Keep}
+use Rattle.cap_session.specs.declared.ending.Ending.{Ending}
 use Rattle.cap_session.specs.declared.numbered.Numbered.{Numbered}
-use Rattle.cap_session.specs.Code.Keep.{kept_session}
+use Rattle.cap_session.specs.Code.Ending.{session_after}
 use Rattle.cap_session.specs.Session.{SessionState}
 use Rattle.cap_session.specs.Sessions.{NumberedSessions, session_numbered, with_session_if}
 
@@ -15,9 +15,10 @@ module _ {A : Type 0} where
   abbrev pub staged_of : List (Numbered A) → NumberedSessions A
   staged_of sessions = map (λ numbered. (numbered.number, numbered.session.staged)) sessions
 
-  -- the sessions with the records that stay
-  abbrev pub kept_of : Keep → List (Numbered A) → NumberedSessions A
-  kept_of what sessions = map (λ numbered. (numbered.number, kept_session what numbered.session)) sessions
+  -- the sessions once the staging has ended
+  abbrev pub after_of : Ending → List (Numbered A) → NumberedSessions A
+  after_of ending sessions =
+      map (λ numbered. (numbered.number, session_after ending numbered.session)) sessions
 
   -- the sessions, with what is made of the one with the number, or of each
   abbrev pub made_of : (SessionState A → SessionState A) → Option ℕ → NumberedSessions A → NumberedSessions A

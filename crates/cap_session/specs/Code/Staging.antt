@@ -6,10 +6,11 @@ use Rattle.cap_database.specs.Read.{row_at}
 use Rattle.cap_session.specs.declared.staging.Staging.{Staging}
 use Rattle.cap_session.specs.declared.staging.Staging.TheVariants.{Attach, Changes, Key, Diff}
 use Rattle.cap_session.specs.declared.touch.Image.{Image}
-use Rattle.cap_session.specs.declared.touch.Image.TheVariants.{In, Shown}
+use Rattle.cap_session.specs.declared.touch.Image.TheVariants.{Given, In}
 use Rattle.cap_session.specs.declared.touch.Touches.{Touches}
 use Rattle.cap_session.specs.declared.touch.Touches.TheVariants.{OfChange, OfKey, OfDiff}
-use Rattle.cap_session.specs.Note.{is_cascade, note, note_diff, note_key, touches_found, touches_of}
+use Rattle.cap_session.specs.Recording.{is_cascade, record_commit, record_diff, record_key, touches_found}
+use Rattle.cap_session.specs.Recording.{touches_of}
 use Rattle.cap_session.specs.Records.{Touch}
 use Rattle.cap_session.specs.Session.{SessionState, attached}
 
@@ -17,7 +18,7 @@ module _ {A : Type 0} where
   -- the row under the key before the commit
   abbrev pub image_of : Image A → Fields A → Option (Fields A)
   image_of (In tables name) key = row_at tables.now name.now key
-  image_of (Shown row) key = option_copied row
+  image_of (Given row) key = option_copied row
 
   -- the touches of one table
   abbrev pub touches_by : Bool → Touches A → List (Touch A)
@@ -30,6 +31,7 @@ module _ {A : Type 0} where
   -- the session after what is staged
   abbrev pub staged_by : Staging A → SessionState A → SessionState A
   staged_by (Attach name) session = attached name.now session
-  staged_by (Changes before changes) session = note before.now changes.now session
-  staged_by (Key name key cause image) session = note_key name.now key.now cause (option_copied image) session
-  staged_by (Diff name differences) session = note_diff name.now differences.now session
+  staged_by (Changes before changes) session = record_commit before.now changes.now session
+  staged_by (Key name key cause image) session =
+      record_key name.now key.now cause (option_copied image) session
+  staged_by (Diff name differences) session = record_diff name.now differences.now session

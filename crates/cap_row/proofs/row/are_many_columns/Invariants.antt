@@ -1,6 +1,6 @@
 use Rattle.std.proofs.Common.{◌≡◌, ◌<◌, ℕ, true, false, length, take, get_or, nat_eq}
 use Rattle.std.specs.List.{list_any}
-use Rattle.cap_row.specs.declared.schema.TheConstants.{COLUMNS_MAX}
+use Rattle.cap_row.specs.declared.limits.TheConstants.{COLUMNS_MAX}
 use Rattle.cap_row.specs.Row.{are_columns, columns_of}
 use Rattle.cap_row.proofs.row.are_many_columns.Given as goal
 

@@ -31,6 +31,6 @@ returns-clause-reads c =
     let rest = c.word.new.self.rest.now in
     let found = c.in_ok-word.word.text.now in
     let read = c.in_ok-word.ensures.reads (any_of words) in
-    looked_up c.answer_of.result c.in_ok-word.word.misfit c.ok_or.result _ _ rest (answer line) c.ok_or.ensures.value c.answer_of.ensures
-    (λ unlike. read ∙ ap (λ (v : Verdict). judged here rest v) (not_any_of words found (unlike Omit, (unlike Replace, (unlike Abort, tt)))) ∙ ap failed (sym c.in_ok-word.ensures.misfit))
+    looked_up c.answer_of.result c.in_ok-word.word.unexpected c.ok_or.result _ _ rest (answer line) c.ok_or.ensures.value c.answer_of.ensures
+    (λ unlike. read ∙ ap (λ (v : Verdict). judged here rest v) (not_any_of words found (unlike Omit, (unlike Replace, (unlike Abort, tt)))) ∙ ap failed (sym c.in_ok-word.ensures.unexpected))
     (λ made like. read ∙ ap (λ (w : List ℕ). judged here rest (any_of words w)) like ∙ answer_fits here rest made)

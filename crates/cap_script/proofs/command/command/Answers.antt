@@ -38,9 +38,9 @@ returns-in_err-head-clause-reads g c =
     let found = c.in_ok-word.word.text.now in
     let rest = c.word.new.self.rest.now in
     let unlike = rw c.in_err-head.ensures.ok_part at c.head_of.ensures in
-    let at : c.in_err-head.field-0.0 ≡ c.in_ok-word.word.misfit = search rules in
+    let at : c.in_err-head.field-0.0 ≡ c.in_ok-word.word.unexpected = search rules in
     let fault = c.in_err-head.field-0.0 in
-    let read = c.in_ok-word.ensures.reads (one_of (commands g.row.A.Denot)) ∙ ap (λ (v : Verdict). judged (behind_blanks line) rest v) (no_head_word g.row.A.Denot found unlike) ∙ ap failed (sym (at ∙ c.in_ok-word.ensures.misfit)) in
+    let read = c.in_ok-word.ensures.reads (one_of (commands g.row.A.Denot)) ∙ ap (λ (v : Verdict). judged (behind_blanks line) rest v) (no_head_word g.row.A.Denot found unlike) ∙ ap failed (sym (at ∙ c.in_ok-word.ensures.unexpected)) in
     reads_err c.from_residual-in_err-head.result rest fault (command g.row.A.Denot line) c.from_residual-in_err-head.ensures.1 (fails fault (command g.row.A.Denot line) read)
 
 pub returns-clause-reads : goal.returns-clause-reads

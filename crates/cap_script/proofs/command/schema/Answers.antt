@@ -52,9 +52,9 @@ returns-in_err-flags-clause-reads g c =
     let found = c.in_ok-word.word.text.now in
     let rest = c.word.new.self.rest.now in
     let unlike = rw c.in_err-flags.ensures.ok_part at c.in_ok-flags_of.ensures in
-    let at : c.in_err-flags.field-0.0 ≡ c.in_ok-word.word.misfit = search rules in
+    let at : c.in_err-flags.field-0.0 ≡ c.in_ok-word.word.unexpected = search rules in
     let fault = c.in_err-flags.field-0.0 in
-    let read = c.in_ok-word.ensures.reads on_schema ∙ ap (λ (v : Verdict). judged (behind_blanks line) rest v) (no_schema_word found unlike) ∙ ap failed (sym (at ∙ c.in_ok-word.ensures.misfit)) in
+    let read = c.in_ok-word.ensures.reads on_schema ∙ ap (λ (v : Verdict). judged (behind_blanks line) rest v) (no_schema_word found unlike) ∙ ap failed (sym (at ∙ c.in_ok-word.ensures.unexpected)) in
     reads_err c.from_residual-in_err-flags.result rest fault (schema line) c.from_residual-in_err-flags.ensures.1 (fails fault (schema line) read)
 
 pub returns-in_err-new-clause-reads : goal.returns-in_err-new-clause-reads

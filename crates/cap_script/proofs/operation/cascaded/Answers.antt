@@ -43,9 +43,9 @@ returns-in_err-verb-clause-reads g c =
     let found = c.in_ok-word.word.text.now in
     let rest = c.word.new.self.rest.now in
     let unlike = rw c.in_err-verb.ensures.ok_part at c.verb_of.ensures in
-    let at : c.in_err-verb.field-0.0 ≡ c.in_ok-word.word.misfit = search rules in
+    let at : c.in_err-verb.field-0.0 ≡ c.in_ok-word.word.unexpected = search rules in
     let fault = c.in_err-verb.field-0.0 in
-    let read = c.in_ok-word.ensures.reads (one_of verbs) ∙ ap (λ (v : Verdict). judged (behind_blanks line) rest v) (no_verb_word found unlike) ∙ ap failed (sym (at ∙ c.in_ok-word.ensures.misfit)) in
+    let read = c.in_ok-word.ensures.reads (one_of verbs) ∙ ap (λ (v : Verdict). judged (behind_blanks line) rest v) (no_verb_word found unlike) ∙ ap failed (sym (at ∙ c.in_ok-word.ensures.unexpected)) in
     reads_err c.from_residual-in_err-verb.result rest fault (a_word (one_of verbs) line) c.from_residual-in_err-verb.ensures.1 (fails fault (a_word (one_of verbs) line) read)
 
 pub returns-clause-reads : goal.returns-clause-reads

@@ -83,7 +83,7 @@ returns-then-ne-clause-reads g c =
     let rest = c.word.new.self.rest.now in
     let found = c.in_ok-word.word.text.now in
     let differs = no_true (bytes_eq found (codes "cascade")) (sym c.ne.ensures ∙ c.if-ne.true) in
-    rw c.in_ok-word.ensures.misfit
+    rw c.in_ok-word.ensures.unexpected
     (no_operation_here c.args.is_full line rest found (c.in_ok-word.ensures.reads (on_word c.args.is_full)) (unlike found (codes "cascade") (bytes_eq found (codes "cascade")) refl differs) c.in-None.ensures)
 
 pub returns-in_err-has_room-in-None-clause-reads : goal.returns-in_err-has_room-in-None-clause-reads

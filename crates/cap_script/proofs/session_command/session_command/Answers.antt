@@ -17,39 +17,39 @@ returns-in-Diff-clause-none g c = λ line word.
 pub returns-in_err-session-clause-none : goal.returns-in_err-session-clause-none
 returns-in_err-session-clause-none g c = λ line begun.
     every_fault c.from_residual.result (λ fault. NoCommand g.row.A.Denot fault line)
-    (λ fault. no_said g.row.A.Denot fault (head.Of c.args.word) line c.args.cursor.now.rest.now begun (no_session g.row.A.Denot fault c.args.word c.args.cursor.now.rest.now c.in_err-session.ensures.none))
+    (λ fault. no_said g.row.A.Denot fault (head.OnSession c.args.word) line c.args.cursor.now.rest.now begun (no_session g.row.A.Denot fault c.args.word c.args.cursor.now.rest.now c.in_err-session.ensures.none))
 
 pub returns-in_err-flags-in-Changeset-clause-none : goal.returns-in_err-flags-in-Changeset-clause-none
 returns-in_err-flags-in-Changeset-clause-none g c = λ line begun.
     every_fault c.from_residual-in_err-flags-in-Changeset.result (λ fault. NoCommand g.row.A.Denot fault line)
-    (λ fault. no_said g.row.A.Denot fault (head.Of session.Changeset) line c.args.cursor.now.rest.now (rw c.in-Changeset.is at begun) (no_changeset g.row.A.Denot fault _ c.args.cursor.now.rest.now c.natural.new.self.rest.now c.in_ok-session.ensures.next c.in_err-flags-in-Changeset.ensures.none))
+    (λ fault. no_said g.row.A.Denot fault (head.OnSession session.Changeset) line c.args.cursor.now.rest.now (rw c.in-Changeset.is at begun) (no_changeset g.row.A.Denot fault _ c.args.cursor.now.rest.now c.natural.new.self.rest.now c.in_ok-session.ensures.next c.in_err-flags-in-Changeset.ensures.none))
 
 pub returns-in_err-flags-in-Patchset-clause-none : goal.returns-in_err-flags-in-Patchset-clause-none
 returns-in_err-flags-in-Patchset-clause-none g c = λ line begun.
     every_fault c.from_residual-in_err-flags-in-Patchset.result (λ fault. NoCommand g.row.A.Denot fault line)
-    (λ fault. no_said g.row.A.Denot fault (head.Of session.Patchset) line c.args.cursor.now.rest.now (rw c.in-Patchset.is at begun) (no_patchset g.row.A.Denot fault _ c.args.cursor.now.rest.now c.natural.new.self.rest.now c.in_ok-session.ensures.next c.in_err-flags-in-Patchset.ensures.none))
+    (λ fault. no_said g.row.A.Denot fault (head.OnSession session.Patchset) line c.args.cursor.now.rest.now (rw c.in-Patchset.is at begun) (no_patchset g.row.A.Denot fault _ c.args.cursor.now.rest.now c.natural.new.self.rest.now c.in_ok-session.ensures.next c.in_err-flags-in-Patchset.ensures.none))
 
 pub returns-in_err-flags-in-Restart-clause-none : goal.returns-in_err-flags-in-Restart-clause-none
 returns-in_err-flags-in-Restart-clause-none g c = λ line begun.
     every_fault c.from_residual-in_err-flags-in-Restart.result (λ fault. NoCommand g.row.A.Denot fault line)
-    (λ fault. no_said g.row.A.Denot fault (head.Of session.Restart) line c.args.cursor.now.rest.now (rw c.in-Restart.is at begun) (no_restart g.row.A.Denot fault _ c.args.cursor.now.rest.now c.natural.new.self.rest.now c.in_ok-session.ensures.next c.in_err-flags-in-Restart.ensures.none))
+    (λ fault. no_said g.row.A.Denot fault (head.OnSession session.Restart) line c.args.cursor.now.rest.now (rw c.in-Restart.is at begun) (no_restart g.row.A.Denot fault _ c.args.cursor.now.rest.now c.natural.new.self.rest.now c.in_ok-session.ensures.next c.in_err-flags-in-Restart.ensures.none))
 
 pub returns-in_err-table-in-Attach-clause-none : goal.returns-in_err-table-in-Attach-clause-none
 returns-in_err-table-in-Attach-clause-none g c = λ line begun.
     passed c.from_residual-in_err-table-in-Attach.result c.in_err-table-in-Attach.field-0.0 (λ fault. NoCommand g.row.A.Denot fault line) c.from_residual-in_err-table-in-Attach.ensures.1
-    (no_said g.row.A.Denot c.in_err-table-in-Attach.field-0.0 (head.Of session.Attach) line c.args.cursor.now.rest.now (rw c.in-Attach.is at begun) (no_attached g.row.A.Denot c.in_err-table-in-Attach.field-0.0 _ c.args.cursor.now.rest.now c.natural.new.self.rest.now c.in_ok-session.ensures.next c.in_err-table-in-Attach.ensures.none))
+    (no_said g.row.A.Denot c.in_err-table-in-Attach.field-0.0 (head.OnSession session.Attach) line c.args.cursor.now.rest.now (rw c.in-Attach.is at begun) (no_attached g.row.A.Denot c.in_err-table-in-Attach.field-0.0 _ c.args.cursor.now.rest.now c.natural.new.self.rest.now c.in_ok-session.ensures.next c.in_err-table-in-Attach.ensures.none))
 
 pub returns-in_err-filter-in-Filter-clause-none : goal.returns-in_err-filter-in-Filter-clause-none
 returns-in_err-filter-in-Filter-clause-none g c = λ line begun.
     passed c.from_residual-in_err-filter-in-Filter.result c.in_err-filter-in-Filter.field-0.0 (λ fault. NoCommand g.row.A.Denot fault line) c.from_residual-in_err-filter-in-Filter.ensures.1
-    (no_said g.row.A.Denot c.in_err-filter-in-Filter.field-0.0 (head.Of session.Filter) line c.args.cursor.now.rest.now (rw c.in-Filter.is at begun) (no_filter g.row.A.Denot c.in_err-filter-in-Filter.field-0.0 _ c.args.cursor.now.rest.now c.natural.new.self.rest.now c.in_ok-session.ensures.next c.in_err-filter-in-Filter.ensures.none))
+    (no_said g.row.A.Denot c.in_err-filter-in-Filter.field-0.0 (head.OnSession session.Filter) line c.args.cursor.now.rest.now (rw c.in-Filter.is at begun) (no_filter g.row.A.Denot c.in_err-filter-in-Filter.field-0.0 _ c.args.cursor.now.rest.now c.natural.new.self.rest.now c.in_ok-session.ensures.next c.in_err-filter-in-Filter.ensures.none))
 
 pub returns-in_err-enabled-in-Enable-clause-none : goal.returns-in_err-enabled-in-Enable-clause-none
 returns-in_err-enabled-in-Enable-clause-none g c = λ line begun.
     every_fault c.from_residual-in_err-enabled-in-Enable.result (λ fault. NoCommand g.row.A.Denot fault line)
-    (λ fault. no_said g.row.A.Denot fault (head.Of session.Enable) line c.args.cursor.now.rest.now (rw c.in-Enable.is at begun) (no_enabled g.row.A.Denot fault _ c.args.cursor.now.rest.now c.natural.new.self.rest.now c.in_ok-session.ensures.next c.in_err-enabled-in-Enable.ensures.none))
+    (λ fault. no_said g.row.A.Denot fault (head.OnSession session.Enable) line c.args.cursor.now.rest.now (rw c.in-Enable.is at begun) (no_enabled g.row.A.Denot fault _ c.args.cursor.now.rest.now c.natural.new.self.rest.now c.in_ok-session.ensures.next c.in_err-enabled-in-Enable.ensures.none))
 
 pub returns-in_err-indirect-in-Indirect-clause-none : goal.returns-in_err-indirect-in-Indirect-clause-none
 returns-in_err-indirect-in-Indirect-clause-none g c = λ line begun.
     every_fault c.from_residual-in_err-indirect-in-Indirect.result (λ fault. NoCommand g.row.A.Denot fault line)
-    (λ fault. no_said g.row.A.Denot fault (head.Of session.Indirect) line c.args.cursor.now.rest.now (rw c.in-Indirect.is at begun) (no_indirect g.row.A.Denot fault _ c.args.cursor.now.rest.now c.natural.new.self.rest.now c.in_ok-session.ensures.next c.in_err-indirect-in-Indirect.ensures.none))
+    (λ fault. no_said g.row.A.Denot fault (head.OnSession session.Indirect) line c.args.cursor.now.rest.now (rw c.in-Indirect.is at begun) (no_indirect g.row.A.Denot fault _ c.args.cursor.now.rest.now c.natural.new.self.rest.now c.in_ok-session.ensures.next c.in_err-indirect-in-Indirect.ensures.none))

@@ -6,12 +6,12 @@ use Rattle.cap_value.specs.declared.value.Value.{Value}
 use Rattle.cap_value.specs.declared.value.Value.TheVariants.{Blob}
 use Rattle.cap_script.specs.LineFaults.{on_value, value}
 use Rattle.cap_script.specs.Limits.{IsShort}
-use Rattle.cap_script.specs.Reading.{Fails, Outcome, misfit}
+use Rattle.cap_script.specs.Reading.{Fails, Outcome, unexpected}
 use Rattle.cap_script.specs.Refused.{NoneSpelled, limit_fault}
 use Rattle.cap_script.specs.Tokens.{Next, behind_blanks, blob}
 use Rattle.cap_script.proofs.FaultLemmas.{no_blob_value, within_err, within_ok}
 use Rattle.cap_script.proofs.NoneLemmas.{long_blob, memory_or, passed}
-use Rattle.cap_script.proofs.ReadLemmas.{misfit_or_memory, reads_err, this_token}
+use Rattle.cap_script.proofs.ReadLemmas.{reads_err, this_token, unexpected_or_memory}
 use Rattle.cap_script.proofs.ScanLemmas.{blob_is}
 use Rattle.cap_script.proofs.value.blob.Goals as goal
 
@@ -31,7 +31,7 @@ answer_of A bytes short = result_map_both Blob (λ e. e) (cond short (Ok bytes) 
 pub returns-in_err-bytes-clause-reads : goal.returns-in_err-bytes-clause-reads
 returns-in_err-bytes-clause-reads g c = λ start.
     let line = c.args.cursor.now.rest.now in
-    misfit_or_memory c.from_residual.result c.blob.new.self.rest.now c.in_err-bytes.field-0.0 (misfit (behind_blanks line)) (value line) _ c.from_residual.ensures.1 c.in_err-bytes.ensures.none c.in_err-bytes.ensures.place (no_blob_value line start)
+    unexpected_or_memory c.from_residual.result c.blob.new.self.rest.now c.in_err-bytes.field-0.0 (unexpected (behind_blanks line)) (value line) _ c.from_residual.ensures.1 c.in_err-bytes.ensures.none c.in_err-bytes.ensures.place (no_blob_value line start)
 
 pub returns-in_err-blob-clause-reads : goal.returns-in_err-blob-clause-reads
 returns-in_err-blob-clause-reads g c = λ start.

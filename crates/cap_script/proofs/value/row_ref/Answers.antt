@@ -68,4 +68,4 @@ returns-clause-reads g c =
     let line = c.args.cursor.now.rest.now in
     let here = c.word.new.self.rest.now in
     let found = c.in_ok-word.word.text.now in
-    rw c.in_ok-word.ensures.misfit (row_word line here found false false (c.in_ok-word.ensures.reads (one_of row_words)) (sym c.eq.ensures ∙ c.if-eq.false) (sym c.eq-2.ensures ∙ c.if-eq-2.false))
+    rw c.in_ok-word.ensures.unexpected (row_word line here found false false (c.in_ok-word.ensures.reads (one_of row_words)) (sym c.eq.ensures ∙ c.if-eq.false) (sym c.eq-2.ensures ∙ c.if-eq-2.false))

@@ -6,12 +6,12 @@ use Rattle.cap_value.specs.declared.value.Value.{Value}
 use Rattle.cap_value.specs.declared.value.Value.TheVariants.{Text}
 use Rattle.cap_script.specs.LineFaults.{on_value, value}
 use Rattle.cap_script.specs.Limits.{IsShort}
-use Rattle.cap_script.specs.Reading.{Fails, Outcome, misfit}
+use Rattle.cap_script.specs.Reading.{Fails, Outcome, unexpected}
 use Rattle.cap_script.specs.Refused.{NoneSpelled, limit_fault}
 use Rattle.cap_script.specs.Tokens.{Next, behind_blanks, text}
 use Rattle.cap_script.proofs.FaultLemmas.{no_text_value, within_err, within_ok}
 use Rattle.cap_script.proofs.NoneLemmas.{long_text, passed}
-use Rattle.cap_script.proofs.ReadLemmas.{misfit_or_memory, reads_err, this_token}
+use Rattle.cap_script.proofs.ReadLemmas.{reads_err, this_token, unexpected_or_memory}
 use Rattle.cap_script.proofs.ScanLemmas.{text_is}
 use Rattle.cap_script.proofs.value.text.Goals as goal
 
@@ -26,7 +26,7 @@ answer_of A bytes short = result_map_both Text (λ e. e) (cond short (Ok bytes) 
 pub returns-in_err-text-clause-reads : goal.returns-in_err-text-clause-reads
 returns-in_err-text-clause-reads g c = λ start.
     let line = c.args.cursor.now.rest.now in
-    misfit_or_memory c.from_residual.result c.quoted.new.self.rest.now c.in_err-text.field-0.0 (misfit (behind_blanks line)) (value line) _ c.from_residual.ensures.1 c.in_err-text.ensures.none c.in_err-text.ensures.place (no_text_value line start)
+    unexpected_or_memory c.from_residual.result c.quoted.new.self.rest.now c.in_err-text.field-0.0 (unexpected (behind_blanks line)) (value line) _ c.from_residual.ensures.1 c.in_err-text.ensures.none c.in_err-text.ensures.place (no_text_value line start)
 
 pub returns-in_err-text-2-clause-reads : goal.returns-in_err-text-2-clause-reads
 returns-in_err-text-2-clause-reads g c = λ start.

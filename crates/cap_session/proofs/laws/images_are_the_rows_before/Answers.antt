@@ -1,4 +1,4 @@
-use Rattle.cap_session.proofs.NoteLemmas.{rows_before}
+use Rattle.cap_session.proofs.RecordingLemmas.{rows_before}
 use Rattle.cap_session.proofs.laws.images_are_the_rows_before.Goals as goal
 
 pub returns : goal.returns

@@ -1,4 +1,4 @@
-use Rattle.cap_session.proofs.NoteLemmas.{newly_attached, stays_attached}
+use Rattle.cap_session.proofs.RecordingLemmas.{newly_attached, stays_attached}
 use Rattle.cap_session.proofs.laws.rule_attaches_changed_tables.Goals as goal
 
 pub returns : goal.returns

@@ -1,5 +1,5 @@
 use Rattle.std.proofs.Common.{◌+◌, drop, sym, ap, ◌∙◌}
-use Rattle.cap_session.specs.Note.{touches_found}
+use Rattle.cap_session.specs.Recording.{touches_found}
 use Rattle.cap_session.specs.Records.{with_touches}
 use Rattle.cap_session.proofs.ListLemmas.{drop-item}
 use Rattle.cap_session.proofs.touch.after_diff.Goals as goal

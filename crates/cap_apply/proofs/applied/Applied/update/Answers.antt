@@ -23,11 +23,11 @@ key_of_fields-requires g c =
     ap (λ f. is_key (key_values f c.args.key.now)) c.flags-flags.ensures.flags ∙ ap is_key (sym (update_key flags c.args.key.now c.args.new.now c.requires.fits))
     ∙ is_key-key_values flags (update_record flags c.args.key.now c.args.new.now) c.requires.keyed c.requires.fits
 
-pub replace-requires-clause-there : goal.replace-requires-clause-there
-replace-requires-clause-there g c = ap is_some (has_target c.args.self.now.database c.args.table.now c.args.columns.now c.requires.target).there
+pub replace_present_row-requires-clause-there : goal.replace_present_row-requires-clause-there
+replace_present_row-requires-clause-there g c = ap is_some (has_target c.args.self.now.database c.args.table.now c.args.columns.now c.requires.target).there
 
-pub replace-requires-clause-own : goal.replace-requires-clause-own
-replace-requires-clause-own g c = λ row own.
+pub replace_present_row-requires-clause-own : goal.replace_present_row-requires-clause-own
+replace_present_row-requires-clause-own g c = λ row own.
     let state = c.args.self.now in
     let name = c.args.table.now in
     let flags = c.args.columns.now in
@@ -65,7 +65,7 @@ returns-in_err-judge g c =
     λ indirect.
     let requested : Requested g.row.A.Denot = record { old = old; patch = patched.Update indirect new } in
     rw (p.1, p.2) (judged_err (Unit {0}) Bool c.in_err-judge.field-0.0 (is_made policy number conflict) (change_applied policy number name flags requested state) c.judge.new.self
-    (λ why e. update_refused policy number name flags state h indirect old new key key_is conflict met c.replace.new.self put_is why e)
+    (λ why e. update_refused policy number name flags state h indirect old new key key_is conflict met c.replace_present_row.new.self put_is why e)
     c.in_err-judge.ensures.made)
 
 pub returns-then-not-branch : goal.returns-then-not-branch
@@ -87,7 +87,7 @@ returns-then-not-branch g c =
     let put_is = c.in_ok-conflict.ensures.state
     ∙ ap (λ f. placed_if_made (is_made policy number conflict) name key (option_map (set_fields (update_record f fields c.args.new.now)) (row_at state.database name key)) state) flags_are in
     λ indirect.
-    update_left policy number name flags state h indirect old new key key_is conflict met c.replace.new.self put_is
+    update_left policy number name flags state h indirect old new key key_is conflict met c.replace_present_row.new.self put_is
     c.judge.new.self c.in_ok-judge.field-0 c.in_ok-judge.ensures.noted c.in_ok-judge.ensures.made c.if-not-branch.true
 
 pub returns : goal.returns
@@ -109,5 +109,5 @@ returns g c =
     let put_is = c.in_ok-conflict.ensures.state
     ∙ ap (λ f. placed_if_made (is_made policy number conflict) name key (option_map (set_fields (update_record f fields c.args.new.now)) (row_at state.database name key)) state) flags_are in
     λ indirect.
-    update_made policy number name flags state h indirect old new key key_is conflict met c.replace.new.self put_is
+    update_made policy number name flags state h indirect old new key key_is conflict met c.replace_present_row.new.self put_is
     c.judge.new.self c.in_ok-judge.field-0 c.in_ok-judge.ensures.noted c.in_ok-judge.ensures.made c.add_replacement.new.self c.count.new.self c.if-not-branch.false c.in_ok-add_replacement.ensures c.in_ok-count.ensures

@@ -1,5 +1,5 @@
 use Rattle.std.proofs.Common.{◌≡◌, length, arith}
-use Rattle.cap_core.proofs.MakeLemmas.{one_item}
+use Rattle.cap_core.proofs.InPlaceLemmas.{one_item}
 use Rattle.cap_core.proofs.server.Core.commit_now.Goals as goal
 
 pub commit_one-requires-clause-can_ask : goal.commit_one-requires-clause-can_ask

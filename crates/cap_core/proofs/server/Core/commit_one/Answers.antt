@@ -1,6 +1,6 @@
 use Rattle.std.proofs.Common.{◌≡◌, Ok}
 use Rattle.cap_database.specs.Operation.{step}
-use Rattle.cap_core.proofs.MakeLemmas.{one_made, one_written}
+use Rattle.cap_core.proofs.InPlaceLemmas.{one_made, one_written}
 use Rattle.cap_core.proofs.server.Core.commit_one.Goals as goal
 
 pub returns-in-Ok : goal.returns-in-Ok

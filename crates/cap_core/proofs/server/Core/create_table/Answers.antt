@@ -4,7 +4,7 @@ use Rattle.cap_core.specs.Code.Sound.{KeepsColumns}
 use Rattle.cap_core.proofs.SoundLemmas.{created-columns}
 use Rattle.cap_core.proofs.server.Core.create_table.Goals as goal
 
-pub write-requires-clause-kept : goal.write-requires-clause-kept
-write-requires-clause-kept g c =
+pub reserve_and_publish-requires-clause-kept : goal.reserve_and_publish-requires-clause-kept
+reserve_and_publish-requires-clause-kept g c =
     subst (λ (s : State g.row.A.Denot). KeepsColumns s.main c.in-Ok.tables) c.self.view_is
     (created-columns c.tables_keep_columns.ensures.create c.self.inside.main c.args.name.now c.args.schema.now c.in-Ok.tables c.in-Ok.ensures)

@@ -20,7 +20,7 @@ pub returns-in-IsEmpty : goal.returns-in-IsEmpty
 returns-in-IsEmpty g c =
     let live = c.in-Some.session.now.live in
     let numbered = subst (λ (s : State g.row.A.Denot). session_numbered s.sessions c.args.number ≡ Some live) c.self.view_is (sym c.in-Some.ensures) in
-    rw (numbered, c.in-IsEmpty.is, with-same c.args.number c.args.self.now.sessions live numbered) (rw c.is_empty-empty.ensures at c.keep-in-IsEmpty.ensures)
+    rw (numbered, c.in-IsEmpty.is, with-same c.args.number c.args.self.now.sessions live numbered) (rw c.is_empty-empty.ensures at c.reply_only-in-IsEmpty.ensures)
 
 pub returns-in-Diff : goal.returns-in-Diff
 returns-in-Diff g c =
@@ -32,4 +32,4 @@ returns-in_ok-reply-in-Capture g c =
     let live = c.in-Some.session.now.live in
     let numbered = subst (λ (s : State g.row.A.Denot). session_numbered s.sessions c.args.number ≡ Some live) c.self.view_is (sym c.in-Some.ensures) in
     let told = c.in_ok-reply-in-Capture.ensures ∙ ap (λ (s : State g.row.A.Denot). capture_reply s.main live) c.self.view_is in
-    rw (numbered, c.in-Capture.is, with-same c.args.number c.args.self.now.sessions live numbered) (rw told at c.keep-in-Capture.ensures)
+    rw (numbered, c.in-Capture.is, with-same c.args.number c.args.self.now.sessions live numbered) (rw told at c.reply_only-in-Capture.ensures)

@@ -17,5 +17,5 @@ returns-in-Ok-clause-called g c =
     let calls = ap (λ (s : SeatState g.row.A.Denot). length (own s.number at)) c.seat.view_is ∙ c.requires.calls
     ∙ sym (ap (λ (s : SeatState g.row.A.Denot). length (own s.number s.answered)) c.seat.view_is) in
     rw (c.again.ensures, ← c.seat.view_is)
-    (called c.seat.inside.number c.seat.inside.seen c.seat.inside.answered at c.append.new.self c.args.command.now c.args.reply.now c.seat.invariant.2
+    (called c.seat.inside.number c.seat.inside.seen c.seat.inside.answered at c.exchange.new.self c.args.command.now c.args.reply.now c.seat.invariant.2
     c.in-Ok.ensures.at calls c.in-Ok.ensures.added c.in-Ok.ensures.history.legal c.in-Ok.ensures.history.blobs)

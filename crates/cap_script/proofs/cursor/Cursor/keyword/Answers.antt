@@ -26,5 +26,5 @@ returns-then-eq-clause-reads c =
 pub returns-else-eq-clause-reads : goal.returns-else-eq-clause-reads
 returns-else-eq-clause-reads c =
     let wanted = c.args.wanted.now in
-    rw c.in_ok-found.ensures.misfit
+    rw c.in_ok-found.ensures.unexpected
     (c.in_ok-found.ensures.reads (λ found. fits_if (bytes_eq found wanted)) ∙ ap (λ (b : Bool). judged (behind_blanks c.args.self.now.rest.now) c.word.new.self.rest.now (fits_if b)) (sym c.eq.ensures ∙ c.if-eq.false))

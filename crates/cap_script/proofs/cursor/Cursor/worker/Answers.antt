@@ -58,7 +58,7 @@ returns-then-worker-gt-WORKER_MAX-clause-reads c =
     let line = c.args.self.now.rest.now in
     let here = c.takes_sign.new.self.rest.now in
     let n = c.in_ok-worker.worker in
-    rw c.misfit-misfit.ensures (numbered line here c.digits.new.self.rest.now n false (c.takes_sign.ensures.next c.if-not-takes_sign.false) (c.in_ok-worker.ensures.reads on_worker) (lt-leb n 63 c.if-worker-gt-WORKER_MAX.true))
+    rw c.unexpected-unexpected.ensures (numbered line here c.digits.new.self.rest.now n false (c.takes_sign.ensures.next c.if-not-takes_sign.false) (c.in_ok-worker.ensures.reads on_worker) (lt-leb n 63 c.if-worker-gt-WORKER_MAX.true))
 
 pub returns-then-begins_blank-clause-reads : goal.returns-then-begins_blank-clause-reads
 returns-then-begins_blank-clause-reads c =
@@ -76,5 +76,5 @@ returns-else-begins_blank-clause-reads c =
     let rest = c.digits.new.self.rest.now in
     let n = c.in_ok-worker.worker in
     let few = c.if-worker-gt-WORKER_MAX.false in
-    rw c.misfit.ensures
+    rw c.unexpected.ensures
     (numbered line here rest n true (c.takes_sign.ensures.next c.if-not-takes_sign.false) (c.in_ok-worker.ensures.reads on_worker) (le-leb n 63 (omega (arith, few))) ∙ rw (sym c.begins_blank.ensures ∙ c.if-begins_blank.false) refl)

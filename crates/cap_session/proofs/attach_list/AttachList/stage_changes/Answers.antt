@@ -1,7 +1,7 @@
 use Rattle.std.proofs.Common.{◌+◌, drop, refl, sym, ap, ◌∙◌}
 use Rattle.std.proofs.lemmas.List.{drop_all}
 use Rattle.cap_session.specs.Code.AttachList.{staged_of}
-use Rattle.cap_session.specs.Note.{attach_by, attach_by_rule, touch_tables}
+use Rattle.cap_session.specs.Recording.{attach_by, attach_by_rule, touch_tables}
 use Rattle.cap_session.proofs.CommitLemmas.{changes-later, no-change, one-table}
 use Rattle.cap_session.proofs.ListLemmas.{drop-item}
 use Rattle.cap_session.proofs.attach_list.AttachList.stage_changes.Goals as goal

@@ -1,6 +1,6 @@
 use Rattle.std.proofs.Common.{◌≡◌, drop}
 use Rattle.cap_session.specs.Code.AttachList.{IsWhole, attached_of, staged_of}
-use Rattle.cap_session.specs.Note.{attach_by_rule, touch_tables}
+use Rattle.cap_session.specs.Recording.{attach_by_rule, touch_tables}
 use Rattle.cap_session.proofs.attach_list.AttachList.stage_changes.Given as goal
 
 abbrev pub invariant-loop-change : goal.invariant-loop-change

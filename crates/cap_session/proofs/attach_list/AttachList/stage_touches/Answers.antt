@@ -5,7 +5,7 @@ use Rattle.std.specs.Option.{unwrap_or}
 use Rattle.cap_value.specs.Bytes.{bytes_eq}
 use Rattle.indexmap.specs.Layout.{length-set_value_at}
 use Rattle.cap_session.specs.Code.Staging.{touches_by}
-use Rattle.cap_session.specs.Note.{touch_table}
+use Rattle.cap_session.specs.Recording.{touch_table}
 use Rattle.cap_session.specs.Records.{with_touches}
 use Rattle.cap_session.proofs.PlaceLemmas.{is-first, is-none}
 use Rattle.cap_session.proofs.TableLemmas.{changed-first, changed-none, kept-at}

@@ -1,0 +1,29 @@
+//! The conflict of an update or a delete with the row under its key.
+ghost use Rattle.std.specs.Prelude.{◌≡◌};
+ghost use Rattle.std.specs.Option.{option_copied};
+ghost use Rattle.cap_apply.specs.Row.{missed};
+
+use crate::ConflictKind;
+use crate::fields::has_old_values;
+use cap_row::Row;
+use cap_value::{AllocHandle, Value};
+
+// The conflict of an update or a delete, if any.
+pub(crate) fn missed<A: AllocHandle>(
+    flags: &[bool],
+    old: &[Option<Value<A>>],
+    row: Option<&Row<A>>,
+) -> Option<ConflictKind>
+    ensures { result ≡ missed flags.now old.now (option_copied row.entry) }
+{
+    match row {
+        None => Some(ConflictKind::NotFound),
+        Some(row) => {
+            if has_old_values(flags, old, row.fields()) {
+                None
+            } else {
+                Some(ConflictKind::Data)
+            }
+        }
+    }
+}

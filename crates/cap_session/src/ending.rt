@@ -1,0 +1,12 @@
+//! How a staging ends.
+
+// What becomes of what is staged. Nothing is staged then.
+#[derive(Clone, Copy, Drop)]
+pub(crate) enum Ending {
+    // What is staged is discarded.
+    Discard,
+    // What is staged is published.
+    Publish,
+    // What is staged is discarded, and all records are cleared.
+    Clear,
+}
