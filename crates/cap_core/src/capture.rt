@@ -76,7 +76,8 @@ impl<A: AllocHandle> Capture<A> {
     pub fn patchset(&self, alloc: A) -> Result<Vec<u8, A>, OutOfMemory>
         ensures { IfOk result (λ bytes. bytes.items ≡ patch_list_bytes (patch_list_of self.now)) }
     {
-        let patches = to_patches(alloc, &self.changes(alloc)?)?;
+        let changes = self.changes(alloc)?;
+        let patches = to_patches(alloc, &changes)?;
         write_patches(alloc, &patches)
     }
 
@@ -85,7 +86,8 @@ impl<A: AllocHandle> Capture<A> {
         ensures { IfOk result (λ bytes. bytes.items
             ≡ patch_list_bytes_with key_flags (patch_list_of self.now)) }
     {
-        let patches = to_patches(alloc, &self.changes(alloc)?)?;
+        let changes = self.changes(alloc)?;
+        let patches = to_patches(alloc, &changes)?;
         write_patches_with(alloc, key_flags, &patches)
     }
 
@@ -95,7 +97,8 @@ impl<A: AllocHandle> Capture<A> {
         ensures changeset { OnOk result (IsWritable (contents.Changes self.now)) }
         ensures patchset { OnOk result (IsWritable (contents.Patches (patch_list_of self.now))) }
     {
-        changes_are_writable(&self.changes(alloc)?);
+        let changes = self.changes(alloc)?;
+        changes_are_writable(&changes);
         Ok(())
     }
 
