@@ -80,8 +80,8 @@ pub fn captured_in_two_parts<A: AllocHandle>(
     let Some(whole) = captured_whole(&start, session, first, second)? else {
         return Ok(None);
     };
-    one.capture.is_writable();
-    two.capture.is_writable();
+    one.capture.is_writable(alloc)?;
+    two.capture.is_writable(alloc)?;
     match concatenated(alloc, &one.capture, &two.capture)? {
         Some(together) => Ok(Some(InParts { together, whole })),
         None => Ok(None),

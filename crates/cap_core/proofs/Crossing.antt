@@ -13,7 +13,7 @@ use Rattle.cap_tree.proofs.Crossing.{tree_send, tree_sync}
 use Rattle.cap_database.proofs.Crossing.{database_send, database_sync, snapshot_send, snapshot_sync}
 use Rattle.cap_txn.proofs.Crossing.{batch_send, batch_sync}
 use Rattle.cap_filter.proofs.Crossing.{filter_send, filter_sync}
-use Rattle.cap_session.proofs.Crossing.{sessions_send, sessions_sync}
+use Rattle.cap_session.proofs.Crossing.{session_send, session_sync, sessions_send, sessions_sync}
 use Rattle.cap_codec.proofs.read.Contents.TheSendSync as contents
 use Rattle.cap_apply.proofs.policy.Policy.TheSendSync as policy
 use Rattle.cap_apply.proofs.report.Report.TheSendSync as report
@@ -144,7 +144,7 @@ module _ (A : RattleType) (h : handle.Ghosts A.Denot) (a : allocator.Ghosts A.De
   command_field_sync = enum_sync (shape (Command.the_type A h a c)) variants_sync
 
   pub reply_send : IsSend (Reply.the_row A h a c)
-  reply_send = search (report.the_send, snapshot_send, capture.the_send, refusal.the_field_send, sendable) depth 40 fits 100000
+  reply_send = search (report.the_send, snapshot_send, database_send, session_send, refusal.the_field_send, sendable) depth 40 fits 100000
 
   pub reply_sync : IsSync (Reply.the_row A h a c)
-  reply_sync = search (report.the_sync, snapshot_sync, capture.the_sync, refusal.the_field_sync, sendable) depth 40 fits 100000
+  reply_sync = search (report.the_sync, snapshot_sync, database_sync, session_sync, refusal.the_field_sync, sendable) depth 40 fits 100000

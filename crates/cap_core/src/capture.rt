@@ -1,5 +1,5 @@
 //! Captures: the changes of a session as a list and as bytes.
-ghost use Rattle.std.specs.Prelude.{◌≡◌, [], ◌∷◌, ◌++◌, Some, IfOk, IfSome, IsTrue};
+ghost use Rattle.std.specs.Prelude.{◌≡◌, [], ◌∷◌, ◌++◌, Some, IfOk, IfSome, IsTrue, OnOk};
 ghost use Rattle.std.specs.List.{cons_option, filter_map, list_all};
 ghost use Rattle.std.specs.Option.{option_copied, option_map, ForSome};
 ghost use Rattle.cap_row.specs.Key.{fields_cmp};
@@ -12,49 +12,56 @@ ghost use Rattle.cap_codec.specs.Changeset.{list_bytes, list_bytes_with};
 ghost use Rattle.cap_codec.specs.Patchset.{patch_list_bytes, patch_list_bytes_with};
 ghost use Rattle.cap_codec.specs.Writable.{IsWritable};
 ghost use Rattle.cap_codec.specs.declared.read.Contents.TheVariants as contents;
-ghost use Rattle.cap_core.specs.Capture.{change_now, changes_of, table_changes};
+ghost use Rattle.cap_core.specs.Capture.{change_now, changes_of, session_changes, table_changes};
 ghost use Rattle.cap_core.specs.Code.Grouped.{IsGroupOf, changes_in};
-ghost use Rattle.cap_core.specs.CanCapture.{image_stands, records_stand, tables_stand};
+ghost use Rattle.cap_core.specs.CanCapture.{image_stands, records_stand, session_stands, tables_stand};
 
+use crate::changeset_bytes::changeset_of;
 use cap_changes::{ChangeList, Group, RowChange, change_between, to_patches};
-use cap_codec::{
-    KeyFlags, changes_are_writable, write_changes, write_changes_with, write_patches,
-    write_patches_with,
-};
+use cap_codec::{KeyFlags, changes_are_writable, write_patches, write_patches_with};
 use cap_database::Database;
 use cap_row::{Key, Row, Schema};
-use cap_session::{Attached, Record, Records};
+use cap_session::{Attached, Record, Records, Session};
 use cap_table::Table;
 use cap_value::{AllocHandle, Name, OutOfMemory};
 use std::marker::Model;
 
-/// The changes of a session at the moment of the capture.
+/// The changes of a session at the moment of the capture. It shares the records of the session and the rows
+/// of the tables as they were then, and is made without a visit to any of them. The list and the bytes are made
+/// for whoever asks, as often as they are asked for: out of memory there changes nothing, and the capture stays.
 #[derive(Drop)]
 pub struct Capture<A: AllocHandle> {
-    changes: ChangeList<A>,
+    session: Session<A>,
+    main: Database<A>,
 }
 
 impl<A: AllocHandle> Model for Capture<A> {
-    ghost use Rattle.std.specs.Prelude.{List};
+    ghost use Rattle.std.specs.Prelude.{IsTrue, List};
     ghost use Rattle.cap_changes.specs.Group.{TableChanges};
+    ghost use Rattle.cap_core.specs.CanCapture.{session_stands};
+    ghost use Rattle.cap_core.specs.Capture.{session_changes};
 
     ghost Value = { List (TableChanges A) };
 
-    ghost view = { λ c. c.changes };
+    ghost view = { λ c. session_changes c.main c.session.live };
+
+    ghost invariant = { λ c. IsTrue (session_stands c.main c.session.live) };
 }
 
 impl<A: AllocHandle> Capture<A> {
-    pub(crate) fn new(changes: ChangeList<A>) -> Self
-        ensures { result ≡ changes }
+    // What the session captures against these tables.
+    pub(crate) fn new(session: Session<A>, main: Database<A>) -> Self
+        requires { IsTrue (session_stands main session.live) }
+        ensures { result ≡ session_changes main session.live }
     {
-        Capture { changes }
+        Capture { session, main }
     }
 
     /// The bytes of the changeset (The Session Extension, "sqlite3session_changeset").
     pub fn changeset(&self, alloc: A) -> Result<Vec<u8, A>, OutOfMemory>
         ensures { IfOk result (λ bytes. bytes.items ≡ list_bytes self.now) }
     {
-        write_changes(alloc, &self.changes)
+        self.changeset_with(alloc, KeyFlags::Ones)
     }
 
     /// The bytes of the changeset, with these key flags. `KeyFlags::Places` gives the bytes that SQLite's
@@ -62,14 +69,15 @@ impl<A: AllocHandle> Capture<A> {
     pub fn changeset_with(&self, alloc: A, key_flags: KeyFlags) -> Result<Vec<u8, A>, OutOfMemory>
         ensures { IfOk result (λ bytes. bytes.items ≡ list_bytes_with key_flags self.now) }
     {
-        write_changes_with(alloc, key_flags, &self.changes)
+        changeset_of(alloc, key_flags, self.session.attached(), &self.main)
     }
 
     /// The bytes of the patchset (The Session Extension, "sqlite3session_patchset").
     pub fn patchset(&self, alloc: A) -> Result<Vec<u8, A>, OutOfMemory>
         ensures { IfOk result (λ bytes. bytes.items ≡ patch_list_bytes (patch_list_of self.now)) }
     {
-        let patches = to_patches(alloc, &self.changes)?;
+        let changes = self.changes(alloc)?;
+        let patches = to_patches(alloc, &changes)?;
         write_patches(alloc, &patches)
     }
 
@@ -78,25 +86,28 @@ impl<A: AllocHandle> Capture<A> {
         ensures { IfOk result (λ bytes. bytes.items
             ≡ patch_list_bytes_with key_flags (patch_list_of self.now)) }
     {
-        let patches = to_patches(alloc, &self.changes)?;
+        let changes = self.changes(alloc)?;
+        let patches = to_patches(alloc, &changes)?;
         write_patches_with(alloc, key_flags, &patches)
     }
 
     /// A law: the changes can be written as a changeset, and their patches as a patchset. At run time it
-    /// only visits each value.
-    pub fn is_writable(&self)
-        ensures changeset { IsWritable (contents.Changes self.now) }
-        ensures patchset { IsWritable (contents.Patches (patch_list_of self.now)) }
+    /// makes the list, and visits each value.
+    pub fn is_writable(&self, alloc: A) -> Result<(), OutOfMemory>
+        ensures changeset { OnOk result (IsWritable (contents.Changes self.now)) }
+        ensures patchset { OnOk result (IsWritable (contents.Patches (patch_list_of self.now))) }
     {
-        changes_are_writable(&self.changes);
+        let changes = self.changes(alloc)?;
+        changes_are_writable(&changes);
+        Ok(())
     }
 
     /// The changes: tables in the order in which they were attached, and within a table in the order of the
     /// keys.
-    pub fn changes(&self) -> &ChangeList<A>
-        ensures { result.now ≡ self.now }
+    pub fn changes(&self, alloc: A) -> Result<ChangeList<A>, OutOfMemory>
+        ensures { IfOk result (λ list. list ≡ self.now) }
     {
-        &self.changes
+        changes_of(alloc, self.session.attached(), &self.main)
     }
 }
 

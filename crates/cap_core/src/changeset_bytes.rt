@@ -2,16 +2,14 @@
 //! changes.
 ghost use Rattle.std.specs.Prelude.{◌≡◌, ◌++◌, [], IfOk, OnOk, Some, List};
 ghost use Rattle.std.specs.List.{cons_option};
-ghost use Rattle.std.specs.Option.{option_copied, option_map};
+ghost use Rattle.std.specs.Option.{option_copied};
 ghost use Rattle.cap_changes.specs.declared.row_change.RowChange.{RowChange};
 ghost use Rattle.cap_codec.specs.Changeset.{change_bytes, changes_under, header_bytes, list_bytes_with};
 ghost use Rattle.cap_codec.specs.KindByte.{changeset_kind};
 ghost use Rattle.cap_changes.specs.Change.{change_of};
-ghost use Rattle.cap_session.specs.Sessions.{session_numbered};
-ghost use Rattle.cap_core.specs.Capture.{change_now, changes_of, session_changes, table_changes};
+ghost use Rattle.cap_core.specs.Capture.{change_now, changes_of, table_changes};
 ghost use Rattle.cap_core.specs.Code.ChangesetBytes.{behind, header_unless};
 
-use crate::Core;
 use crate::capture::row_now;
 use cap_codec::{KeyFlags, is_changed, push_change_between, push_group_header};
 use cap_database::Database;
@@ -20,32 +18,8 @@ use cap_session::{Attached, Record, Records};
 use cap_table::Table;
 use cap_value::{AllocHandle, Name, OutOfMemory};
 
-impl<A: AllocHandle> Core<A> {
-    /// The bytes of the changeset that a capture of this session gives (The Session Extension,
-    /// "sqlite3session_changeset"), with these key flags, or none where no live session has the number.
-    ///
-    /// The bytes are written without the list of a capture. It is no event: nothing changes, and no hook is
-    /// asked.
-    pub fn changeset(
-        &self,
-        alloc: A,
-        session: u64,
-        key_flags: KeyFlags,
-    ) -> Result<Option<Vec<u8, A>>, OutOfMemory>
-        ensures { IfOk result (λ made. option_map (λ bytes. bytes.items) made ≡ option_map
-            (λ kept. list_bytes_with key_flags (session_changes self.now.main kept))
-            (session_numbered self.now.sessions session)) }
-    {
-        let Some(session) = self.sessions.get(session) else {
-            return Ok(None);
-        };
-        let bytes = changeset_of(alloc, key_flags, session.attached(), &self.main)?;
-        Ok(Some(bytes))
-    }
-}
-
 // The bytes of the changes of the attached tables, from each first image to the present row.
-fn changeset_of<A: AllocHandle>(
+pub(crate) fn changeset_of<A: AllocHandle>(
     alloc: A,
     key_flags: KeyFlags,
     attached: Attached<'_, A>,

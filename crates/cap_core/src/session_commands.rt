@@ -19,7 +19,7 @@ ghost use Rattle.cap_database.specs.Tables.{schema_of};
 
 use crate::commit_hook::{ReplyHook, ask};
 use crate::diff::differences;
-use crate::{Capture, Command, CommitHook, Core, Reply, SESSIONS_MAX, changes_of};
+use crate::{Capture, Command, CommitHook, Core, Reply, SESSIONS_MAX};
 use cap_compare::Difference;
 use cap_database::Database;
 use cap_filter::TableFilter;
@@ -112,11 +112,11 @@ impl<A: AllocHandle> Core<A> {
             }
             Command::Diff { from, table, .. } => self.diff(number, from, table, hook),
             Command::Capture { .. } => {
-                let reply = capture_reply(self.alloc, session, &self.main)?;
+                let reply = capture_reply(session, &self.main)?;
                 self.reply_only(reply, hook)
             }
             Command::Restart { .. } => {
-                let reply = capture_reply(self.alloc, session, &self.main)?;
+                let reply = capture_reply(session, &self.main)?;
                 self.change_session(number, SessionChange::Restart, reply, hook)
             }
             _ => unreachable!(),
@@ -246,13 +246,11 @@ impl<A: AllocHandle> Core<A> {
 
 // What a session captures, as a reply.
 fn capture_reply<A: AllocHandle>(
-    alloc: A,
     session: &Session<A>,
     main: &Database<A>,
 ) -> Result<Reply<A>, OutOfMemory>
     requires { IsTrue (session_stands main.now session.now.live) }
     ensures { IfOk result (λ reply. reply ≡ capture_reply main.now session.now.live) }
 {
-    let changes = changes_of(alloc, session, main)?;
-    Ok(Reply::Capture(Capture::new(changes)))
+    Ok(Reply::Capture(Capture::new(session.copy()?, main.snapshot()?)))
 }

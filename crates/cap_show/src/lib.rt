@@ -3,11 +3,10 @@
 
 mod json_text;
 mod list;
-mod output;
 mod sql;
 mod text;
 
 pub use json_text::{changeset_json, patchset_json};
-pub use list::{changeset_text, patchset_text, write_changeset, write_patchset};
-pub use sql::{changeset_sql, patchset_sql, write_changeset_sql, write_patchset_sql};
+pub use list::{changeset_text, patchset_text};
+pub use sql::{changeset_sql, patchset_sql};
 pub use text::ValueText;

@@ -1,14 +1,11 @@
 //! Prints changesets and patchsets.
-ghost use Rattle.std.specs.Prelude.{◌≡◌, ℕ, List, IfErr, IfOk, OnOk};
+ghost use Rattle.std.specs.Prelude.{◌≡◌, ℕ, List, IfOk, OnOk};
 ghost use Rattle.std.specs.Io.KnownBytes.{Appends};
 ghost use Rattle.std.specs.List.{flat_map};
-ghost use Rattle.cap_codec.specs.Stream.{EndsWrites, WritesFront};
 ghost use Rattle.cap_show.specs.ShowText as spec;
 
-use crate::output::write_whole;
 use crate::text::{DefinedText, RecordText, SchemaText};
 use cap_changes::{ChangeList, Entry, GroupList, Patch, PatchList, RowChange, TableGroup};
-use cap_codec::{Sink, WriteFault};
 use cap_value::{AllocHandle, OutOfMemory};
 use std::io;
 use std::io::Write;
@@ -38,44 +35,6 @@ pub fn patchset_text<A: AllocHandle>(
     ensures { IfOk result (λ text. text.items ≡ spec.patchset_text patches.now) }
 {
     list_text::<Patch<A>, A>(alloc, "patchset", patches)
-}
-
-/// Writes the text of a changeset. All of it is made before any of it is written.
-pub fn write_changeset<A: AllocHandle, W: Sink>(
-    alloc: A,
-    changes: &ChangeList<A>,
-    output: &mut W,
-) -> Result<(), WriteFault>
-    // Where it is known what the writer holds, it is followed by the text of the list.
-    ensures ok { OnOk result (Appends (W.contents output.old) (W.contents output.new)
-        (spec.changeset_text changes.now)) }
-    // A beginning of the text is written where a write failed, and nothing where memory was out.
-    ensures err { IfErr result (λ fault. WritesFront fault (W.contents output.old) (W.contents output.new)
-        (spec.changeset_text changes.now)) }
-    // Which answer comes when, as far as the outcomes of the writes are known.
-    ensures reported { EndsWrites W.took W.failed result output.old output.new }
-{
-    let text = changeset_text(alloc, changes).map_err(|_| WriteFault::Memory)?;
-    write_whole(output, text.as_slice())
-}
-
-/// Writes the text of a patchset. All of it is made before any of it is written.
-pub fn write_patchset<A: AllocHandle, W: Sink>(
-    alloc: A,
-    patches: &PatchList<A>,
-    output: &mut W,
-) -> Result<(), WriteFault>
-    // Where it is known what the writer holds, it is followed by the text of the list.
-    ensures ok { OnOk result (Appends (W.contents output.old) (W.contents output.new)
-        (spec.patchset_text patches.now)) }
-    // A beginning of the text is written where a write failed, and nothing where memory was out.
-    ensures err { IfErr result (λ fault. WritesFront fault (W.contents output.old) (W.contents output.new)
-        (spec.patchset_text patches.now)) }
-    // Which answer comes when, as far as the outcomes of the writes are known.
-    ensures reported { EndsWrites W.took W.failed result output.old output.new }
-{
-    let text = patchset_text(alloc, patches).map_err(|_| WriteFault::Memory)?;
-    write_whole(output, text.as_slice())
 }
 
 // What a group holds, as a line.

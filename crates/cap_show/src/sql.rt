@@ -2,20 +2,17 @@
 ghost use Rattle.std.specs.Fmt.{WritesOnOk};
 ghost use Rattle.std.specs.Io.KnownBytes.{Appends};
 ghost use Rattle.std.specs.List.{flat_map};
-ghost use Rattle.std.specs.Prelude.{◌≡◌, ◌++◌, Bool, List, IfErr, IfOk, OnOk, false, option_copied, ℕ};
+ghost use Rattle.std.specs.Prelude.{◌≡◌, ◌++◌, Bool, List, IfOk, OnOk, false, option_copied, ℕ};
 ghost use Rattle.std.specs.Prelude.{slice_get};
-ghost use Rattle.cap_codec.specs.Stream.{EndsWrites, WritesFront};
 ghost use Rattle.cap_show.specs.Code.DefinedFields.{is_first_after, next_text};
 ghost use Rattle.cap_show.specs.Code.Equations.{asked_value, next_equation, separator_before};
 ghost use Rattle.cap_show.specs.Code.Equations as code;
 ghost use Rattle.cap_show.specs.Sql as spec;
 
-use crate::output::write_whole;
 use crate::text::{write_blob, write_comma, write_quoted};
 use cap_changes::{
     ChangeList, Entry, FieldRecord, GroupList, Patch, PatchList, RowChange, TableGroup,
 };
-use cap_codec::{Sink, WriteFault};
 use cap_row::Schema;
 use cap_value::{AllocHandle, Name, OutOfMemory, Value};
 use std::fmt::{Display, Formatter};
@@ -44,44 +41,6 @@ pub fn patchset_sql<A: AllocHandle>(
     ensures { IfOk result (λ sql. sql.items ≡ spec.patchset_sql patches.now) }
 {
     list_sql::<Patch<A>, A>(alloc, patches)
-}
-
-/// Writes the SQL of a changeset. All of it is made before any of it is written.
-pub fn write_changeset_sql<A: AllocHandle, W: Sink>(
-    alloc: A,
-    changes: &ChangeList<A>,
-    output: &mut W,
-) -> Result<(), WriteFault>
-    // Where it is known what the writer holds, it is followed by the statements of the list.
-    ensures ok { OnOk result (Appends (W.contents output.old) (W.contents output.new)
-        (spec.changeset_sql changes.now)) }
-    // A beginning of the statements is written where a write failed, and nothing where memory was out.
-    ensures err { IfErr result (λ fault. WritesFront fault (W.contents output.old) (W.contents output.new)
-        (spec.changeset_sql changes.now)) }
-    // Which answer comes when, as far as the outcomes of the writes are known.
-    ensures reported { EndsWrites W.took W.failed result output.old output.new }
-{
-    let sql = changeset_sql(alloc, changes).map_err(|_| WriteFault::Memory)?;
-    write_whole(output, sql.as_slice())
-}
-
-/// Writes the SQL of a patchset. All of it is made before any of it is written.
-pub fn write_patchset_sql<A: AllocHandle, W: Sink>(
-    alloc: A,
-    patches: &PatchList<A>,
-    output: &mut W,
-) -> Result<(), WriteFault>
-    // Where it is known what the writer holds, it is followed by the statements of the list.
-    ensures ok { OnOk result (Appends (W.contents output.old) (W.contents output.new)
-        (spec.patchset_sql patches.now)) }
-    // A beginning of the statements is written where a write failed, and nothing where memory was out.
-    ensures err { IfErr result (λ fault. WritesFront fault (W.contents output.old) (W.contents output.new)
-        (spec.patchset_sql patches.now)) }
-    // Which answer comes when, as far as the outcomes of the writes are known.
-    ensures reported { EndsWrites W.took W.failed result output.old output.new }
-{
-    let sql = patchset_sql(alloc, patches).map_err(|_| WriteFault::Memory)?;
-    write_whole(output, sql.as_slice())
 }
 
 // What a list holds, as a statement.

@@ -1,7 +1,6 @@
 //! Runs of the sequential server, commands that are prepared, and captures as bytes.
 use crate::calls::{REPLIES, WORKLOAD};
 use crate::carried::{carry_out, push_line};
-use cap_codec::KeyFlags;
 use cap_core::{Capture, Command, Core, EVENTS_MAX, NoHook, Reply};
 use cap_database::{Action, Cause, Op};
 use cap_row::{Row, Schema};
@@ -114,6 +113,11 @@ const UPDATE: &str = "create t kv\n\
      attach 1 t\n\
      commit update t key(1) set 1 = 'y'";
 
+// Commits to the same table, and to the records of the session.
+const LATER: &str = "commit update t key(1) set 1 = 'z'\n\
+     commit insert t (2,'w')\n\
+     restart 1";
+
 const CHANGESET: [u8; 24] = [
     0x54, 2, 1, 0, 0x74, 0, 0x17, 0, 1, 0, 0, 0, 0, 0, 0, 0, 1, 3, 1, 0x78, 0, 3, 1, 0x79,
 ];
@@ -149,11 +153,9 @@ fn a_capture_as_a_changeset_and_a_patchset(rt: HostRuntime) -> Result<(), Fail> 
     let capture = captured(&mut core).ok_or("a capture")?;
     assert!(rt; capture.changeset(alloc)?.as_slice() == CHANGESET.as_slice());
     assert!(rt; capture.patchset(alloc)?.as_slice() == PATCHSET.as_slice());
-    // The same bytes without a capture.
-    let bytes = core
-        .changeset(alloc, 1, KeyFlags::Ones)?
-        .ok_or("a session")?;
-    assert!(rt; bytes.as_slice() == CHANGESET.as_slice());
-    assert!(rt; core.changeset(alloc, 2, KeyFlags::Ones)?.is_none());
+    // It stays what it was, whatever is committed later.
+    assert!(rt; carry_out(alloc, &mut core, LATER).is_some());
+    assert!(rt; capture.changeset(alloc)?.as_slice() == CHANGESET.as_slice());
+    assert!(rt; capture.patchset(alloc)?.as_slice() == PATCHSET.as_slice());
     Ok(())
 }

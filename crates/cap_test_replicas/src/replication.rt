@@ -70,7 +70,9 @@ pub fn replicate<J: Naming, A: AllocHandle, R: Wait>(
     let Some(capture) = captured(reply) else {
         return Err(NotReplicated::NoCapture);
     };
-    capture.is_writable();
+    if capture.is_writable(alloc).is_err() {
+        return Err(NotReplicated::OutOfMemory);
+    }
     match carry(alloc, &capture, form, policy, replica) {
         Ok(applied) => Ok(applied),
         Err(Fault::Refused(why)) => Err(NotReplicated::NotApplied(why)),

@@ -1,5 +1,12 @@
+use Rattle.std.proofs.Common.{subst}
+use Rattle.cap_changes.specs.Patch.{patch_list_of}
+use Rattle.cap_codec.specs.Writable.{IsWritable}
+use Rattle.cap_codec.specs.declared.read.Contents.TheVariants.{Changes, Patches}
 use Rattle.cap_core.proofs.BytesLemmas.{patches-writable}
 use Rattle.cap_core.proofs.capture.Capture.is_writable.Goals as goal
 
+pub returns-clause-changeset : goal.returns-clause-changeset
+returns-clause-changeset g c = subst (λ list. IsWritable (Changes list)) c.in_ok-changes.ensures c.changes_are_writable.ensures.writable
+
 pub returns-clause-patchset : goal.returns-clause-patchset
-returns-clause-patchset g c = rw (← c.self.view_is) (patches-writable c.self.inside.changes c.changes_are_writable.ensures.writable)
+returns-clause-patchset g c = subst (λ list. IsWritable (Patches (patch_list_of list))) c.in_ok-changes.ensures (patches-writable c.in_ok-changes.changes c.changes_are_writable.ensures.writable)
