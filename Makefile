@@ -71,11 +71,11 @@ conformance:
 bench:
 	@bench/run $(PROGRAM) $(OUT) $(ROUNDS)
 
-# The library for C, over what `make test` proved; cap_c itself is proved here.
+# The library for C, as an archive and as a shared object, over what `make test` proved; cap_c itself is proved here.
 lib:
 	@bindings/library $(OUT)
 
-# The shared object of that library, for Python.
+# The shared object alone, of the archive that is there.
 shared:
 	@bindings/shared $(OUT)
 
