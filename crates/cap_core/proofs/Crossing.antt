@@ -17,7 +17,7 @@ use Rattle.cap_session.proofs.Crossing.{session_send, session_sync, sessions_sen
 use Rattle.cap_codec.proofs.read.Contents.TheSendSync as contents
 use Rattle.cap_apply.proofs.policy.Policy.TheSendSync as policy
 use Rattle.cap_apply.proofs.report.Report.TheSendSync as report
-use Rattle.cap_core.proofs.capture.Capture.TheSendSync as capture
+use Rattle.cap_core.specs.contracts.capture.Capture as Capture
 use Rattle.cap_core.specs.contracts.server.Core as Core
 use Rattle.cap_core.specs.contracts.command.Command as Command
 use Rattle.cap_core.specs.contracts.reply.Reply as Reply
@@ -33,6 +33,12 @@ module _ (A : RattleType) (h : handle.Ghosts A.Denot) (a : allocator.Ghosts A.De
 
   pub core_sync : IsSync (Core.the_row A h a c)
   core_sync = search (database_send, database_sync, tree_sync, name.the_send, name.the_sync, sessions_sync, sendable) depth 40 fits 100000
+
+  capture_send : IsSend (Capture.the_row A h a c)
+  capture_send = search (database_send, session_send, sendable) depth 40 fits 100000
+
+  capture_sync : IsSync (Capture.the_row A h a c)
+  capture_sync = search (database_sync, session_sync, sendable) depth 40 fits 100000
 
   variants_send : EachSend (variants (Command.the_type A h a c))
   variants_send = (
@@ -144,7 +150,7 @@ module _ (A : RattleType) (h : handle.Ghosts A.Denot) (a : allocator.Ghosts A.De
   command_field_sync = enum_sync (shape (Command.the_type A h a c)) variants_sync
 
   pub reply_send : IsSend (Reply.the_row A h a c)
-  reply_send = search (report.the_send, snapshot_send, database_send, session_send, refusal.the_field_send, sendable) depth 40 fits 100000
+  reply_send = search (report.the_send, snapshot_send, capture_send, refusal.the_field_send, sendable) depth 40 fits 100000
 
   pub reply_sync : IsSync (Reply.the_row A h a c)
-  reply_sync = search (report.the_sync, snapshot_sync, database_sync, session_sync, refusal.the_field_sync, sendable) depth 40 fits 100000
+  reply_sync = search (report.the_sync, snapshot_sync, capture_sync, refusal.the_field_sync, sendable) depth 40 fits 100000
