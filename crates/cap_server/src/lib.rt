@@ -3,15 +3,20 @@
 
 mod calls;
 mod closed;
-mod exchange;
 mod fault;
+mod front;
 mod handed_back;
-mod limits;
+mod list;
 mod locked;
+mod naming;
+mod seat;
 mod server;
 
 pub use closed::Closed;
-pub use fault::{CallFault, CloseFault};
-pub use limits::SEATS_MAX;
+pub use fault::CloseFault;
+pub use front::Front;
+pub use list::{List, one_begins_the_other};
 pub use locked::Locked;
+pub use naming::{Naming, named};
+pub use seat::Seat;
 pub use server::Server;

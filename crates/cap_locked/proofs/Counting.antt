@@ -8,7 +8,7 @@ use Rattle.cap_core.specs.declared.reply.Reply.{Reply}
 use Rattle.cap_core.specs.Answer.{event_by}
 use Rattle.cap_history.specs.History.{own}
 use Rattle.cap_history.specs.Own.{own-append, own-one, own-other}
-use Rattle.cap_server.specs.Code.Counts.{IsCounted}
+use Rattle.cap_locked.specs.Counts.{IsCounted}
 
 same_by : (n m : ℕ) (b : Bool) → nat_eq n m ≡ b → (n ≡ m) ⊎ (n ≢ m)
 same_by n m true is = inl (grind (arith, nat_tests))

@@ -1,4 +1,4 @@
-//! The limits of a server that threads share.
+//! The limits of a server that clients share.
 
 /// The most seats of a server.
 pub const SEATS_MAX: u64 = 64;

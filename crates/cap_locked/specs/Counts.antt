@@ -1,9 +1,7 @@
 -- The number of events of each seat.
 use Rattle.std.specs.Prelude.{◌≡◌, ℕ, ◌<◌, ◌≤◌, List, [], length, slice_index}
-use mathlib.Core.List.{IsPrefix}
 use Rattle.cap_core.specs.declared.event.Event.{Event}
 use Rattle.cap_history.specs.History.{own}
-use Rattle.cap_history.specs.Seat.{IsAnswered, SeatState, calls}
 
 module _ {A : Type 0} where
   -- the counts of this many seats, at least one, and no event of another
@@ -12,10 +10,3 @@ module _ {A : Type 0} where
     pub long : length counts ≡ seats
     pub each : (number : ℕ) → number < seats → slice_index counts number ≡ length (own number history)
     pub others : (number : ℕ) → seats ≤ number → own number history ≡ []
-
-  -- a seat of this many, whose last call is in what it has seen, has as many calls as are counted
-  pub record Agrees (seats : ℕ) (counts : List ℕ) (seat : SeatState A) : Type 0 where
-    pub known : seat.number < seats
-    pub begins : IsPrefix seat.answered seat.seen
-    pub ends : IsAnswered seat.number seat.answered
-    pub counted : slice_index counts seat.number ≡ length (calls seat)

@@ -1,7 +1,7 @@
 use Rattle.std.proofs.Common.{ap, ◌∙◌, sym, arith, ◌++◌, ◌∷◌, []}
 use Rattle.std.proofs.lemmas.List.FromFn.{map-range_with_len_more}
 use Rattle.cap_history.specs.Seat.{newcomer, newcomers}
-use Rattle.cap_history.proofs.opened.seats_of.Goals as goal
+use Rattle.cap_server.proofs.naming.seats_of.Goals as goal
 
 pub loop-number-preserved : goal.loop-number-preserved
 loop-number-preserved g c =

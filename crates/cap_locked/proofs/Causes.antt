@@ -6,9 +6,9 @@ use Rattle.cap_core.specs.declared.command.Command.{Command}
 use Rattle.cap_core.specs.declared.event.Event.{Event}
 use Rattle.cap_history.specs.History.{own}
 use Rattle.cap_history.specs.Seat.{SeatState, calls}
-use Rattle.cap_server.specs.Fault.{HasCalls, HasCause, HasCauseAfter}
-use Rattle.cap_server.specs.declared.fault.CallFault.{CallFault}
-use Rattle.cap_server.proofs.Counting.{same_or_other}
+use Rattle.cap_locked.specs.Fault.{HasCalls, HasCause, HasCauseAfter}
+use Rattle.cap_locked.specs.declared.fault.CallFault.{CallFault}
+use Rattle.cap_locked.proofs.Counting.{same_or_other}
 
 module _ {A : Type 0} where
   -- a longer history, or other calls than are counted
