@@ -3,3 +3,4 @@ pub mod History
 pub mod Own
 pub mod Rules
 pub mod Seat
+pub mod Seen

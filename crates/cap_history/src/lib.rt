@@ -5,7 +5,6 @@
 mod front;
 mod law;
 mod list;
-mod naming;
 mod opened;
 mod overtaken;
 mod seat;
@@ -13,7 +12,6 @@ mod seat;
 pub use front::Front;
 pub use law::Law;
 pub use list::{List, one_begins_the_other};
-pub use naming::Naming;
 pub use opened::Opened;
 pub use overtaken::Overtaken;
 pub use seat::Seat;

@@ -1,67 +1,68 @@
 //! Lists: what a caller has seen of the history.
 ghost use Rattle.std.specs.Prelude.{◌≡◌, ◌<◌, ◌⊎◌, [], ◌∷◌, ◌++◌, length, OnOk, IfErr};
 ghost use mathlib.Core.List.{IsPrefix};
-ghost use Rattle.cap_core.specs.Answer.{IsLegal, event_by, reply_of};
+ghost use Rattle.cap_core.specs.Answer.{event_by, reply_of};
 ghost use Rattle.cap_core.specs.Past.{HasRoom};
 ghost use Rattle.cap_history.specs.History.{IsHistory, longer};
 
 use crate::law::{Add, Call, Law, Look, Nothing};
-use crate::{Front, Naming, Overtaken};
+use crate::{Front, Overtaken};
 use cap_core::{Command, Event, Reply, fitting_histories_grow, legal_histories_grow};
 use cap_value::AllocHandle;
 use logbook::{Offer, Seen};
-use std::marker::{Model, PhantomData};
+use std::marker::Model;
 
-/// A prefix of the history, as a caller has seen it. It stores the length; contracts see its events.
+/// A prefix of the history, as a caller has seen it. It stores the length; contracts see its events, and the
+/// book, which says which history it is.
 #[derive(Drop)]
-pub struct List<J: Naming, A: AllocHandle> {
+pub struct List<A: AllocHandle> {
     pub(crate) len: u64,
     pub(crate) seen: Seen<Event<A>, u64, Law>,
-    pub(crate) of: PhantomData<J>,
 }
 
-impl<J: Naming, A: AllocHandle> Model for List<J, A> {
-    ghost use Rattle.std.specs.Prelude.{◌≡◌, List, length};
+impl<A: AllocHandle> Model for List<A> {
+    ghost use Rattle.std.specs.Prelude.{◌≡◌, length};
     ghost use Rattle.std.specs.Coded.{codes};
     ghost use Rattle.cap_filter.specs.Rule.{coded_rule};
-    ghost use Rattle.cap_core.specs.declared.event.Event.{Event};
     ghost use Rattle.cap_history.specs.History.{IsHistory};
+    ghost use Rattle.cap_history.specs.Seen.{ListState};
 
-    ghost Value = { List (Event A) };
+    ghost Value = { ListState A };
 
     ghost coded = { Prim.hlevel (codes, coded_rule) };
 
-    ghost view = { λ l. l.seen.log };
+    ghost view = { λ l. record { book = l.seen.book; log = l.seen.log } };
 
-    ghost invariant = { λ l. (l.len ≡ length l.seen.log) × (l.seen.book ≡ J.book) × IsHistory l.seen.log };
+    ghost invariant = { λ l. (l.len ≡ length l.seen.log) × IsHistory l.seen.log };
 }
 
-impl<J: Naming, A: AllocHandle> List<J, A> {
+impl<A: AllocHandle> List<A> {
     /// The number of events.
     pub fn len(&self) -> u64
-        ensures length { result ≡ length self.now }
-        ensures history { IsHistory self.now }
+        ensures length { result ≡ length self.now.log }
+        ensures history { IsHistory self.now.log }
     {
         self.len
     }
 
     /// A copy.
-    pub fn again(&self) -> List<J, A>
+    pub fn again(&self) -> List<A>
         ensures { result ≡ self.now }
     {
         List {
             len: self.len,
             seen: self.seen.again(),
-            of: PhantomData,
         }
     }
 
     /// Becomes the longer of two lists. The shorter is a prefix of the longer.
-    pub fn meet(&mut self, other: &List<J, A>)
-        ensures longer { self.new ≡ longer self.old other.now }
-        ensures this { IsPrefix self.old self.new }
-        ensures that { IsPrefix other.now self.new }
-        ensures history { IsHistory self.new }
+    pub fn meet(&mut self, other: &List<A>)
+        requires book { other.now.book ≡ self.old.book }
+        ensures book { self.new.book ≡ self.old.book }
+        ensures longer { self.new.log ≡ longer self.old.log other.now.log }
+        ensures this { IsPrefix self.old.log self.new.log }
+        ensures that { IsPrefix other.now.log self.new.log }
+        ensures history { IsHistory self.new.log }
     {
         one_begins_the_other(self, other);
         if self.len < other.len {
@@ -70,9 +71,11 @@ impl<J: Naming, A: AllocHandle> List<J, A> {
     }
 
     /// Reads the front word, and sees the whole history.
-    pub fn look(&mut self, front: &Front<J, A>)
-        ensures seen { IsPrefix self.old self.new }
-        ensures history { IsHistory self.new }
+    pub fn look(&mut self, front: &Front<A>)
+        requires book { self.old.book ≡ front.now }
+        ensures book { self.new.book ≡ self.old.book }
+        ensures seen { IsPrefix self.old.log self.new.log }
+        ensures history { IsHistory self.new.log }
     {
         let mut offer: Offer<Event<A>, u64, Law, Nothing> = self
             .seen
@@ -84,20 +87,23 @@ impl<J: Naming, A: AllocHandle> List<J, A> {
     // on the call is an event. Otherwise the history is longer, and this list sees it.
     pub(crate) fn exchange(
         &mut self,
-        front: &Front<J, A>,
-        at: &List<J, A>,
+        front: &Front<A>,
+        at: &List<A>,
         by: u64,
         command: &Command<A>,
         reply: &Reply<A>,
     ) -> Result<(), Overtaken>
-        requires room { HasRoom (length at.now) }
-        requires reply { reply.now ≡ reply_of at.now command.now }
-        ensures at { OnOk result (IsPrefix self.old at.now) }
-        ensures added { OnOk result (self.new ≡ at.now ++ event_by by command.now reply.now ∷ []) }
-        ensures seen { IfErr result (λ overtaken. IsPrefix self.old self.new
-            × (length self.new ≡ overtaken.front)) }
-        ensures overtaken { IfErr result (λ overtaken. length at.now < overtaken.front) }
-        ensures history { IsHistory self.new }
+        requires this { self.old.book ≡ front.now }
+        requires that { at.now.book ≡ front.now }
+        requires room { HasRoom (length at.now.log) }
+        requires reply { reply.now ≡ reply_of at.now.log command.now }
+        ensures book { self.new.book ≡ self.old.book }
+        ensures at { OnOk result (IsPrefix self.old.log at.now.log) }
+        ensures added { OnOk result (self.new.log ≡ at.now.log ++ event_by by command.now reply.now ∷ []) }
+        ensures seen { IfErr result (λ _. IsPrefix self.old.log self.new.log) }
+        ensures front { IfErr result (λ overtaken. length self.new.log ≡ overtaken.front) }
+        ensures overtaken { IfErr result (λ overtaken. length at.now.log < overtaken.front) }
+        ensures history { IsHistory self.new.log }
     {
         legal_histories_grow::<A>();
         fitting_histories_grow::<A>();
@@ -128,8 +134,9 @@ impl<J: Naming, A: AllocHandle> List<J, A> {
 }
 
 /// Of two lists of one history, one is a prefix of the other.
-pub fn one_begins_the_other<J: Naming, A: AllocHandle>(first: &List<J, A>, second: &List<J, A>)
-    ensures { IsPrefix first.now second.now ⊎ IsPrefix second.now first.now }
+pub fn one_begins_the_other<A: AllocHandle>(first: &List<A>, second: &List<A>)
+    requires book { second.now.book ≡ first.now.book }
+    ensures { IsPrefix first.now.log second.now.log ⊎ IsPrefix second.now.log first.now.log }
 {
     let mut both = first.seen.again();
     both.learn(&second.seen);

@@ -6,7 +6,7 @@ use Rattle.std.proofs.Crossing.{crosses}
 use Rattle.std.specs.declared.alloc.Allocator as allocator
 use Rattle.std.specs.declared.clone.Clone as clone
 use Rattle.cap_value.specs.declared.memory.AllocHandle as handle
-use Rattle.cap_history.specs.declared.naming.Naming as naming
+use Rattle.cap_server.specs.declared.naming.Naming as naming
 use Rattle.cap_script.proofs.Crossing.{line_sync}
 use Rattle.cap_server.proofs.Crossing.{server_sync}
 use Rattle.cap_run.proofs.worker.Worker.TheSendSync as worker

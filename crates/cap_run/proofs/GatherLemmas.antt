@@ -21,7 +21,7 @@ use Rattle.cap_run.specs.Code.Calls.{AreNumbered, AreSeats, EachAt, EachSawIn, G
 use Rattle.cap_run.specs.Workload.{HasCount, calls_of, seat_of}
 use Rattle.cap_script.specs.ReplyText.{reply_text}
 use Rattle.cap_script.specs.declared.line.Line.{Line}
-use Rattle.cap_server.specs.declared.fault.CallFault.{CallFault}
+use Rattle.cap_locked.specs.declared.fault.CallFault.{CallFault}
 
 pub take-begins : {X : Type 0} (n : ℕ) (xs : List X) → IsPrefix (take n xs) xs
 take-begins n xs = (drop n xs, take-append-drop n xs)

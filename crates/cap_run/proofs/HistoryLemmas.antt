@@ -24,9 +24,9 @@ use Rattle.cap_run.specs.RunFault.{RunsNothing}
 use Rattle.cap_run.specs.declared.fault.RunFault.{RunFault}
 use Rattle.cap_run.specs.declared.fault.RunFault.TheVariants.{Concat, Blob, Call, Close, NotHex, NotUtf8, OutOfMemory, Patchset, Read, Script, Write}
 use Rattle.cap_script.specs.declared.line.Line.{Line}
-use Rattle.cap_server.specs.declared.fault.CallFault.TheVariants as call
+use Rattle.cap_locked.specs.declared.fault.CallFault.TheVariants as call
 use Rattle.cap_server.specs.Close.{FirstHasSeen, HasAll, IsClosed, IsMissing, StandsAt}
-use Rattle.cap_server.specs.Fault.{MatchCloseFault}
+use Rattle.cap_server.specs.Close.{MatchCloseFault}
 use Rattle.cap_server.specs.declared.fault.CloseFault.{CloseFault}
 use Rattle.cap_server.specs.declared.fault.CloseFault.TheVariants as closing
 

@@ -11,8 +11,8 @@ use Rattle.cap_run.specs.Code.Calls.{AreUnder, EachAt, HaveEnded, HaveCalled, Is
 use Rattle.cap_run.specs.declared.fault.RunFault.TheVariants.{Write}
 use Rattle.cap_script.specs.Script.{SpellsScript, TakesFirst, begins_at}
 use Rattle.cap_script.specs.declared.line.Line.{Line}
-use Rattle.cap_server.specs.declared.fault.CallFault.{CallFault}
-use Rattle.cap_server.specs.declared.fault.CallFault.TheVariants.{OutOfMemory}
+use Rattle.cap_locked.specs.declared.fault.CallFault.{CallFault}
+use Rattle.cap_locked.specs.declared.fault.CallFault.TheVariants.{OutOfMemory}
 
 pub of_ended : {P : Type 0} (ended : Ended) → P → OnOk ended P
 of_ended (Ok done) so = so

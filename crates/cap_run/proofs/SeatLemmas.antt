@@ -19,8 +19,8 @@ use Rattle.cap_run.specs.Code.Calls.{AreNumbered, AreSeats, HasCalledLine, HasCa
 use Rattle.cap_run.specs.Workload.{AreCalls, HasCount, ReportsEvents, calls_of, seat_of}
 use Rattle.cap_script.specs.ReplyText.{reply_text}
 use Rattle.cap_script.specs.declared.line.Line.{Line}
-use Rattle.cap_server.specs.declared.fault.CallFault.{CallFault}
-use Rattle.cap_server.specs.declared.fault.CallFault.TheVariants as call
+use Rattle.cap_locked.specs.declared.fault.CallFault.{CallFault}
+use Rattle.cap_locked.specs.declared.fault.CallFault.TheVariants as call
 
 -- ---- counts and numbers
 

@@ -10,8 +10,8 @@ use Rattle.cap_core.specs.declared.event.Event.{Event}
 use Rattle.cap_script.specs.ReadLine.{IsFound}
 use Rattle.cap_script.specs.ReplyText.{reply_text}
 use Rattle.cap_script.specs.declared.line.Line.{Line}
-use Rattle.cap_server.specs.declared.fault.CallFault.{CallFault}
-use Rattle.cap_server.specs.declared.fault.CallFault.TheVariants as call
+use Rattle.cap_locked.specs.declared.fault.CallFault.{CallFault}
+use Rattle.cap_locked.specs.declared.fault.CallFault.TheVariants as call
 use Rattle.cap_run.specs.BlobList.{HasLines}
 use Rattle.cap_run.specs.Code.Shell.{HasAnswered, IsLeftBy, MatchEnd, MayEnd}
 use Rattle.cap_run.specs.Code.Unread.{Counted, CutsLine, Failed, HasLine, HasPart}

@@ -17,9 +17,9 @@ use Rattle.cap_run.specs.Code.Calls.{HasCalledLine, HasCalledLines, HasSeen, Has
 use Rattle.cap_run.specs.Workload.{calls_of, seat_of}
 use Rattle.cap_script.specs.ReplyText.{reply_text}
 use Rattle.cap_script.specs.declared.line.Line.{Line}
-use Rattle.cap_server.specs.Fault.{LeavesSeat}
-use Rattle.cap_server.specs.declared.fault.CallFault.{CallFault}
-use Rattle.cap_server.specs.declared.fault.CallFault.TheVariants as call
+use Rattle.cap_locked.specs.Fault.{LeavesSeat}
+use Rattle.cap_locked.specs.declared.fault.CallFault.{CallFault}
+use Rattle.cap_locked.specs.declared.fault.CallFault.TheVariants as call
 
 module _ {A : Type 0} where
   pub lines_none : (threads : ℕ) (seat : SeatState A) → HasCalledLines threads [] (Ok tt) [] seat seat

@@ -12,8 +12,8 @@ use Rattle.cap_script.specs.ReplyText.{reply_text}
 use Rattle.cap_script.specs.Script.{has_line_feed}
 use Rattle.cap_script.specs.declared.fault.ScriptFault.{ScriptFault}
 use Rattle.cap_script.specs.declared.line.Line.{Line}
-use Rattle.cap_server.specs.declared.fault.CallFault.{CallFault}
-use Rattle.cap_server.specs.declared.fault.CallFault.TheVariants as call
+use Rattle.cap_locked.specs.declared.fault.CallFault.{CallFault}
+use Rattle.cap_locked.specs.declared.fault.CallFault.TheVariants as call
 use Rattle.cap_run.specs.BlobList.{HasLines}
 use Rattle.cap_run.specs.Run.{AppendsFront, Ended, Known, ending, events_max, on_a_line}
 use Rattle.cap_run.specs.declared.fault.RunFault.{RunFault}

@@ -12,7 +12,7 @@ use Rattle.cap_run.specs.Run.{AppendsFront, Ended, IsSpelled, Known, ending, eve
 use Rattle.cap_run.specs.declared.fault.RunFault.{RunFault}
 use Rattle.cap_run.specs.declared.fault.RunFault.TheVariants.{Call, Close, Write}
 use Rattle.cap_script.specs.declared.line.Line.{Line}
-use Rattle.cap_server.specs.Fault.{MatchCallFault}
+use Rattle.cap_locked.specs.Fault.{MatchCallFault}
 
 -- the seat from which a line is called: seat 0, or for `@K` that of a worker
 abbrev pub seat_of : ℕ → Option ℕ → ℕ

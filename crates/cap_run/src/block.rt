@@ -8,9 +8,9 @@ ghost use Rattle.cap_run.specs.Options.{IsThreadCount};
 
 use crate::Gate;
 use crate::worker::{Shared, Worker, answer_lines, is_given, let_all_go_on};
-use cap_history::Naming;
+use cap_locked::CallFault;
 use cap_script::Line;
-use cap_server::CallFault;
+use cap_server::Naming;
 use cap_value::AllocHandle;
 use std::snapshot::Snapshot;
 use std::sync::Wait;

@@ -2,8 +2,8 @@
 
 use cap_codec::BlobFault;
 use cap_group::GroupRefusal;
+use cap_locked::CallFault;
 use cap_script::ScriptFault;
-use cap_server::CallFault;
 use cap_value::Fault;
 use thiserror::Error;
 

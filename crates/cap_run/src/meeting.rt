@@ -5,7 +5,7 @@ ghost use mathlib.Core.List.{IsPrefix};
 ghost use Rattle.cap_run.specs.Code.Calls.{EachSawIn, HasMet, first_seen};
 
 use crate::worker::Worker;
-use cap_history::{List, Naming};
+use cap_server::{List, Naming};
 use cap_value::AllocHandle;
 
 // Lets each worker's seat see what the first seat has seen. It takes no lock.

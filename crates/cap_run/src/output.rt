@@ -6,7 +6,7 @@ ghost use Rattle.cap_run.specs.Writes.{EndsWrites};
 
 use crate::input::is_interrupted;
 use crate::{RunFault, RunOutput};
-use cap_server::CallFault;
+use cap_locked::CallFault;
 use cap_value::AllocHandle;
 use itoa::Buffer;
 

@@ -16,7 +16,7 @@ ghost use Rattle.cap_script.specs.FirstRefused.{SpellsWithin};
 ghost use Rattle.cap_script.specs.ReplyText.{reply_text};
 ghost use Rattle.cap_script.specs.Script.{SpellsScript};
 ghost use Rattle.cap_script.specs.declared.line.Line.{Line};
-ghost use Rattle.cap_server.specs.Fault.{MatchCallFault};
+ghost use Rattle.cap_locked.specs.Fault.{MatchCallFault};
 
 use crate::input::read_whole;
 use crate::output::{write_ending, write_long, write_pending};
@@ -24,8 +24,8 @@ use crate::worker::reply_line;
 use crate::{RunFault, RunOutput};
 use cap_codec::Source;
 use cap_core::{Command, Core, EVENTS_MAX, NoHook, Reply, legal_histories_grow};
+use cap_locked::CallFault;
 use cap_script::{Line, Lines};
-use cap_server::CallFault;
 use cap_value::{AllocHandle, Fault};
 
 /// Runs the workload from the reader on a new server, one command after the other, and writes the replies.

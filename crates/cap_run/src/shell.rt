@@ -20,8 +20,8 @@ use crate::unread::{ReadFault, Unread, next_line};
 use crate::{RunFault, RunOutput};
 use cap_codec::Source;
 use cap_core::Core;
+use cap_locked::CallFault;
 use cap_script::{Line, ScriptFault, print_fault, read_line};
-use cap_server::CallFault;
 use cap_value::{AllocHandle, Fault};
 
 /// Runs the lines from the reader on a new server, each as it is read. The reply to each is written and

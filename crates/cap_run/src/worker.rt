@@ -9,9 +9,9 @@ ghost use Rattle.cap_script.specs.ReplyText.{reply_text};
 
 use crate::Gate;
 use cap_core::Reply;
-use cap_history::{Naming, Seat};
+use cap_locked::CallFault;
 use cap_script::{Line, print_reply};
-use cap_server::{CallFault, Server};
+use cap_server::{Naming, Seat, Server};
 use cap_value::{AllocHandle, OutOfMemory};
 use std::sync::Wait;
 use std::sync::atomic::{AtomicU64, Ordering};

@@ -10,9 +10,10 @@ use Rattle.cap_history.specs.Beginnings.{prefix-either, prefix-of-none, prefix-t
 use Rattle.cap_history.specs.History.{own}
 use Rattle.cap_history.specs.Own.{answered-in, own-same}
 use Rattle.cap_history.specs.Seat.{SeatState, calls}
-use Rattle.cap_server.specs.Close.{ClosesOvertaken, FirstHasSeen, HasAll, IsClosed, WasOvertaken}
-use Rattle.cap_server.specs.Code.Counts.{Agrees, IsCounted}
-use Rattle.cap_server.specs.Fault.{HasCalls, MatchCloseFault}
+use Rattle.cap_locked.specs.Counts.{IsCounted}
+use Rattle.cap_locked.specs.Fault.{HasCalls}
+use Rattle.cap_server.specs.Close.{ClosesOvertaken, FirstHasSeen, HasAll, IsClosed, MatchCloseFault, WasOvertaken}
+use Rattle.cap_server.specs.Code.Seats.{Agrees}
 use Rattle.cap_server.specs.declared.fault.CloseFault.{CloseFault}
 use Rattle.cap_server.specs.declared.fault.CloseFault.TheVariants.{MissingSeat, Overtaken}
 

@@ -3,21 +3,19 @@ use denote.RattleType.{RattleType}
 use denote.Param.Send.{IsSend, IsSync, Frees, sendable}
 use Rattle.std.proofs.Crossing as anywhere
 use Rattle.std.specs.contracts.sync.Mutex as Mutex
-use Rattle.std.proofs.CrossingOver.{crosses}
 use Rattle.std.specs.declared.alloc.Allocator as allocator
 use Rattle.std.specs.declared.clone.Clone as clone
 use Rattle.cap_value.specs.declared.memory.AllocHandle as handle
-use Rattle.cap_core.proofs.Crossing.{core_send}
-use Rattle.cap_history.specs.declared.naming.Naming as naming
-use Rattle.cap_history.proofs.front.Front.TheSendSync as front
-use Rattle.cap_history.proofs.list.List.TheSendSync as list
+use Rattle.cap_locked.proofs.Crossing as bare
+use Rattle.cap_server.specs.declared.naming.Naming as naming
+use Rattle.cap_server.proofs.front.Front.TheSendSync as front
 use Rattle.cap_server.specs.contracts.locked.Locked as Locked
 use Rattle.cap_server.specs.contracts.server.Server as Server
 
 module _ (J A : RattleType) (n : naming.Ghosts J.Denot) (h : handle.Ghosts A.Denot) (a : allocator.Ghosts A.Denot)
     (c : clone.Ghosts A.Denot) (js : IsSend J) (jy : IsSync J) (al : IsSend A) (ay : IsSync A) (frees : Frees a a.dealloc_token) where
   locked_send : IsSend (Locked.the_row J A n h a c)
-  locked_send = search (core_send, list.the_send, sendable, crosses) depth 40 fits 100000
+  locked_send = search (bare.locked_send, sendable) depth 40 fits 100000
 
   mutex_send : IsSend (Mutex.the_row (Locked.the_row J A n h a c))
   mutex_send = search (locked_send, anywhere.crosses)

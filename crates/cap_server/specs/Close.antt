@@ -6,7 +6,14 @@ use Rattle.cap_core.specs.Answer.{State, IsLegal, state}
 use Rattle.cap_core.specs.Table.{BlobsFit}
 use Rattle.cap_history.specs.History.{own}
 use Rattle.cap_history.specs.Seat.{SeatState, calls}
-use Rattle.cap_server.specs.Fault.{HasCalls}
+use Rattle.cap_locked.specs.Fault.{HasCalls}
+use Rattle.cap_server.specs.declared.fault.CloseFault.{CloseFault}
+use Rattle.cap_server.specs.declared.fault.CloseFault.TheVariants.{MissingSeat, Overtaken}
+
+-- a fact for each of the two faults, of its number or its count
+abbrev pub MatchCloseFault : CloseFault → (ℕ → Type 0) → (ℕ → Type 0) → Type 0
+MatchCloseFault (MissingSeat number) missing overtaken = missing number
+MatchCloseFault (Overtaken front) missing overtaken = overtaken front
 
 module _ {A : Type 0} where
   -- the seat with this number has this index

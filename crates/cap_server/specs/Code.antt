@@ -1,2 +1,2 @@
--- The state under the lock, for private contracts. No rule is defined here.
-pub mod Counts
+-- The seats that are handed back, for private contracts. No rule is defined here.
+pub mod Seats

@@ -1,4 +1,3 @@
 pub mod Close
 pub mod Code
 pub mod Commit
-pub mod Fault

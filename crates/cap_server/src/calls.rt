@@ -7,10 +7,10 @@ ghost use Rattle.cap_core.specs.declared.command.Command.TheVariants.{Attach, At
 ghost use Rattle.cap_core.specs.declared.command.Command.TheVariants.{Indirect, IsEmpty, Diff, Capture};
 ghost use Rattle.cap_core.specs.declared.command.Command.TheVariants.{Restart};
 ghost use Rattle.cap_history.specs.Seat.{HasCalled};
+ghost use Rattle.cap_locked.specs.Fault.{HasCause, LeavesSeat};
 ghost use Rattle.cap_server.specs.Commit.{CommitsAt};
-ghost use Rattle.cap_server.specs.Fault.{HasCause, LeavesSeat};
 
-use crate::{CallFault, Server};
+use crate::{Naming, Seat, Server};
 use cap_apply::Policy;
 use cap_codec::Contents;
 use cap_core::{
@@ -18,7 +18,7 @@ use cap_core::{
     rows_stand_under_own_keys, transactions_commit_if_unchanged,
 };
 use cap_filter::TableFilter;
-use cap_history::{Naming, Seat};
+use cap_locked::CallFault;
 use cap_row::Schema;
 use cap_txn::Batch;
 use cap_value::{AllocHandle, Name};

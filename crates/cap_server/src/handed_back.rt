@@ -3,9 +3,9 @@ ghost use Rattle.std.specs.Prelude.{◌≡◌, ◌≢◌, ◌<◌, All, Any, Mat
 ghost use mathlib.Core.List.{IsPrefix};
 ghost use Rattle.cap_history.specs.Seat.{calls};
 ghost use Rattle.cap_server.specs.Close.{FirstHasSeen, HasAll, IsMissing, StandsAt};
-ghost use Rattle.cap_server.specs.Code.Counts.{Agrees};
+ghost use Rattle.cap_server.specs.Code.Seats.{Agrees};
 
-use cap_history::{Front, List, Naming, Seat};
+use crate::{Front, List, Naming, Seat};
 use cap_value::AllocHandle;
 
 // The index of the seat with this number, if it was handed back.

@@ -4,25 +4,24 @@ ghost use Rattle.std.specs.Prelude.{OnOk, OnErr, Err};
 ghost use Rattle.cap_core.specs.Answer.{event_by, reply_of};
 ghost use Rattle.cap_history.specs.History.{own};
 ghost use Rattle.cap_history.specs.Seat.{HasCalled, calls};
-ghost use Rattle.cap_server.specs.Close.{FirstHasSeen, HasAll, IsClosed, IsMissing, WasOvertaken};
-ghost use Rattle.cap_server.specs.Fault.{HasCauseAfter, LeavesSeat, MatchCallFault, MatchCloseFault};
-ghost use Rattle.cap_server.specs.declared.fault.CallFault.TheVariants.{HistoryFull};
+ghost use Rattle.cap_locked.specs.Fault.{HasCauseAfter, LeavesSeat, MatchCallFault};
+ghost use Rattle.cap_locked.specs.declared.fault.CallFault.TheVariants.{HistoryFull};
+ghost use Rattle.cap_server.specs.Close.{FirstHasSeen, HasAll, IsClosed, IsMissing, MatchCloseFault};
+ghost use Rattle.cap_server.specs.Close.{WasOvertaken};
 
-use crate::call_hook::step_with_hook;
 use crate::handed_back::{calls_agree, first_sees_all, missing_seat};
-use crate::{CallFault, CloseFault, Closed};
-use cap_core::{Command, Core, EVENTS_MAX, Reply};
-use cap_history::{Front, List, Naming, Seat};
-use cap_value::{AllocHandle, Fault, OutOfMemory};
-use std::marker::Model;
+use crate::{CloseFault, Closed, Front, List, Naming, Seat};
+use cap_core::{Command, Reply};
+use cap_locked::CallFault;
+use cap_value::{AllocHandle, OutOfMemory};
+use std::marker::{Model, PhantomData};
 
 /// The state under the lock: the sequential server, its history, and the number of events of each seat.
 /// Contracts see the history.
 #[derive(Drop)]
 pub struct Locked<J: Naming, A: AllocHandle> {
-    core: Core<A>,
-    list: List<J, A>,
-    counts: Vec<u64, A>,
+    locked: cap_locked::Locked<A>,
+    of: PhantomData<J>,
 }
 
 impl<J: Naming, A: AllocHandle> Model for Locked<J, A> {
@@ -30,16 +29,14 @@ impl<J: Naming, A: AllocHandle> Model for Locked<J, A> {
     ghost use Rattle.std.specs.Coded.{codes};
     ghost use Rattle.cap_filter.specs.Rule.{coded_rule};
     ghost use Rattle.cap_core.specs.declared.event.Event.{Event};
-    ghost use Rattle.cap_core.specs.Answer.{state};
-    ghost use Rattle.cap_server.specs.Code.Counts.{IsCounted};
 
     ghost Value = { List (Event A) };
 
     ghost coded = { Prim.hlevel (codes, coded_rule) };
 
-    ghost view = { λ l. l.list };
+    ghost view = { λ l. l.locked.log };
 
-    ghost invariant = { λ l. (l.core ≡ state l.list) × IsCounted J.seats l.counts.items l.list };
+    ghost invariant = { λ l. (l.locked.book ≡ J.book) × (l.locked.seats ≡ J.seats) };
 }
 
 impl<J: Naming, A: AllocHandle> Locked<J, A> {
@@ -50,11 +47,11 @@ impl<J: Naming, A: AllocHandle> Locked<J, A> {
         requires some { 0 < seats }
         ensures { IfOk result (λ locked. locked ≡ []) }
     {
-        let counts = vec![in alloc; 0u64; seats as usize]?;
+        let List { list, of: _ } = list;
+        let locked = cap_locked::Locked::open(alloc, list, seats)?;
         Ok(Locked {
-            core: Core::new(alloc),
-            list,
-            counts,
+            locked,
+            of: PhantomData,
         })
     }
 
@@ -83,29 +80,16 @@ impl<J: Naming, A: AllocHandle> Locked<J, A> {
             (length self.old + 1 ≡ 2 ^ 63)) }
         ensures full_first { length self.old + 1 ≡ 2 ^ 63 → result ≡ Err HistoryFull }
     {
-        if self.list.len() >= EVENTS_MAX {
-            seat.see(&self.list);
-            return Err(CallFault::HistoryFull);
-        }
-        let number = seat.number() as usize;
-        let count = self.counts[number];
-        seat.calls_are_in(&self.list);
-        match step_with_hook(&mut self.core, &self.list, count, front, seat, command) {
-            Ok(reply) => {
-                self.list = seat.list();
-                self.counts[number] = count + 1;
-                Ok(reply)
-            }
-            Err(Fault::Refused(overtaken)) => Err(CallFault::Overtaken {
-                front: overtaken.front,
-            }),
-            Err(Fault::OutOfMemory) => {
-                if seat.calls() != count {
-                    let front = front.look(seat);
-                    return Err(CallFault::Overtaken { front });
-                }
-                Err(CallFault::OutOfMemory)
-            }
+        self.locked.step(&front.front, &mut seat.seat, command)
+    }
+
+    // The history.
+    fn list(&self) -> List<J, A>
+        ensures { result ≡ self.now }
+    {
+        List {
+            list: self.locked.list(),
+            of: PhantomData,
         }
     }
 
@@ -126,23 +110,21 @@ impl<J: Naming, A: AllocHandle> Locked<J, A> {
         ensures overtaken { IfErr result (λ r. MatchCloseFault r.2 (λ number. ⊤)
             (WasOvertaken seats.items self)) }
     {
-        let count = self.counts.len() as u64;
+        let count = self.locked.seats();
         if let Some(number) = missing_seat(seats.as_slice(), count) {
             return Err((self, seats, CloseFault::MissingSeat { number }));
         }
-        let agree = calls_agree(seats.as_slice(), self.counts.as_slice());
-        let events = first_sees_all(&mut seats, &self.list, front);
+        let agree = calls_agree(seats.as_slice(), self.locked.counts());
+        let list = self.list();
+        let events = first_sees_all(&mut seats, &list, front);
         if !agree {
             return Err((self, seats, CloseFault::Overtaken { front: events }));
         }
-        if events > self.list.len() {
+        if events > list.len() {
             return Err((self, seats, CloseFault::Overtaken { front: events }));
         }
-        let Locked {
-            core,
-            list: _,
-            counts: _,
-        } = self;
+        let Locked { locked, of: _ } = self;
+        let core = locked.into_core();
         Ok(Closed { events, core })
     }
 }

@@ -3,12 +3,14 @@ ghost use Rattle.std.specs.Prelude.{◌≡◌, ◌<◌, ◌≤◌, ⊤, [], IfOk
 ghost use mathlib.Core.List.{IsPrefix};
 ghost use Rattle.cap_history.specs.History.{longer};
 ghost use Rattle.cap_history.specs.Seat.{HasCalled, SeesMore, newcomers};
+ghost use Rattle.cap_locked.specs.Fault.{HasCause, LeavesSeat};
 ghost use Rattle.cap_server.specs.Close.{ClosesOvertaken, FirstHasSeen, HasAll, IsClosed, IsMissing};
-ghost use Rattle.cap_server.specs.Fault.{HasCause, LeavesSeat, MatchCloseFault};
+ghost use Rattle.cap_server.specs.Close.{MatchCloseFault};
 
-use crate::{CallFault, CloseFault, Closed, Locked};
+use crate::{CloseFault, Closed, Front, Locked, Naming, Seat, named};
 use cap_core::{Command, Reply};
-use cap_history::{Front, Naming, Opened, Seat};
+use cap_history::Opened;
+use cap_locked::CallFault;
 use cap_value::{AllocHandle, OutOfMemory};
 use std::hint::spin_loop;
 use std::sync::{Mutex, MutexGuard, Wait};
@@ -35,7 +37,7 @@ impl<J: Naming, A: AllocHandle> Server<J, A> {
         requires some { (1 ≤ seats) × (seats ≤ 64) }
         ensures { IfOk result (λ r. r.1.items ≡ newcomers seats) }
     {
-        let (front, list, made) = opened.named::<J>(alloc, seats)?;
+        let (front, list, made) = named::<J, A>(opened, alloc, seats)?;
         let locked = Mutex::new(Locked::open(alloc, list, seats)?);
         Ok((Server { front, locked }, made))
     }

@@ -3,9 +3,10 @@ ghost use Rattle.std.specs.Prelude.{◌≡◌};
 
 use crate::carried::push_line;
 use cap_core::{Command, Reply};
-use cap_history::{Naming, Opened, Seat};
+use cap_history::Opened;
+use cap_locked::CallFault;
 use cap_script::{Line, parse, print_reply};
-use cap_server::{CallFault, Server};
+use cap_server::{Naming, Seat, Server};
 use cap_test_support::Memory;
 use cap_value::AllocHandle;
 use std::alloc::Global;

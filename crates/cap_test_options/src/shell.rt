@@ -1,7 +1,7 @@
 //! Shells: lines with the reply and the fault of each, refused memory, and streams that fail.
 use crate::watched::{Watched, shell_watched};
+use cap_locked::CallFault;
 use cap_run::{RunFault, run_shell};
-use cap_server::CallFault;
 use cap_test_support::{Failure, Memory, Sink, Source};
 use std::alloc::{AllocError, Global};
 use std::test::Fail;

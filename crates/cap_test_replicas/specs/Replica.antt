@@ -17,7 +17,7 @@ use Rattle.cap_core.specs.AppliedCapture.{GivesRows, HoldsImages, changes_in}
 use Rattle.cap_core.specs.History.{main}
 use Rattle.cap_core.specs.Session.{session_of}
 use Rattle.cap_history.specs.Seat.{HasCalled, SeatState}
-use Rattle.cap_server.specs.Fault.{LeavesSeat}
+use Rattle.cap_locked.specs.Fault.{LeavesSeat}
 use Rattle.cap_test_replicas.specs.declared.replication.Form.{Form}
 use Rattle.cap_test_replicas.specs.declared.replication.Form.TheVariants.{Changeset, Patchset}
 use Rattle.cap_test_replicas.specs.declared.replication.NotReplicated.{NotReplicated}

@@ -14,8 +14,8 @@ use cap_core::{
     legal_histories_grow, legal_histories_were_legal,
 };
 use cap_database::Database;
-use cap_history::{Naming, Seat};
-use cap_server::{CallFault, Server};
+use cap_locked::CallFault;
+use cap_server::{Naming, Seat, Server};
 use cap_value::{AllocHandle, Fault, OutOfMemory, Refusal};
 use std::sync::Wait;
 

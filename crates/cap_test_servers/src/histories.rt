@@ -6,7 +6,8 @@ ghost use Rattle.cap_history.specs.Seat.{calls};
 ghost use Rattle.cap_core.specs.declared.command.Command.TheVariants.{Read};
 
 use cap_core::{Command, Core, NoHook, Reply, legal_histories_grow};
-use cap_history::{Front, List, Naming, Opened, Overtaken, Seat};
+use cap_history::{Opened, Overtaken};
+use cap_server::{Front, List, Naming, Seat, named};
 use std::alloc::Global;
 use std::marker::Brand;
 use std::process::Abort;
@@ -52,7 +53,7 @@ fn append_twice<J: Naming, R: Abort>(rt: &R, opened: Opened<Global>, alloc: Glob
     requires history { opened.seen.book ≡ J.book }
     requires seats { J.seats ≡ 2 }
 {
-    let (front, list, mut seats) = opened.named::<J>(alloc, 2).ok()?;
+    let (front, list, mut seats) = named::<J, Global>(opened, alloc, 2).ok()?;
     let reply = first_reply(alloc)?;
     let mut second = seats.pop()?;
     let mut first = seats.pop()?;

@@ -2,8 +2,9 @@
 ghost use Rattle.std.specs.Prelude.{◌≡◌};
 
 use cap_core::Command;
-use cap_history::{Front, Naming, Opened, Seat};
-use cap_server::{CallFault, Locked};
+use cap_history::Opened;
+use cap_locked::CallFault;
+use cap_server::{Front, Locked, Naming, Seat, named};
 use std::alloc::Global;
 use std::marker::Brand;
 use std::process::Abort;
@@ -48,7 +49,7 @@ fn two_locks<J: Naming, R: Abort>(rt: &R, opened: Opened<Global>, alloc: Global)
     requires history { opened.seen.book ≡ J.book }
     requires seats { J.seats ≡ 3 }
 {
-    let (front, list, mut seats) = opened.named::<J>(alloc, 3)?;
+    let (front, list, mut seats) = named::<J, Global>(opened, alloc, 3)?;
     let mut second = seats.pop().ok_or("seat 2")?;
     let mut first = seats.pop().ok_or("seat 1")?;
     let mut zero = seats.pop().ok_or("seat 0")?;

@@ -2,9 +2,8 @@
 use cap_compare::compare;
 use cap_core::Reply;
 use cap_database::{Database, Snapshot};
-use cap_history::{Naming, Seat};
 use cap_script::{Line, parse, print_reply};
-use cap_server::Server;
+use cap_server::{Naming, Seat, Server};
 use cap_value::Name;
 use std::alloc::Global;
 use std::sync::Wait;

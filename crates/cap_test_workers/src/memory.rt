@@ -1,7 +1,7 @@
 //! Each request of a run for memory refused in turn.
 use crate::rows::WORKLOADS;
+use cap_locked::CallFault;
 use cap_run::{NoGate, Pace, RunFault, run_core, run_workload};
-use cap_server::CallFault;
 use cap_test_support::{Failure, Memory, Source};
 use std::alloc::Global;
 use std::sync::Wait;

@@ -9,7 +9,7 @@ use Rattle.cap_core.specs.declared.event.Event.{Event}
 use Rattle.cap_core.specs.declared.reply.Reply.{Reply}
 use Rattle.cap_history.specs.History.{own}
 use Rattle.cap_history.specs.Seat.{SeatState, calls}
-use Rattle.cap_server.specs.declared.fault.CallFault.TheVariants.{OutOfMemory}
+use Rattle.cap_locked.specs.declared.fault.CallFault.TheVariants.{OutOfMemory}
 use Rattle.cap_run.specs.Run.{AppendsFront, Ended, Known, ending, on_a_line, reply_lines}
 use Rattle.cap_run.specs.declared.fault.RunFault.{RunFault}
 use Rattle.cap_run.specs.declared.fault.RunFault.TheVariants.{Call, Close, Write}

@@ -4,8 +4,8 @@ use Rattle.std.specs.Prelude.{length}
 use Rattle.cap_core.specs.Answer.{IsLegal, State, state}
 use Rattle.cap_core.specs.Table.{BlobsFit}
 use Rattle.cap_core.specs.declared.event.Event.{Event}
-use Rattle.cap_server.specs.Fault.{MatchCallFault}
-use Rattle.cap_server.specs.declared.fault.CallFault.{CallFault}
+use Rattle.cap_locked.specs.Fault.{MatchCallFault}
+use Rattle.cap_locked.specs.declared.fault.CallFault.{CallFault}
 use Rattle.cap_run.specs.Run.{events_max}
 use Rattle.cap_run.specs.Shell.{IsReadAs, ReadLine, after_line, fault_of, reply_to}
 use Rattle.cap_run.specs.declared.fault.RunFault.{RunFault}

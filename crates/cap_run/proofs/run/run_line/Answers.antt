@@ -1,5 +1,5 @@
 use Rattle.std.proofs.Common.{◌≡◌, ◌∙◌, refl, string_bytes}
-use Rattle.cap_server.specs.declared.fault.CallFault.{CallFault}
+use Rattle.cap_locked.specs.declared.fault.CallFault.{CallFault}
 use Rattle.cap_script.specs.ReplyText.{reply_text}
 use Rattle.cap_run.specs.Run.{on_a_line}
 use Rattle.cap_run.proofs.RunLemmas.{ok_through, step_met, step_prepared}

@@ -1,6 +1,6 @@
 use Rattle.std.proofs.Common.{◌≡◌, ◌≤◌, ◌<◌, ◌+◌, ◌∙◌, ◌++◌, ℕ, List, ap, arith, get_or, inl, length, map, refl, set, string_bytes, subst, sym, take}
 use Rattle.std.proofs.lemmas.List.{length-map}
-use Rattle.cap_server.specs.declared.fault.CallFault.TheVariants.{OutOfMemory}
+use Rattle.cap_locked.specs.declared.fault.CallFault.TheVariants.{OutOfMemory}
 use Rattle.cap_run.proofs.GatherLemmas.{IsGatheredSo, gathered_begun, gathered_done, gathered_ended, gathered_line, gathered_stopped, worked_ended, worked_some}
 use Rattle.cap_run.proofs.workload.gather.Goals as goal
 

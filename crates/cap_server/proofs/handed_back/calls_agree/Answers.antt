@@ -2,7 +2,7 @@ use Rattle.std.proofs.Common.{sym, ap, subst, ◌∙◌, arith, slice_index, All
 use Rattle.std.proofs.lemmas.List.{take_all}
 use Rattle.std.proofs.lemmas.List.Elements.{All-more}
 use Rattle.cap_history.specs.Seat.{SeatState}
-use Rattle.cap_server.specs.Code.Counts.{Agrees}
+use Rattle.cap_server.specs.Code.Seats.{Agrees}
 use Rattle.cap_server.proofs.handed_back.calls_agree.Goals as goal
 
 pub loop-seat-preserved : goal.loop-seat-preserved

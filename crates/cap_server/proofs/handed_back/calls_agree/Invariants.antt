@@ -1,5 +1,5 @@
 use Rattle.std.proofs.Common.{All, take}
-use Rattle.cap_server.specs.Code.Counts.{Agrees}
+use Rattle.cap_server.specs.Code.Seats.{Agrees}
 use Rattle.cap_server.proofs.handed_back.calls_agree.Given as goal
 
 abbrev pub invariant-loop-seat : goal.invariant-loop-seat

@@ -3,8 +3,8 @@ use denote.Ref.{NamedLft}
 use denote.Param.Send.{IsSend, IsSync, sendable}
 use Rattle.std.proofs.Crossing.{crosses, frees, send, sync}
 use Rattle.cap_core.proofs.Crossing.{reply_send}
-use Rattle.cap_history.specs.declared.naming.Naming as naming
-use Rattle.cap_history.proofs.seat.Seat.TheSendSync as seat
+use Rattle.cap_server.specs.declared.naming.Naming as naming
+use Rattle.cap_server.proofs.seat.Seat.TheSendSync as seat
 use Rattle.cap_server.proofs.Crossing.{server_sync}
 use Rattle.cap_test_servers.specs.contracts.applied.SeatJob as Job
 use Rattle.cap_test_servers.proofs.applied.apply_through_seats.Goals as goal

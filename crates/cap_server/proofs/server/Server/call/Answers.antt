@@ -1,4 +1,4 @@
-use Rattle.cap_server.proofs.Causes.{cause_of}
+use Rattle.cap_locked.proofs.Causes.{cause_of}
 use Rattle.cap_server.proofs.server.Server.call.Goals as goal
 
 pub returns-clause-cause : goal.returns-clause-cause

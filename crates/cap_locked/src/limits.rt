@@ -1,0 +1,4 @@
+//! The limits of a server that clients share.
+
+/// The most seats of a server.
+pub const SEATS_MAX: u64 = 64;
