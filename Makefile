@@ -7,8 +7,8 @@ UNPROVED = crates/changecap/out/unproved/changecap
 CASES = 500
 ROUNDS = 3
 
-# The code that the program may be made of: that of every crate but those that test it, and the one for C.
-SOURCES = $(filter-out crates/cap_test_% crates/cap_c/%, $(wildcard crates/*/src))
+# The code that the program may be made of: that of every crate but those that test it, and the two for C.
+SOURCES = $(filter-out crates/cap_test_% crates/cap_connection/% crates/cap_c/%, $(wildcard crates/*/src))
 
 # Where `make lib` leaves the library for C, and where `make install` puts it and the program.
 OUT = bindings/out

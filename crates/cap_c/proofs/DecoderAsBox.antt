@@ -6,8 +6,8 @@ use Rattle.std.proofs.BoxSteps.Form.{Bx}
 use Rattle.std.specs.contracts.alloc.Global as Heap
 use Rattle.std.specs.contracts.impls.GlobalAllocator.TheImpl.{ghosts}
 use Rattle.std.proofs.alloc.Global.TheLaws as heap
-use Rattle.cap_c.specs.contracts.decoder.PieceDecoder as PieceDecoder
-use Rattle.cap_c.proofs.decoder.PieceDecoder.TheLaws as decoder
+use Rattle.cap_connection.specs.contracts.decoder.PieceDecoder as PieceDecoder
+use Rattle.cap_connection.proofs.decoder.PieceDecoder.TheLaws as decoder
 use Rattle.cap_c.specs.contracts.parts.Parts as Parts
 
 abbrev pub E : Bx

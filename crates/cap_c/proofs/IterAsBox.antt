@@ -6,8 +6,8 @@ use Rattle.std.proofs.BoxSteps.Form.{Bx}
 use Rattle.std.specs.contracts.alloc.Global as Heap
 use Rattle.std.specs.contracts.impls.GlobalAllocator.TheImpl.{ghosts}
 use Rattle.std.proofs.alloc.Global.TheLaws as heap
-use Rattle.cap_c.specs.contracts.iter.BlobIter as BlobIter
-use Rattle.cap_c.proofs.iter.BlobIter.TheLaws as iter
+use Rattle.cap_connection.specs.contracts.iter.BlobIter as BlobIter
+use Rattle.cap_connection.proofs.iter.BlobIter.TheLaws as iter
 use Rattle.cap_c.specs.contracts.parts.Parts as Parts
 
 abbrev pub E : Bx

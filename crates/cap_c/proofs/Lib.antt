@@ -1,6 +1,4 @@
-mod BetweenLemmas
 mod DecoderAsBox
+mod HandleLemmas
 mod IterAsBox
-mod OneLineLemmas
-mod PositionLemmas
 mod ServerAsBox

@@ -6,7 +6,7 @@ use Rattle.std.specs.Prelude.{Option, Some, None}
 use Rattle.std.specs.Box.Ownership.{box_owns}
 use Rattle.std.specs.Global.{Global}
 use Rattle.std.specs.contracts.impls.GlobalAllocator.TheImpl.{ghosts}
-use Rattle.cap_c.specs.contracts.decoder.PieceDecoder.{the_row}
+use Rattle.cap_connection.specs.contracts.decoder.PieceDecoder.{the_row}
 
 abbrev pub owns_if : Global → Ptr → Option the_row.Denot → Fml
 owns_if alloc at (Some decoder) = box_owns (ghosts.dealloc_token alloc) the_row at decoder

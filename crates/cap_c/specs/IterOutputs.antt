@@ -1,25 +1,42 @@
--- The outputs for a column of the change at which an iterator stands, where there is such a column.
-use Rattle.std.specs.Prelude.{ℕ, List, Option, Some, None, nat_lt, if◌then◌else◌}
+-- The outputs for the change at which an iterator stands, and for a column of it, where there is one.
+use Rattle.std.specs.Prelude.{ℕ, Bool, true, false, List, Option, Some, None, nat_lt, if◌then◌else◌}
+use Rattle.std.specs.Option.{option_map}
 use Rattle.cap_c.specs.Bits.{bit}
-use Rattle.cap_c.specs.Iter.{columns_of, is_key, new_of, old_of}
+use Rattle.cap_codec.specs.Operation.{operation_byte}
+use Rattle.cap_connection.specs.Iter.{IterState, columns_of, head_of, is_key, is_patchset, new_of, old_of}
 use Rattle.cap_c.specs.Outputs.{value_bytes, value_output}
+use Rattle.cap_c.specs.declared.change_info.ChangeInfo.{ChangeInfo}
 use Rattle.cap_c.specs.declared.change_info.FieldValue.{FieldValue}
-use Rattle.cap_c.specs.declared.iter.BlobIter.{BlobIter}
+use Rattle.cap_c.specs.declared.status.TheConstants.{DONE, ROW}
 
-abbrev pub at_column : {X : Type 0} → BlobIter → ℕ → X → Option X
+-- whether there is a next change or row
+abbrev pub step_status : Bool → ℕ
+step_status true = ROW
+step_status false = DONE
+
+-- The operation is SQLite's number: 9, 18 or 23.
+abbrev pub info_of : IterState → Option ChangeInfo
+info_of it = option_map (λ head. record {
+  op = operation_byte head.operation;
+  indirect = bit head.indirect;
+  patchset = bit (is_patchset it.contents);
+  columns = columns_of it;
+}) (head_of it)
+
+abbrev pub at_column : {X : Type 0} → IterState → ℕ → X → Option X
 at_column it column found = if nat_lt column (columns_of it) then Some found else None
 
-abbrev pub key_output : BlobIter → ℕ → Option ℕ
+abbrev pub key_output : IterState → ℕ → Option ℕ
 key_output it column = at_column it column (bit (is_key it column))
 
-abbrev pub old_output : BlobIter → ℕ → Option FieldValue
+abbrev pub old_output : IterState → ℕ → Option FieldValue
 old_output it column = at_column it column (value_output (old_of it column))
 
-abbrev pub new_output : BlobIter → ℕ → Option FieldValue
+abbrev pub new_output : IterState → ℕ → Option FieldValue
 new_output it column = at_column it column (value_output (new_of it column))
 
-abbrev pub old_bytes : BlobIter → ℕ → Option (List ℕ)
+abbrev pub old_bytes : IterState → ℕ → Option (List ℕ)
 old_bytes it column = at_column it column (value_bytes (old_of it column))
 
-abbrev pub new_bytes : BlobIter → ℕ → Option (List ℕ)
+abbrev pub new_bytes : IterState → ℕ → Option (List ℕ)
 new_bytes it column = at_column it column (value_bytes (new_of it column))

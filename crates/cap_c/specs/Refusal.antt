@@ -1,5 +1,5 @@
 -- The refusal of a command, as C sees it.
-use Rattle.std.specs.Prelude.{ℕ, Option}
+use Rattle.std.specs.Prelude.{ℕ, Option, Some, None}
 use Rattle.std.specs.Option.{unwrap_or}
 use Rattle.cap_value.specs.declared.refusal.Refusal.{Refusal}
 use Rattle.cap_value.specs.declared.refusal.Refusal.TheVariants.{TooLong, BadSchema, WrongWidth, BadColumn}
@@ -35,3 +35,8 @@ refusal_number NoMark = 20
 -- with the number of the refused operation or change, or 0
 abbrev pub refused : Option ℕ → Refusal → PlacedFault
 refused at why = record { kind = refusal_number why; at = unwrap_or at 0 }
+
+-- Of a text that is no filter: with the byte of the first token that does not fit, or 0.
+abbrev pub filter_fault : Refusal → PlacedFault
+filter_fault (BadFilter at) = refused (Some at) (BadFilter at)
+filter_fault why = refused None why

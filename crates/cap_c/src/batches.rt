@@ -1,44 +1,31 @@
 //! The calls that put a batch together on a server, and commit it.
-ghost use Rattle.std.specs.Prelude.{◌≡◌, ◌⊎◌, ◌≤◌, IsSome, None, Some, [], length};
-ghost use Rattle.cap_database.specs.declared.cause.Cause.{Cause as By};
-ghost use Rattle.cap_database.specs.declared.op.Action.{Action as Made};
-ghost use Rattle.cap_value.specs.declared.refusal.Refusal.TheVariants.{TooMany};
+ghost use Rattle.std.specs.Prelude.{◌≡◌, IsSome, None, Some};
 ghost use Rattle.cap_value.specs.declared.value.Value.TheVariants as held;
-ghost use Rattle.cap_txn.specs.Batch.{BatchState};
-ghost use Rattle.cap_core.specs.Answer.{answer};
-ghost use Rattle.cap_core.specs.declared.command.Command.TheVariants as command;
-ghost use Rattle.cap_c.specs.Between.{Between, Holds};
-ghost use Rattle.cap_c.specs.Commands.{NoReply};
-ghost use Rattle.cap_c.specs.Draft.{HasAllOps, Sets, bound, cause_of, draft_on};
-ghost use Rattle.cap_c.specs.Drafted.{CanPut, Commits, Drafts, IsText, Puts};
-ghost use Rattle.cap_c.specs.Refusal.{refused};
-ghost use Rattle.cap_c.specs.Replies.{fault_output, number_output};
-ghost use Rattle.cap_c.specs.Server.{IsAnswered};
-ghost use Rattle.cap_c.specs.declared.draft.ActionKind.TheVariants.{Insert, Update, Delete};
-ghost use Rattle.cap_c.specs.declared.status.TheConstants.{MISUSE, NOMEM, OK, REFUSED};
+ghost use Rattle.cap_connection.specs.Calls.{Binds, BindsBlob, BindsText, Commits, Drafts, Puts, Sets};
+ghost use Rattle.cap_connection.specs.Draft.{draft_on, unbound};
+ghost use Rattle.cap_connection.specs.declared.draft.ActionKind.TheVariants.{Insert, Update, Delete};
+ghost use Rattle.cap_c.specs.Handle.{Between};
+ghost use Rattle.cap_c.specs.Numbers.{cause_of};
+ghost use Rattle.cap_c.specs.Answered.{Answers, Given, Tells, TellsNumber, answer_status};
 
-use crate::draft::{ActionKind, Draft, cause_of};
+use crate::answered::{answer_status, tell, tell_number};
 use crate::fault::PlacedFault;
-use crate::names::name_text;
-use crate::reply_outputs::set_number;
-use crate::server::OpenServer;
+use crate::numbers::cause_of;
 use crate::server_handle::{ServerHandle, put, take};
-use crate::status::{FULL, MISUSE, NOMEM, OK, REFUSED};
-use cap_core::Command;
-use cap_txn::Batch;
-use cap_value::{Refusal, VALUE_BYTES_MAX, Value};
+use cap_connection::{ActionKind, Connection, ConnectionFault};
+use cap_database::Cause;
+use cap_value::{Fault, Value};
 use std::alloc::Global;
 
 /// Begins a batch that may be made on any version, and drops the one before it and what is bound.
 #[unsafe(no_mangle)]
 pub extern "C" fn changecap_begin(alloc: Global, handle: &mut ServerHandle)
     requires opened { IsSome handle.old.value }
-    ensures begun { Between handle.old.value handle.new.value
-        (λ old new. Drafts old new (draft_on None)) }
+    ensures begun { Between handle.old.value handle.new.value (Drafts (draft_on None)) }
 {
-    let mut server = take(alloc, handle);
-    server.draft = Draft::new(alloc, None);
-    put(handle, server);
+    let mut connection = take(alloc, handle);
+    connection.begin(alloc, None);
+    put(handle, connection);
 }
 
 /// The same of a batch that may be made on this version alone.
@@ -46,11 +33,11 @@ pub extern "C" fn changecap_begin(alloc: Global, handle: &mut ServerHandle)
 pub extern "C" fn changecap_begin_at(alloc: Global, handle: &mut ServerHandle, version: u64)
     requires opened { IsSome handle.old.value }
     ensures begun { Between handle.old.value handle.new.value
-        (λ old new. Drafts old new (draft_on (Some version))) }
+        (Drafts (draft_on (Some version))) }
 {
-    let mut server = take(alloc, handle);
-    server.draft = Draft::new(alloc, Some(version));
-    put(handle, server);
+    let mut connection = take(alloc, handle);
+    connection.begin(alloc, Some(version));
+    put(handle, connection);
 }
 
 /// Drops what is bound, as `sqlite3_clear_bindings`.
@@ -58,93 +45,76 @@ pub extern "C" fn changecap_begin_at(alloc: Global, handle: &mut ServerHandle, v
 pub extern "C" fn changecap_clear_bindings(alloc: Global, handle: &mut ServerHandle)
     requires opened { IsSome handle.old.value }
     ensures cleared { Between handle.old.value handle.new.value
-        (λ old new. Drafts old new (record old.draft { values = []; fields = [] })) }
+        (λ old new. Drafts (unbound old.draft) old new) }
 {
-    let mut server = take(alloc, handle);
-    server.draft.unbind();
-    put(handle, server);
+    let mut connection = take(alloc, handle);
+    connection.unbind();
+    put(handle, connection);
 }
 
 /// Binds NULL, as `sqlite3_bind_null`.
 #[unsafe(no_mangle)]
 pub extern "C" fn changecap_bind_null(alloc: Global, handle: &mut ServerHandle) -> u32
     requires opened { IsSome handle.old.value }
-    ensures bound { result ≡ OK → Between handle.old.value handle.new.value
-        (λ old new. Drafts old new (bound held.Null old.draft)) }
-    ensures kept { ¬ (result ≡ OK) → (result ≡ NOMEM) × (handle.new.value ≡ handle.old.value) }
+    ensures bound { Answers handle.old.value handle.new.value (Binds held.Null)
+        (λ answer. result ≡ answer_status answer) }
 {
-    let mut server = take(alloc, handle);
-    let status = server.bind(Value::Null);
-    put(handle, server);
-    status
+    let mut connection = take(alloc, handle);
+    let answer = connection.bind(Value::Null);
+    put(handle, connection);
+    answer_status(answer)
 }
 
 /// Binds an integer, as `sqlite3_bind_int64`.
 #[unsafe(no_mangle)]
 pub extern "C" fn changecap_bind_int(alloc: Global, handle: &mut ServerHandle, number: i64) -> u32
     requires opened { IsSome handle.old.value }
-    ensures bound { result ≡ OK → Between handle.old.value handle.new.value
-        (λ old new. Drafts old new (bound (held.Int number) old.draft)) }
-    ensures kept { ¬ (result ≡ OK) → (result ≡ NOMEM) × (handle.new.value ≡ handle.old.value) }
+    ensures bound { Answers handle.old.value handle.new.value (Binds (held.Int number))
+        (λ answer. result ≡ answer_status answer) }
 {
-    let mut server = take(alloc, handle);
-    let status = server.bind(Value::Int(number));
-    put(handle, server);
-    status
+    let mut connection = take(alloc, handle);
+    let answer = connection.bind(Value::Int(number));
+    put(handle, connection);
+    answer_status(answer)
 }
 
 /// Binds a text, as `sqlite3_bind_text`.
 #[unsafe(no_mangle)]
 pub extern "C" fn changecap_bind_text(alloc: Global, handle: &mut ServerHandle, text: &[u8]) -> u32
     requires opened { IsSome handle.old.value }
-    ensures bound { result ≡ OK → Between handle.old.value handle.new.value
-        (λ old new. Drafts old new (bound (held.Text text.now) old.draft)) }
-    // Exactly bytes that are no text are misuse.
-    ensures misuse { result ≡ MISUSE → ¬ (IsText text.now) }
-    ensures text { ¬ (result ≡ MISUSE) → IsText text.now }
-    ensures kept { ¬ (result ≡ OK) →
-        ((result ≡ MISUSE) ⊎ (result ≡ NOMEM)) × (handle.new.value ≡ handle.old.value) }
+    ensures bound { Answers handle.old.value handle.new.value (BindsText text.now)
+        (λ answer. result ≡ answer_status answer) }
 {
-    let mut server = take(alloc, handle);
-    let status = server.bind_text(alloc, text);
-    put(handle, server);
-    status
+    let mut connection = take(alloc, handle);
+    let answer = connection.bind_text(alloc, text);
+    put(handle, connection);
+    answer_status(answer)
 }
 
 /// Binds a blob, as `sqlite3_bind_blob`.
 #[unsafe(no_mangle)]
 pub extern "C" fn changecap_bind_blob(alloc: Global, handle: &mut ServerHandle, blob: &[u8]) -> u32
     requires opened { IsSome handle.old.value }
-    ensures bound { result ≡ OK → Between handle.old.value handle.new.value
-        (λ old new. Drafts old new (bound (held.Blob blob.now) old.draft)) }
-    // Exactly bytes that are too many are misuse.
-    ensures misuse { result ≡ MISUSE → ¬ (length blob.now ≤ 1000000000) }
-    ensures short { ¬ (result ≡ MISUSE) → length blob.now ≤ 1000000000 }
-    ensures kept { ¬ (result ≡ OK) →
-        ((result ≡ MISUSE) ⊎ (result ≡ NOMEM)) × (handle.new.value ≡ handle.old.value) }
+    ensures bound { Answers handle.old.value handle.new.value (BindsBlob blob.now)
+        (λ answer. result ≡ answer_status answer) }
 {
-    let mut server = take(alloc, handle);
-    let status = server.bind_blob(alloc, blob);
-    put(handle, server);
-    status
+    let mut connection = take(alloc, handle);
+    let answer = connection.bind_blob(alloc, blob);
+    put(handle, connection);
+    answer_status(answer)
 }
 
 /// Makes the value that was bound last the new one of a column, for an update.
 #[unsafe(no_mangle)]
 pub extern "C" fn changecap_set(alloc: Global, handle: &mut ServerHandle, column: usize) -> u32
     requires opened { IsSome handle.old.value }
-    ensures set { result ≡ OK → Between handle.old.value handle.new.value
-        (λ old new. Sets column old.draft new.draft × Drafts old new new.draft) }
-    // Exactly where nothing is bound it is misuse.
-    ensures misuse { result ≡ MISUSE → Holds handle.old.value (λ old. old.draft.values ≡ []) }
-    ensures bound { ¬ (result ≡ MISUSE) → Holds handle.old.value (λ old. ¬ (old.draft.values ≡ [])) }
-    ensures kept { ¬ (result ≡ OK) →
-        ((result ≡ MISUSE) ⊎ (result ≡ NOMEM)) × (handle.new.value ≡ handle.old.value) }
+    ensures set { Answers handle.old.value handle.new.value (Sets column)
+        (λ answer. result ≡ answer_status answer) }
 {
-    let mut server = take(alloc, handle);
-    let status = server.set(column);
-    put(handle, server);
-    status
+    let mut connection = take(alloc, handle);
+    let answer = connection.set(column);
+    put(handle, connection);
+    answer_status(answer)
 }
 
 /// Puts an INSERT of the row that is bound last in the batch.
@@ -157,26 +127,10 @@ pub extern "C" fn changecap_insert(
     fault: &mut PlacedFault,
 ) -> u32
     requires opened { IsSome handle.old.value }
-    ensures put { (by : By) → cause_of cause ≡ Some by → result ≡ OK →
-        Between handle.old.value handle.new.value
-        (λ old new. (action : Made Global) × Puts old new Insert table.now 0 by action) }
-    // Exactly where they make no operation it is misuse.
-    ensures misuse { result ≡ MISUSE → Holds handle.old.value
-        (λ old. ¬ (CanPut Insert table.now 0 cause old.draft)) }
-    ensures can { ¬ (result ≡ MISUSE) → Holds handle.old.value
-        (λ old. CanPut Insert table.now 0 cause old.draft) }
-    // Exactly a batch without room is refused.
-    ensures refused { result ≡ REFUSED → Holds handle.old.value (λ old. HasAllOps old.draft)
-        × (fault.new ≡ refused None TooMany) }
-    ensures room { ¬ (result ≡ MISUSE) → ¬ (result ≡ REFUSED) →
-        ((result ≡ OK) ⊎ (result ≡ NOMEM)) × Holds handle.old.value (λ old. ¬ (HasAllOps old.draft)) }
-    ensures kept { ¬ (result ≡ OK) → handle.new.value ≡ handle.old.value }
-    ensures fault_kept { ¬ (result ≡ REFUSED) → fault.new ≡ fault.old }
+    ensures put { Answers handle.old.value handle.new.value
+        (Given (cause_of cause) (λ by. Puts Insert table.now 0 by)) (Tells result fault.old fault.new) }
 {
-    let mut server = take(alloc, handle);
-    let status = server.put(alloc, ActionKind::Insert, table, 0, cause, fault);
-    put(handle, server);
-    status
+    put_op(alloc, handle, ActionKind::Insert, table, 0, cause, fault)
 }
 
 /// Puts an UPDATE last in the batch: of the columns that are set, in the row with this id, or where it is 0
@@ -191,26 +145,10 @@ pub extern "C" fn changecap_update(
     fault: &mut PlacedFault,
 ) -> u32
     requires opened { IsSome handle.old.value }
-    ensures put { (by : By) → cause_of cause ≡ Some by → result ≡ OK →
-        Between handle.old.value handle.new.value
-        (λ old new. (action : Made Global) × Puts old new Update table.now id by action) }
-    // Exactly where they make no operation it is misuse.
-    ensures misuse { result ≡ MISUSE → Holds handle.old.value
-        (λ old. ¬ (CanPut Update table.now id cause old.draft)) }
-    ensures can { ¬ (result ≡ MISUSE) → Holds handle.old.value
-        (λ old. CanPut Update table.now id cause old.draft) }
-    // Exactly a batch without room is refused.
-    ensures refused { result ≡ REFUSED → Holds handle.old.value (λ old. HasAllOps old.draft)
-        × (fault.new ≡ refused None TooMany) }
-    ensures room { ¬ (result ≡ MISUSE) → ¬ (result ≡ REFUSED) →
-        ((result ≡ OK) ⊎ (result ≡ NOMEM)) × Holds handle.old.value (λ old. ¬ (HasAllOps old.draft)) }
-    ensures kept { ¬ (result ≡ OK) → handle.new.value ≡ handle.old.value }
-    ensures fault_kept { ¬ (result ≡ REFUSED) → fault.new ≡ fault.old }
+    ensures put { Answers handle.old.value handle.new.value
+        (Given (cause_of cause) (λ by. Puts Update table.now id by)) (Tells result fault.old fault.new) }
 {
-    let mut server = take(alloc, handle);
-    let status = server.put(alloc, ActionKind::Update, table, id, cause, fault);
-    put(handle, server);
-    status
+    put_op(alloc, handle, ActionKind::Update, table, id, cause, fault)
 }
 
 /// Puts a DELETE last in the batch: of the row with this id, or where it is 0 with the key that is bound.
@@ -224,26 +162,10 @@ pub extern "C" fn changecap_delete(
     fault: &mut PlacedFault,
 ) -> u32
     requires opened { IsSome handle.old.value }
-    ensures put { (by : By) → cause_of cause ≡ Some by → result ≡ OK →
-        Between handle.old.value handle.new.value
-        (λ old new. (action : Made Global) × Puts old new Delete table.now id by action) }
-    // Exactly where they make no operation it is misuse.
-    ensures misuse { result ≡ MISUSE → Holds handle.old.value
-        (λ old. ¬ (CanPut Delete table.now id cause old.draft)) }
-    ensures can { ¬ (result ≡ MISUSE) → Holds handle.old.value
-        (λ old. CanPut Delete table.now id cause old.draft) }
-    // Exactly a batch without room is refused.
-    ensures refused { result ≡ REFUSED → Holds handle.old.value (λ old. HasAllOps old.draft)
-        × (fault.new ≡ refused None TooMany) }
-    ensures room { ¬ (result ≡ MISUSE) → ¬ (result ≡ REFUSED) →
-        ((result ≡ OK) ⊎ (result ≡ NOMEM)) × Holds handle.old.value (λ old. ¬ (HasAllOps old.draft)) }
-    ensures kept { ¬ (result ≡ OK) → handle.new.value ≡ handle.old.value }
-    ensures fault_kept { ¬ (result ≡ REFUSED) → fault.new ≡ fault.old }
+    ensures put { Answers handle.old.value handle.new.value
+        (Given (cause_of cause) (λ by. Puts Delete table.now id by)) (Tells result fault.old fault.new) }
 {
-    let mut server = take(alloc, handle);
-    let status = server.put(alloc, ActionKind::Delete, table, id, cause, fault);
-    put(handle, server);
-    status
+    put_op(alloc, handle, ActionKind::Delete, table, id, cause, fault)
 }
 
 /// Commits the batch, and begins one that may be made on any version.
@@ -255,156 +177,47 @@ pub extern "C" fn changecap_commit(
     fault: &mut PlacedFault,
 ) -> u32
     requires opened { IsSome handle.old.value }
-    ensures ran { IsAnswered result →
-        Between handle.old.value handle.new.value (λ old new. Commits old new result) }
-    ensures version { IsAnswered result → Holds handle.old.value
-        (λ old. version.new ≡ number_output (answer old.core (command.Commit old.draft.batch)) version.old) }
-    ensures fault { IsAnswered result → Holds handle.old.value
-        (λ old. fault.new ≡ fault_output (answer old.core (command.Commit old.draft.batch)) fault.old) }
-    ensures why { ¬ (IsAnswered result) → Holds handle.old.value (λ old. NoReply old result) }
-    ensures kept { ¬ (IsAnswered result) → handle.new.value ≡ handle.old.value }
-    ensures version_kept { ¬ (IsAnswered result) → version.new ≡ version.old }
-    ensures fault_kept { ¬ (IsAnswered result) → fault.new ≡ fault.old }
+    ensures committed { Answers handle.old.value handle.new.value Commits
+        (TellsNumber result version.old version.new fault.old fault.new) }
 {
-    let mut server = take(alloc, handle);
-    let status = server.commit(alloc, version, fault);
-    put(handle, server);
-    status
+    let mut connection = take(alloc, handle);
+    let answer = connection.commit(alloc);
+    put(handle, connection);
+    tell_number(answer, version, fault)
 }
 
-impl OpenServer {
-    fn bind(&mut self, value: Value<Global>) -> u32
-        ensures bound { result ≡ OK → Drafts self.old self.new (bound value self.old.draft) }
-        ensures kept { ¬ (result ≡ OK) → (result ≡ NOMEM) × (self.new ≡ self.old) }
-    {
-        match self.draft.bind(value) {
-            Ok(()) => OK,
-            Err(_) => NOMEM,
-        }
-    }
-
-    fn bind_text(&mut self, alloc: Global, text: &[u8]) -> u32
-        ensures bound { result ≡ OK → Drafts self.old self.new (bound (held.Text text.now) self.old.draft) }
-        ensures misuse { result ≡ MISUSE → ¬ (IsText text.now) }
-        ensures text { ¬ (result ≡ MISUSE) → IsText text.now }
-        ensures kept { ¬ (result ≡ OK) →
-            ((result ≡ MISUSE) ⊎ (result ≡ NOMEM)) × (self.new ≡ self.old) }
-    {
-        if text.len() > VALUE_BYTES_MAX {
-            return MISUSE;
-        }
-        let Ok(text) = str::from_utf8(text) else {
-            return MISUSE;
-        };
-        match Value::text(alloc, text) {
-            Ok(value) => self.bind(value),
-            Err(_) => NOMEM,
-        }
-    }
-
-    fn bind_blob(&mut self, alloc: Global, blob: &[u8]) -> u32
-        ensures bound { result ≡ OK → Drafts self.old self.new (bound (held.Blob blob.now) self.old.draft) }
-        ensures misuse { result ≡ MISUSE → ¬ (length blob.now ≤ 1000000000) }
-        ensures short { ¬ (result ≡ MISUSE) → length blob.now ≤ 1000000000 }
-        ensures kept { ¬ (result ≡ OK) →
-            ((result ≡ MISUSE) ⊎ (result ≡ NOMEM)) × (self.new ≡ self.old) }
-    {
-        if blob.len() > VALUE_BYTES_MAX {
-            return MISUSE;
-        }
-        match Value::blob(alloc, blob) {
-            Ok(value) => self.bind(value),
-            Err(_) => NOMEM,
-        }
-    }
-
-    fn set(&mut self, column: usize) -> u32
-        ensures set { result ≡ OK →
-            Sets column self.old.draft self.new.draft × Drafts self.old self.new self.new.draft }
-        ensures misuse { result ≡ MISUSE → self.old.draft.values ≡ [] }
-        ensures bound { ¬ (result ≡ MISUSE) → ¬ (self.old.draft.values ≡ []) }
-        ensures kept { ¬ (result ≡ OK) →
-            ((result ≡ MISUSE) ⊎ (result ≡ NOMEM)) × (self.new ≡ self.old) }
-    {
-        if self.draft.is_unbound() {
-            return MISUSE;
-        }
-        match self.draft.set(column) {
-            Ok(()) => OK,
-            Err(_) => NOMEM,
-        }
-    }
-
-    fn put(
-        &mut self,
-        alloc: Global,
-        kind: ActionKind,
-        table: &[u8],
-        id: u64,
-        cause: u32,
-        fault: &mut PlacedFault,
-    ) -> u32
-        ensures put { (by : By) → cause_of cause ≡ Some by → result ≡ OK →
-            (action : Made Global) × Puts self.old self.new kind table.now id by action }
-        ensures misuse { result ≡ MISUSE → ¬ (CanPut kind table.now id cause self.old.draft) }
-        ensures can { ¬ (result ≡ MISUSE) → CanPut kind table.now id cause self.old.draft }
-        ensures refused { result ≡ REFUSED → HasAllOps self.old.draft × (fault.new ≡ refused None TooMany) }
-        ensures room { ¬ (result ≡ MISUSE) → ¬ (result ≡ REFUSED) →
-            ((result ≡ OK) ⊎ (result ≡ NOMEM)) × ¬ (HasAllOps self.old.draft) }
-        ensures kept { ¬ (result ≡ OK) → self.new ≡ self.old }
-        ensures fault_kept { ¬ (result ≡ REFUSED) → fault.new ≡ fault.old }
-    {
-        let Some(table) = name_text(table) else {
-            return MISUSE;
-        };
-        let Some(cause) = cause_of(cause) else {
-            return MISUSE;
-        };
-        if !self.draft.can_make(kind, id) {
-            return MISUSE;
-        }
-        if self.draft.has_all_ops() {
-            *fault = PlacedFault::refused(None, Refusal::TooMany);
-            return REFUSED;
-        }
-        match self.draft.put(alloc, table, cause, kind, id) {
-            Ok(()) => OK,
-            Err(_) => NOMEM,
-        }
-    }
-
-    fn commit(&mut self, alloc: Global, version: &mut u64, fault: &mut PlacedFault) -> u32
-        ensures ran { IsAnswered result → Commits self.old self.new result }
-        ensures version { IsAnswered result → version.new
-            ≡ number_output (answer self.old.core (command.Commit self.old.draft.batch)) version.old }
-        ensures fault { IsAnswered result → fault.new
-            ≡ fault_output (answer self.old.core (command.Commit self.old.draft.batch)) fault.old }
-        ensures why { ¬ (IsAnswered result) → NoReply self.old result }
-        ensures kept { ¬ (IsAnswered result) → self.new ≡ self.old }
-        ensures version_kept { ¬ (IsAnswered result) → version.new ≡ version.old }
-        ensures fault_kept { ¬ (IsAnswered result) → fault.new ≡ fault.old }
-    {
-        if self.is_full() {
-            return FULL;
-        }
-        let command = Command::Commit(self.draft.take_batch(alloc));
-        match self.reply_to(&command) {
-            Ok(reply) => set_number(&reply, version, fault),
-            Err(status) => {
-                self.draft.put_batch(batch_of(command));
-                status
-            }
-        }
-    }
+// A number that is no cause is misuse.
+fn put_op(
+    alloc: Global,
+    handle: &mut ServerHandle,
+    kind: ActionKind,
+    table: &[u8],
+    id: u64,
+    cause: u32,
+    fault: &mut PlacedFault,
+) -> u32
+    requires opened { IsSome handle.old.value }
+    ensures put { Answers handle.old.value handle.new.value
+        (Given (cause_of cause) (λ by. Puts kind table.now id by)) (Tells result fault.old fault.new) }
+{
+    let mut connection = take(alloc, handle);
+    let answer = put_caused(alloc, &mut connection, kind, table, id, cause_of(cause));
+    put(handle, connection);
+    tell(answer, fault)
 }
 
-// The batch that a command commits.
-fn batch_of(commit: Command<Global>) -> Batch<Global>
-    requires commits { (batch : BatchState Global) × (commit ≡ command.Commit batch) }
-    ensures { commit ≡ command.Commit result }
+fn put_caused(
+    alloc: Global,
+    connection: &mut Connection,
+    kind: ActionKind,
+    table: &[u8],
+    id: u64,
+    cause: Option<Cause>,
+) -> Result<(), Fault<ConnectionFault>>
+    ensures { Given cause (λ by. Puts kind table.now id by) connection.old connection.new result }
 {
-    match commit {
-        Command::Commit(batch) => batch,
-        _ => unreachable!(),
+    match cause {
+        Some(cause) => connection.put(alloc, kind, table, id, cause),
+        None => Err(Fault::Refused(ConnectionFault::Misuse)),
     }
 }

@@ -1,23 +1,19 @@
 //! The calls that write what a session has captured.
-ghost use Rattle.std.specs.Prelude.{◌≡◌, ◌↔◌, IsSome, None, Some};
-ghost use Rattle.cap_codec.specs.declared.key_flags.KeyFlags.{KeyFlags as Flags};
-ghost use Rattle.cap_core.specs.Answer.{answer};
-ghost use Rattle.cap_core.specs.declared.command.Command.TheVariants as command;
-ghost use Rattle.cap_c.specs.Between.{Between, Holds};
-ghost use Rattle.cap_c.specs.Commands.{NoReply, RunsCommand};
-ghost use Rattle.cap_c.specs.KeyFlags.{key_flags_of};
-ghost use Rattle.cap_c.specs.Replies.{bytes_asked, fault_output};
-ghost use Rattle.cap_c.specs.Server.{IsAnswered};
-ghost use Rattle.cap_c.specs.Outputs.{LacksRoom, WritesAll};
-ghost use Rattle.cap_c.specs.declared.captured.CapturedForm.TheVariants.{Changeset, Patchset};
-ghost use Rattle.cap_c.specs.declared.status.TheConstants.{MISUSE, OK, ROOM};
+ghost use Rattle.std.specs.Prelude.{IsSome, length};
+ghost use Rattle.std.specs.Result.{result_map_both};
+ghost use Rattle.cap_connection.specs.Captures.{Captures};
+ghost use Rattle.cap_connection.specs.declared.captured.CaptureKind.TheVariants.{Changeset, Patchset};
+ghost use Rattle.cap_connection.specs.declared.captured.CaptureKind.TheVariants.{Restart};
+ghost use Rattle.cap_c.specs.Numbers.{key_flags_of};
+ghost use Rattle.cap_c.specs.Answered.{Answers, Given, TellsBytes};
 
-use crate::captured::CapturedForm;
+use crate::answered::tell_bytes;
 use crate::fault::PlacedFault;
-use crate::key_flags::key_flags_of;
+use crate::numbers::key_flags_of;
 use crate::server_handle::{ServerHandle, put, take};
-use crate::status::MISUSE;
-use cap_core::Command;
+use cap_codec::KeyFlags;
+use cap_connection::{CaptureKind, Connection, ConnectionFault};
+use cap_value::Fault;
 use std::alloc::Global;
 
 /// Writes the changeset of a session, as `sqlite3session_changeset`.
@@ -32,45 +28,20 @@ pub extern "C" fn changecap_session_changeset(
     fault: &mut PlacedFault,
 ) -> u32
     requires opened { IsSome handle.old.value }
-    ensures ran { IsAnswered result → Between handle.old.value handle.new.value
-        (λ old new. RunsCommand old new (command.Capture session) result) }
-    ensures fault { IsAnswered result →
-        Holds handle.old.value
-        (λ old. fault.new ≡ fault_output (answer old.core (command.Capture session)) fault.old) }
-    // The bytes of the changeset, or how many there are.
-    ensures written { (flags : Flags) → key_flags_of key_flags ≡ Some flags → result ≡ OK →
-        Holds handle.old.value
-        (λ old. WritesAll (bytes_asked Changeset flags (answer old.core (command.Capture session)))
-        out.old out.new len.old len.new) }
-    ensures room { (flags : Flags) → key_flags_of key_flags ≡ Some flags → result ≡ ROOM →
-        Holds handle.old.value
-        (λ old. LacksRoom
-        (bytes_asked Changeset flags (answer old.core (command.Capture session))) out.old len.new) }
-    // Exactly a number that names no key flags is misuse.
-    ensures misuse { (result ≡ MISUSE) ↔ (key_flags_of key_flags ≡ None) }
-    ensures why { ¬ (IsAnswered result) → ¬ (result ≡ ROOM) → ¬ (result ≡ MISUSE) →
-        Holds handle.old.value (λ old. NoReply old result) }
-    ensures kept { ¬ (IsAnswered result) → handle.new.value ≡ handle.old.value }
-    ensures fault_kept { ¬ (IsAnswered result) → fault.new ≡ fault.old }
-    ensures out_kept { ¬ (result ≡ OK) → out.new ≡ out.old }
-    ensures len_kept { ¬ (result ≡ OK) → ¬ (result ≡ ROOM) → len.new ≡ len.old }
+    ensures written { Answers handle.old.value handle.new.value
+        (Given (key_flags_of key_flags) (λ flags. Captures Changeset session flags (length out.old)))
+        (TellsBytes result out.old out.new len.old len.new fault.old fault.new) }
 {
-    let Some(flags) = key_flags_of(key_flags) else {
-        return MISUSE;
-    };
-    let mut server = take(alloc, handle);
-    let command = Command::Capture { session };
-    let status = server.write_capture(
+    write(
         alloc,
-        &command,
-        CapturedForm::Changeset,
-        flags,
+        handle,
+        CaptureKind::Changeset,
+        session,
+        key_flags,
         out,
         len,
         fault,
-    );
-    put(handle, server);
-    status
+    )
 }
 
 /// Writes the patchset of a session, as `sqlite3session_patchset`.
@@ -85,45 +56,20 @@ pub extern "C" fn changecap_session_patchset(
     fault: &mut PlacedFault,
 ) -> u32
     requires opened { IsSome handle.old.value }
-    ensures ran { IsAnswered result → Between handle.old.value handle.new.value
-        (λ old new. RunsCommand old new (command.Capture session) result) }
-    ensures fault { IsAnswered result →
-        Holds handle.old.value
-        (λ old. fault.new ≡ fault_output (answer old.core (command.Capture session)) fault.old) }
-    // The bytes of the patchset, or how many there are.
-    ensures written { (flags : Flags) → key_flags_of key_flags ≡ Some flags → result ≡ OK →
-        Holds handle.old.value
-        (λ old. WritesAll (bytes_asked Patchset flags (answer old.core (command.Capture session)))
-        out.old out.new len.old len.new) }
-    ensures room { (flags : Flags) → key_flags_of key_flags ≡ Some flags → result ≡ ROOM →
-        Holds handle.old.value
-        (λ old. LacksRoom
-        (bytes_asked Patchset flags (answer old.core (command.Capture session))) out.old len.new) }
-    // Exactly a number that names no key flags is misuse.
-    ensures misuse { (result ≡ MISUSE) ↔ (key_flags_of key_flags ≡ None) }
-    ensures why { ¬ (IsAnswered result) → ¬ (result ≡ ROOM) → ¬ (result ≡ MISUSE) →
-        Holds handle.old.value (λ old. NoReply old result) }
-    ensures kept { ¬ (IsAnswered result) → handle.new.value ≡ handle.old.value }
-    ensures fault_kept { ¬ (IsAnswered result) → fault.new ≡ fault.old }
-    ensures out_kept { ¬ (result ≡ OK) → out.new ≡ out.old }
-    ensures len_kept { ¬ (result ≡ OK) → ¬ (result ≡ ROOM) → len.new ≡ len.old }
+    ensures written { Answers handle.old.value handle.new.value
+        (Given (key_flags_of key_flags) (λ flags. Captures Patchset session flags (length out.old)))
+        (TellsBytes result out.old out.new len.old len.new fault.old fault.new) }
 {
-    let Some(flags) = key_flags_of(key_flags) else {
-        return MISUSE;
-    };
-    let mut server = take(alloc, handle);
-    let command = Command::Capture { session };
-    let status = server.write_capture(
+    write(
         alloc,
-        &command,
-        CapturedForm::Patchset,
-        flags,
+        handle,
+        CaptureKind::Patchset,
+        session,
+        key_flags,
         out,
         len,
         fault,
-    );
-    put(handle, server);
-    status
+    )
 }
 
 /// Writes the changeset of a session, and deletes the session's records.
@@ -138,43 +84,58 @@ pub extern "C" fn changecap_session_restart(
     fault: &mut PlacedFault,
 ) -> u32
     requires opened { IsSome handle.old.value }
-    ensures ran { IsAnswered result → Between handle.old.value handle.new.value
-        (λ old new. RunsCommand old new (command.Restart session) result) }
-    ensures fault { IsAnswered result →
-        Holds handle.old.value
-        (λ old. fault.new ≡ fault_output (answer old.core (command.Restart session)) fault.old) }
-    // The bytes of the changeset, or how many there are.
-    ensures written { (flags : Flags) → key_flags_of key_flags ≡ Some flags → result ≡ OK →
-        Holds handle.old.value
-        (λ old. WritesAll (bytes_asked Changeset flags (answer old.core (command.Restart session)))
-        out.old out.new len.old len.new) }
-    ensures room { (flags : Flags) → key_flags_of key_flags ≡ Some flags → result ≡ ROOM →
-        Holds handle.old.value
-        (λ old. LacksRoom
-        (bytes_asked Changeset flags (answer old.core (command.Restart session))) out.old len.new) }
-    // Exactly a number that names no key flags is misuse.
-    ensures misuse { (result ≡ MISUSE) ↔ (key_flags_of key_flags ≡ None) }
-    ensures why { ¬ (IsAnswered result) → ¬ (result ≡ ROOM) → ¬ (result ≡ MISUSE) →
-        Holds handle.old.value (λ old. NoReply old result) }
-    ensures kept { ¬ (IsAnswered result) → handle.new.value ≡ handle.old.value }
-    ensures fault_kept { ¬ (IsAnswered result) → fault.new ≡ fault.old }
-    ensures out_kept { ¬ (result ≡ OK) → out.new ≡ out.old }
-    ensures len_kept { ¬ (result ≡ OK) → ¬ (result ≡ ROOM) → len.new ≡ len.old }
+    ensures written { Answers handle.old.value handle.new.value
+        (Given (key_flags_of key_flags) (λ flags. Captures Restart session flags (length out.old)))
+        (TellsBytes result out.old out.new len.old len.new fault.old fault.new) }
 {
-    let Some(flags) = key_flags_of(key_flags) else {
-        return MISUSE;
-    };
-    let mut server = take(alloc, handle);
-    let command = Command::Restart { session };
-    let status = server.write_capture(
+    write(
         alloc,
-        &command,
-        CapturedForm::Changeset,
-        flags,
+        handle,
+        CaptureKind::Restart,
+        session,
+        key_flags,
         out,
         len,
         fault,
-    );
-    put(handle, server);
-    status
+    )
+}
+
+// A number that names no key flags is misuse.
+fn write(
+    alloc: Global,
+    handle: &mut ServerHandle,
+    kind: CaptureKind,
+    session: u64,
+    key_flags: u32,
+    out: &mut [u8],
+    len: &mut usize,
+    fault: &mut PlacedFault,
+) -> u32
+    requires opened { IsSome handle.old.value }
+    ensures written { Answers handle.old.value handle.new.value
+        (Given (key_flags_of key_flags) (λ flags. Captures kind session flags (length out.old)))
+        (TellsBytes result out.old out.new len.old len.new fault.old fault.new) }
+{
+    let mut connection = take(alloc, handle);
+    let flags = key_flags_of(key_flags);
+    let answer = captured(alloc, &mut connection, kind, session, flags, out.len());
+    put(handle, connection);
+    tell_bytes(answer, out, len, fault)
+}
+
+fn captured(
+    alloc: Global,
+    connection: &mut Connection,
+    kind: CaptureKind,
+    session: u64,
+    flags: Option<KeyFlags>,
+    room: usize,
+) -> Result<Vec<u8, Global>, Fault<ConnectionFault>>
+    ensures { Given flags (λ flags. Captures kind session flags room) connection.old connection.new
+        (result_map_both (λ bytes. bytes.items) (λ why. why) result) }
+{
+    match flags {
+        Some(flags) => connection.capture(alloc, kind, session, flags, room),
+        None => Err(Fault::Refused(ConnectionFault::Misuse)),
+    }
 }

@@ -1,16 +1,15 @@
 //! The concatenation of two blobs.
-ghost use Rattle.std.specs.Prelude.{◌≡◌, ◌↔◌, ℕ, List, [], ◌∷◌, None, Result, Some, length};
+ghost use Rattle.std.specs.Prelude.{◌≡◌, ℕ, List, [], ◌∷◌, MatchOption, Result};
 ghost use Rattle.cap_value.specs.Memory.{ShowsUnlessMemory};
-ghost use Rattle.cap_codec.specs.declared.key_flags.KeyFlags.{KeyFlags as Flags};
 ghost use Rattle.cap_group.specs.Bytes.{concat_at};
 ghost use Rattle.cap_group.specs.declared.refusal.ConcatRefusal.{ConcatRefusal as Refused};
-ghost use Rattle.cap_c.specs.KeyFlags.{key_flags_of};
-ghost use Rattle.cap_c.specs.Status.{IsUnlessMemory, concat_status, refused_status};
-ghost use Rattle.cap_c.specs.Outputs.{KeepsOthers, OutputsConcat, OutputsFault};
-ghost use Rattle.cap_c.specs.declared.status.TheConstants.{COLUMNS, KIND, MALFORMED, MISUSE, NOMEM};
+ghost use Rattle.cap_c.specs.Numbers.{key_flags_of};
+ghost use Rattle.cap_c.specs.Status.{refused_status};
+ghost use Rattle.cap_c.specs.Outputs.{Concatenates, Misuses, OutputsFault};
+ghost use Rattle.cap_c.specs.declared.status.TheConstants.{COLUMNS, KIND, MALFORMED};
 
 use crate::fault::PlacedFault;
-use crate::key_flags::key_flags_of;
+use crate::numbers::key_flags_of;
 use crate::output::write_bytes;
 use crate::status::{COLUMNS, KIND, MALFORMED, MISUSE, NOMEM};
 use cap_group::{BlobRefusal, ConcatRefusal, GroupRefusal, concat_bytes};
@@ -29,18 +28,10 @@ pub extern "C" fn changecap_concat(
     fault: &mut PlacedFault,
     blob: &mut usize,
 ) -> u32
-    // Which status.
-    ensures status { (flags : Flags) → key_flags_of key_flags ≡ Some flags → IsUnlessMemory result
-        (concat_status (concat_at Global flags (first.now ∷ second.now ∷ [])) (length out.old)) }
-    // The bytes of the concatenation, their number, or which blob is refused and its fault.
-    ensures outputs { (flags : Flags) → key_flags_of key_flags ≡ Some flags → ¬ (result ≡ NOMEM) →
-        OutputsConcat (concat_at Global flags (first.now ∷ second.now ∷ [])) result out.old out.new len.new
-        fault.new blob.new }
-    // Exactly a number that names no key flags is misuse.
-    ensures misuse { (result ≡ MISUSE) ↔ (key_flags_of key_flags ≡ None) }
-    ensures kept { KeepsOthers result out.old out.new len.old len.new fault.old fault.new }
-    ensures blob_kept { ¬ (result ≡ MALFORMED) → ¬ (result ≡ KIND) → ¬ (result ≡ COLUMNS) →
-        blob.new ≡ blob.old }
+    ensures concatenated { MatchOption (key_flags_of key_flags)
+        (Misuses result out.old out.new len.old len.new fault.old fault.new × (blob.new ≡ blob.old))
+        (λ flags. Concatenates (concat_at Global flags (first.now ∷ second.now ∷ [])) result
+        out.old out.new len.old len.new fault.old fault.new blob.old blob.new) }
 {
     let Some(flags) = key_flags_of(key_flags) else {
         return MISUSE;
@@ -62,15 +53,8 @@ fn set_concat(
     fault: &mut PlacedFault,
     blob: &mut usize,
 ) -> u32
-    ensures status { (said : Result (List ℕ) Refused) → ShowsUnlessMemory (λ bytes. bytes.items) answer said →
-        IsUnlessMemory result (concat_status said (length out.old)) }
-    ensures outputs { (said : Result (List ℕ) Refused) →
-        ShowsUnlessMemory (λ bytes. bytes.items) answer said →
-        ¬ (result ≡ NOMEM) → OutputsConcat said result out.old out.new len.new fault.new blob.new }
-    ensures misuse { ¬ (result ≡ MISUSE) }
-    ensures kept { KeepsOthers result out.old out.new len.old len.new fault.old fault.new }
-    ensures blob_kept { ¬ (result ≡ MALFORMED) → ¬ (result ≡ KIND) → ¬ (result ≡ COLUMNS) →
-        blob.new ≡ blob.old }
+    ensures { (said : Result (List ℕ) Refused) → ShowsUnlessMemory (λ bytes. bytes.items) answer said →
+        Concatenates said result out.old out.new len.old len.new fault.old fault.new blob.old blob.new }
 {
     match answer {
         Ok(bytes) => write_bytes(bytes.as_slice(), out, len),

@@ -1,12 +1,11 @@
 //! What C holds of a decoder.
 ghost use Rattle.std.specs.Coded.{coded_option};
-ghost use Rattle.std.specs.Prelude.{◌≡◌, IsSome, None, Option, Some};
+ghost use Rattle.std.specs.Prelude.{◌≡◌, ℕ, IsSome, List, None, Option, Some};
 ghost use Rattle.cap_c.specs.DecoderHandle.{code};
-ghost use Rattle.cap_c.specs.declared.decoder.PieceDecoder.{PieceDecoder as Decoder};
 
 use crate::assert_send::assert_decoder_send;
-use crate::decoder::PieceDecoder;
 use crate::parts::Parts;
+use cap_connection::PieceDecoder;
 use std::alloc::Global;
 use std::marker::Model;
 use std::{mem, ptr};
@@ -17,7 +16,7 @@ use std::{mem, ptr};
 pub struct DecoderHandle {
     at: *mut u8,
     alloc: Global,
-    pub ghost value: { Option Decoder } by { coded_option code },
+    pub ghost value: { Option (List ℕ) } by { coded_option code },
 }
 
 impl Model for DecoderHandle {

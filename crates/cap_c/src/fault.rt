@@ -1,10 +1,19 @@
 //! The fault of a blob, and the refusal of a command, as C sees them.
 ghost use Rattle.std.specs.Prelude.{◌≡◌};
-ghost use Rattle.cap_c.specs.Fault.{kind_number, placed};
-ghost use Rattle.cap_c.specs.Refusal.{refusal_number, refused};
+ghost use Rattle.cap_c.specs.Fault.{kind_number, placed, placed_in_text};
+ghost use Rattle.cap_connection.specs.declared.fault.TextFault.TheVariants.{InLine};
+ghost use Rattle.cap_c.specs.Refusal.{filter_fault, refusal_number, refused};
 
 use cap_codec::{BlobFault, FaultKind};
+use cap_connection::TextFault;
+use cap_script::ScriptFault;
 use cap_value::Refusal;
+
+const SYNTAX: u32 = 1;
+
+const LIMIT: u32 = 2;
+
+const BAD_BLOB: u32 = 3;
 
 /// Why a call is refused, and where. For bytes that are no blob: the number of the fault
 /// (docs/manual/formats.md, "Reading"), and its offset. For a command: the number of the refusal
@@ -33,6 +42,41 @@ impl PlacedFault {
         PlacedFault {
             kind: refusal_number(why),
             at: at.unwrap_or(0) as usize,
+        }
+    }
+
+    pub(crate) fn in_filter(why: Refusal) -> Self
+        ensures { result ≡ filter_fault why }
+    {
+        match why {
+            Refusal::BadFilter { at } => PlacedFault::refused(Some(at), why),
+            _ => PlacedFault::refused(None, why),
+        }
+    }
+
+    pub(crate) fn in_text(why: TextFault) -> Self
+        ensures { result ≡ placed_in_text why }
+    {
+        match why {
+            TextFault::NotOne => PlacedFault { kind: 0, at: 0 },
+            TextFault::InLine(fault) => PlacedFault::in_line(fault),
+        }
+    }
+
+    // The number of the kind, as the fault's text has it, and its offset.
+    fn in_line(fault: ScriptFault) -> Self
+        ensures { result ≡ placed_in_text (InLine fault) }
+    {
+        match fault {
+            ScriptFault::Syntax { at, .. } => PlacedFault {
+                kind: SYNTAX,
+                at: at as usize,
+            },
+            ScriptFault::Limit { .. } => PlacedFault { kind: LIMIT, at: 0 },
+            ScriptFault::BadBlob { fault, .. } => PlacedFault {
+                kind: BAD_BLOB,
+                at: fault.at,
+            },
         }
     }
 }

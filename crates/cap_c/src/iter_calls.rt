@@ -1,26 +1,20 @@
 //! The calls on an iterator over the changes of a blob, as `sqlite3changeset_start` and what follows it.
-ghost use Rattle.std.specs.Prelude.{◌≡◌, true, false, None, Some, Err, Ok, IsSome};
-ghost use Rattle.cap_codec.specs.BlobReading.{blob_at};
+ghost use Rattle.std.specs.Prelude.{◌≡◌, Bool, IfSome, IsSome, None};
 ghost use Rattle.cap_codec.specs.Spelling.{Spells};
-ghost use Rattle.cap_codec.specs.declared.fault.BlobFault.{BlobFault as Wrong};
-ghost use Rattle.cap_codec.specs.declared.read.Contents.{Contents as Spelled};
-ghost use Rattle.cap_c.specs.Fault.{placed};
-ghost use Rattle.cap_c.specs.Iter.{Steps, begin, info_of, table_of};
-ghost use Rattle.cap_c.specs.IterOutputs.{key_output, new_bytes, new_output, old_bytes, old_output};
-ghost use Rattle.cap_c.specs.Status.{IsUnlessMemory, read_status};
+ghost use Rattle.cap_connection.specs.Iter.{Steps, iter_at, table_of};
+ghost use Rattle.cap_c.specs.Handle.{Between, Keeps, Opens};
+ghost use Rattle.cap_c.specs.IterOutputs.{info_of, key_output, new_bytes, new_output, old_bytes, old_output};
+ghost use Rattle.cap_c.specs.IterOutputs.{step_status};
 ghost use Rattle.cap_c.specs.Outputs.{OutputsBytes, OutputsFound};
-ghost use Rattle.cap_c.specs.declared.iter.BlobIter.{BlobIter as Iter};
-ghost use Rattle.cap_c.specs.declared.status.TheConstants.{DONE, MALFORMED, OK, ROW};
 
 use crate::change_info::{ChangeInfo, FieldValue};
 use crate::fault::PlacedFault;
-use crate::iter::BlobIter;
 use crate::iter_handle::{IterHandle, put, take};
 use crate::iter_outputs::{
-    set_info, set_key, set_new, set_new_bytes, set_old, set_old_bytes, set_table,
+    set_info, set_key, set_new, set_new_bytes, set_old, set_old_bytes, set_table, step_status,
 };
-use crate::status::{DONE, MALFORMED, NOMEM, OK, ROW};
-use cap_codec::read_blob;
+use crate::status::{MALFORMED, NOMEM, OK};
+use cap_connection::BlobIter;
 use cap_value::Fault;
 use std::alloc::Global;
 
@@ -33,17 +27,12 @@ pub extern "C" fn changecap_iter_open(
     fault: &mut PlacedFault,
 ) -> u32
     requires closed { handle.old.value ≡ None }
-    ensures status { IsUnlessMemory result (read_status (blob_at {A = Global} blob.now)) }
+    ensures opened { Opens (iter_at blob.now) result handle.new.value fault.old fault.new }
     // It goes over what the bytes spell.
-    ensures opened { result ≡ OK → (contents : Spelled Global) × Spells contents blob.now
-        × (blob_at blob.now ≡ Ok contents) × (handle.new.value ≡ Some (begin contents)) }
-    ensures fault { result ≡ MALFORMED →
-        (wrong : Wrong) × (blob_at {A = Global} blob.now ≡ Err wrong) × (fault.new ≡ placed wrong) }
-    ensures kept { ¬ (result ≡ OK) → handle.new.value ≡ None }
-    ensures fault_kept { ¬ (result ≡ MALFORMED) → fault.new ≡ fault.old }
+    ensures spelled { IfSome handle.new.value (λ it. Spells it.contents blob.now) }
 {
-    match read_blob(alloc, blob) {
-        Ok(contents) => match Box::new(alloc, BlobIter::new(contents)) {
+    match BlobIter::open(alloc, blob) {
+        Ok(it) => match Box::new(alloc, it) {
             Ok(it) => {
                 put(handle, it);
                 OK
@@ -62,15 +51,13 @@ pub extern "C" fn changecap_iter_open(
 #[unsafe(no_mangle)]
 pub extern "C" fn changecap_iter_next(alloc: Global, handle: &mut IterHandle) -> u32
     requires opened { IsSome handle.old.value }
-    ensures row { result ≡ ROW → (old : Iter) × (new : Iter) × (handle.old.value ≡ Some old)
-        × (handle.new.value ≡ Some new) × Steps old new true }
-    ensures end { ¬ (result ≡ ROW) → (old : Iter) × (new : Iter) × (result ≡ DONE)
-        × (handle.old.value ≡ Some old) × (handle.new.value ≡ Some new) × Steps old new false }
+    ensures stepped { Between handle.old.value handle.new.value
+        (λ old new. (is_row : Bool) × Steps old new is_row × (result ≡ step_status is_row)) }
 {
     let mut it = take(alloc, handle);
     let is_row = it.step();
     put(handle, it);
-    if is_row { ROW } else { DONE }
+    step_status(is_row)
 }
 
 /// Sets `info` to what the change is.
@@ -81,9 +68,8 @@ pub extern "C" fn changecap_iter_op(
     info: &mut ChangeInfo,
 ) -> u32
     requires opened { IsSome handle.old.value }
-    ensures kept { handle.new.value ≡ handle.old.value }
-    ensures outputs { (it : Iter) → handle.old.value ≡ Some it →
-        OutputsFound (info_of it) result info.old info.new }
+    ensures outputs { Keeps handle.old.value handle.new.value
+        (λ it. OutputsFound (info_of it) result info.old info.new) }
 {
     let it = take(alloc, handle);
     let status = set_info(&it, info);
@@ -100,9 +86,8 @@ pub extern "C" fn changecap_iter_table(
     len: &mut usize,
 ) -> u32
     requires opened { IsSome handle.old.value }
-    ensures kept { handle.new.value ≡ handle.old.value }
-    ensures outputs { (it : Iter) → handle.old.value ≡ Some it →
-        OutputsBytes (table_of it) result out.old out.new len.old len.new }
+    ensures outputs { Keeps handle.old.value handle.new.value
+        (λ it. OutputsBytes (table_of it) result out.old out.new len.old len.new) }
 {
     let it = take(alloc, handle);
     let status = set_table(&it, out, len);
@@ -119,9 +104,8 @@ pub extern "C" fn changecap_iter_key(
     is_key: &mut u32,
 ) -> u32
     requires opened { IsSome handle.old.value }
-    ensures kept { handle.new.value ≡ handle.old.value }
-    ensures outputs { (it : Iter) → handle.old.value ≡ Some it →
-        OutputsFound (key_output it column) result is_key.old is_key.new }
+    ensures outputs { Keeps handle.old.value handle.new.value
+        (λ it. OutputsFound (key_output it column) result is_key.old is_key.new) }
 {
     let it = take(alloc, handle);
     let status = set_key(&it, column, is_key);
@@ -138,9 +122,8 @@ pub extern "C" fn changecap_iter_old(
     value: &mut FieldValue,
 ) -> u32
     requires opened { IsSome handle.old.value }
-    ensures kept { handle.new.value ≡ handle.old.value }
-    ensures outputs { (it : Iter) → handle.old.value ≡ Some it →
-        OutputsFound (old_output it column) result value.old value.new }
+    ensures outputs { Keeps handle.old.value handle.new.value
+        (λ it. OutputsFound (old_output it column) result value.old value.new) }
 {
     let it = take(alloc, handle);
     let status = set_old(&it, column, value);
@@ -157,9 +140,8 @@ pub extern "C" fn changecap_iter_new(
     value: &mut FieldValue,
 ) -> u32
     requires opened { IsSome handle.old.value }
-    ensures kept { handle.new.value ≡ handle.old.value }
-    ensures outputs { (it : Iter) → handle.old.value ≡ Some it →
-        OutputsFound (new_output it column) result value.old value.new }
+    ensures outputs { Keeps handle.old.value handle.new.value
+        (λ it. OutputsFound (new_output it column) result value.old value.new) }
 {
     let it = take(alloc, handle);
     let status = set_new(&it, column, value);
@@ -177,9 +159,8 @@ pub extern "C" fn changecap_iter_old_bytes(
     len: &mut usize,
 ) -> u32
     requires opened { IsSome handle.old.value }
-    ensures kept { handle.new.value ≡ handle.old.value }
-    ensures outputs { (it : Iter) → handle.old.value ≡ Some it →
-        OutputsBytes (old_bytes it column) result out.old out.new len.old len.new }
+    ensures outputs { Keeps handle.old.value handle.new.value
+        (λ it. OutputsBytes (old_bytes it column) result out.old out.new len.old len.new) }
 {
     let it = take(alloc, handle);
     let status = set_old_bytes(&it, column, out, len);
@@ -197,9 +178,8 @@ pub extern "C" fn changecap_iter_new_bytes(
     len: &mut usize,
 ) -> u32
     requires opened { IsSome handle.old.value }
-    ensures kept { handle.new.value ≡ handle.old.value }
-    ensures outputs { (it : Iter) → handle.old.value ≡ Some it →
-        OutputsBytes (new_bytes it column) result out.old out.new len.old len.new }
+    ensures outputs { Keeps handle.old.value handle.new.value
+        (λ it. OutputsBytes (new_bytes it column) result out.old out.new len.old len.new) }
 {
     let it = take(alloc, handle);
     let status = set_new_bytes(&it, column, out, len);

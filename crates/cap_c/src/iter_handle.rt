@@ -2,11 +2,11 @@
 ghost use Rattle.std.specs.Coded.{coded_option};
 ghost use Rattle.std.specs.Prelude.{◌≡◌, IsSome, None, Option, Some};
 ghost use Rattle.cap_c.specs.IterHandle.{code};
-ghost use Rattle.cap_c.specs.declared.iter.BlobIter.{BlobIter as Iter};
+ghost use Rattle.cap_connection.specs.Iter.{IterState};
 
 use crate::assert_send::assert_iter_send;
-use crate::iter::BlobIter;
 use crate::parts::Parts;
+use cap_connection::BlobIter;
 use std::alloc::Global;
 use std::marker::Model;
 use std::{mem, ptr};
@@ -17,7 +17,7 @@ use std::{mem, ptr};
 pub struct IterHandle {
     at: *mut u8,
     alloc: Global,
-    pub ghost value: { Option Iter } by { coded_option code },
+    pub ghost value: { Option IterState } by { coded_option code },
 }
 
 impl Model for IterHandle {

@@ -1,20 +1,33 @@
 //! The outputs of the calls on an iterator, by the change at which it stands.
 ghost use Rattle.std.specs.Prelude.{◌≡◌};
-ghost use Rattle.cap_c.specs.Iter.{info_of, table_of};
-ghost use Rattle.cap_c.specs.IterOutputs.{key_output, new_bytes, new_output, old_bytes, old_output};
+ghost use Rattle.cap_connection.specs.Iter.{table_of};
+ghost use Rattle.cap_c.specs.IterOutputs.{info_of, key_output, new_bytes, new_output, old_bytes, old_output};
+ghost use Rattle.cap_c.specs.IterOutputs.{step_status};
 ghost use Rattle.cap_c.specs.Outputs.{OutputsBytes, OutputsFound};
 
 use crate::change_info::{ChangeInfo, FieldValue, value_bytes, value_output};
-use crate::iter::BlobIter;
 use crate::output::write_bytes;
-use crate::status::{MISUSE, OK};
+use crate::status::{DONE, MISUSE, OK, ROW};
+use cap_connection::BlobIter;
+
+/// Whether there is a next change or row.
+pub(crate) fn step_status(is_row: bool) -> u32
+    ensures { result ≡ step_status is_row }
+{
+    if is_row { ROW } else { DONE }
+}
 
 pub(crate) fn set_info(it: &BlobIter, info: &mut ChangeInfo) -> u32
     ensures { OutputsFound (info_of it.now) result info.old info.new }
 {
-    match it.info() {
-        Some(found) => {
-            *info = found;
+    match it.head() {
+        Some(head) => {
+            *info = ChangeInfo {
+                op: u32::from(head.operation.byte()),
+                indirect: u32::from(head.indirect),
+                patchset: u32::from(it.is_patchset()),
+                columns: it.columns(),
+            };
             OK
         }
         None => MISUSE,

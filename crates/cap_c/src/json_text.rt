@@ -1,10 +1,8 @@
 //! Whole blobs as JSON.
-ghost use Rattle.std.specs.Prelude.{◌≡◌, IfOk, length};
+ghost use Rattle.std.specs.Prelude.{◌≡◌, IfOk};
 ghost use Rattle.cap_value.specs.Memory.{ShowsUnlessMemory};
 ghost use Rattle.cap_c.specs.Json.{json_at, json_of};
-ghost use Rattle.cap_c.specs.Status.{IsUnlessMemory, bytes_status};
-ghost use Rattle.cap_c.specs.Outputs.{KeepsOthers, Outputs};
-ghost use Rattle.cap_c.specs.declared.status.TheConstants.{NOMEM};
+ghost use Rattle.cap_c.specs.Outputs.{Converts};
 
 use crate::fault::PlacedFault;
 use crate::output::set_bytes;
@@ -23,12 +21,8 @@ pub extern "C" fn changecap_json(
     len: &mut usize,
     fault: &mut PlacedFault,
 ) -> u32
-    // Which status.
-    ensures status { IsUnlessMemory result (bytes_status (json_at Global blob.now) (length out.old)) }
-    // The text, its length, or the fault.
-    ensures outputs { ¬ (result ≡ NOMEM) →
-        Outputs (json_at Global blob.now) result out.old out.new len.new fault.new }
-    ensures kept { KeepsOthers result out.old out.new len.old len.new fault.old fault.new }
+    ensures converted { Converts (json_at Global blob.now) result out.old out.new len.old len.new
+        fault.old fault.new }
 {
     set_bytes(json_bytes(alloc, blob), out, len, fault)
 }

@@ -2,9 +2,9 @@
 ghost use Rattle.std.specs.Prelude.{◌≡◌, ℕ, List, Result, length};
 ghost use Rattle.cap_value.specs.Memory.{ShowsUnlessMemory};
 ghost use Rattle.cap_blob.specs.declared.refusal.ChangesetRefusal.{ChangesetRefusal as Refused};
-ghost use Rattle.cap_c.specs.Status.{IsUnlessMemory, bytes_status, room_status};
-ghost use Rattle.cap_c.specs.Outputs.{KeepsOthers, Outputs, Writes, begins_with};
-ghost use Rattle.cap_c.specs.declared.status.TheConstants.{NOMEM, OK, ROOM};
+ghost use Rattle.cap_c.specs.Status.{room_status};
+ghost use Rattle.cap_c.specs.Outputs.{Converts, begins_with};
+ghost use Rattle.cap_c.specs.declared.status.TheConstants.{OK, ROOM};
 
 use crate::fault::PlacedFault;
 use crate::status::{MALFORMED, NOMEM, OK, PATCHSET, ROOM};
@@ -35,12 +35,8 @@ pub(crate) fn set_bytes(
     len: &mut usize,
     fault: &mut PlacedFault,
 ) -> u32
-    ensures status { (said : Result (List ℕ) Refused) → ShowsUnlessMemory (λ bytes. bytes.items) answer said →
-        IsUnlessMemory result (bytes_status said (length out.old)) }
-    ensures outputs { (said : Result (List ℕ) Refused) →
-        ShowsUnlessMemory (λ bytes. bytes.items) answer said →
-        ¬ (result ≡ NOMEM) → Outputs said result out.old out.new len.new fault.new }
-    ensures kept { KeepsOthers result out.old out.new len.old len.new fault.old fault.new }
+    ensures { (said : Result (List ℕ) Refused) → ShowsUnlessMemory (λ bytes. bytes.items) answer said →
+        Converts said result out.old out.new len.old len.new fault.old fault.new }
 {
     match answer {
         Ok(bytes) => write_bytes(bytes.as_slice(), out, len),

@@ -1,30 +1,28 @@
 //! The calls that open and end a server, and that give it a command as text.
-ghost use Rattle.std.specs.Prelude.{◌≡◌, ◌+◌, ◌<◌, ◌^◌, None, Some, IsSome, length};
-ghost use Rattle.cap_c.specs.OneCommand.{TellsText};
-ghost use Rattle.cap_c.specs.Server.{IsAnswered, IsNew, RunsText};
-ghost use Rattle.cap_c.specs.Status.{room_status};
-ghost use Rattle.cap_c.specs.Outputs.{Writes};
-ghost use Rattle.cap_c.specs.declared.server.OpenServer.{OpenServer as Server};
-ghost use Rattle.cap_c.specs.declared.status.TheConstants.{FULL, NOMEM, OK};
+ghost use Rattle.std.specs.Prelude.{◌≡◌, None, Some, IsSome};
+ghost use Rattle.cap_connection.specs.Connection.{new_connection};
+ghost use Rattle.cap_connection.specs.TextCall.{CallsText};
+ghost use Rattle.cap_c.specs.Handle.{Keeps, OpensOn};
+ghost use Rattle.cap_c.specs.Outputs.{OutputsBytes};
+ghost use Rattle.cap_c.specs.Answered.{Answers, TellsText};
 
+use crate::answered::tell_text;
 use crate::fault::PlacedFault;
 use crate::output::write_bytes;
-use crate::server::OpenServer;
 use crate::server_handle::{ServerHandle, put, take};
 use crate::status::{NOMEM, OK};
+use cap_connection::Connection;
 use std::alloc::Global;
 
 /// Opens an empty server.
 #[unsafe(no_mangle)]
 pub extern "C" fn changecap_server_open(alloc: Global, handle: &mut ServerHandle) -> u32
     requires closed { handle.old.value ≡ None }
-    ensures opened { result ≡ OK → (server : Server) × (handle.new.value ≡ Some server)
-        × IsNew server }
-    ensures kept { ¬ (result ≡ OK) → (result ≡ NOMEM) × (handle.new.value ≡ None) }
+    ensures opened { OpensOn new_connection result handle.new.value }
 {
-    match Box::new(alloc, OpenServer::new(alloc)) {
-        Ok(server) => {
-            put(handle, server);
+    match Box::new(alloc, Connection::open(alloc)) {
+        Ok(connection) => {
+            put(handle, connection);
             OK
         }
         Err(_) => NOMEM,
@@ -40,20 +38,13 @@ pub extern "C" fn changecap_server_call(
     fault: &mut PlacedFault,
 ) -> u32
     requires opened { IsSome handle.old.value }
-    // The next state and the reply are those of the sequential server.
-    ensures ran { IsAnswered result → (old : Server) × (new : Server) × (handle.old.value ≡ Some old)
-        × (handle.new.value ≡ Some new) × RunsText old new text.now result }
-    // Exactly a text that is not one command is none, unless memory ran out, and the fault says why.
-    ensures text { TellsText text.now result fault.old fault.new }
-    ensures kept { ¬ (IsAnswered result) → handle.new.value ≡ handle.old.value }
-    // The history is full only where it is.
-    ensures full { (old : Server) → handle.old.value ≡ Some old → result ≡ FULL →
-        ¬ (old.core.events + 1 < 2 ^ 63) }
+    ensures called { Answers handle.old.value handle.new.value (CallsText text.now)
+        (TellsText result fault.old fault.new) }
 {
-    let mut server = take(alloc, handle);
-    let status = server.call(alloc, text, fault);
-    put(handle, server);
-    status
+    let mut connection = take(alloc, handle);
+    let answer = connection.call(alloc, text);
+    put(handle, connection);
+    tell_text(answer, fault)
 }
 
 /// Writes the text of the last reply.
@@ -65,15 +56,12 @@ pub extern "C" fn changecap_server_reply(
     len: &mut usize,
 ) -> u32
     requires opened { IsSome handle.old.value }
-    ensures kept { handle.new.value ≡ handle.old.value }
-    ensures status { (server : Server) → handle.old.value ≡ Some server →
-        result ≡ room_status (length server.output.items) (length out.old) }
-    ensures written { (server : Server) → handle.old.value ≡ Some server →
-        Writes server.output.items result out.old out.new len.new }
+    ensures outputs { Keeps handle.old.value handle.new.value
+        (λ connection. OutputsBytes (Some connection.output) result out.old out.new len.old len.new) }
 {
-    let server = take(alloc, handle);
-    let status = write_bytes(server.output(), out, len);
-    put(handle, server);
+    let connection = take(alloc, handle);
+    let status = write_bytes(connection.reply_text(), out, len);
+    put(handle, connection);
     status
 }
 

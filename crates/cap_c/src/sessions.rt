@@ -1,21 +1,18 @@
 //! The calls on the sessions of a server.
-ghost use Rattle.std.specs.Prelude.{◌≡◌, ◌↔◌, Bool, IsSome, None, Option, Some};
-ghost use Rattle.cap_core.specs.Answer.{answer};
+ghost use Rattle.std.specs.Prelude.{IsSome};
 ghost use Rattle.cap_core.specs.declared.command.Command.TheVariants as command;
-ghost use Rattle.cap_c.specs.Between.{Between, Holds};
-ghost use Rattle.cap_c.specs.Commands.{NoReply, RunsCommand, asked_of};
-ghost use Rattle.cap_c.specs.Names.{IsName};
-ghost use Rattle.cap_c.specs.Replies.{fault_output, flag_output, number_output};
-ghost use Rattle.cap_c.specs.Server.{IsAnswered};
-ghost use Rattle.cap_c.specs.declared.status.TheConstants.{MISUSE};
+ghost use Rattle.cap_connection.specs.Calls.{Attaches, Diffs, SetsFilter};
+ghost use Rattle.cap_connection.specs.Replies.{flag_in, nothing_in, number_in};
+ghost use Rattle.cap_connection.specs.Runs.{Runs};
+ghost use Rattle.cap_c.specs.Numbers.{asked_of};
+ghost use Rattle.cap_c.specs.Answered.{Answers, Given, Tells, TellsFlag, TellsNumber};
 
+use crate::answered::{tell, tell_flag, tell_number};
 use crate::fault::PlacedFault;
-use crate::names::name_text;
-use crate::server::OpenServer;
+use crate::numbers::asked_of;
 use crate::server_handle::{ServerHandle, put, take};
-use crate::status::{FULL, MISUSE, NOMEM};
-use cap_core::Command;
-use cap_value::Name;
+use cap_connection::{Connection, ConnectionFault};
+use cap_value::Fault;
 use std::alloc::Global;
 
 /// Makes a session, as `sqlite3session_create`.
@@ -27,21 +24,13 @@ pub extern "C" fn changecap_session_new(
     fault: &mut PlacedFault,
 ) -> u32
     requires opened { IsSome handle.old.value }
-    ensures ran { IsAnswered result → Between handle.old.value handle.new.value
-        (λ old new. RunsCommand old new command.NewSession result) }
-    ensures session { IsAnswered result → Holds handle.old.value
-        (λ old. session.new ≡ number_output (answer old.core command.NewSession) session.old) }
-    ensures fault { IsAnswered result → Holds handle.old.value
-        (λ old. fault.new ≡ fault_output (answer old.core command.NewSession) fault.old) }
-    ensures why { ¬ (IsAnswered result) → Holds handle.old.value (λ old. NoReply old result) }
-    ensures kept { ¬ (IsAnswered result) → handle.new.value ≡ handle.old.value }
-    ensures session_kept { ¬ (IsAnswered result) → session.new ≡ session.old }
-    ensures fault_kept { ¬ (IsAnswered result) → fault.new ≡ fault.old }
+    ensures made { Answers handle.old.value handle.new.value (Runs number_in command.NewSession)
+        (TellsNumber result session.old session.new fault.old fault.new) }
 {
-    let mut server = take(alloc, handle);
-    let status = server.set_number(&Command::NewSession, session, fault);
-    put(handle, server);
-    status
+    let mut connection = take(alloc, handle);
+    let answer = connection.new_session();
+    put(handle, connection);
+    tell_number(answer, session, fault)
 }
 
 /// Ends a session, as `sqlite3session_delete`.
@@ -53,41 +42,13 @@ pub extern "C" fn changecap_session_drop(
     fault: &mut PlacedFault,
 ) -> u32
     requires opened { IsSome handle.old.value }
-    ensures ran { IsAnswered result → Between handle.old.value handle.new.value
-        (λ old new. RunsCommand old new (command.DropSession session) result) }
-    ensures fault { IsAnswered result → Holds handle.old.value
-        (λ old. fault.new ≡ fault_output (answer old.core (command.DropSession session)) fault.old) }
-    ensures why { ¬ (IsAnswered result) → Holds handle.old.value (λ old. NoReply old result) }
-    ensures kept { ¬ (IsAnswered result) → handle.new.value ≡ handle.old.value }
-    ensures fault_kept { ¬ (IsAnswered result) → fault.new ≡ fault.old }
+    ensures ended { Answers handle.old.value handle.new.value (Runs nothing_in (command.DropSession session))
+        (Tells result fault.old fault.new) }
 {
-    let mut server = take(alloc, handle);
-    let status = server.set_refusal(&Command::DropSession { session }, fault);
-    put(handle, server);
-    status
-}
-
-/// Attaches every table of which a row changes from now on, as `sqlite3session_attach` without a name.
-#[unsafe(no_mangle)]
-pub extern "C" fn changecap_session_attach_all(
-    alloc: Global,
-    handle: &mut ServerHandle,
-    session: u64,
-    fault: &mut PlacedFault,
-) -> u32
-    requires opened { IsSome handle.old.value }
-    ensures ran { IsAnswered result → Between handle.old.value handle.new.value
-        (λ old new. RunsCommand old new (command.AttachAll session) result) }
-    ensures fault { IsAnswered result → Holds handle.old.value
-        (λ old. fault.new ≡ fault_output (answer old.core (command.AttachAll session)) fault.old) }
-    ensures why { ¬ (IsAnswered result) → Holds handle.old.value (λ old. NoReply old result) }
-    ensures kept { ¬ (IsAnswered result) → handle.new.value ≡ handle.old.value }
-    ensures fault_kept { ¬ (IsAnswered result) → fault.new ≡ fault.old }
-{
-    let mut server = take(alloc, handle);
-    let status = server.set_refusal(&Command::AttachAll { session }, fault);
-    put(handle, server);
-    status
+    let mut connection = take(alloc, handle);
+    let answer = connection.drop_session(session);
+    put(handle, connection);
+    tell(answer, fault)
 }
 
 /// Attaches a table, as `sqlite3session_attach`.
@@ -100,51 +61,71 @@ pub extern "C" fn changecap_session_attach(
     fault: &mut PlacedFault,
 ) -> u32
     requires opened { IsSome handle.old.value }
-    ensures ran { IsAnswered result → Between handle.old.value handle.new.value
-        (λ old new. RunsCommand old new (command.Attach session table.now) result) }
-    ensures fault { IsAnswered result → Holds handle.old.value
-        (λ old. fault.new ≡ fault_output (answer old.core (command.Attach session table.now)) fault.old) }
-    // Exactly bytes that are no name are misuse.
-    ensures misuse { result ≡ MISUSE → ¬ (IsName table.now) }
-    ensures named { ¬ (result ≡ MISUSE) → IsName table.now }
-    ensures why { ¬ (IsAnswered result) → ¬ (result ≡ MISUSE) → Holds handle.old.value
-        (λ old. NoReply old result) }
-    ensures kept { ¬ (IsAnswered result) → handle.new.value ≡ handle.old.value }
-    ensures fault_kept { ¬ (IsAnswered result) → fault.new ≡ fault.old }
+    ensures attached { Answers handle.old.value handle.new.value (Attaches session table.now)
+        (Tells result fault.old fault.new) }
 {
-    let mut server = take(alloc, handle);
-    let status = attach(alloc, &mut server, session, table, fault);
-    put(handle, server);
-    status
+    let mut connection = take(alloc, handle);
+    let answer = connection.attach(alloc, session, table);
+    put(handle, connection);
+    tell(answer, fault)
 }
 
-fn attach(
+/// Attaches every table of which a row changes from now on, as `sqlite3session_attach` without a name.
+#[unsafe(no_mangle)]
+pub extern "C" fn changecap_session_attach_all(
     alloc: Global,
-    server: &mut OpenServer,
+    handle: &mut ServerHandle,
     session: u64,
+    fault: &mut PlacedFault,
+) -> u32
+    requires opened { IsSome handle.old.value }
+    ensures attached { Answers handle.old.value handle.new.value (Runs nothing_in (command.AttachAll session))
+        (Tells result fault.old fault.new) }
+{
+    let mut connection = take(alloc, handle);
+    let answer = connection.attach_all(session);
+    put(handle, connection);
+    tell(answer, fault)
+}
+
+/// Attaches from now on each table of which a row changes and whose name the filter accepts, as
+/// `sqlite3session_table_filter`.
+#[unsafe(no_mangle)]
+pub extern "C" fn changecap_session_filter(
+    alloc: Global,
+    handle: &mut ServerHandle,
+    session: u64,
+    text: &[u8],
+    fault: &mut PlacedFault,
+) -> u32
+    requires opened { IsSome handle.old.value }
+    ensures filtered { Answers handle.old.value handle.new.value (SetsFilter session text.now)
+        (Tells result fault.old fault.new) }
+{
+    let mut connection = take(alloc, handle);
+    let answer = connection.set_filter(alloc, session, text);
+    put(handle, connection);
+    tell(answer, fault)
+}
+
+/// Records how a table differs from the one of the same name in a saved database, as `sqlite3session_diff`.
+#[unsafe(no_mangle)]
+pub extern "C" fn changecap_session_diff(
+    alloc: Global,
+    handle: &mut ServerHandle,
+    session: u64,
+    from: &[u8],
     table: &[u8],
     fault: &mut PlacedFault,
 ) -> u32
-    ensures ran { IsAnswered result →
-        RunsCommand server.old server.new (command.Attach session table.now) result }
-    ensures fault { IsAnswered result →
-        fault.new ≡ fault_output (answer server.old.core (command.Attach session table.now)) fault.old }
-    ensures misuse { result ≡ MISUSE → ¬ (IsName table.now) }
-    ensures named { ¬ (result ≡ MISUSE) → IsName table.now }
-    ensures why { ¬ (IsAnswered result) → ¬ (result ≡ MISUSE) → NoReply server.old result }
-    ensures kept { ¬ (IsAnswered result) → server.new ≡ server.old }
-    ensures fault_kept { ¬ (IsAnswered result) → fault.new ≡ fault.old }
+    requires opened { IsSome handle.old.value }
+    ensures compared { Answers handle.old.value handle.new.value (Diffs session from.now table.now)
+        (Tells result fault.old fault.new) }
 {
-    let Some(name) = name_text(table) else {
-        return MISUSE;
-    };
-    if server.is_full() {
-        return FULL;
-    }
-    let Ok(table) = Name::new(alloc, name) else {
-        return NOMEM;
-    };
-    server.set_refusal(&Command::Attach { session, table }, fault)
+    let mut connection = take(alloc, handle);
+    let answer = connection.diff(alloc, session, from, table);
+    put(handle, connection);
+    tell(answer, fault)
 }
 
 /// Enables or disables a session, or asks whether it is enabled, as `sqlite3session_enable`.
@@ -158,30 +139,29 @@ pub extern "C" fn changecap_session_enable(
     fault: &mut PlacedFault,
 ) -> u32
     requires opened { IsSome handle.old.value }
-    ensures ran { (value : Option Bool) → asked_of asked ≡ Some value → IsAnswered result →
-        Between handle.old.value handle.new.value
-        (λ old new. RunsCommand old new (command.Enable session value) result) }
-    ensures flag { (value : Option Bool) → asked_of asked ≡ Some value → IsAnswered result →
-        Holds handle.old.value
-        (λ old. flag.new ≡ flag_output (answer old.core (command.Enable session value)) flag.old) }
-    ensures fault { (value : Option Bool) → asked_of asked ≡ Some value → IsAnswered result →
-        Holds handle.old.value
-        (λ old. fault.new ≡ fault_output (answer old.core (command.Enable session value)) fault.old) }
-    // Exactly a number that asks for nothing is misuse.
-    ensures misuse { (result ≡ MISUSE) ↔ (asked_of asked ≡ None) }
-    ensures why { ¬ (IsAnswered result) → ¬ (result ≡ MISUSE) → Holds handle.old.value
-        (λ old. NoReply old result) }
-    ensures kept { ¬ (IsAnswered result) → handle.new.value ≡ handle.old.value }
-    ensures flag_kept { ¬ (IsAnswered result) → flag.new ≡ flag.old }
-    ensures fault_kept { ¬ (IsAnswered result) → fault.new ≡ fault.old }
+    // A number that asks for nothing is misuse.
+    ensures enabled { Answers handle.old.value handle.new.value
+        (Given (asked_of asked) (λ value. Runs flag_in (command.Enable session value)))
+        (TellsFlag result flag.old flag.new fault.old fault.new) }
 {
-    let Some(enabled) = asked_of(asked) else {
-        return MISUSE;
-    };
-    let mut server = take(alloc, handle);
-    let status = server.set_flag(&Command::Enable { session, enabled }, flag, fault);
-    put(handle, server);
-    status
+    let mut connection = take(alloc, handle);
+    let answer = enable(&mut connection, session, asked_of(asked));
+    put(handle, connection);
+    tell_flag(answer, flag, fault)
+}
+
+fn enable(
+    connection: &mut Connection,
+    session: u64,
+    asked: Option<Option<bool>>,
+) -> Result<bool, Fault<ConnectionFault>>
+    ensures { Given asked (λ value. Runs flag_in (command.Enable session value))
+        connection.old connection.new result }
+{
+    match asked {
+        Some(value) => connection.enable(session, value),
+        None => Err(Fault::Refused(ConnectionFault::Misuse)),
+    }
 }
 
 /// Sets the indirect flag of a session, or asks for it, as `sqlite3session_indirect`.
@@ -195,30 +175,29 @@ pub extern "C" fn changecap_session_indirect(
     fault: &mut PlacedFault,
 ) -> u32
     requires opened { IsSome handle.old.value }
-    ensures ran { (value : Option Bool) → asked_of asked ≡ Some value → IsAnswered result →
-        Between handle.old.value handle.new.value
-        (λ old new. RunsCommand old new (command.Indirect session value) result) }
-    ensures flag { (value : Option Bool) → asked_of asked ≡ Some value → IsAnswered result →
-        Holds handle.old.value
-        (λ old. flag.new ≡ flag_output (answer old.core (command.Indirect session value)) flag.old) }
-    ensures fault { (value : Option Bool) → asked_of asked ≡ Some value → IsAnswered result →
-        Holds handle.old.value
-        (λ old. fault.new ≡ fault_output (answer old.core (command.Indirect session value)) fault.old) }
-    // Exactly a number that asks for nothing is misuse.
-    ensures misuse { (result ≡ MISUSE) ↔ (asked_of asked ≡ None) }
-    ensures why { ¬ (IsAnswered result) → ¬ (result ≡ MISUSE) → Holds handle.old.value
-        (λ old. NoReply old result) }
-    ensures kept { ¬ (IsAnswered result) → handle.new.value ≡ handle.old.value }
-    ensures flag_kept { ¬ (IsAnswered result) → flag.new ≡ flag.old }
-    ensures fault_kept { ¬ (IsAnswered result) → fault.new ≡ fault.old }
+    // A number that asks for nothing is misuse.
+    ensures marked { Answers handle.old.value handle.new.value
+        (Given (asked_of asked) (λ value. Runs flag_in (command.Indirect session value)))
+        (TellsFlag result flag.old flag.new fault.old fault.new) }
 {
-    let Some(indirect) = asked_of(asked) else {
-        return MISUSE;
-    };
-    let mut server = take(alloc, handle);
-    let status = server.set_flag(&Command::Indirect { session, indirect }, flag, fault);
-    put(handle, server);
-    status
+    let mut connection = take(alloc, handle);
+    let answer = indirect(&mut connection, session, asked_of(asked));
+    put(handle, connection);
+    tell_flag(answer, flag, fault)
+}
+
+fn indirect(
+    connection: &mut Connection,
+    session: u64,
+    asked: Option<Option<bool>>,
+) -> Result<bool, Fault<ConnectionFault>>
+    ensures { Given asked (λ value. Runs flag_in (command.Indirect session value))
+        connection.old connection.new result }
+{
+    match asked {
+        Some(value) => connection.indirect(session, value),
+        None => Err(Fault::Refused(ConnectionFault::Misuse)),
+    }
 }
 
 /// Whether a session has no records, as `sqlite3session_isempty`.
@@ -231,31 +210,11 @@ pub extern "C" fn changecap_session_isempty(
     fault: &mut PlacedFault,
 ) -> u32
     requires opened { IsSome handle.old.value }
-    ensures ran { IsAnswered result → Between handle.old.value handle.new.value
-        (λ old new. RunsCommand old new (command.IsEmpty session) result) }
-    ensures flag { IsAnswered result → Holds handle.old.value
-        (λ old. flag.new ≡ flag_output (answer old.core (command.IsEmpty session)) flag.old) }
-    ensures fault { IsAnswered result → Holds handle.old.value
-        (λ old. fault.new ≡ fault_output (answer old.core (command.IsEmpty session)) fault.old) }
-    ensures why { ¬ (IsAnswered result) → Holds handle.old.value (λ old. NoReply old result) }
-    ensures kept { ¬ (IsAnswered result) → handle.new.value ≡ handle.old.value }
-    ensures flag_kept { ¬ (IsAnswered result) → flag.new ≡ flag.old }
-    ensures fault_kept { ¬ (IsAnswered result) → fault.new ≡ fault.old }
+    ensures asked { Answers handle.old.value handle.new.value (Runs flag_in (command.IsEmpty session))
+        (TellsFlag result flag.old flag.new fault.old fault.new) }
 {
-    let mut server = take(alloc, handle);
-    let status = server.set_flag(&Command::IsEmpty { session }, flag, fault);
-    put(handle, server);
-    status
-}
-
-// What a flag is to be, by its number: off, on, or only asked for.
-fn asked_of(number: u32) -> Option<Option<bool>>
-    ensures { result ≡ asked_of number }
-{
-    match number {
-        0 => Some(Some(false)),
-        1 => Some(Some(true)),
-        2 => Some(None),
-        _ => None,
-    }
+    let mut connection = take(alloc, handle);
+    let answer = connection.is_empty(session);
+    put(handle, connection);
+    tell_flag(answer, flag, fault)
 }

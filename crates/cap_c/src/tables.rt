@@ -1,21 +1,17 @@
 //! The calls on the tables of a server.
-ghost use Rattle.std.specs.Prelude.{◌≡◌, IsSome};
-ghost use Rattle.cap_core.specs.Answer.{answer};
-ghost use Rattle.cap_core.specs.declared.command.Command.TheVariants as command;
-ghost use Rattle.cap_c.specs.Between.{Between, Holds};
-ghost use Rattle.cap_c.specs.Commands.{NoReply, RunsCommand, key_columns};
-ghost use Rattle.cap_c.specs.Names.{IsTable};
-ghost use Rattle.cap_c.specs.Replies.{fault_output, number_output};
-ghost use Rattle.cap_c.specs.Server.{IsAnswered};
-ghost use Rattle.cap_c.specs.declared.status.TheConstants.{MISUSE};
+ghost use Rattle.std.specs.Prelude.{IsSome};
+ghost use Rattle.cap_connection.specs.Calls.{Applies, CreatesTable, Saves};
+ghost use Rattle.cap_c.specs.Numbers.{policy_of};
+ghost use Rattle.cap_c.specs.Answered.{Answers, Given, Tells, TellsNumber, TellsReport};
 
+use crate::answered::{tell, tell_number, tell_report};
+use crate::apply_report::ApplyReport;
 use crate::fault::PlacedFault;
-use crate::names::{are_columns, name_text, schema_of};
-use crate::server::OpenServer;
+use crate::numbers::policy_of;
 use crate::server_handle::{ServerHandle, put, take};
-use crate::status::{FULL, MISUSE, NOMEM};
-use cap_core::Command;
-use cap_value::Name;
+use cap_apply::Policy;
+use cap_connection::{Applied, Connection, ConnectionFault};
+use cap_value::Fault;
 use std::alloc::Global;
 
 /// Creates a table. A byte for each column says whether it is in the primary key.
@@ -29,64 +25,68 @@ pub extern "C" fn changecap_create(
     fault: &mut PlacedFault,
 ) -> u32
     requires opened { IsSome handle.old.value }
-    ensures ran { IsAnswered result → Between handle.old.value handle.new.value
-        (λ old new. RunsCommand old new (command.CreateTable table.now (key_columns key.now)) result) }
-    ensures version { IsAnswered result → Holds handle.old.value (λ old. version.new
-        ≡ number_output (answer old.core (command.CreateTable table.now (key_columns key.now))) version.old) }
-    ensures fault { IsAnswered result → Holds handle.old.value (λ old. fault.new
-        ≡ fault_output (answer old.core (command.CreateTable table.now (key_columns key.now))) fault.old) }
-    // Exactly a name that is none, or a number of columns that no table may have, is misuse.
-    ensures misuse { result ≡ MISUSE → ¬ (IsTable table.now key.now) }
-    ensures table { ¬ (result ≡ MISUSE) → IsTable table.now key.now }
-    ensures why { ¬ (IsAnswered result) → ¬ (result ≡ MISUSE) → Holds handle.old.value
-        (λ old. NoReply old result) }
-    ensures kept { ¬ (IsAnswered result) → handle.new.value ≡ handle.old.value }
-    ensures version_kept { ¬ (IsAnswered result) → version.new ≡ version.old }
-    ensures fault_kept { ¬ (IsAnswered result) → fault.new ≡ fault.old }
+    ensures created { Answers handle.old.value handle.new.value (CreatesTable table.now key.now)
+        (TellsNumber result version.old version.new fault.old fault.new) }
 {
-    let mut server = take(alloc, handle);
-    let status = create(alloc, &mut server, table, key, version, fault);
-    put(handle, server);
-    status
+    let mut connection = take(alloc, handle);
+    let answer = connection.create_table(alloc, table, key);
+    put(handle, connection);
+    tell_number(answer, version, fault)
 }
 
-fn create(
+/// Saves the tables under a name, and replaces what was saved under it.
+#[unsafe(no_mangle)]
+pub extern "C" fn changecap_save(
     alloc: Global,
-    server: &mut OpenServer,
-    table: &[u8],
-    key: &[u8],
-    version: &mut u64,
+    handle: &mut ServerHandle,
+    database: &[u8],
     fault: &mut PlacedFault,
 ) -> u32
-    ensures ran { IsAnswered result →
-        RunsCommand server.old server.new (command.CreateTable table.now (key_columns key.now)) result }
-    ensures version { IsAnswered result → version.new
-        ≡ number_output
-        (answer server.old.core (command.CreateTable table.now (key_columns key.now))) version.old }
-    ensures fault { IsAnswered result → fault.new
-        ≡ fault_output
-        (answer server.old.core (command.CreateTable table.now (key_columns key.now))) fault.old }
-    ensures misuse { result ≡ MISUSE → ¬ (IsTable table.now key.now) }
-    ensures table { ¬ (result ≡ MISUSE) → IsTable table.now key.now }
-    ensures why { ¬ (IsAnswered result) → ¬ (result ≡ MISUSE) → NoReply server.old result }
-    ensures kept { ¬ (IsAnswered result) → server.new ≡ server.old }
-    ensures version_kept { ¬ (IsAnswered result) → version.new ≡ version.old }
-    ensures fault_kept { ¬ (IsAnswered result) → fault.new ≡ fault.old }
+    requires opened { IsSome handle.old.value }
+    ensures saved { Answers handle.old.value handle.new.value (Saves database.now)
+        (Tells result fault.old fault.new) }
 {
-    if !are_columns(key) {
-        return MISUSE;
+    let mut connection = take(alloc, handle);
+    let answer = connection.save(alloc, database);
+    put(handle, connection);
+    tell(answer, fault)
+}
+
+/// Applies a changeset or a patchset, as `sqlite3changeset_apply`, with an answer to each kind of conflict.
+#[unsafe(no_mangle)]
+pub extern "C" fn changecap_apply(
+    alloc: Global,
+    handle: &mut ServerHandle,
+    blob: &[u8],
+    on_data: u32,
+    on_notfound: u32,
+    on_conflict: u32,
+    report: &mut ApplyReport,
+    fault: &mut PlacedFault,
+) -> u32
+    requires opened { IsSome handle.old.value }
+    // A number that is no answer is misuse.
+    ensures applied { Answers handle.old.value handle.new.value
+        (Given (policy_of on_data on_notfound on_conflict) (Applies blob.now))
+        (TellsReport result report.old report.new fault.old fault.new) }
+{
+    let mut connection = take(alloc, handle);
+    let policy = policy_of(on_data, on_notfound, on_conflict);
+    let answer = apply(alloc, &mut connection, blob, policy);
+    put(handle, connection);
+    tell_report(answer, report, fault)
+}
+
+fn apply(
+    alloc: Global,
+    connection: &mut Connection,
+    blob: &[u8],
+    policy: Option<Policy>,
+) -> Result<Applied, Fault<ConnectionFault>>
+    ensures { Given policy (Applies blob.now) connection.old connection.new result }
+{
+    match policy {
+        Some(policy) => connection.apply(alloc, blob, policy),
+        None => Err(Fault::Refused(ConnectionFault::Misuse)),
     }
-    let Some(name) = name_text(table) else {
-        return MISUSE;
-    };
-    if server.is_full() {
-        return FULL;
-    }
-    let Ok(table) = Name::new(alloc, name) else {
-        return NOMEM;
-    };
-    let Ok(schema) = schema_of(alloc, key) else {
-        return NOMEM;
-    };
-    server.set_number(&Command::CreateTable { table, schema }, version, fault)
 }

@@ -35,7 +35,7 @@ use Rattle.std.proofs.alloc.Global.TheLaws as heap_laws
 use Rattle.std.specs.contracts.impls.GlobalAllocator.TheImpl.{ghosts}
 use Rattle.std.specs.Prelude.{Option, Some, None, IsSome}
 use Rattle.cap_c.specs.IterHandle.{owns_if}
-use Rattle.cap_c.specs.contracts.iter.BlobIter as state
+use Rattle.cap_connection.specs.contracts.iter.BlobIter as state
 use Rattle.cap_c.specs.contracts.iter_handle.IterHandle as handle
 use Rattle.cap_c.specs.contracts.parts.Parts as parts
 use Rattle.cap_c.specs.contracts.iter_handle.into_parts.{ended, clauses}

@@ -35,7 +35,7 @@ use Rattle.std.proofs.alloc.Global.TheLaws as heap_laws
 use Rattle.std.specs.contracts.impls.GlobalAllocator.TheImpl.{ghosts}
 use Rattle.std.specs.Prelude.{Option, Some, None, IsSome}
 use Rattle.cap_c.specs.ServerHandle.{owns_if}
-use Rattle.cap_c.specs.contracts.server.OpenServer as state
+use Rattle.cap_connection.specs.contracts.connection.Connection as state
 use Rattle.cap_c.specs.contracts.server_handle.ServerHandle as handle
 use Rattle.cap_c.specs.contracts.parts.Parts as parts
 use Rattle.cap_c.specs.contracts.server_handle.into_parts.{ended, clauses}

@@ -1,0 +1,28 @@
+-- What a call leaves behind a handle.
+use Rattle.std.specs.Prelude.{◌≡◌, ℕ, Option, Some, None, Result, Ok}
+use Rattle.cap_codec.specs.declared.fault.BlobFault.{BlobFault}
+use Rattle.cap_c.specs.Outputs.{Checks}
+use Rattle.cap_c.specs.declared.fault.PlacedFault.{PlacedFault}
+use Rattle.cap_c.specs.declared.status.TheConstants.{NOMEM, OK}
+
+module _ {X : Type 0} where
+  -- both handles are open, and this holds of what they have
+  abbrev pub Between : Option X → Option X → (X → X → Type 0) → Type 0
+  Between (Some old) (Some new) holds = holds old new
+  Between _ _ holds = ⊥
+
+  -- an open handle has what it had, and this holds of it
+  abbrev pub Keeps : Option X → Option X → (X → Type 0) → Type 0
+  Keeps old new holds = Between old new (λ had has. (has ≡ had) × holds had)
+
+  -- a closed handle is opened on this value, or stays closed where memory runs out
+  abbrev pub OpensOn : X → ℕ → Option X → Type 0
+  OpensOn value status (Some has) = (status ≡ OK) × (has ≡ value)
+  OpensOn value status None = status ≡ NOMEM
+
+  -- a closed handle is opened on what bytes spell, or stays closed
+  pub record Opens (read : Result X BlobFault) (status : ℕ) (value : Option X) (old fault : PlacedFault)
+      : Type 0 where
+    pub checked : Checks read status old fault
+    pub opened : status ≡ OK → (x : X) × (read ≡ Ok x) × (value ≡ Some x)
+    pub closed : ¬ (status ≡ OK) → value ≡ None

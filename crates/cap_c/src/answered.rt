@@ -1,0 +1,204 @@
+//! What a call leaves with its caller, by the answer of the library's call.
+ghost use Rattle.std.specs.Prelude.{◌≡◌};
+ghost use Rattle.std.specs.Result.{result_map_both};
+ghost use Rattle.cap_c.specs.Outputs.{OutputsFound};
+ghost use Rattle.cap_c.specs.Answered.{Tells, TellsBytes, TellsFlag, TellsNumber, TellsPiece, TellsReport};
+ghost use Rattle.cap_c.specs.Answered.{TellsText, answer_status, fault_output, fault_status, len_output};
+
+use crate::apply_report::ApplyReport;
+use crate::fault::PlacedFault;
+use crate::output::write_bytes;
+use crate::status::{COMMAND, FILTER, FULL, MALFORMED, MISUSE, NOMEM, OK, REFUSED, ROOM};
+use cap_codec::BlobFault;
+use cap_connection::{Applied, ConnectionFault};
+use cap_value::Fault;
+use std::alloc::Global;
+
+fn fault_status(why: Fault<ConnectionFault>) -> u32
+    ensures { result ≡ fault_status why }
+{
+    match why {
+        Fault::OutOfMemory => NOMEM,
+        Fault::Refused(ConnectionFault::Misuse) => MISUSE,
+        Fault::Refused(ConnectionFault::Full) => FULL,
+        Fault::Refused(ConnectionFault::Refused { .. }) => REFUSED,
+        Fault::Refused(ConnectionFault::Malformed(_)) => MALFORMED,
+        Fault::Refused(ConnectionFault::NoFilter(_)) => FILTER,
+        Fault::Refused(ConnectionFault::NoCommand(_)) => COMMAND,
+        Fault::Refused(ConnectionFault::NoRoom { .. }) => ROOM,
+    }
+}
+
+fn fault_output(why: Fault<ConnectionFault>, old: PlacedFault) -> PlacedFault
+    ensures { result ≡ fault_output why old }
+{
+    match why {
+        Fault::Refused(ConnectionFault::Refused { at, why }) => PlacedFault::refused(at, why),
+        Fault::Refused(ConnectionFault::Malformed(wrong)) => PlacedFault::of(wrong),
+        Fault::Refused(ConnectionFault::NoFilter(why)) => PlacedFault::in_filter(why),
+        Fault::Refused(ConnectionFault::NoCommand(why)) => PlacedFault::in_text(why),
+        _ => old,
+    }
+}
+
+fn len_output(why: Fault<ConnectionFault>, old: usize) -> usize
+    ensures { result ≡ len_output why old }
+{
+    match why {
+        Fault::Refused(ConnectionFault::NoRoom { len }) => len,
+        _ => old,
+    }
+}
+
+/// The status alone.
+pub(crate) fn answer_status(answer: Result<(), Fault<ConnectionFault>>) -> u32
+    ensures { result ≡ answer_status answer }
+{
+    match answer {
+        Ok(()) => OK,
+        Err(why) => fault_status(why),
+    }
+}
+
+/// Sets the fault where there is one.
+pub(crate) fn tell(answer: Result<(), Fault<ConnectionFault>>, fault: &mut PlacedFault) -> u32
+    ensures { Tells result fault.old fault.new answer }
+{
+    match answer {
+        Ok(()) => OK,
+        Err(why) => {
+            *fault = fault_output(why, *fault);
+            fault_status(why)
+        }
+    }
+}
+
+/// Sets a number, or the fault.
+pub(crate) fn tell_number(
+    answer: Result<u64, Fault<ConnectionFault>>,
+    number: &mut u64,
+    fault: &mut PlacedFault,
+) -> u32
+    ensures { TellsNumber result number.old number.new fault.old fault.new answer }
+{
+    match answer {
+        Ok(found) => {
+            *number = found;
+            OK
+        }
+        Err(why) => {
+            *fault = fault_output(why, *fault);
+            fault_status(why)
+        }
+    }
+}
+
+/// Sets a flag, or the fault.
+pub(crate) fn tell_flag(
+    answer: Result<bool, Fault<ConnectionFault>>,
+    flag: &mut u32,
+    fault: &mut PlacedFault,
+) -> u32
+    ensures { TellsFlag result flag.old flag.new fault.old fault.new answer }
+{
+    match answer {
+        Ok(found) => {
+            *flag = u32::from(found);
+            OK
+        }
+        Err(why) => {
+            *fault = fault_output(why, *fault);
+            fault_status(why)
+        }
+    }
+}
+
+/// Sets the report of a blob that was applied, or the fault.
+pub(crate) fn tell_report(
+    answer: Result<Applied, Fault<ConnectionFault>>,
+    report: &mut ApplyReport,
+    fault: &mut PlacedFault,
+) -> u32
+    ensures { TellsReport result report.old report.new fault.old fault.new answer }
+{
+    match answer {
+        Ok(made) => {
+            *report = ApplyReport {
+                version: made.version,
+                applied: made.applied,
+                conflicts: made.conflicts,
+                omitted: made.omitted,
+                skipped: made.skipped,
+            };
+            OK
+        }
+        Err(why) => {
+            *fault = fault_output(why, *fault);
+            fault_status(why)
+        }
+    }
+}
+
+/// Writes bytes, or sets how many there are, or the fault.
+pub(crate) fn tell_bytes(
+    answer: Result<Vec<u8, Global>, Fault<ConnectionFault>>,
+    out: &mut [u8],
+    len: &mut usize,
+    fault: &mut PlacedFault,
+) -> u32
+    ensures { TellsBytes result out.old out.new len.old len.new fault.old fault.new
+        (result_map_both (λ bytes. bytes.items) (λ why. why) answer) }
+{
+    match answer {
+        Ok(bytes) => write_bytes(bytes.as_slice(), out, len),
+        Err(why) => {
+            *len = len_output(why, *len);
+            *fault = fault_output(why, *fault);
+            fault_status(why)
+        }
+    }
+}
+
+/// Whether a command by text is accepted, or the fault of the text.
+pub(crate) fn tell_text(
+    answer: Result<bool, Fault<ConnectionFault>>,
+    fault: &mut PlacedFault,
+) -> u32
+    ensures { TellsText result fault.old fault.new answer }
+{
+    match answer {
+        Ok(true) => OK,
+        Ok(false) => REFUSED,
+        Err(why) => {
+            *fault = fault_output(why, *fault);
+            fault_status(why)
+        }
+    }
+}
+
+/// Sets the fault of a piece of a blob, where it has one.
+pub(crate) fn tell_piece(answer: Result<(), Fault<BlobFault>>, fault: &mut PlacedFault) -> u32
+    ensures { TellsPiece answer result fault.old fault.new }
+{
+    match answer {
+        Ok(()) => OK,
+        Err(Fault::Refused(wrong)) => {
+            *fault = PlacedFault::of(wrong);
+            MALFORMED
+        }
+        Err(Fault::OutOfMemory) => NOMEM,
+    }
+}
+
+/// Sets what was asked for, where there is any.
+pub(crate) fn tell_found<T: Copy + Drop>(found: Option<T>, out: &mut T) -> u32
+    ensures { OutputsFound found result out.old out.new }
+{
+    match found {
+        Some(value) => {
+            *out = value;
+            OK
+        }
+        None => MISUSE,
+    }
+}

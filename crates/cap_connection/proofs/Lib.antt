@@ -1,0 +1,4 @@
+mod CallLemmas
+pub mod Crossing
+mod OneCommandLemmas
+mod PositionLemmas

@@ -1,0 +1,16 @@
+pub mod Called
+pub mod Calls
+pub mod Captures
+pub mod Connection
+pub mod Decoder
+pub mod Draft
+pub mod Fields
+pub mod Iter
+pub mod Names
+pub mod OneCommand
+pub mod Positions
+pub mod Query
+pub mod Replies
+pub mod RowCursor
+pub mod Runs
+pub mod TextCall

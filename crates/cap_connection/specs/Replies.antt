@@ -1,0 +1,48 @@
+-- What a reply has for the caller. Of a reply of another kind, which such a command never has, it is nothing.
+use Rattle.std.specs.Prelude.{ℕ, Bool, false, List, [], length}
+use Rattle.cap_changes.specs.Group.{TableChanges}
+use Rattle.cap_changes.specs.Patch.{patch_list_of}
+use Rattle.cap_codec.specs.Changeset.{list_bytes_with}
+use Rattle.cap_codec.specs.Patchset.{patch_list_bytes_with}
+use Rattle.cap_codec.specs.declared.key_flags.KeyFlags.{KeyFlags}
+use Rattle.cap_core.specs.declared.reply.Reply.{Reply}
+use Rattle.cap_core.specs.declared.reply.Reply.TheVariants as reply
+use Rattle.cap_connection.specs.declared.replies.Applied.{Applied}
+use Rattle.cap_connection.specs.declared.captured.CaptureKind.{CaptureKind}
+use Rattle.cap_connection.specs.declared.captured.CaptureKind.TheVariants.{Changeset, Patchset, Restart}
+
+-- the bytes of a session's changes
+abbrev pub captured_bytes : {A : Type 0} → CaptureKind → KeyFlags → List (TableChanges A) → List ℕ
+captured_bytes Changeset flags changes = list_bytes_with flags changes
+captured_bytes Patchset flags changes = patch_list_bytes_with flags (patch_list_of changes)
+captured_bytes Restart flags changes = list_bytes_with flags changes
+
+module _ {A : Type 0} where
+  abbrev pub nothing_in : Reply A → Unit {0}
+  nothing_in reply = tt
+
+  -- the number of the version or the session that was made
+  abbrev pub number_in : Reply A → ℕ
+  number_in (reply.Written version) = version
+  number_in (reply.Session number) = number
+  number_in _ = 0
+
+  abbrev pub flag_in : Reply A → Bool
+  flag_in (reply.Flag flag) = flag
+  flag_in _ = false
+
+  -- the new version, and how many changes there are of each kind
+  abbrev pub applied_in : Reply A → Applied
+  applied_in (reply.Applied version report) = record {
+    version = version;
+    applied = report.applied;
+    conflicts = length report.conflicts;
+    omitted = length report.omitted;
+    skipped = length report.skipped;
+  }
+  applied_in _ = record { version = 0; applied = 0; conflicts = 0; omitted = 0; skipped = 0 }
+
+  -- what a capture has to be written
+  abbrev pub bytes_in : CaptureKind → KeyFlags → Reply A → List ℕ
+  bytes_in kind flags (reply.Capture changes) = captured_bytes kind flags changes
+  bytes_in kind flags _ = []

@@ -1,0 +1,86 @@
+//! What a reply has for the caller.
+ghost use Rattle.std.specs.Prelude.{◌≡◌};
+ghost use Rattle.cap_core.specs.Past.{is_accepted};
+ghost use Rattle.cap_core.specs.RefusedFirst.{refusal_in};
+ghost use Rattle.cap_connection.specs.Replies.{applied_in, flag_in, number_in};
+
+use cap_core::Reply;
+use cap_value::Refusal;
+use std::alloc::Global;
+
+/// What became of a blob that was applied. A change that replaced a row in spite of a conflict is an applied
+/// one.
+#[derive(Clone, Copy, Debug, PartialEq, Eq, Drop)]
+pub struct Applied {
+    /// The new version.
+    pub version: u64,
+    /// How many changes were applied.
+    pub applied: u64,
+    /// How many conflicts there were.
+    pub conflicts: u64,
+    /// How many changes were omitted.
+    pub omitted: u64,
+    /// How many groups were skipped.
+    pub skipped: u64,
+}
+
+/// Why the command is refused, and the number of the refused operation or change.
+pub(crate) fn refusal_in(reply: &Reply<Global>) -> Option<(Option<u64>, Refusal)>
+    ensures { result ≡ refusal_in reply.now }
+{
+    match reply {
+        Reply::Refused { at, why } => Some((*at, *why)),
+        _ => None,
+    }
+}
+
+/// Whether the command is accepted.
+pub(crate) fn is_accepted(reply: &Reply<Global>) -> bool
+    ensures { result ≡ is_accepted reply.now }
+{
+    match reply {
+        Reply::Refused { .. } => false,
+        _ => true,
+    }
+}
+
+/// The number of the version or the session that was made.
+pub(crate) fn number_in(reply: &Reply<Global>) -> u64
+    ensures { result ≡ number_in reply.now }
+{
+    match reply {
+        Reply::Written { version } => *version,
+        Reply::Session(number) => *number,
+        _ => 0,
+    }
+}
+
+pub(crate) fn flag_in(reply: &Reply<Global>) -> bool
+    ensures { result ≡ flag_in reply.now }
+{
+    match reply {
+        Reply::Flag(flag) => *flag,
+        _ => false,
+    }
+}
+
+pub(crate) fn applied_in(reply: &Reply<Global>) -> Applied
+    ensures { result ≡ applied_in reply.now }
+{
+    match reply {
+        Reply::Applied { version, report } => Applied {
+            version: *version,
+            applied: report.applied(),
+            conflicts: report.conflicts().len() as u64,
+            omitted: report.omitted().len() as u64,
+            skipped: report.skipped().len() as u64,
+        },
+        _ => Applied {
+            version: 0,
+            applied: 0,
+            conflicts: 0,
+            omitted: 0,
+            skipped: 0,
+        },
+    }
+}

@@ -1,0 +1,81 @@
+//! Iterators over blobs, and blobs in pieces.
+use cap_codec::{BlobFault, FaultKind, Operation};
+use cap_connection::{BlobIter, PieceDecoder};
+use cap_value::{Fault, Value};
+use std::alloc::Global;
+
+// An UPDATE of t: the key column is 1, the second column was 2 and is 3.
+const UPDATE: [u8; 36] = [
+    0x54, 2, 1, 0, b't', 0, 0x17, 1, 1, 0, 0, 0, 0, 0, 0, 0, 1, 1, 0, 0, 0, 0, 0, 0, 0, 2, 0, 1, 0,
+    0, 0, 0, 0, 0, 0, 3,
+];
+
+fn is_integer(value: Option<&Value<Global>>, number: i64) -> bool {
+    match value {
+        Some(Value::Int(found)) => *found == number,
+        _ => false,
+    }
+}
+
+// Whether the change is the indirect UPDATE.
+fn is_update(it: &BlobIter) -> bool {
+    match it.head() {
+        Some(head) => matches!(head.operation, Operation::Update) && head.indirect,
+        None => false,
+    }
+}
+
+fn is_of_t(it: &BlobIter) -> bool {
+    match it.table() {
+        Some(name) => name.as_str() == "t" && it.columns() == 2 && it.is_key(0) && !it.is_key(1),
+        None => false,
+    }
+}
+
+// Whether the iterator goes over that UPDATE alone.
+fn goes_over_the_update(it: &mut BlobIter) -> bool {
+    let before = it.head().is_none() && it.step();
+    let change = is_update(it) && is_of_t(it) && !it.is_patchset();
+    let key = is_integer(it.old(0), 1) && it.new_value(0).is_none();
+    let value = is_integer(it.old(1), 2) && is_integer(it.new_value(1), 3);
+    before && change && key && value && !it.step() && it.head().is_none()
+}
+
+fn opened(alloc: Global, blob: &[u8]) -> bool {
+    match BlobIter::open(alloc, blob) {
+        Ok(mut it) => goes_over_the_update(&mut it),
+        Err(_) => false,
+    }
+}
+
+fn finished(decoder: PieceDecoder) -> bool {
+    match decoder.finish() {
+        Ok(mut it) => goes_over_the_update(&mut it),
+        Err(_) => false,
+    }
+}
+
+#[test]
+fn an_iterator_over_an_update(rt: HostRuntime) {
+    assert!(rt; opened(rt.alloc(), &UPDATE));
+}
+
+#[test]
+fn an_update_in_two_pieces(rt: HostRuntime) {
+    let mut decoder = PieceDecoder::new(rt.alloc());
+    assert!(rt; decoder.feed(&UPDATE[..10]) == Ok(()));
+    assert!(rt; decoder.feed(&UPDATE[10..]) == Ok(()));
+    assert!(rt; finished(decoder));
+}
+
+#[test]
+fn a_fault_that_no_further_bytes_can_mend(rt: HostRuntime) {
+    let mut decoder = PieceDecoder::new(rt.alloc());
+    let fault = Fault::Refused(BlobFault {
+        at: 0,
+        kind: FaultKind::BadHeader,
+    });
+    assert!(rt; decoder.feed(b"") == Ok(()));
+    assert!(rt; decoder.feed(b"x") == Err(fault));
+    assert!(rt; decoder.feed(&UPDATE) == Err(fault));
+}

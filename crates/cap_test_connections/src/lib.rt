@@ -1,0 +1,9 @@
+//! Tests of connections, of iterators over blobs and of blobs in pieces, as a library in Rust has them.
+#![tactic(auto)]
+
+#[cfg(test)]
+mod blobs;
+#[cfg(test)]
+mod calls;
+#[cfg(test)]
+mod rows;
