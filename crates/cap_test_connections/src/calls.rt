@@ -1,4 +1,5 @@
 //! Tables, sessions, batches and texts.
+use crate::texts::{MISUSE, accepts};
 use cap_codec::KeyFlags;
 use cap_connection::{ActionKind, CaptureKind, Connection, ConnectionFault, TextFault};
 use cap_database::Cause;
@@ -9,8 +10,6 @@ use std::alloc::Global;
 const CHANGESET: [u8; 20] = [
     0x54, 2, 1, 0, b't', 0, 0x12, 0, 1, 0, 0, 0, 0, 0, 0, 0, 1, 3, 1, b'x',
 ];
-
-const MISUSE: Fault<ConnectionFault> = Fault::Refused(ConnectionFault::Misuse);
 
 const NO_ROOM: Fault<ConnectionFault> = Fault::Refused(ConnectionFault::NoRoom { len: 20 });
 
@@ -37,16 +36,6 @@ fn fault_of(
         Ok(_) => None,
         Err(why) => Some(why),
     }
-}
-
-// Whether each text is an accepted command.
-fn accepts(connection: &mut Connection, alloc: Global, texts: &[&str]) -> bool {
-    for text in texts {
-        if connection.call(alloc, text.as_bytes()) != Ok(true) {
-            return false;
-        }
-    }
-    true
 }
 
 #[test]

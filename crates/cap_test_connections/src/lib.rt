@@ -7,3 +7,5 @@ mod blobs;
 mod calls;
 #[cfg(test)]
 mod rows;
+#[cfg(test)]
+mod texts;

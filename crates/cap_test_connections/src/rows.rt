@@ -1,24 +1,12 @@
 //! Rows that are read.
+use crate::texts::{MISUSE, accepts};
 use cap_connection::{Connection, ConnectionFault};
 use cap_value::{Fault, Refusal, Value};
-use std::alloc::Global;
 
 const NO_TABLE: Fault<ConnectionFault> = Fault::Refused(ConnectionFault::Refused {
     at: None,
     why: Refusal::NoTable,
 });
-
-const MISUSE: Fault<ConnectionFault> = Fault::Refused(ConnectionFault::Misuse);
-
-// Whether each text is an accepted command.
-fn accepts(connection: &mut Connection, alloc: Global, texts: &[&str]) -> bool {
-    for text in texts {
-        if connection.call(alloc, text.as_bytes()) != Ok(true) {
-            return false;
-        }
-    }
-    true
-}
 
 // The integer in a column of the row.
 fn integer(connection: &Connection, column: usize) -> Option<i64> {

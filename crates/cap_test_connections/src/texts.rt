@@ -1,0 +1,16 @@
+//! Commands as text, for the state from which a test begins.
+use cap_connection::{Connection, ConnectionFault};
+use cap_value::Fault;
+use std::alloc::Global;
+
+pub(crate) const MISUSE: Fault<ConnectionFault> = Fault::Refused(ConnectionFault::Misuse);
+
+/// Whether each text is an accepted command.
+pub(crate) fn accepts(connection: &mut Connection, alloc: Global, texts: &[&str]) -> bool {
+    for text in texts {
+        if connection.call(alloc, text.as_bytes()) != Ok(true) {
+            return false;
+        }
+    }
+    true
+}
