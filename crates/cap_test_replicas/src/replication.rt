@@ -70,8 +70,9 @@ pub fn replicate<J: Naming, A: AllocHandle, R: Wait>(
     let Some(capture) = captured(reply) else {
         return Err(NotReplicated::NoCapture);
     };
-    if capture.is_writable(alloc).is_err() {
-        return Err(NotReplicated::OutOfMemory);
+    match capture.is_writable(alloc) {
+        Ok(()) => {}
+        Err(_) => return Err(NotReplicated::OutOfMemory),
     }
     match carry(alloc, &capture, form, policy, replica) {
         Ok(applied) => Ok(applied),
