@@ -6,8 +6,6 @@ mod applied;
 #[cfg(test)]
 mod histories;
 #[cfg(test)]
-mod hubs;
-#[cfg(test)]
 mod looks;
 #[cfg(test)]
 mod overtaken;

@@ -1,0 +1,5 @@
+//! Tests of clients of one history.
+#![tactic(auto)]
+
+#[cfg(test)]
+mod hubs;
