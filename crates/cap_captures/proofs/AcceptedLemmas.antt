@@ -5,7 +5,6 @@ use Rattle.std.specs.Prelude.{is_some, length, map, reverse}
 use Rattle.std.specs.Map.{lookup}
 use Rattle.std.proofs.lemmas.List.{length-reverse, reverse-append}
 use Rattle.cap_value.specs.declared.refusal.Refusal.{Refusal}
-use Rattle.cap_changes.specs.Group.{TableChanges}
 use Rattle.cap_database.specs.Operation.{run}
 use Rattle.cap_database.specs.Outcome.{OutcomeState}
 use Rattle.cap_database.specs.declared.op.Op.{Op}
@@ -20,7 +19,7 @@ use Rattle.cap_core.specs.declared.event.Event.{Event}
 use Rattle.cap_core.specs.declared.reply.Reply.{Reply}
 use Rattle.cap_core.specs.declared.reply.Reply.TheVariants as reply
 use Rattle.cap_core.specs.Answer.{IsLegal, State, answer, event_by, reply_of, session_answer, session_reply, snapshot_of, state, state_after, write_reply}
-use Rattle.cap_core.specs.Capture.{session_changes}
+use Rattle.cap_core.specs.Capture.{CaptureState, session_changes}
 use Rattle.cap_core.specs.Flags.{live_sessions}
 use Rattle.cap_core.specs.Outcome.{commit_unless, made}
 use Rattle.cap_core.specs.Past.{HasRoom, Past, is_accepted}
@@ -128,29 +127,29 @@ module _ {A : Type 0} where
 
     -- the replies of a session that is there
     module _ (there : is_there ≡ true) where
-      pub captures : (list : List (TableChanges A)) × (answer now (Capture session) ≡ reply.Capture list)
-      captures = let found = replied-by (session_numbered now.sessions session) (session_reply now (Capture session)) there in (session_changes now.main found.0, found.1)
+      pub captures : (capture : CaptureState A) × (answer now (Capture session) ≡ reply.Capture capture)
+      captures = let found = replied-by (session_numbered now.sessions session) (session_reply now (Capture session)) there in (record { version = now.version; changes = session_changes now.main found.0 }, found.1)
 
-      pub restarts : (list : List (TableChanges A)) × (answer now (Restart session) ≡ reply.Capture list)
-      restarts = let found = replied-by (session_numbered now.sessions session) (session_reply now (Restart session)) there in (session_changes now.main found.0, found.1)
+      pub restarts : (capture : CaptureState A) × (answer now (Restart session) ≡ reply.Capture capture)
+      restarts = let found = replied-by (session_numbered now.sessions session) (session_reply now (Restart session)) there in (record { version = now.version; changes = session_changes now.main found.0 }, found.1)
 
       pub enables : answer now (Enable session (Some true)) ≡ reply.Flag true
       enables = (replied-by (session_numbered now.sessions session) (session_reply now (Enable session (Some true))) there).1
 
   -- the same after a history
   module _ (h : List (Event A)) (session : ℕ) where
-    one-capture : is_accepted (reply_of h (Capture session)) ≡ true → (list : List (TableChanges A)) × (reply_of h (Capture session) ≡ reply.Capture list)
+    one-capture : is_accepted (reply_of h (Capture session)) ≡ true → (capture : CaptureState A) × (reply_of h (Capture session) ≡ reply.Capture capture)
     unfolding reply_of
     one-capture accepted = captures (state h) session (there-captured (state h) session accepted)
 
-    one-restart : is_accepted (reply_of h (Restart session)) ≡ true → (list : List (TableChanges A)) × (reply_of h (Restart session) ≡ reply.Capture list)
+    one-restart : is_accepted (reply_of h (Restart session)) ≡ true → (capture : CaptureState A) × (reply_of h (Restart session) ≡ reply.Capture capture)
     unfolding reply_of
     one-restart accepted = restarts (state h) session (there-restarted (state h) session accepted)
 
     by-capture : (command : Command A) → (command ≡ Capture session) ⊎ (command ≡ Restart session) → is_accepted (reply_of h command) ≡ true
-        → (list : List (TableChanges A)) × (reply_of h command ≡ reply.Capture list)
-    by-capture command (inl is) = subst (λ (c : Command A). is_accepted (reply_of h c) ≡ true → (list : List (TableChanges A)) × (reply_of h c ≡ reply.Capture list)) (sym is) one-capture
-    by-capture command (inr is) = subst (λ (c : Command A). is_accepted (reply_of h c) ≡ true → (list : List (TableChanges A)) × (reply_of h c ≡ reply.Capture list)) (sym is) one-restart
+        → (capture : CaptureState A) × (reply_of h command ≡ reply.Capture capture)
+    by-capture command (inl is) = subst (λ (c : Command A). is_accepted (reply_of h c) ≡ true → (capture : CaptureState A) × (reply_of h c ≡ reply.Capture capture)) (sym is) one-capture
+    by-capture command (inr is) = subst (λ (c : Command A). is_accepted (reply_of h c) ≡ true → (capture : CaptureState A) × (reply_of h c ≡ reply.Capture capture)) (sym is) one-restart
 
     pub a-flag : is_accepted (reply_of h (Enable session (Some true))) ≡ true → reply_of h (Enable session (Some true)) ≡ reply.Flag true
     unfolding reply_of
@@ -160,7 +159,7 @@ module _ {A : Type 0} where
   unfolding reply_of
   a-written h batch accepted = writes (state h) batch accepted
 
-  pub a-capture : (h : List (Event A)) (command : Command A) → IsCapture command → is_accepted (reply_of h command) ≡ true → (list : List (TableChanges A)) × (reply_of h command ≡ reply.Capture list)
+  pub a-capture : (h : List (Event A)) (command : Command A) → IsCapture command → is_accepted (reply_of h command) ≡ true → (capture : CaptureState A) × (reply_of h command ≡ reply.Capture capture)
   a-capture h command (session, is) = by-capture h session command is
 
   pub a-commit : (h : List (Event A)) (commit : Command A) → IsCommit commit → is_accepted (reply_of h commit) ≡ true → (version : ℕ) × (reply_of h commit ≡ reply.Written version)
@@ -214,11 +213,11 @@ module _ {A : Type 0} where
     abbrev a : Event A
     a = event_by 0 (Enable session (Some true)) (reply.Flag true)
 
-    abbrev restarted : List (TableChanges A) → Event A
-    restarted list = event_by 0 (Restart session) (reply.Capture list)
+    abbrev restarted : CaptureState A → Event A
+    restarted capture = event_by 0 (Restart session) (reply.Capture capture)
 
-    abbrev captured : List (TableChanges A) → Event A
-    captured list = event_by 0 (Capture session) (reply.Capture list)
+    abbrev captured : CaptureState A → Event A
+    captured capture = event_by 0 (Capture session) (reply.Capture capture)
 
     abbrev c : ℕ → Event A
     c v = event_by 0 (Commit first) (reply.Written v)
@@ -226,7 +225,7 @@ module _ {A : Type 0} where
     abbrev e : ℕ → Event A
     e w = event_by 0 (Commit second) (reply.Written w)
 
-    old : (list : List (TableChanges A)) × (answer (state_after (a ∷ past)) (Restart session) ≡ reply.Capture list)
+    old : (capture : CaptureState A) × (answer (state_after (a ∷ past)) (Restart session) ≡ reply.Capture capture)
     old = restarts (state_after (a ∷ past)) session (still-there past (a ∷ past) session refl there)
 
     -- the session is enabled and restarted
@@ -244,7 +243,7 @@ module _ {A : Type 0} where
         (one-less past (Enable session (Some true)) (reply.Flag true) (enables (state_after past) session there) (Restart session ∷ commands) all)
 
     module _ (v : ℕ) (one : answer (state_after past) (Commit first) ≡ reply.Written v) where
-      part : (list : List (TableChanges A)) × (answer (state_after (c v ∷ start)) (Restart session) ≡ reply.Capture list)
+      part : (capture : CaptureState A) × (answer (state_after (c v ∷ start)) (Restart session) ≡ reply.Capture capture)
       part = restarts (state_after (c v ∷ start)) session (still-there past (c v ∷ start) session refl there)
 
       module _ (w : ℕ) (two : answer (state_after (c v ∷ past)) (Commit second) ≡ reply.Written w) (room : length past + 7 < 2 ^ 63) where

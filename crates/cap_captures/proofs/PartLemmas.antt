@@ -22,7 +22,7 @@ use Rattle.cap_core.specs.declared.event.Event.{Event}
 use Rattle.cap_core.specs.declared.reply.Reply.TheVariants as reply
 use Rattle.cap_core.specs.Answer.{IsLegal, IsLegalPast, State, answer, event_by, state_after}
 use Rattle.cap_core.specs.AppliedCapture.{GivesRows}
-use Rattle.cap_core.specs.Capture.{session_changes}
+use Rattle.cap_core.specs.Capture.{CaptureState, session_changes}
 use Rattle.cap_core.specs.Flags.{is_enabled}
 use Rattle.cap_core.specs.History.{main}
 use Rattle.cap_core.specs.Past.{HasRoom, Past, is_accepted}
@@ -30,7 +30,7 @@ use Rattle.cap_core.specs.Restarts.{AppliesAll, HoldsFirst, IsSteady, captures}
 use Rattle.cap_core.specs.Session.{session_of}
 use Rattle.cap_core.specs.Table.{BlobsFit, BlobsFitPast}
 use Rattle.cap_core.specs.Touch.{event_touches, restarts, touches}
-use Rattle.cap_core.proofs.AppliedCaptureLemmas.{captured}
+use Rattle.cap_core.proofs.AppliedCaptureLemmas.{captured, captured-at}
 use Rattle.cap_core.proofs.NextLemmas.{events-state}
 use Rattle.cap_core.proofs.NumberLemmas.{same_number}
 use Rattle.cap_captures.specs.Captures.{AreUnrestarted, HasCaptureOver, capture_over, session_over, without_restart}
@@ -57,7 +57,7 @@ ok_same e = cc
 -- ---- the laws that are used
 
 abbrev pub ReadsBack : Type 0 → Type 0
-ReadsBack A = (past : Past A) (session : ℕ) (list : List (TableChanges A)) → answer (state_after past) (Capture session) ≡ reply.Capture list → IsWritable (Changes list) → blob_at (list_bytes list) ≡ Ok (Changes list)
+ReadsBack A = (past : Past A) (session : ℕ) (capture : CaptureState A) → answer (state_after past) (Capture session) ≡ reply.Capture capture → IsWritable (Changes capture.changes) → blob_at (list_bytes capture.changes) ≡ Ok (Changes capture.changes)
 
 abbrev pub IsOneCapture : Type 0 → Type 0
 IsOneCapture A = (session : ℕ) (start : Past A) (later : List (Event A)) (event : Event A) → touches session start ≡ [] → (is_accepted event.reply && restarts session event.command) ≡ true
@@ -112,7 +112,7 @@ module _ {A : Type 0} where
   turned : (h : List (Event A)) (event : Event A) (past : Past A) → reverse h ≡ past → reverse (h ++ event ∷ []) ≡ event ∷ past
   turned h event past is = reverse-append h (event ∷ []) ∙ ap (λ (p : Past A). event ∷ p) is
 
-  module _ (h : List (Event A)) (session : ℕ) (first second : BatchState A) (flag : Bool) (old one two : List (TableChanges A)) (v w : ℕ) where
+  module _ (h : List (Event A)) (session : ℕ) (first second : BatchState A) (flag : Bool) (old one two : CaptureState A) (v w : ℕ) where
     abbrev a : Event A
     a = event_by 0 (Enable session (Some true)) (reply.Flag flag)
 
@@ -167,13 +167,13 @@ module _ {A : Type 0} where
       one-answered : answer (state_after (c ∷ start)) (Capture session) ≡ reply.Capture one
       one-answered = sym legal.1.1.0
 
-      two-is : two ≡ session_changes (main (later ++ start)) (session_of (later ++ start) session)
+      two-is : two.changes ≡ session_changes (main (later ++ start)) (session_of (later ++ start) session)
       two-is = captured (later ++ start) session two two-answered
 
-      one-is : one ≡ session_changes (main (c ∷ start)) (session_of (c ∷ start) session)
+      one-is : one.changes ≡ session_changes (main (c ∷ start)) (session_of (c ∷ start) session)
       one-is = captured (c ∷ start) session one one-answered
 
-      captures-are : captures session (f ∷ later) start ≡ one ∷ two ∷ []
+      captures-are : captures session (f ∷ later) start ≡ one.changes ∷ two.changes ∷ []
       captures-are =
           let x = session_changes (main (c ∷ start)) (session_of (c ∷ start) session) in
           let y = session_changes (main (later ++ start)) (session_of (later ++ start) session) in
@@ -189,26 +189,26 @@ module _ {A : Type 0} where
       steady = (on, refl, (on, refl, (on, refl, (on, refl, tt))))
 
       -- the two captures are read back, and have a concatenation
-      module _ (reads : ReadsBack A) (law : IsOneCapture A) (writable : IsWritable (Changes one)) (writable' : IsWritable (Changes two)) where
-        one-read : blob_at (list_bytes one) ≡ Ok (Changes one)
+      module _ (reads : ReadsBack A) (law : IsOneCapture A) (writable : IsWritable (Changes one.changes)) (writable' : IsWritable (Changes two.changes)) where
+        one-read : blob_at (list_bytes one.changes) ≡ Ok (Changes one.changes)
         one-read = reads (c ∷ start) session one one-answered writable
 
-        two-read : blob_at (list_bytes two) ≡ Ok (Changes two)
+        two-read : blob_at (list_bytes two.changes) ≡ Ok (Changes two.changes)
         two-read = reads (later ++ start) session two two-answered writable'
 
-        joined : (groups : List (TableChanges A)) × (concat_of (Changes one ∷ Changes two ∷ []) ≡ Ok (Changes groups)) × HasCaptureOver session (f ∷ later) start groups
+        joined : (groups : List (TableChanges A)) × (concat_of (Changes one.changes ∷ Changes two.changes ∷ []) ≡ Ok (Changes groups)) × HasCaptureOver session (f ∷ later) start groups
         joined =
             let same = law session start later f fresh (same_number session) steady fits in
             (same.0, ap (λ lists. concat_of (map Changes lists)) (sym captures-are) ∙ same.1, same.2)
 
         -- so that what is made of them is something
         pub never-none : (made : Option (Contents A))
-            → ((p q : Contents A) → blob_at (list_bytes one) ≡ Ok p → blob_at (list_bytes two) ≡ Ok q → made ≡ result_ok (concat_of (p ∷ q ∷ []))) → made ≡ None → ⊥
+            → ((p q : Contents A) → blob_at (list_bytes one.changes) ≡ Ok p → blob_at (list_bytes two.changes) ≡ Ok q → made ≡ result_ok (concat_of (p ∷ q ∷ []))) → made ≡ None → ⊥
         never-none made concats none =
-            let is : None ≡ Some (Changes joined.0) = sym none ∙ concats (Changes one) (Changes two) one-read two-read ∙ ap result_ok joined.1 in cc
+            let is : None ≡ Some (Changes joined.0) = sym none ∙ concats (Changes one.changes) (Changes two.changes) one-read two-read ∙ ap result_ok joined.1 in cc
 
       -- the same commands, with captures in place of the last two restarts, and a capture behind them
-      module _ (x y made : List (TableChanges A)) (v' w' : ℕ) (other : State A)
+      module _ (x y made : CaptureState A) (v' w' : ℕ) (other : State A)
           (others : IsLeftBy (((((begun ++ event_by 0 (Commit first) (reply.Written v') ∷ []) ++ event_by 0 (Capture session) (reply.Capture x) ∷ []) ++ event_by 0 (Commit second) (reply.Written w') ∷ [])
           ++ event_by 0 (Capture session) (reply.Capture y) ∷ []) ++ event_by 0 (Capture session) (reply.Capture made) ∷ []) other) where
         abbrev c' : Event A
@@ -245,14 +245,14 @@ module _ {A : Type 0} where
             let one_restart : Capture session ≡ without_restart session (Restart session) = sym (ap (λ t. cond t (Capture session) (Restart session)) (same_number session)) in
             (one_restart, refl, (refl, refl, (one_restart, refl, (refl, refl, tt))))
 
-        made-is : IsWithoutRestarts A → made ≡ capture_over session (f ∷ later) start
+        made-is : IsWithoutRestarts A → made.changes ≡ capture_over session (f ∷ later) start
         made-is law = captured (unrestarted ++ start) session made (sym legal'.0) ∙ law session start (f ∷ later) unrestarted fresh alike
 
-        pub in-parts : ReadsBack A → IsOneCapture A → AppliesAsCaptures A → IsWithoutRestarts A → IsWritable (Changes one) → IsWritable (Changes two) → (blob : Contents A)
-            → ((p q : Contents A) → blob_at (list_bytes one) ≡ Ok p → blob_at (list_bytes two) ≡ Ok q → Some blob ≡ result_ok (concat_of (p ∷ q ∷ [])))
+        pub in-parts : ReadsBack A → IsOneCapture A → AppliesAsCaptures A → IsWithoutRestarts A → IsWritable (Changes one.changes) → IsWritable (Changes two.changes) → (blob : Contents A)
+            → ((p q : Contents A) → blob_at (list_bytes one.changes) ≡ Ok p → blob_at (list_bytes two.changes) ≡ Ok q → Some blob ≡ result_ok (concat_of (p ∷ q ∷ [])))
             → CanBeInParts h session (Commit first) (Commit second) → IsInParts h session (Commit first) (Commit second) (record { together = blob; whole = made })
         in-parts reads law applies alone writable writable' blob concats can =
-            let is = ok_of (concat_of (Changes one ∷ Changes two ∷ [])) blob (concats (Changes one) (Changes two) (one-read reads law writable writable') (two-read reads law writable writable')) in
+            let is = ok_of (concat_of (Changes one.changes ∷ Changes two.changes ∷ [])) blob (concats (Changes one.changes) (Changes two.changes) (one-read reads law writable writable') (two-read reads law writable writable')) in
             let told : concat_of (map Changes (captures session (f ∷ later) start)) ≡ Ok blob = ap (λ lists. concat_of (map Changes lists)) captures-are ∙ is in
             let same = joined reads law writable writable' in
             record {
@@ -266,6 +266,7 @@ module _ {A : Type 0} where
               groups = same.0;
               changeset = ok_same (sym is ∙ same.1);
               whole = made-is alone;
+              whole_version = captured-at (unrestarted ++ start) session made (sym legal'.0);
               captured = same.2;
               applies = λ policy database rise holds.
                   let left = applies policy session start later f database blob fresh (same_number session) steady fits rise holds told in
@@ -274,16 +275,16 @@ module _ {A : Type 0} where
 
   -- ---- the same of commands that are commits
 
-  abbrev pub enabled : List (Event A) → ℕ → Bool → List (TableChanges A) → List (Event A)
+  abbrev pub enabled : List (Event A) → ℕ → Bool → CaptureState A → List (Event A)
   enabled h session flag old = (h ++ event_by 0 (Enable session (Some true)) (reply.Flag flag) ∷ []) ++ event_by 0 (Restart session) (reply.Capture old) ∷ []
 
-  abbrev pub first-part : List (Event A) → ℕ → Command A → Bool → List (TableChanges A) → ℕ → List (TableChanges A) → List (Event A)
+  abbrev pub first-part : List (Event A) → ℕ → Command A → Bool → CaptureState A → ℕ → CaptureState A → List (Event A)
   first-part h session first flag old v one = (enabled h session flag old ++ event_by 0 first (reply.Written v) ∷ []) ++ event_by 0 (Restart session) (reply.Capture one) ∷ []
 
-  abbrev second-part : List (Event A) → ℕ → Command A → Command A → Bool → List (TableChanges A) → List (TableChanges A) → List (TableChanges A) → ℕ → ℕ → List (Event A)
+  abbrev second-part : List (Event A) → ℕ → Command A → Command A → Bool → CaptureState A → CaptureState A → CaptureState A → ℕ → ℕ → List (Event A)
   second-part h session first second flag old one two v w = (first-part h session first flag old v one ++ event_by 0 second (reply.Written w) ∷ []) ++ event_by 0 (Restart session) (reply.Capture two) ∷ []
 
-  abbrev unrestarted-whole : List (Event A) → ℕ → Command A → Command A → List (TableChanges A) → List (TableChanges A) → List (TableChanges A) → ℕ → ℕ → List (Event A)
+  abbrev unrestarted-whole : List (Event A) → ℕ → Command A → Command A → CaptureState A → CaptureState A → CaptureState A → ℕ → ℕ → List (Event A)
   unrestarted-whole start session first second x y made v w =
       ((((start ++ event_by 0 first (reply.Written v) ∷ []) ++ event_by 0 (Capture session) (reply.Capture x) ∷ []) ++ event_by 0 second (reply.Written w) ∷ [])
       ++ event_by 0 (Capture session) (reply.Capture y) ∷ []) ++ event_by 0 (Capture session) (reply.Capture made) ∷ []
@@ -297,14 +298,14 @@ module _ {A : Type 0} where
     pub start-accepted : AreAccepted h (Enable session (Some true) ∷ Restart session ∷ [])
     start-accepted = two-of h (Enable session (Some true)) (Restart session) (first ∷ Restart session ∷ second ∷ Restart session ∷ []) all.0
 
-    module _ (flag : Bool) (old : List (TableChanges A)) (legal : IsLegal (enabled h session flag old)) where
+    module _ (flag : Bool) (old : CaptureState A) (legal : IsLegal (enabled h session flag old)) where
       after-start : AreAccepted (enabled h session flag old) (first ∷ Restart session ∷ second ∷ Restart session ∷ [])
       after-start = after-two h (Enable session (Some true)) (Restart session) (reply.Flag flag) (reply.Capture old) (first ∷ Restart session ∷ second ∷ Restart session ∷ []) legal all.0
 
       pub first-part-accepted : IsCommit first × AreAccepted (enabled h session flag old) (first ∷ Restart session ∷ [])
       first-part-accepted = (can.commits.0, two-of (enabled h session flag old) first (Restart session) (second ∷ Restart session ∷ []) after-start)
 
-      pub second-part-accepted : (v : ℕ) (one : List (TableChanges A)) → IsLegal (first-part h session first flag old v one) → IsCommit second × AreAccepted (first-part h session first flag old v one) (second ∷ Restart session ∷ [])
+      pub second-part-accepted : (v : ℕ) (one : CaptureState A) → IsLegal (first-part h session first flag old v one) → IsCommit second × AreAccepted (first-part h session first flag old v one) (second ∷ Restart session ∷ [])
       second-part-accepted v one legal =
           (can.commits.1, after-two (enabled h session flag old) first (Restart session) (reply.Written v) (reply.Capture one) (second ∷ Restart session ∷ []) legal after-start)
 
@@ -313,7 +314,7 @@ module _ {A : Type 0} where
           (can.commits, after-two h (Enable session (Some true)) (Restart session) (reply.Flag flag) (reply.Capture old) (first ∷ Capture session ∷ second ∷ Capture session ∷ Capture session ∷ []) legal all.1)
 
   -- and the parts can be had, where each step is accepted
-  pub each-accepted : (h : List (Event A)) (session : ℕ) (first second : Command A) (flag : Bool) (old one : List (TableChanges A)) (v : ℕ) → IsLegal (enabled h session flag old) → IsLegal (first-part h session first flag old v one)
+  pub each-accepted : (h : List (Event A)) (session : ℕ) (first second : Command A) (flag : Bool) (old one : CaptureState A) (v : ℕ) → IsLegal (enabled h session flag old) → IsLegal (first-part h session first flag old v one)
       → AreAccepted h (Enable session (Some true) ∷ Restart session ∷ []) → IsCommit first × AreAccepted (enabled h session flag old) (first ∷ Restart session ∷ [])
       → IsCommit second × AreAccepted (first-part h session first flag old v one) (second ∷ Restart session ∷ [])
       → (IsCommit first × IsCommit second) × AreAccepted (enabled h session flag old) (first ∷ Capture session ∷ second ∷ Capture session ∷ Capture session ∷ []) → CanBeInParts h session first second
@@ -328,10 +329,10 @@ module _ {A : Type 0} where
 
   abbrev pub ComesOut : Command A → Command A → Type 0
   ComesOut first second =
-      (h : List (Event A)) (session : ℕ) (flag : Bool) (old one two : List (TableChanges A)) (v w : ℕ) (core : State A) → IsLeftBy (second-part h session first second flag old one two v w) core
-      → (x y made : List (TableChanges A)) (v' w' : ℕ) (other : State A) → IsLeftBy (unrestarted-whole (enabled h session flag old) session first second x y made v' w') other
-      → ReadsBack A → IsOneCapture A → AppliesAsCaptures A → IsWithoutRestarts A → IsWritable (Changes one) → IsWritable (Changes two) → (blob : Contents A)
-      → ((p q : Contents A) → blob_at (list_bytes one) ≡ Ok p → blob_at (list_bytes two) ≡ Ok q → Some blob ≡ result_ok (concat_of (p ∷ q ∷ [])))
+      (h : List (Event A)) (session : ℕ) (flag : Bool) (old one two : CaptureState A) (v w : ℕ) (core : State A) → IsLeftBy (second-part h session first second flag old one two v w) core
+      → (x y made : CaptureState A) (v' w' : ℕ) (other : State A) → IsLeftBy (unrestarted-whole (enabled h session flag old) session first second x y made v' w') other
+      → ReadsBack A → IsOneCapture A → AppliesAsCaptures A → IsWithoutRestarts A → IsWritable (Changes one.changes) → IsWritable (Changes two.changes) → (blob : Contents A)
+      → ((p q : Contents A) → blob_at (list_bytes one.changes) ≡ Ok p → blob_at (list_bytes two.changes) ≡ Ok q → Some blob ≡ result_ok (concat_of (p ∷ q ∷ [])))
       → CanBeInParts h session first second → IsInParts h session first second (record { together = blob; whole = made })
 
   pub comes-out : (first second : Command A) → IsCommit first → IsCommit second → ComesOut first second
@@ -341,9 +342,9 @@ module _ {A : Type 0} where
 
   abbrev pub NeverNone : Command A → Command A → Type 0
   NeverNone first second =
-      (h : List (Event A)) (session : ℕ) (flag : Bool) (old one two : List (TableChanges A)) (v w : ℕ) (core : State A) → IsLeftBy (second-part h session first second flag old one two v w) core
-      → ReadsBack A → IsOneCapture A → IsWritable (Changes one) → IsWritable (Changes two) → (made : Option (Contents A))
-      → ((p q : Contents A) → blob_at (list_bytes one) ≡ Ok p → blob_at (list_bytes two) ≡ Ok q → made ≡ result_ok (concat_of (p ∷ q ∷ []))) → made ≡ None → ⊥
+      (h : List (Event A)) (session : ℕ) (flag : Bool) (old one two : CaptureState A) (v w : ℕ) (core : State A) → IsLeftBy (second-part h session first second flag old one two v w) core
+      → ReadsBack A → IsOneCapture A → IsWritable (Changes one.changes) → IsWritable (Changes two.changes) → (made : Option (Contents A))
+      → ((p q : Contents A) → blob_at (list_bytes one.changes) ≡ Ok p → blob_at (list_bytes two.changes) ≡ Ok q → made ≡ result_ok (concat_of (p ∷ q ∷ []))) → made ≡ None → ⊥
 
   pub is-made : (first second : Command A) → IsCommit first → IsCommit second → NeverNone first second
   is-made first second (one, is) (other, is') =
@@ -356,7 +357,7 @@ module _ {A : Type 0} where
     -- what enabling and restarting the session gives
     abbrev pub Starts : State A → Option (State A) → Type 0
     Starts core made =
-        (h : List (Event A)) → IsLeftBy h core → MadeWhere (AreAccepted h (Enable session (Some true) ∷ Restart session ∷ [])) made (λ left. (flag : Bool) × (old : List (TableChanges A)) × IsLeftBy (enabled h session flag old) left)
+        (h : List (Event A)) → IsLeftBy h core → MadeWhere (AreAccepted h (Enable session (Some true) ∷ Restart session ∷ [])) made (λ left. (flag : Bool) × (old : CaptureState A) × IsLeftBy (enabled h session flag old) left)
 
     -- what a commit and a restart give
     abbrev pub GivesPart : State A → Command A → Option (Part A) → Type 0
@@ -365,10 +366,10 @@ module _ {A : Type 0} where
         (λ p. (version : ℕ) × IsLeftBy ((h ++ event_by 0 commit (reply.Written version) ∷ []) ++ event_by 0 (Restart session) (reply.Capture p.capture) ∷ []) p.core)
 
     -- what both commits give without restarts
-    abbrev pub GivesWhole : State A → Command A → Command A → Option (List (TableChanges A)) → Type 0
+    abbrev pub GivesWhole : State A → Command A → Command A → Option (CaptureState A) → Type 0
     GivesWhole core first second made =
         (h : List (Event A)) → IsLeftBy h core → MadeWhere ((IsCommit first × IsCommit second) × AreAccepted h (first ∷ Capture session ∷ second ∷ Capture session ∷ Capture session ∷ [])) made
-        (λ whole. (x y : List (TableChanges A)) × ((v w : ℕ) × (left : State A) × IsLeftBy (unrestarted-whole h session first second x y whole v w) left))
+        (λ whole. (x y : CaptureState A) × ((v w : ℕ) × (left : State A) × IsLeftBy (unrestarted-whole h session first second x y whole v w) left))
 
   module _ (h : List (Event A)) (core : State A) (session : ℕ) (first second : Command A) (stands : IsLeftBy h core) where
     pub none-started : Starts session core None → CanBeInParts h session first second → ⊥
@@ -394,17 +395,17 @@ module _ {A : Type 0} where
             let part = (gives from-here began.2).1 in
             none middle part.1 (second-part-accepted h session first second can began.0 began.1 began.2.legal part.0 one.capture part.1.legal)
 
-        module _ (two : Part A) (gives-more : GivesPart session one.core second (Some two)) (reads : ReadsBack A) (law : IsOneCapture A) (writable : IsWritable (Changes one.capture)) (writable' : IsWritable (Changes two.capture)) where
+        module _ (two : Part A) (gives-more : GivesPart session one.core second (Some two)) (reads : ReadsBack A) (law : IsOneCapture A) (writable : IsWritable (Changes one.capture.changes)) (writable' : IsWritable (Changes two.capture.changes)) where
           pub always-joined : (made : Option (Contents A))
-              → ((p q : Contents A) → blob_at (list_bytes one.capture) ≡ Ok p → blob_at (list_bytes two.capture) ≡ Ok q → made ≡ result_ok (concat_of (p ∷ q ∷ []))) → made ≡ None → CanBeInParts h session first second → ⊥
+              → ((p q : Contents A) → blob_at (list_bytes one.capture.changes) ≡ Ok p → blob_at (list_bytes two.capture.changes) ≡ Ok q → made ≡ result_ok (concat_of (p ∷ q ∷ []))) → made ≡ None → CanBeInParts h session first second → ⊥
           always-joined made concats none can =
               let began = (starts h stands).1 in
               let part = (gives from-here began.2).1 in
               let more = (gives-more middle part.1).1 in
               is-made first second can.commits.0 can.commits.1 h session began.0 began.1 one.capture two.capture part.0 more.0 two.core more.1 reads law writable writable' made concats none
 
-          pub parts-made : (whole : List (TableChanges A)) → GivesWhole session start first second (Some whole) → AppliesAsCaptures A → IsWithoutRestarts A → (made : Option (Contents A)) (together : Contents A)
-              → ((p q : Contents A) → blob_at (list_bytes one.capture) ≡ Ok p → blob_at (list_bytes two.capture) ≡ Ok q → made ≡ result_ok (concat_of (p ∷ q ∷ []))) → made ≡ Some together
+          pub parts-made : (whole : CaptureState A) → GivesWhole session start first second (Some whole) → AppliesAsCaptures A → IsWithoutRestarts A → (made : Option (Contents A)) (together : Contents A)
+              → ((p q : Contents A) → blob_at (list_bytes one.capture.changes) ≡ Ok p → blob_at (list_bytes two.capture.changes) ≡ Ok q → made ≡ result_ok (concat_of (p ∷ q ∷ []))) → made ≡ Some together
               → IsInParts h session first second (record { together = together; whole = whole })
           parts-made whole gives-whole applies alone made together concats is =
               let began = (starts h stands).1 in

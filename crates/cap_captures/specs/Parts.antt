@@ -14,6 +14,7 @@ use Rattle.cap_core.specs.declared.command.Command.{Command}
 use Rattle.cap_core.specs.declared.command.Command.TheVariants.{Capture, Commit, Enable, Restart}
 use Rattle.cap_core.specs.declared.event.Event.{Event}
 use Rattle.cap_core.specs.Answer.{IsLegal, IsLegalPast, State, event_by, reply_of, state}
+use Rattle.cap_core.specs.History.{version}
 use Rattle.cap_core.specs.Past.{HasRoom, Past, is_accepted}
 use Rattle.cap_core.specs.Restarts.{AppliesAll, HoldsFirst, captures}
 use Rattle.cap_core.specs.Table.{BlobsFit}
@@ -59,9 +60,9 @@ module _ {A : Type 0} where
     pub room : length h + 7 < 2 ^ 63
 
   -- After the history the session is enabled and restarted. Then each commit is carried out, and the session
-  -- restarted after it. What is made has the concatenation of the two captures and the one capture over both.
-  -- The concatenation has of each row what the one capture has, and leaves of a database with the first
-  -- images what the two captures leave of it.
+  -- restarted after it. What is made has the concatenation of the two captures and the one capture over both,
+  -- which has the version of the second. The concatenation has of each row what the one capture has, and
+  -- leaves of a database with the first images what the two captures leave of it.
   pub record IsInParts (h : List (Event A)) (session : ℕ) (first second : Command A) (made : InParts A)
       : Type 0 where
     pub start : Past A
@@ -73,7 +74,8 @@ module _ {A : Type 0} where
     pub can : CanBeInParts h session first second
     pub groups : List (TableChanges A)
     pub changeset : made.together ≡ Changes groups
-    pub whole : made.whole ≡ capture_over session (event ∷ later) start
+    pub whole : made.whole.changes ≡ capture_over session (event ∷ later) start
+    pub whole_version : made.whole.version ≡ version (later ++ start)
     pub captured : HasCaptureOver session (event ∷ later) start groups
     pub applies : (policy : Policy) (database : Tables A) → AreRising database
         → HoldsFirst database session (event ∷ later) start

@@ -3,7 +3,6 @@ ghost use Rattle.std.specs.Prelude.{◌≡◌, ℕ, Bool, true, List, Ok, Some, 
 ghost use Rattle.std.specs.Prelude.{length};
 ghost use Rattle.std.specs.Option.{IfNone};
 ghost use Rattle.std.specs.Result.{result_ok};
-ghost use Rattle.cap_changes.specs.Group.{TableChanges};
 ghost use Rattle.cap_codec.specs.BlobReading.{blob_at};
 ghost use Rattle.cap_codec.specs.Changeset.{list_bytes};
 ghost use Rattle.cap_group.specs.ChangeGroup.{concat_of};
@@ -11,6 +10,7 @@ ghost use Rattle.cap_core.specs.declared.command.Command.TheVariants as command;
 ghost use Rattle.cap_core.specs.declared.event.Event.{Event};
 ghost use Rattle.cap_core.specs.declared.reply.Reply.TheVariants as reply;
 ghost use Rattle.cap_core.specs.Answer.{State, event_by};
+ghost use Rattle.cap_core.specs.Capture.{CaptureState};
 ghost use Rattle.cap_core.specs.Past.{HasRoom};
 ghost use Rattle.cap_captures.specs.Parts.{AreAccepted, CanBeInParts, IsCapture, IsCommit, IsInParts};
 ghost use Rattle.cap_captures.specs.Parts.{IsLeftBy, MadeWhere};
@@ -179,7 +179,7 @@ fn committed<A: AllocHandle>(
 fn enabled<A: AllocHandle>(core: &Core<A>, session: u64) -> Result<Option<Core<A>>, OutOfMemory>
     ensures { IfOk result (λ made. (h : List (Event A)) → IsLeftBy h core.now → MadeWhere
         (AreAccepted h (command.Enable session (Some true) ∷ command.Restart session ∷ [])) made
-        (λ left. (flag : Bool) × (old : List (TableChanges A))
+        (λ left. (flag : Bool) × (old : CaptureState A)
         × IsLeftBy ((h ++ event_by 0 (command.Enable session (Some true)) (reply.Flag flag) ∷ [])
         ++ event_by 0 (command.Restart session) (reply.Capture old) ∷ []) left)) }
 {
@@ -236,7 +236,7 @@ fn captured_whole<A: AllocHandle>(
     ensures { IfOk result (λ made. (h : List (Event A)) → IsLeftBy h core.now → MadeWhere
         ((IsCommit first.now × IsCommit second.now) × AreAccepted h (first.now ∷ command.Capture session
         ∷ second.now ∷ command.Capture session ∷ command.Capture session ∷ [])) made
-        (λ whole. (one two : List (TableChanges A)) × ((v w : ℕ) × (left : State A) × IsLeftBy (((((h
+        (λ whole. (one two : CaptureState A) × ((v w : ℕ) × (left : State A) × IsLeftBy (((((h
         ++ event_by 0 first.now (reply.Written v) ∷ [])
         ++ event_by 0 (command.Capture session) (reply.Capture one) ∷ [])
         ++ event_by 0 second.now (reply.Written w) ∷ [])
@@ -260,7 +260,7 @@ fn read_back<A: AllocHandle>(
     alloc: A,
     capture: &Capture<A>,
 ) -> Result<Option<Contents<A>>, OutOfMemory>
-    ensures { IfOk result (λ made. made ≡ result_ok (blob_at (list_bytes capture.now))) }
+    ensures { IfOk result (λ made. made ≡ result_ok (blob_at (list_bytes capture.now.changes))) }
 {
     let bytes = capture.changeset(alloc)?;
     match read_blob(alloc, bytes.as_slice()) {
@@ -276,8 +276,8 @@ fn concatenated<A: AllocHandle>(
     first: &Capture<A>,
     second: &Capture<A>,
 ) -> Result<Option<Contents<A>>, OutOfMemory>
-    ensures { (one two : Contents A) → blob_at (list_bytes first.now) ≡ Ok one →
-        blob_at (list_bytes second.now) ≡ Ok two →
+    ensures { (one two : Contents A) → blob_at (list_bytes first.now.changes) ≡ Ok one →
+        blob_at (list_bytes second.now.changes) ≡ Ok two →
         IfOk result (λ made. made ≡ result_ok (concat_of (one ∷ two ∷ []))) }
 {
     let Some(one) = read_back(alloc, first)? else {

@@ -44,5 +44,5 @@ module _ {A : Type 0} where
 
   -- what a capture has to be written
   abbrev pub bytes_in : CaptureKind → KeyFlags → Reply A → List ℕ
-  bytes_in kind flags (reply.Capture changes) = captured_bytes kind flags changes
+  bytes_in kind flags (reply.Capture capture) = captured_bytes kind flags capture.changes
   bytes_in kind flags _ = []

@@ -94,7 +94,7 @@ fn captured_bytes(
     key_flags: KeyFlags,
     capture: &Capture<Global>,
 ) -> Result<Vec<u8, Global>, OutOfMemory>
-    ensures { IfOk result (λ bytes. bytes.items ≡ captured_bytes kind key_flags capture.now) }
+    ensures { IfOk result (λ bytes. bytes.items ≡ captured_bytes kind key_flags capture.now.changes) }
 {
     match kind {
         CaptureKind::Changeset | CaptureKind::Restart => {

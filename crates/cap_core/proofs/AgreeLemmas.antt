@@ -162,7 +162,7 @@ module _ {A : Type 0} where
       numbered-is past number
       ∙ (λ i. cond (not (agree.dropped i) && (nat_le 1 number && nat_lt number (1 + agree.made i))) (Some (agree.session i)) None)
       ∙ sym (numbered-is other number) in
-      λ i. session_answer (found i) (capture_reply (agree.mains i))
+      λ i. session_answer (found i) (capture_reply (agree.versions i) (agree.mains i))
 
   -- a command to one session changes no other's captures
   pub others_capture : (past : Past A) (event : Event A) (one other : ℕ) → session_named event.command ≡ Some one → (other ≡ one → ⊥) → (later : List (Event A))

@@ -34,14 +34,14 @@ use Rattle.cap_apply.specs.Difference.{AreApart, Difference, IsUnder, StandAfter
 use Rattle.cap_session.specs.declared.record.Record.{Record}
 use Rattle.cap_session.specs.Records.{Records}
 use Rattle.cap_session.specs.Sessions.{session_numbered}
-use Rattle.cap_session.specs.Session.{AttachedTables, record_of, records_of as attached_records}
+use Rattle.cap_session.specs.Session.{AttachedTables, SessionState, record_of, records_of as attached_records}
 use Rattle.cap_core.specs.declared.command.Command.TheVariants as command
 use Rattle.cap_core.specs.declared.reply.Reply.TheVariants.{Capture as Captured}
-use Rattle.cap_core.specs.Capture.{change_now, changes_of, group_of, session_changes, table_changes}
+use Rattle.cap_core.specs.Capture.{CaptureState, change_now, changes_of, group_of, session_changes, table_changes}
 use Rattle.cap_core.specs.Answer.{answer, capture_reply, session_answer, state_after}
 use Rattle.cap_core.specs.AppliedCapture.{AppliesWhole, GivesRows, HoldsImages, but_keyed, changes_in}
 use Rattle.cap_core.specs.Flags.{is_dropped, sessions_made}
-use Rattle.cap_core.specs.History.{main}
+use Rattle.cap_core.specs.History.{main, version}
 use Rattle.cap_core.specs.Past.{Past}
 use Rattle.cap_core.specs.Session.{session_of, sessions}
 use Rattle.cap_core.specs.Touch.{attach_list, attachings, first_of_each, touches, touches_of}
@@ -519,15 +519,27 @@ module _ {A : Type 0} where
       subst (IsOrdered fields_cmp) (sym (records-named (kept past number) (attach_list number past) name records at))
       (ordered fields_cmp (kept past number name) (truth _ (is_sorted-records_of (touches_of name (touches number past)))))
 
-  -- a capture has the changes of the session
-  pub captured : (past : Past A) (number : ℕ) (list : List (TableChanges A)) → answer (state_after past) (command.Capture number) ≡ Captured list → list ≡ session_changes (main past) (session_of past number)
-  captured past number list is =
-      elim (session_numbered (sessions past) number) as (λ o. session_numbered (sessions past) number ≡ o → session_answer o (capture_reply (main past)) ≡ Captured list → list ≡ session_changes (main past) (session_of past number)) [
+  abbrev capture_of : Past A → SessionState A → CaptureState A
+  capture_of past session = record { version = version past; changes = session_changes (main past) session }
+
+  -- a capture is that of the session
+  taken : (past : Past A) (number : ℕ) (capture : CaptureState A) → answer (state_after past) (command.Capture number) ≡ Captured capture → capture ≡ capture_of past (session_of past number)
+  taken past number capture is =
+      elim (session_numbered (sessions past) number) as (λ o. session_numbered (sessions past) number ≡ o → session_answer o (capture_reply (version past) (main past)) ≡ Captured capture → capture ≡ capture_of past (session_of past number)) [
         | None ↦ λ _ e. cc
         | Some session ↦ λ found e.
-            let told : session_changes (main past) session ≡ list = cc in
-            sym told ∙ ap (session_changes (main past)) (lookup-passing (λ k. not (is_dropped past k)) (session_of past) 1 (sessions_made past) number session found).1
+            let told : capture ≡ capture_of past session = cc in
+            told ∙ ap (capture_of past) (lookup-passing (λ k. not (is_dropped past k)) (session_of past) 1 (sessions_made past) number session found).1
       ] refl is
+
+  -- it has the session's changes
+  pub captured : (past : Past A) (number : ℕ) (capture : CaptureState A) → answer (state_after past) (command.Capture number) ≡ Captured capture
+      → capture.changes ≡ session_changes (main past) (session_of past number)
+  captured past number capture is = ap (λ (c : CaptureState A). c.changes) (taken past number capture is)
+
+  -- and the version of the tables
+  pub captured-at : (past : Past A) (number : ℕ) (capture : CaptureState A) → answer (state_after past) (command.Capture number) ≡ Captured capture → capture.version ≡ version past
+  captured-at past number capture is = ap (λ (c : CaptureState A). c.version) (taken past number capture is)
 
   -- what is applied as differences of tables
   abbrev Gives : Policy → List (TableRows A) → Contents A → Tables A → Type 0
@@ -563,11 +575,11 @@ module _ {A : Type 0} where
         subst (λ l. FitsItsColumns (blob_of l)) planned_capture.is (law planned_capture.plan database planned_capture.before planned_capture.differ)
 
     pub changeset_applies : ((policy : Policy) (ts : List (TableRows A)) (tables : Tables A) → AllBefore ts tables → GivesAllRowsNow policy ts (Changes (map group_of_rows ts)) tables)
-        → (policy : Policy) (list : List (TableChanges A)) → answer (state_after past) (command.Capture number) ≡ Captured list
-        → AppliesWhole policy (Changes list) (changes_in list) database (main past) (session_of past number).tables
-    changeset_applies law policy list is = changes_apply Changes law policy list (captured past number list is)
+        → (policy : Policy) (capture : CaptureState A) → answer (state_after past) (command.Capture number) ≡ Captured capture
+        → AppliesWhole policy (Changes capture.changes) (changes_in capture.changes) database (main past) (session_of past number).tables
+    changeset_applies law policy capture is = changes_apply Changes law policy capture.changes (captured past number capture is)
 
     pub patchset_applies : ((policy : Policy) (ts : List (TableRows A)) (tables : Tables A) → AllBefore ts tables → GivesAllRowsNow policy ts (Patches (patch_list_of (map group_of_rows ts))) tables)
-        → (policy : Policy) (list : List (TableChanges A)) → answer (state_after past) (command.Capture number) ≡ Captured list
-        → AppliesWhole policy (Patches (patch_list_of list)) (changes_in list) database (main past) (session_of past number).tables
-    patchset_applies law policy list is = changes_apply (λ l. Patches (patch_list_of l)) law policy list (captured past number list is)
+        → (policy : Policy) (capture : CaptureState A) → answer (state_after past) (command.Capture number) ≡ Captured capture
+        → AppliesWhole policy (Patches (patch_list_of capture.changes)) (changes_in capture.changes) database (main past) (session_of past number).tables
+    patchset_applies law policy capture is = changes_apply (λ l. Patches (patch_list_of l)) law policy capture.changes (captured past number capture is)

@@ -237,7 +237,7 @@ module _ {A : Type 0} where
 
   leaves-restart : (past : Past A) (by number : ℕ) → Leaves past by number (command.Restart number)
   leaves-restart past by number session is =
-      let event : Event A = event_by by (command.Restart number) (capture_reply (main past) session) in
+      let event : Event A = event_by by (command.Restart number) (capture_reply (version past) (main past) session) in
       same_state _ _ (add-one (length past)) refl refl refl refl
       (changed-sessions past event number session restart (λ j apart. apart_numbers number j apart) refl is (restart-here past by number))
 
@@ -269,7 +269,7 @@ module _ {A : Type 0} where
 
   leaves-capture : (past : Past A) (by number : ℕ) → Leaves past by number (command.Capture number)
   leaves-capture past by number session is =
-      let event : Event A = event_by by (command.Capture number) (capture_reply (main past) session) in
+      let event : Event A = event_by by (command.Capture number) (capture_reply (version past) (main past) session) in
       same_state _ _ (add-one (length past)) refl refl refl refl (with-same number (sessions past) session is ∙ sessions-still event past (λ _. refl) refl)
 
   pub next-is : (past : Past A) (by : ℕ) (c : Command A) → IsLegalPast past → next (state_after past) c ≡ state_after (event_by by c (answer (state_after past) c) ∷ past)

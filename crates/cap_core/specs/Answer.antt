@@ -73,8 +73,10 @@ module _ {A : Type 0} where
   diffed (Ok found) = Done
   diffed (Err why) = refusal why
 
-  abbrev pub capture_reply : Tables A → SessionState A → Reply A
-  capture_reply tables session = Capture (session_changes tables session)
+  -- the changes of the session, with the version of the tables
+  abbrev pub capture_reply : ℕ → Tables A → SessionState A → Reply A
+  capture_reply version tables session =
+      Capture (record { version = version; changes = session_changes tables session })
 
   -- The reply to a command by the session that it is to: done, where the command is not named. A session is
   -- empty where no row was touched, also where each touched row is again as it was.
@@ -83,8 +85,8 @@ module _ {A : Type 0} where
   session_reply state (command.Indirect number asked) session = Flag (unwrap_or asked session.indirect)
   session_reply state (command.IsEmpty number) session = Flag (nat_eq (stored session.tables) 0)
   session_reply state (command.Diff number from name) session = diffed (diff state.main state.saved from name)
-  session_reply state (command.Capture number) session = capture_reply state.main session
-  session_reply state (command.Restart number) session = capture_reply state.main session
+  session_reply state (command.Capture number) session = capture_reply state.version state.main session
+  session_reply state (command.Restart number) session = capture_reply state.version state.main session
   session_reply state _ session = Done
 
   -- a command to a session is refused where there is none with the number

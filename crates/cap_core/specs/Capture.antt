@@ -37,3 +37,8 @@ module _ {A : Type 0} where
   -- the changes of a session
   abbrev pub session_changes : Tables A → SessionState A → List (TableChanges A)
   session_changes tables session = changes_of tables session.tables
+
+-- a capture: the version of the tables at its moment, and the changes
+pub record CaptureState (A : Type 0) : Type 0 where
+  pub version : ℕ
+  pub changes : List (TableChanges A)

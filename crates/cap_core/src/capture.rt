@@ -26,40 +26,55 @@ use cap_table::Table;
 use cap_value::{AllocHandle, Name, OutOfMemory};
 use std::marker::Model;
 
-/// The changes of a session at the moment of the capture. It shares the records of the session and the rows
-/// of the tables as they were then, and is made without a visit to any of them. The list and the bytes are made
-/// for whoever asks, as often as they are asked for: out of memory there changes nothing, and the capture stays.
+/// The changes of a session at the moment of the capture, and the version of the tables then. It shares the
+/// records of the session and the rows of the tables as they were, and is made without a visit to any of
+/// them. The list and the bytes are made for whoever asks, as often as they are asked for: out of memory
+/// there changes nothing, and the capture stays.
 #[derive(Drop)]
 pub struct Capture<A: AllocHandle> {
+    version: u64,
     session: Session<A>,
     main: Database<A>,
 }
 
 impl<A: AllocHandle> Model for Capture<A> {
-    ghost use Rattle.std.specs.Prelude.{IsTrue, List};
-    ghost use Rattle.cap_changes.specs.Group.{TableChanges};
+    ghost use Rattle.std.specs.Prelude.{IsTrue};
     ghost use Rattle.cap_core.specs.CanCapture.{session_stands};
-    ghost use Rattle.cap_core.specs.Capture.{session_changes};
+    ghost use Rattle.cap_core.specs.Capture.{CaptureState, session_changes};
 
-    ghost Value = { List (TableChanges A) };
+    ghost Value = { CaptureState A };
 
-    ghost view = { λ c. session_changes c.main c.session.live };
+    ghost view = { λ c. record {
+      version = c.version;
+      changes = session_changes c.main c.session.live;
+    } };
 
     ghost invariant = { λ c. IsTrue (session_stands c.main c.session.live) };
 }
 
 impl<A: AllocHandle> Capture<A> {
-    // What the session captures against these tables.
-    pub(crate) fn new(session: Session<A>, main: Database<A>) -> Self
+    // What the session captures against the tables of this version.
+    pub(crate) fn new(version: u64, session: Session<A>, main: Database<A>) -> Self
         requires { IsTrue (session_stands main session.live) }
-        ensures { result ≡ session_changes main session.live }
+        ensures { result ≡ record { version = version; changes = session_changes main session.live } }
     {
-        Capture { session, main }
+        Capture {
+            version,
+            session,
+            main,
+        }
+    }
+
+    /// The version of the tables at the moment of the capture.
+    pub fn version(&self) -> u64
+        ensures { result ≡ self.now.version }
+    {
+        self.version
     }
 
     /// The bytes of the changeset (The Session Extension, "sqlite3session_changeset").
     pub fn changeset(&self, alloc: A) -> Result<Vec<u8, A>, OutOfMemory>
-        ensures { IfOk result (λ bytes. bytes.items ≡ list_bytes self.now) }
+        ensures { IfOk result (λ bytes. bytes.items ≡ list_bytes self.now.changes) }
     {
         self.changeset_with(alloc, KeyFlags::Ones)
     }
@@ -67,14 +82,14 @@ impl<A: AllocHandle> Capture<A> {
     /// The bytes of the changeset, with these key flags. `KeyFlags::Places` gives the bytes that SQLite's
     /// code writes; SQLite's applier needs them where the key has several columns.
     pub fn changeset_with(&self, alloc: A, key_flags: KeyFlags) -> Result<Vec<u8, A>, OutOfMemory>
-        ensures { IfOk result (λ bytes. bytes.items ≡ list_bytes_with key_flags self.now) }
+        ensures { IfOk result (λ bytes. bytes.items ≡ list_bytes_with key_flags self.now.changes) }
     {
         changeset_of(alloc, key_flags, self.session.attached(), &self.main)
     }
 
     /// The bytes of the patchset (The Session Extension, "sqlite3session_patchset").
     pub fn patchset(&self, alloc: A) -> Result<Vec<u8, A>, OutOfMemory>
-        ensures { IfOk result (λ bytes. bytes.items ≡ patch_list_bytes (patch_list_of self.now)) }
+        ensures { IfOk result (λ bytes. bytes.items ≡ patch_list_bytes (patch_list_of self.now.changes)) }
     {
         let changes = self.changes(alloc)?;
         let patches = to_patches(alloc, &changes)?;
@@ -84,7 +99,7 @@ impl<A: AllocHandle> Capture<A> {
     /// The bytes of the patchset, with these key flags.
     pub fn patchset_with(&self, alloc: A, key_flags: KeyFlags) -> Result<Vec<u8, A>, OutOfMemory>
         ensures { IfOk result (λ bytes. bytes.items
-            ≡ patch_list_bytes_with key_flags (patch_list_of self.now)) }
+            ≡ patch_list_bytes_with key_flags (patch_list_of self.now.changes)) }
     {
         let changes = self.changes(alloc)?;
         let patches = to_patches(alloc, &changes)?;
@@ -94,8 +109,8 @@ impl<A: AllocHandle> Capture<A> {
     /// A law: the changes can be written as a changeset, and their patches as a patchset. At run time it
     /// makes the list, and visits each value.
     pub fn is_writable(&self, alloc: A) -> Result<(), OutOfMemory>
-        ensures changeset { OnOk result (IsWritable (contents.Changes self.now)) }
-        ensures patchset { OnOk result (IsWritable (contents.Patches (patch_list_of self.now))) }
+        ensures changeset { OnOk result (IsWritable (contents.Changes self.now.changes)) }
+        ensures patchset { OnOk result (IsWritable (contents.Patches (patch_list_of self.now.changes))) }
     {
         let changes = self.changes(alloc)?;
         changes_are_writable(&changes);
@@ -105,7 +120,7 @@ impl<A: AllocHandle> Capture<A> {
     /// The changes: tables in the order in which they were attached, and within a table in the order of the
     /// keys.
     pub fn changes(&self, alloc: A) -> Result<ChangeList<A>, OutOfMemory>
-        ensures { IfOk result (λ list. list ≡ self.now) }
+        ensures { IfOk result (λ list. list ≡ self.now.changes) }
     {
         changes_of(alloc, self.session.attached(), &self.main)
     }

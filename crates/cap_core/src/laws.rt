@@ -10,7 +10,6 @@ ghost use Rattle.cap_row.specs.Fields.{Fields};
 ghost use Rattle.cap_row.specs.Key.{fields_cmp};
 ghost use Rattle.cap_apply.specs.declared.policy.Policy.{Policy};
 ghost use Rattle.cap_changes.specs.Change.{full_record};
-ghost use Rattle.cap_changes.specs.Group.{TableChanges};
 ghost use Rattle.cap_changes.specs.Patch.{patch_list_of};
 ghost use Rattle.cap_changes.specs.declared.row_change.RowChange.{RowChange};
 ghost use Rattle.cap_codec.specs.BlobReading.{blob_at};
@@ -32,12 +31,12 @@ ghost use Rattle.cap_core.specs.declared.event.Event.{Event};
 ghost use Rattle.cap_core.specs.declared.reply.Reply.{Reply};
 ghost use Rattle.cap_core.specs.Answer.{IsLegal, IsLegalPast, State, answer, event_by, history_of, reply_of};
 ghost use Rattle.cap_core.specs.Answer.{refusal, snapshot_of, state, state_after};
-ghost use Rattle.cap_core.specs.Capture.{change_now, session_changes};
+ghost use Rattle.cap_core.specs.Capture.{CaptureState, change_now, session_changes};
 ghost use Rattle.cap_core.specs.Commit.{CommitsIfUnchanged};
 ghost use Rattle.cap_core.specs.AppliedCapture.{AppliesRows, AppliesWhole, AreQuiet, HoldsImages, IsDiffed};
 ghost use Rattle.cap_core.specs.AppliedCapture.{changes_in};
 ghost use Rattle.cap_core.specs.Flags.{live_sessions, session_named};
-ghost use Rattle.cap_core.specs.History.{event_effect, main};
+ghost use Rattle.cap_core.specs.History.{event_effect, main, version};
 ghost use Rattle.cap_core.specs.Insert.{HasChange, IsInsertOfAbsent, changes_by_key};
 ghost use Rattle.cap_core.specs.Outcome.{is_of_row};
 ghost use Rattle.cap_core.specs.Past.{Past, is_accepted};
@@ -153,23 +152,27 @@ pub fn database_rises<A: AllocHandle>(database: &Database<A>)
 /// A capture, applied to a database that has the tables of its touched rows with the same columns and the
 /// first image at each touched key, gives the present rows at these keys, and changes nothing else. There is
 /// no conflict under any policy. The patchset does the same as the changeset. `Capture` and `Restart` give
-/// the same capture. Every database is rising (`database_rises`), and in every history that a program can
-/// make the blobs fit (`fitting_histories_grow`).
+/// the same capture. Its version is the number of accepted commands that write before it. Every database is
+/// rising (`database_rises`), and in every history that a program can make the blobs fit
+/// (`fitting_histories_grow`).
 pub fn a_capture_gives_the_rows_now<A: AllocHandle>()
-    ensures changeset { (past : Past A) (session : ℕ) (list : List (TableChanges A)) (database : Tables A)
+    ensures changeset { (past : Past A) (session : ℕ) (capture : CaptureState A) (database : Tables A)
         (policy : Policy)
-        → answer (state_after past) (Command.Capture session) ≡ Reply.Capture list → AreRising database
+        → answer (state_after past) (Command.Capture session) ≡ Reply.Capture capture → AreRising database
         → BlobsFitPast past → HoldsImages database (main past) (session_of past session).tables
-        → AppliesWhole policy (Contents.Changes list) (changes_in list) database (main past)
-        (session_of past session).tables }
-    ensures patchset { (past : Past A) (session : ℕ) (list : List (TableChanges A)) (database : Tables A)
-        (policy : Policy)
-        → answer (state_after past) (Command.Capture session) ≡ Reply.Capture list → AreRising database
-        → BlobsFitPast past → HoldsImages database (main past) (session_of past session).tables
-        → AppliesWhole policy (Contents.Patches (patch_list_of list)) (changes_in list) database
+        → AppliesWhole policy (Contents.Changes capture.changes) (changes_in capture.changes) database
         (main past) (session_of past session).tables }
+    ensures patchset { (past : Past A) (session : ℕ) (capture : CaptureState A) (database : Tables A)
+        (policy : Policy)
+        → answer (state_after past) (Command.Capture session) ≡ Reply.Capture capture → AreRising database
+        → BlobsFitPast past → HoldsImages database (main past) (session_of past session).tables
+        → AppliesWhole policy (Contents.Patches (patch_list_of capture.changes))
+        (changes_in capture.changes) database (main past) (session_of past session).tables }
     ensures restart { (past : Past A) (session : ℕ) → answer (state_after past) (Command.Restart session)
         ≡ answer (state_after past) (Command.Capture session) }
+    ensures version { (past : Past A) (session : ℕ) (capture : CaptureState A)
+        → answer (state_after past) (Command.Capture session) ≡ Reply.Capture capture
+        → capture.version ≡ version past }
 {
     a_changeset_gives_the_rows_now::<A>();
     a_patchset_gives_the_rows_now::<A>();
@@ -182,19 +185,19 @@ pub fn a_capture_gives_the_rows_now<A: AllocHandle>()
 /// by key. There is no conflict under any policy. The patchset does the same.
 pub fn a_capture_after_a_diff_gives_the_rows_now<A: AllocHandle>()
     ensures changeset { (past : Past A) (event : Event A) (later : List (Event A)) (session : ℕ)
-        (name : List ℕ) (database : Tables A) (table : TableState A) (list : List (TableChanges A))
+        (name : List ℕ) (database : Tables A) (table : TableState A) (capture : CaptureState A)
         (policy : Policy)
         → IsDiffed past event session name database table → AreQuiet session later → BlobsFitPast past
-        → answer (state_after (later ++ event ∷ past)) (Command.Capture session) ≡ Reply.Capture list
-        → AppliesRows policy (Contents.Changes list) (changes_in list) database
+        → answer (state_after (later ++ event ∷ past)) (Command.Capture session) ≡ Reply.Capture capture
+        → AppliesRows policy (Contents.Changes capture.changes) (changes_in capture.changes) database
         (main (later ++ event ∷ past)) name }
     ensures patchset { (past : Past A) (event : Event A) (later : List (Event A)) (session : ℕ)
-        (name : List ℕ) (database : Tables A) (table : TableState A) (list : List (TableChanges A))
+        (name : List ℕ) (database : Tables A) (table : TableState A) (capture : CaptureState A)
         (policy : Policy)
         → IsDiffed past event session name database table → AreQuiet session later → BlobsFitPast past
-        → answer (state_after (later ++ event ∷ past)) (Command.Capture session) ≡ Reply.Capture list
-        → AppliesRows policy (Contents.Patches (patch_list_of list)) (changes_in list) database
-        (main (later ++ event ∷ past)) name }
+        → answer (state_after (later ++ event ∷ past)) (Command.Capture session) ≡ Reply.Capture capture
+        → AppliesRows policy (Contents.Patches (patch_list_of capture.changes))
+        (changes_in capture.changes) database (main (later ++ event ∷ past)) name }
 {
     a_changeset_gives_the_rows_now::<A>();
     a_patchset_gives_the_rows_now::<A>();
@@ -295,9 +298,9 @@ pub fn rows_stand_under_own_keys<A: AllocHandle>()
 
 /// A capture has no group without changes.
 pub fn captures_have_no_empty_group<A: AllocHandle>()
-    ensures { (past : Past A) (session : ℕ) (list : List (TableChanges A))
-        → answer (state_after past) (Command.Capture session) ≡ Reply.Capture list
-        → HasNoEmptyGroup (Contents.Changes list) }
+    ensures { (past : Past A) (session : ℕ) (capture : CaptureState A)
+        → answer (state_after past) (Command.Capture session) ≡ Reply.Capture capture
+        → HasNoEmptyGroup (Contents.Changes capture.changes) }
 {}
 
 /// The bytes of a capture, with either key flags, are read as just its changes, and those of its patchset as
@@ -306,32 +309,32 @@ pub fn captures_have_no_empty_group<A: AllocHandle>()
 /// counts each change as applied, under any policy, and there is no conflict. The changes of every capture
 /// can be written (`Capture::is_writable`).
 pub fn bytes_of_a_capture_give_the_rows_now<A: AllocHandle>()
-    ensures changeset_read { (past : Past A) (session : ℕ) (list : List (TableChanges A))
+    ensures changeset_read { (past : Past A) (session : ℕ) (capture : CaptureState A)
         (key_flags : KeyFlags)
-        → answer (state_after past) (Command.Capture session) ≡ Reply.Capture list
-        → IsWritable (Contents.Changes list)
-        → blob_at (list_bytes_with key_flags list) ≡ Ok (Contents.Changes list) }
-    ensures patchset_read { (past : Past A) (session : ℕ) (list : List (TableChanges A))
+        → answer (state_after past) (Command.Capture session) ≡ Reply.Capture capture
+        → IsWritable (Contents.Changes capture.changes)
+        → blob_at (list_bytes_with key_flags capture.changes) ≡ Ok (Contents.Changes capture.changes) }
+    ensures patchset_read { (past : Past A) (session : ℕ) (capture : CaptureState A)
         (key_flags : KeyFlags)
-        → answer (state_after past) (Command.Capture session) ≡ Reply.Capture list
-        → IsWritable (Contents.Changes list)
-        → blob_at (patch_list_bytes_with key_flags (patch_list_of list))
-        ≡ Ok (of_patches (patch_list_of list)) }
-    ensures changeset { (past : Past A) (session : ℕ) (list : List (TableChanges A)) (database : Tables A)
+        → answer (state_after past) (Command.Capture session) ≡ Reply.Capture capture
+        → IsWritable (Contents.Changes capture.changes)
+        → blob_at (patch_list_bytes_with key_flags (patch_list_of capture.changes))
+        ≡ Ok (of_patches (patch_list_of capture.changes)) }
+    ensures changeset { (past : Past A) (session : ℕ) (capture : CaptureState A) (database : Tables A)
         (policy : Policy) (key_flags : KeyFlags) (blob : Contents A)
-        → answer (state_after past) (Command.Capture session) ≡ Reply.Capture list
-        → IsWritable (Contents.Changes list) → AreRising database → BlobsFitPast past
+        → answer (state_after past) (Command.Capture session) ≡ Reply.Capture capture
+        → IsWritable (Contents.Changes capture.changes) → AreRising database → BlobsFitPast past
         → HoldsImages database (main past) (session_of past session).tables
-        → blob_at (list_bytes_with key_flags list) ≡ Ok blob
-        → AppliesWhole policy blob (changes_in list) database (main past)
+        → blob_at (list_bytes_with key_flags capture.changes) ≡ Ok blob
+        → AppliesWhole policy blob (changes_in capture.changes) database (main past)
         (session_of past session).tables }
-    ensures patchset { (past : Past A) (session : ℕ) (list : List (TableChanges A)) (database : Tables A)
+    ensures patchset { (past : Past A) (session : ℕ) (capture : CaptureState A) (database : Tables A)
         (policy : Policy) (key_flags : KeyFlags) (blob : Contents A)
-        → answer (state_after past) (Command.Capture session) ≡ Reply.Capture list
-        → IsWritable (Contents.Changes list) → AreRising database → BlobsFitPast past
+        → answer (state_after past) (Command.Capture session) ≡ Reply.Capture capture
+        → IsWritable (Contents.Changes capture.changes) → AreRising database → BlobsFitPast past
         → HoldsImages database (main past) (session_of past session).tables
-        → blob_at (patch_list_bytes_with key_flags (patch_list_of list)) ≡ Ok blob
-        → AppliesWhole policy blob (changes_in list) database (main past)
+        → blob_at (patch_list_bytes_with key_flags (patch_list_of capture.changes)) ≡ Ok blob
+        → AppliesWhole policy blob (changes_in capture.changes) database (main past)
         (session_of past session).tables }
 {
     a_capture_gives_the_rows_now::<A>();

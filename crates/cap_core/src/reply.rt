@@ -28,7 +28,7 @@ pub enum Reply<A: AllocHandle> {
     Snapshot(Snapshot<A>),
     /// The value of a flag, or whether a session is empty.
     Flag(bool),
-    /// The session's changes.
+    /// The session's changes, with the version of the tables.
     Capture(Capture<A>),
     /// The command is refused. Nothing changed.
     Refused {

@@ -112,11 +112,11 @@ impl<A: AllocHandle> Core<A> {
             }
             Command::Diff { from, table, .. } => self.diff(number, from, table, hook),
             Command::Capture { .. } => {
-                let reply = capture_reply(session, &self.main)?;
+                let reply = capture_reply(self.version, session, &self.main)?;
                 self.reply_only(reply, hook)
             }
             Command::Restart { .. } => {
-                let reply = capture_reply(session, &self.main)?;
+                let reply = capture_reply(self.version, session, &self.main)?;
                 self.change_session(number, SessionChange::Restart, reply, hook)
             }
             _ => unreachable!(),
@@ -244,13 +244,15 @@ impl<A: AllocHandle> Core<A> {
     }
 }
 
-// What a session captures, as a reply.
+// What a session captures at a version, as a reply.
 fn capture_reply<A: AllocHandle>(
+    version: u64,
     session: &Session<A>,
     main: &Database<A>,
 ) -> Result<Reply<A>, OutOfMemory>
     requires { IsTrue (session_stands main.now session.now.live) }
-    ensures { IfOk result (λ reply. reply ≡ capture_reply main.now session.now.live) }
+    ensures { IfOk result (λ reply. reply ≡ capture_reply version main.now session.now.live) }
 {
-    Ok(Reply::Capture(Capture::new(session.copy()?, main.snapshot()?)))
+    let capture = Capture::new(version, session.copy()?, main.snapshot()?);
+    Ok(Reply::Capture(capture))
 }

@@ -76,7 +76,7 @@ module _ {A : Type 0} where
   reply_text line (Session number) = codes "session " ++ decimal number
   reply_text line (Snapshot snapshot) = snapshot_text line.show snapshot
   reply_text line (Flag flag) = flag_text line.command flag
-  reply_text line (Capture changes) = capture_text line.show changes
+  reply_text line (Capture capture) = capture_text line.show capture.changes
   reply_text line (Refused (Some place) why) =
       codes "refused at " ++ (decimal place ++ (codes ": " ++ refusal_text why))
   reply_text line (Refused None why) = codes "refused: " ++ refusal_text why

@@ -100,7 +100,7 @@ fn capture_text<A: AllocHandle>(
     show: &Show<A>,
     capture: &Capture<A>,
 ) -> Result<String<A>, OutOfMemory>
-    ensures { IfOk result (λ text. string_bytes text ≡ capture_text show.now capture.now) }
+    ensures { IfOk result (λ text. string_bytes text ≡ capture_text show.now capture.now.changes) }
 {
     match show {
         Show::Changeset(flags) => changeset_text(alloc, capture, *flags),
@@ -115,7 +115,7 @@ fn changeset_text<A: AllocHandle>(
     flags: KeyFlags,
 ) -> Result<String<A>, OutOfMemory>
     ensures { IfOk result (λ text.
-        string_bytes text ≡ codes "changeset " ++ hex_or_dash (list_bytes_with flags capture.now)) }
+        string_bytes text ≡ codes "changeset " ++ hex_or_dash (list_bytes_with flags capture.now.changes)) }
 {
     let bytes = capture.changeset_with(alloc, flags)?;
     let digits = hex_or_dash(alloc, bytes.as_slice())?;
@@ -127,8 +127,8 @@ fn patchset_text<A: AllocHandle>(
     capture: &Capture<A>,
     flags: KeyFlags,
 ) -> Result<String<A>, OutOfMemory>
-    ensures { IfOk result (λ text. string_bytes text
-        ≡ codes "patchset " ++ hex_or_dash (patch_list_bytes_with flags (patch_list_of capture.now))) }
+    ensures { IfOk result (λ text. string_bytes text ≡ codes "patchset "
+        ++ hex_or_dash (patch_list_bytes_with flags (patch_list_of capture.now.changes))) }
 {
     let bytes = capture.patchset_with(alloc, flags)?;
     let digits = hex_or_dash(alloc, bytes.as_slice())?;

@@ -35,6 +35,7 @@ fn a_session_and_what_it_captures(rt: HostRuntime) -> Result<(), Fail> {
     let (_core, replies) = Core::run(alloc, &commands)?;
     match replies.last() {
         Some(Reply::Capture(capture)) => {
+            assert!(rt; capture.version() == 2);
             let bytes = capture.changeset(alloc)?;
             assert!(rt; bytes.first() == Some(&0x54) && bytes.len() == 20);
         }
@@ -151,10 +152,12 @@ fn a_capture_as_a_changeset_and_a_patchset(rt: HostRuntime) -> Result<(), Fail> 
     let mut core = Core::new(alloc);
     assert!(rt; carry_out(alloc, &mut core, UPDATE).is_some());
     let capture = captured(&mut core).ok_or("a capture")?;
+    assert!(rt; capture.version() == 3);
     assert!(rt; capture.changeset(alloc)?.as_slice() == CHANGESET.as_slice());
     assert!(rt; capture.patchset(alloc)?.as_slice() == PATCHSET.as_slice());
     // It stays what it was, whatever is committed later.
     assert!(rt; carry_out(alloc, &mut core, LATER).is_some());
+    assert!(rt; capture.version() == 3);
     assert!(rt; capture.changeset(alloc)?.as_slice() == CHANGESET.as_slice());
     assert!(rt; capture.patchset(alloc)?.as_slice() == PATCHSET.as_slice());
     Ok(())

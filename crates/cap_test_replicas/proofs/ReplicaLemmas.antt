@@ -24,6 +24,7 @@ use Rattle.cap_core.specs.declared.reply.Reply.{Reply}
 use Rattle.cap_core.specs.declared.reply.Reply.TheVariants as reply
 use Rattle.cap_core.specs.Answer.{IsLegal, answer, capture_reply, event_by, refusal, reply_of, session_answer, state, state_after}
 use Rattle.cap_core.specs.AppliedCapture.{AppliesWhole, GivesRows, HoldsImages, changes_in}
+use Rattle.cap_core.specs.Capture.{CaptureState}
 use Rattle.cap_core.specs.History.{main}
 use Rattle.cap_core.specs.Past.{Past}
 use Rattle.cap_core.specs.Session.{session_of}
@@ -50,15 +51,15 @@ PastFits A = (h : List (Event A)) → BlobsFit h → BlobsFitPast (reverse h)
 module _ {A : Type 0} where
   -- the bytes of a capture are read
   abbrev pub Reads : (List (TableChanges A) → List ℕ) → Type 0
-  Reads bytes = (past : Past A) (session : ℕ) (list : List (TableChanges A)) → answer (state_after past) (Capture session) ≡ reply.Capture list
-      → IsWritable (Changes list) → (blob : Contents A) × (blob_at (bytes list) ≡ Ok blob)
+  Reads bytes = (past : Past A) (session : ℕ) (capture : CaptureState A) → answer (state_after past) (Capture session) ≡ reply.Capture capture
+      → IsWritable (Changes capture.changes) → (blob : Contents A) × (blob_at (bytes capture.changes) ≡ Ok blob)
 
   -- and what is read gives the rows
   abbrev pub Gives : (List (TableChanges A) → List ℕ) → Type 0
-  Gives bytes = (past : Past A) (session : ℕ) (list : List (TableChanges A)) (database : Tables A) (policy : Policy) (blob : Contents A)
-      → answer (state_after past) (Capture session) ≡ reply.Capture list → IsWritable (Changes list) → AreRising database → BlobsFitPast past
-      → HoldsImages database (main past) (session_of past session).tables → blob_at (bytes list) ≡ Ok blob
-      → AppliesWhole policy blob (changes_in list) database (main past) (session_of past session).tables
+  Gives bytes = (past : Past A) (session : ℕ) (capture : CaptureState A) (database : Tables A) (policy : Policy) (blob : Contents A)
+      → answer (state_after past) (Capture session) ≡ reply.Capture capture → IsWritable (Changes capture.changes) → AreRising database → BlobsFitPast past
+      → HoldsImages database (main past) (session_of past session).tables → blob_at (bytes capture.changes) ≡ Ok blob
+      → AppliesWhole policy blob (changes_in capture.changes) database (main past) (session_of past session).tables
 
   pub reads-in : (form : Form) → Reads list_bytes → Reads (λ list. patch_list_bytes (patch_list_of list)) → Reads (bytes_in form)
   reads-in Changeset changeset patchset = changeset
@@ -94,35 +95,35 @@ module _ {A : Type 0} where
 
   -- ---- what is read
 
-  pub is-read : (form : Form) → Reads (bytes_in form) → Replied A → Answers A → (old new : SeatState A) (session : ℕ) (changes : List (TableChanges A))
-      → HasCalled old new (Capture session) (reply.Capture changes) → IsWritable (Changes changes) → (blob : Contents A) × (blob_at (bytes_in form changes) ≡ Ok blob)
-  is-read form reads replied answers old new session changes called writable =
-      let place = place-of old new session (reply.Capture changes) called in
-      reads (reverse place.0) session changes (answered replied answers old new session (reply.Capture changes) called place.0 place.1) writable
+  pub is-read : (form : Form) → Reads (bytes_in form) → Replied A → Answers A → (old new : SeatState A) (session : ℕ) (capture : CaptureState A)
+      → HasCalled old new (Capture session) (reply.Capture capture) → IsWritable (Changes capture.changes) → (blob : Contents A) × (blob_at (bytes_in form capture.changes) ≡ Ok blob)
+  is-read form reads replied answers old new session capture called writable =
+      let place = place-of old new session (reply.Capture capture) called in
+      reads (reverse place.0) session capture (answered replied answers old new session (reply.Capture capture) called place.0 place.1) writable
 
   module _ (form : Form) (policy : Policy) (gives : Gives (bytes_in form)) (replied : Replied A) (answers : Answers A) (begins : Begins A) (past : PastFits A)
-      (old new : SeatState A) (session : ℕ) (changes : List (TableChanges A)) (replica : Tables A) (rises : AreRising replica) (writable : IsWritable (Changes changes))
-      (called : HasCalled old new (Capture session) (reply.Capture changes)) (blob : Contents A) (is_read : blob_at (bytes_in form changes) ≡ Ok blob) where
-    whole : (before : List (Event A)) → new.seen ≡ before ++ event_by old.number (Capture session) (reply.Capture changes) ∷ [] → HoldsFirst session before replica
-        → AppliesWhole policy blob (changes_in changes) replica (tables_after before) (records_after session before)
+      (old new : SeatState A) (session : ℕ) (capture : CaptureState A) (replica : Tables A) (rises : AreRising replica) (writable : IsWritable (Changes capture.changes))
+      (called : HasCalled old new (Capture session) (reply.Capture capture)) (blob : Contents A) (is_read : blob_at (bytes_in form capture.changes) ≡ Ok blob) where
+    whole : (before : List (Event A)) → new.seen ≡ before ++ event_by old.number (Capture session) (reply.Capture capture) ∷ [] → HoldsFirst session before replica
+        → AppliesWhole policy blob (changes_in capture.changes) replica (tables_after before) (records_after session before)
     whole before is holds =
-        gives (reverse before) session changes replica policy blob (answered replied answers old new session (reply.Capture changes) called before is) writable rises
-        (fitting begins past old new session (reply.Capture changes) called before is) holds is_read
+        gives (reverse before) session capture replica policy blob (answered replied answers old new session (reply.Capture capture) called before is) writable rises
+        (fitting begins past old new session (reply.Capture capture) called before is) holds is_read
 
     pub is-replicated : (left : AppliedState A) → apply replica blob policy ≡ Ok left → IsReplicated old new session replica left
     is-replicated left applied = record {
-      changes = changes;
+      capture = capture;
       called = called;
       rows = λ before is holds.
           let all = whole before is holds in
           let both : Ok all.0 ≡ Ok left = sym all.1 ∙ applied in
           let same : all.0 ≡ left = cc in
-          subst (λ (l : AppliedState A). GivesRows replica (tables_after before) l.database (records_after session before) × (l.report ≡ record { applied = changes_in changes; conflicts = []; omitted = []; skipped = [] })) same
+          subst (λ (l : AppliedState A). GivesRows replica (tables_after before) l.database (records_after session before) × (l.report ≡ record { applied = changes_in capture.changes; conflicts = []; omitted = []; skipped = [] })) same
           (all.2, all.3);
     }
 
     pub never-refused : (why : Refusal) → apply replica blob policy ≡ Err why → (before : List (Event A))
-        → new.seen ≡ before ++ event_by old.number (Capture session) (reply.Capture changes) ∷ [] → HoldsFirst session before replica → ⊥
+        → new.seen ≡ before ++ event_by old.number (Capture session) (reply.Capture capture) ∷ [] → HoldsFirst session before replica → ⊥
     never-refused why refused before is holds =
         let all = whole before is holds in
         let clash : Ok all.0 ≡ Err why = sym all.1 ∙ refused in
@@ -130,9 +131,10 @@ module _ {A : Type 0} where
 
   -- ---- no capture
 
-  no-capture : (tables : Tables A) (found : Option (SessionState A)) → IsNoCapture (session_answer found (capture_reply tables)) → session_answer found (capture_reply tables) ≡ refusal NoSession
-  no-capture tables None none = refl
-  no-capture tables (Some session) none = absurd none
+  no-capture : (version : ℕ) (tables : Tables A) (found : Option (SessionState A)) → IsNoCapture (session_answer found (capture_reply version tables))
+      → session_answer found (capture_reply version tables) ≡ refusal NoSession
+  no-capture version tables None none = refl
+  no-capture version tables (Some session) none = absurd none
 
   pub no-session : Replied A → Answers A → (old new : SeatState A) (session : ℕ) (r : Reply A) → HasCalled old new (Capture session) r → IsNoCapture r
       → HasCalled old new (Capture session) (refusal NoSession)
@@ -140,5 +142,5 @@ module _ {A : Type 0} where
       let place = place-of old new session r called in
       let is = answered replied answers old new session r called place.0 place.1 in
       let now = state_after (reverse place.0) in
-      let missing : answer now (Capture session) ≡ refusal NoSession = no-capture now.main (session_numbered now.sessions session) (subst IsNoCapture (sym is) none) in
+      let missing : answer now (Capture session) ≡ refusal NoSession = no-capture now.version now.main (session_numbered now.sessions session) (subst IsNoCapture (sym is) none) in
       subst (λ (x : Reply A). HasCalled old new (Capture session) x) (sym is ∙ missing) called

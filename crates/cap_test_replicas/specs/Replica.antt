@@ -14,6 +14,7 @@ use Rattle.cap_core.specs.declared.reply.Reply.{Reply}
 use Rattle.cap_core.specs.declared.reply.Reply.TheVariants as reply
 use Rattle.cap_core.specs.Answer.{event_by, refusal}
 use Rattle.cap_core.specs.AppliedCapture.{GivesRows, HoldsImages, changes_in}
+use Rattle.cap_core.specs.Capture.{CaptureState}
 use Rattle.cap_core.specs.History.{main}
 use Rattle.cap_core.specs.Session.{session_of}
 use Rattle.cap_history.specs.Seat.{HasCalled, SeatState}
@@ -32,7 +33,7 @@ module _ {A : Type 0} where
 
   -- the reply is no capture
   abbrev pub IsNoCapture : Reply A → Type 0
-  IsNoCapture (reply.Capture changes) = ⊥
+  IsNoCapture (reply.Capture capture) = ⊥
   IsNoCapture _ = Unit {0}
 
   -- the tables and the session's records after a history
@@ -52,13 +53,14 @@ module _ {A : Type 0} where
   -- at that point, or none, and all else as before. All changes are applied, without a conflict.
   pub record IsReplicated (old new : SeatState A) (session : ℕ) (replica : Tables A) (left : AppliedState A)
       : Type 0 where
-    pub changes : List (TableChanges A)
-    pub called : HasCalled old new (Capture session) (reply.Capture changes)
+    pub capture : CaptureState A
+    pub called : HasCalled old new (Capture session) (reply.Capture capture)
     pub rows : (before : List (Event A))
-        → new.seen ≡ before ++ event_by old.number (Capture session) (reply.Capture changes) ∷ []
+        → new.seen ≡ before ++ event_by old.number (Capture session) (reply.Capture capture) ∷ []
         → HoldsFirst session before replica
         → GivesRows replica (tables_after before) left.database (records_after session before)
-        × (left.report ≡ record { applied = changes_in changes; conflicts = []; omitted = []; skipped = [] })
+        × (left.report
+        ≡ record { applied = changes_in capture.changes; conflicts = []; omitted = []; skipped = [] })
 
   -- Why there is no replica: the server's call failed, no live session has the number, or the replica did not
   -- hold the first images.
@@ -66,8 +68,8 @@ module _ {A : Type 0} where
   Explains (Call fault) old new session replica = LeavesSeat fault old new
   Explains NoCapture old new session replica = HasCalled old new (Capture session) (refusal NoSession)
   Explains (NotApplied why) old new session replica =
-      (changes : List (TableChanges A)) × HasCalled old new (Capture session) (reply.Capture changes)
+      (capture : CaptureState A) × HasCalled old new (Capture session) (reply.Capture capture)
       × ((before : List (Event A))
-      → new.seen ≡ before ++ event_by old.number (Capture session) (reply.Capture changes) ∷ []
+      → new.seen ≡ before ++ event_by old.number (Capture session) (reply.Capture capture) ∷ []
       → HoldsFirst session before replica → ⊥)
   Explains OutOfMemory old new session replica = Unit {0}

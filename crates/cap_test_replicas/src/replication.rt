@@ -99,8 +99,8 @@ fn carry<A: AllocHandle>(
     policy: Policy,
     replica: &Database<A>,
 ) -> Result<Applied<A>, Fault<Refusal>>
-    requires reads { (blob : Contents A) × (blob_at (bytes_in form capture.now) ≡ Ok blob) }
-    ensures { (blob : Contents A) → blob_at (bytes_in form capture.now) ≡ Ok blob
+    requires reads { (blob : Contents A) × (blob_at (bytes_in form capture.now.changes) ≡ Ok blob) }
+    ensures { (blob : Contents A) → blob_at (bytes_in form capture.now.changes) ≡ Ok blob
         → AnswersUnlessMemory result (apply replica.now blob policy) }
 {
     let bytes = bytes_in(alloc, capture, form)?;
@@ -116,7 +116,7 @@ fn bytes_in<A: AllocHandle>(
     capture: &Capture<A>,
     form: Form,
 ) -> Result<Vec<u8, A>, OutOfMemory>
-    ensures { IfOk result (λ bytes. bytes.items ≡ bytes_in form capture.now) }
+    ensures { IfOk result (λ bytes. bytes.items ≡ bytes_in form capture.now.changes) }
 {
     match form {
         Form::Changeset => capture.changeset(alloc),

@@ -14,8 +14,8 @@ pub returns-in_default-reply : goal.returns-in_default-reply
 returns-in_default-reply g c =
     λ is h left all.
     let made = rw c.in-Some.is at c.in_ok-core.ensures h left in
-    let list = a-capture h c.args.command is (is-accepted h c.args.command [] all) in
-    c.in_default-reply.not-Capture list.0 (was-answered h 0 c.args.command c.in-Some.field-0.reply made.1.legal ∙ list.1)
+    let capture = a-capture h c.args.command is (is-accepted h c.args.command [] all) in
+    c.in_default-reply.not-Capture capture.0 (was-answered h 0 c.args.command c.in-Some.field-0.reply made.1.legal ∙ capture.1)
 
 pub returns-in_default : goal.returns-in_default
 returns-in_default g c = λ is h left all. (rw c.in_default.is at c.in_ok-core.ensures h left) (room-for h c.args.command [] all)

@@ -11,16 +11,16 @@ returns g c =
     let rises = main-rises order.empty order.run order.create c.applied_blobs_keep_order.ensures in
     let just = c.differences_are_just_those.ensures in
     record {
-      changeset = λ past event later session name database table list policy d quiet fits is.
+      changeset = λ past event later session name database table capture policy d quiet fits is.
           let rise = found-rises rises past fits d.from database d.database_is in
           let now = rising-now past event session name database table d just rise (rises past fits) later quiet in
           let held = holds past event session name database table d just rise (rises past fits) later quiet in
-          let whole = changeset_applies (later ++ event ∷ past) session database rise now held c.a_changeset_gives_the_rows_now.ensures policy list is in
+          let whole = changeset_applies (later ++ event ∷ past) session database rise now held c.a_changeset_gives_the_rows_now.ensures policy capture is in
           (whole.0, whole.1, all-rows past event session name database table d just rise (rises past fits) later quiet whole.0.database whole.2, whole.3);
-      patchset = λ past event later session name database table list policy d quiet fits is.
+      patchset = λ past event later session name database table capture policy d quiet fits is.
           let rise = found-rises rises past fits d.from database d.database_is in
           let now = rising-now past event session name database table d just rise (rises past fits) later quiet in
           let held = holds past event session name database table d just rise (rises past fits) later quiet in
-          let whole = patchset_applies (later ++ event ∷ past) session database rise now held c.a_patchset_gives_the_rows_now.ensures policy list is in
+          let whole = patchset_applies (later ++ event ∷ past) session database rise now held c.a_patchset_gives_the_rows_now.ensures policy capture is in
           (whole.0, whole.1, all-rows past event session name database table d just rise (rises past fits) later quiet whole.0.database whole.2, whole.3);
     }

@@ -16,15 +16,17 @@ returns g c =
     let some = c.captures_have_no_empty_group.ensures in
     let alike = c.key_flags_read_alike.ensures.read in
     record {
-      changeset_read = λ past session list key_flags is writable. changes-read alike key_flags list (some past session list is) writable;
-      patchset_read = λ past session list key_flags is writable. patches-read alike key_flags list (some past session list is) writable;
-      changeset = λ past session list database policy key_flags blob is writable rise fits holds read.
+      changeset_read = λ past session capture key_flags is writable. changes-read alike key_flags capture.changes (some past session capture is) writable;
+      patchset_read = λ past session capture key_flags is writable. patches-read alike key_flags capture.changes (some past session capture is) writable;
+      changeset = λ past session capture database policy key_flags blob is writable rise fits holds read.
+          let list = capture.changes in
           read-applies policy blob (Changes list) (changes_in list) database (main past) (session_of past session).tables
-          (one-blob (blob_at (list_bytes_with key_flags list)) (Changes list) blob (changes-read alike key_flags list (some past session list is) writable) read)
-          (gives.changeset past session list database policy is rise fits holds);
-      patchset = λ past session list database policy key_flags blob is writable rise fits holds read.
+          (one-blob (blob_at (list_bytes_with key_flags list)) (Changes list) blob (changes-read alike key_flags list (some past session capture is) writable) read)
+          (gives.changeset past session capture database policy is rise fits holds);
+      patchset = λ past session capture database policy key_flags blob is writable rise fits holds read.
+          let list = capture.changes in
           let patches = patch_list_of list in
           read-patches-apply policy blob patches (changes_in list) database (main past) (session_of past session).tables
-          (one-blob (blob_at (patch_list_bytes_with key_flags patches)) (of_patches patches) blob (patches-read alike key_flags list (some past session list is) writable) read)
-          (gives.patchset past session list database policy is rise fits holds);
+          (one-blob (blob_at (patch_list_bytes_with key_flags patches)) (of_patches patches) blob (patches-read alike key_flags list (some past session capture is) writable) read)
+          (gives.patchset past session capture database policy is rise fits holds);
     }

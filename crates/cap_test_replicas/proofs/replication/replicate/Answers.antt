@@ -17,49 +17,49 @@ returns-in_default-clause-explained g c =
 pub carry-requires : goal.carry-requires
 carry-requires g c =
     let laws = c.bytes_of_a_capture_give_the_rows_now.ensures in
-    let changes = c.in-Some.capture in
+    let capture = c.in-Some.capture in
     let old = c.args.seat.now in
     let new = c.capture.new.seat in
     let replied = c.legal_histories_were_legal.ensures.reply in
     let answers = c.legal_histories_grow.ensures.reply in
-    let called : HasCalled old new (Capture c.args.session) (reply.Capture changes) =
+    let called : HasCalled old new (Capture c.args.session) (reply.Capture capture) =
     subst (λ (r : Reply g.row.A.Denot). HasCalled old new (Capture c.args.session) r) c.in-Some.ensures c.in-Ok.ensures.called in
-    let reads = reads-in c.args.form (λ past session list is writable. (Changes list, laws.changeset_read past session list Ones is writable))
-    (λ past session list is writable. (of_patches (patch_list_of list), laws.patchset_read past session list Ones is writable)) in
-    let read = is-read c.args.form reads replied answers old new c.args.session changes called c.in-Ok-is_writable.ensures.changeset in
+    let reads = reads-in c.args.form (λ past session made is writable. (Changes made.changes, laws.changeset_read past session made Ones is writable))
+    (λ past session made is writable. (of_patches (patch_list_of made.changes), laws.patchset_read past session made Ones is writable)) in
+    let read = is-read c.args.form reads replied answers old new c.args.session capture called c.in-Ok-is_writable.ensures.changeset in
     record { reads = read }
 
 pub returns-in-Ok-carry-clause-replicated : goal.returns-in-Ok-carry-clause-replicated
 returns-in-Ok-carry-clause-replicated g c =
     let laws = c.bytes_of_a_capture_give_the_rows_now.ensures in
-    let changes = c.in-Some.capture in
+    let capture = c.in-Some.capture in
     let old = c.args.seat.now in
     let new = c.capture.new.seat in
     let replied = c.legal_histories_were_legal.ensures.reply in
     let answers = c.legal_histories_grow.ensures.reply in
-    let called : HasCalled old new (Capture c.args.session) (reply.Capture changes) =
+    let called : HasCalled old new (Capture c.args.session) (reply.Capture capture) =
     subst (λ (r : Reply g.row.A.Denot). HasCalled old new (Capture c.args.session) r) c.in-Some.ensures c.in-Ok.ensures.called in
-    let reads = reads-in c.args.form (λ past session list is writable. (Changes list, laws.changeset_read past session list Ones is writable))
-    (λ past session list is writable. (of_patches (patch_list_of list), laws.patchset_read past session list Ones is writable)) in
-    let read = is-read c.args.form reads replied answers old new c.args.session changes called c.in-Ok-is_writable.ensures.changeset in
-    let gives = gives-in c.args.form (λ past session list database policy blob. laws.changeset past session list database policy Ones blob)
-    (λ past session list database policy blob. laws.patchset past session list database policy Ones blob) in
-    is-replicated c.args.form c.args.policy gives replied answers c.fitting_histories_grow.ensures.begins c.fitting_histories_grow.ensures.past old new c.args.session changes c.args.replica.now c.database_rises.ensures c.in-Ok-is_writable.ensures.changeset called read.0 read.1 c.in-Ok-carry.applied (c.in-Ok-carry.ensures read.0 read.1)
+    let reads = reads-in c.args.form (λ past session made is writable. (Changes made.changes, laws.changeset_read past session made Ones is writable))
+    (λ past session made is writable. (of_patches (patch_list_of made.changes), laws.patchset_read past session made Ones is writable)) in
+    let read = is-read c.args.form reads replied answers old new c.args.session capture called c.in-Ok-is_writable.ensures.changeset in
+    let gives = gives-in c.args.form (λ past session made database policy blob. laws.changeset past session made database policy Ones blob)
+    (λ past session made database policy blob. laws.patchset past session made database policy Ones blob) in
+    is-replicated c.args.form c.args.policy gives replied answers c.fitting_histories_grow.ensures.begins c.fitting_histories_grow.ensures.past old new c.args.session capture c.args.replica.now c.database_rises.ensures c.in-Ok-is_writable.ensures.changeset called read.0 read.1 c.in-Ok-carry.applied (c.in-Ok-carry.ensures read.0 read.1)
 
 pub returns-in-Err-Refused-clause-explained : goal.returns-in-Err-Refused-clause-explained
 returns-in-Err-Refused-clause-explained g c =
     let laws = c.bytes_of_a_capture_give_the_rows_now.ensures in
-    let changes = c.in-Some.capture in
+    let capture = c.in-Some.capture in
     let old = c.args.seat.now in
     let new = c.capture.new.seat in
     let replied = c.legal_histories_were_legal.ensures.reply in
     let answers = c.legal_histories_grow.ensures.reply in
-    let called : HasCalled old new (Capture c.args.session) (reply.Capture changes) =
+    let called : HasCalled old new (Capture c.args.session) (reply.Capture capture) =
     subst (λ (r : Reply g.row.A.Denot). HasCalled old new (Capture c.args.session) r) c.in-Some.ensures c.in-Ok.ensures.called in
-    let reads = reads-in c.args.form (λ past session list is writable. (Changes list, laws.changeset_read past session list Ones is writable))
-    (λ past session list is writable. (of_patches (patch_list_of list), laws.patchset_read past session list Ones is writable)) in
-    let read = is-read c.args.form reads replied answers old new c.args.session changes called c.in-Ok-is_writable.ensures.changeset in
-    let gives = gives-in c.args.form (λ past session list database policy blob. laws.changeset past session list database policy Ones blob)
-    (λ past session list database policy blob. laws.patchset past session list database policy Ones blob) in
+    let reads = reads-in c.args.form (λ past session made is writable. (Changes made.changes, laws.changeset_read past session made Ones is writable))
+    (λ past session made is writable. (of_patches (patch_list_of made.changes), laws.patchset_read past session made Ones is writable)) in
+    let read = is-read c.args.form reads replied answers old new c.args.session capture called c.in-Ok-is_writable.ensures.changeset in
+    let gives = gives-in c.args.form (λ past session made database policy blob. laws.changeset past session made database policy Ones blob)
+    (λ past session made database policy blob. laws.patchset past session made database policy Ones blob) in
     let refused = c.in-Err-Refused.ensures read.0 read.1 in
-    (changes, called, never-refused c.args.form c.args.policy gives replied answers c.fitting_histories_grow.ensures.begins c.fitting_histories_grow.ensures.past old new c.args.session changes c.args.replica.now c.database_rises.ensures c.in-Ok-is_writable.ensures.changeset called read.0 read.1 c.in-Err-Refused.why (rw c.in-Err-Refused.field-0-is at refused))
+    (capture, called, never-refused c.args.form c.args.policy gives replied answers c.fitting_histories_grow.ensures.begins c.fitting_histories_grow.ensures.past old new c.args.session capture c.args.replica.now c.database_rises.ensures c.in-Ok-is_writable.ensures.changeset called read.0 read.1 c.in-Err-Refused.why (rw c.in-Err-Refused.field-0-is at refused))

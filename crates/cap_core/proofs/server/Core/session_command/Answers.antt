@@ -31,5 +31,5 @@ pub returns-in_ok-reply-in-Capture : goal.returns-in_ok-reply-in-Capture
 returns-in_ok-reply-in-Capture g c =
     let live = c.in-Some.session.now.live in
     let numbered = subst (λ (s : State g.row.A.Denot). session_numbered s.sessions c.args.number ≡ Some live) c.self.view_is (sym c.in-Some.ensures) in
-    let told = c.in_ok-reply-in-Capture.ensures ∙ ap (λ (s : State g.row.A.Denot). capture_reply s.main live) c.self.view_is in
+    let told = c.in_ok-reply-in-Capture.ensures ∙ ap (λ (s : State g.row.A.Denot). capture_reply s.version s.main live) c.self.view_is in
     rw (numbered, c.in-Capture.is, with-same c.args.number c.args.self.now.sessions live numbered) (rw told at c.reply_only-in-Capture.ensures)
