@@ -33,7 +33,8 @@ refused (Ok x) = Ok x
 refused (Err why) = Err (Refused why)
 
 -- The call is another one, and has its answer, with a refusal by the rules handed on.
-abbrev pub HandsOn : {X : Type 0} → (Result X (Fault Refusal) → Type 0) → Result X (Fault RecordFault) → Type 0
+abbrev pub HandsOn : {X : Type 0} → (Result X (Fault Refusal) → Type 0) → Result X (Fault RecordFault) →
+    Type 0
 HandsOn call (Ok x) = call (Ok x)
 HandsOn call (Err fault.OutOfMemory) = call (Err fault.OutOfMemory)
 HandsOn call (Err (fault.Refused (Refused why))) = call (Err (fault.Refused why))

@@ -1,5 +1,5 @@
--- Records that stand alone: the fields of a row, of a key or of new values, one after the other as a changeset
--- has them, up to the end of the bytes.
+-- Records that stand alone: the fields of a row, of a key or of new values, one after the other as a
+-- changeset has them, up to the end of the bytes.
 use Rattle.std.specs.Prelude.{ℕ, zero, suc, Bool, true, false, List, [], ◌∷◌, length, Option, Some, None}
 use Rattle.std.specs.Prelude.{Result, Ok}
 use Rattle.std.specs.List.{enumerate_from, flat_map}

@@ -21,7 +21,8 @@ pub fn has_all_ops(batch: &Batch<Global>) -> bool
 /// Puts an operation last. Refused with `TooMany` where there are `OPS_MAX`. On an error the batch is as
 /// before.
 pub fn put_op(batch: &mut Batch<Global>, op: Op<Global>) -> Result<(), Fault<RecordFault>>
-    ensures batch { HandsOn {X = Unit {0}} (λ call. LeavesUnlessMemory call (push batch.old op) batch.new) result }
+    ensures batch { HandsOn {X = Unit {0}}
+        (λ call. LeavesUnlessMemory call (push batch.old op) batch.new) result }
     ensures kept { OnErr result (batch.new ≡ batch.old) }
     ensures first { RefusesFirst (option_map RecordFault.Refused (refused_push batch.old.ops)) result }
 {

@@ -8,7 +8,8 @@ use cap_value::NAME_BYTES_MAX;
 /// The text of a name, where the bytes are one.
 #[tactic(auto, unfolding(crate::specs::Names::is_name_text))]
 pub fn name_text(bytes: &[u8]) -> Option<&str>
-    ensures text { MatchOption result (¬ (IsName bytes.now)) (λ text. (text.now ≡ bytes.now) × IsName bytes.now) }
+    ensures text { MatchOption result (¬ (IsName bytes.now))
+        (λ text. (text.now ≡ bytes.now) × IsName bytes.now) }
     ensures tested { is_some result ≡ is_name_text bytes.now }
 {
     if !is_name(bytes) {

@@ -40,7 +40,8 @@ fn get_row(
     table: &Name<Global>,
     row: &RowRef<Global>,
 ) -> Result<RowCursor, Fault<RecordFault>>
-    ensures { AnswersUnlessMemory result (over (one_row row.now) (read snapshot.now.database table.now row.now)) }
+    ensures { AnswersUnlessMemory result
+        (over (one_row row.now) (read snapshot.now.database table.now row.now)) }
 {
     match snapshot.get(table, row) {
         Ok(found) => Ok(RowCursor::new(one_row(alloc, row, found)?)),
@@ -65,8 +66,8 @@ pub fn scan(
     }
 }
 
-/// The rows with a key that is not below this one, in the order of their keys, at most `limit` of them. A name
-/// that is none and an empty key are misuse. Refused with `NoTable` where no table has the name.
+/// The rows with a key that is not below this one, in the order of their keys, at most `limit` of them. A
+/// name that is none and an empty key are misuse. Refused with `NoTable` where no table has the name.
 pub fn scan_from(
     alloc: Global,
     snapshot: &Snapshot<Global>,

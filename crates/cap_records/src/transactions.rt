@@ -72,8 +72,8 @@ fn get_standing(
     }
 }
 
-/// All rows of a table as it stands, with the refusals of `scan`. The call is the last of the trace, also where
-/// the transaction refuses it, and where the rows have no memory.
+/// All rows of a table as it stands, with the refusals of `scan`. The call is the last of the trace, also
+/// where the transaction refuses it, and where the rows have no memory.
 pub fn txn_scan(
     alloc: Global,
     txn: &mut Txn<Global>,

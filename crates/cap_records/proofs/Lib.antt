@@ -1,0 +1,5 @@
+mod AgainLemmas
+mod CallLemmas
+pub mod Crossing
+mod FieldLemmas
+mod ListLemmas
