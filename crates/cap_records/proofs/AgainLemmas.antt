@@ -2,6 +2,8 @@
 use Rattle.std.proofs.Common.{◌≡◌, ℕ, zero, suc, ◌≤◌, Bool, true, false, not, ◌&&◌, nat_le, IsTrue, List, [], ◌∷◌, ◌++◌, length, map, Option, Some, None, IfSome, Ok, refl, sym, ap, subst, ◌∙◌, arith, length-append}
 use Rattle.std.specs.Global.{Global}
 use Rattle.std.specs.List.{AllByRecursion, list_any}
+use Rattle.std.specs.Prelude.{All, IfOk, OnOk, Result, Err}
+use Rattle.std.proofs.lemmas.List.Elements.{recursion_from_All}
 use Rattle.std.proofs.lemmas.Bool.{and_parts, le-leb, not-true, or_parts}
 use Rattle.cap_value.specs.declared.value.Value.{Value}
 use Rattle.cap_value.specs.Value.{IsValue, is_null}
@@ -65,6 +67,11 @@ row_whole (value ∷ row) fits = ((refl, fits.0), row_whole row fits.1)
 pub row_again : (row : Fields Global) → AllByRecursion IsValue row → row_in (values_bytes row) ≡ Ok row
 row_again row fits = values_read required.Defined row refl (row_whole row fits)
 
+-- a record that was made of a row
+pub row_made : {V E : Type 0} (items : V → List ℕ) (result : Result V E) (row : Fields Global) → IfOk result (λ v. items v ≡ values_bytes row) → OnOk result (All IsValue row) → IfOk result (λ v. row_in (items v) ≡ Ok row)
+row_made items (Ok v) row bytes fits = ap row_in bytes ∙ row_again row (recursion_from_All IsValue row fits)
+row_made items (Err e) row bytes fits = tt
+
 defined_bytes : (fields : RecordFields Global) → AreMet required.Defined fields → values_bytes (defined fields) ≡ record_bytes fields
 defined_bytes [] met = refl
 defined_bytes (None ∷ fields) met = absurd (cc (met.0))
@@ -85,6 +92,11 @@ key_whole (value ∷ key) fits none =
 pub key_again : (key : Fields Global) → AllByRecursion IsValue key → IsTrue (is_key key) → key_in (values_bytes key) ≡ Ok key
 key_again key fits is =
     values_read required.Key key refl (key_whole key fits (not-true (list_any is_null key) (and_parts (nat_le 1 (length key)) (not (list_any is_null key)) is).1))
+
+-- a record that was made of a key
+pub key_made : {V E : Type 0} (items : V → List ℕ) (result : Result V E) (key : Fields Global) → IsTrue (is_key key) → IfOk result (λ v. items v ≡ values_bytes key) → OnOk result (All IsValue key) → IfOk result (λ v. key_in (items v) ≡ Ok key)
+key_made items (Ok v) key is bytes fits = ap key_in bytes ∙ key_again key (recursion_from_All IsValue key fits) is
+key_made items (Err e) key is bytes fits = tt
 
 none_null : (fields : RecordFields Global) → AreMet required.Key fields → list_any is_null (defined fields) ≡ false
 none_null [] met = refl

@@ -56,6 +56,9 @@ fewer bytes front after is some = omega (arith, length-append front after, ap le
 pub shorter : (requirement : FieldRequirement) (total : ℕ) (bytes : List ℕ) (x : Option (Value Global) × List ℕ) → IsTrue (has_byte requirement) → AreLow bytes → field_at total requirement bytes ≡ Ok x → length x.1 < length bytes
 shorter requirement total bytes x is low read = fewer bytes (field_bytes x.0) x.1 (parts requirement total bytes x is low read) (a_byte x.0)
 
+pub behind_low : (requirement : FieldRequirement) (total : ℕ) (bytes : List ℕ) (x : Option (Value Global) × List ℕ) → IsTrue (has_byte requirement) → AreLow bytes → field_at total requirement bytes ≡ Ok x → AreLow x.1
+behind_low requirement total bytes x is low read = low_behind bytes (field_bytes x.0) x.1 (parts requirement total bytes x is low read) low
+
 -- ---- the loop
 
 abbrev joined : RecordFields Global → Result (RecordFields Global) BlobFault → Result (RecordFields Global) BlobFault

@@ -1,5 +1,4 @@
 mod AgainLemmas
-mod CallLemmas
 pub mod Crossing
 mod FieldLemmas
 mod ListLemmas

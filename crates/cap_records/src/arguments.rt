@@ -35,11 +35,7 @@ fn names_row(id: u64, key: &[u8]) -> bool
 }
 
 // The row of a name.
-fn row_named(
-    alloc: Global,
-    id: u64,
-    key: &[u8],
-) -> Result<RowRef<Global>, Fault<RecordFault>>
+fn row_named(alloc: Global, id: u64, key: &[u8]) -> Result<RowRef<Global>, Fault<RecordFault>>
     requires { IsTrue (names_row id key.now) }
     ensures { AnswersUnlessMemory result (row_named id key.now) }
 {

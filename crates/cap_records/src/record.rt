@@ -48,10 +48,7 @@ pub(crate) fn assignments_of(
 }
 
 /// The record of a row.
-pub fn record_of_row(
-    alloc: Global,
-    row: &Row<Global>,
-) -> Result<Vec<u8, Global>, OutOfMemory>
+pub fn record_of_row(alloc: Global, row: &Row<Global>) -> Result<Vec<u8, Global>, OutOfMemory>
     ensures bytes { IfOk result (λ bytes. bytes.items ≡ values_bytes row.now) }
     // It is read as the row again.
     ensures again { IfOk result (λ bytes. row_in bytes.items ≡ Ok row.now) }
@@ -60,10 +57,7 @@ pub fn record_of_row(
 }
 
 /// The record of a key.
-pub fn record_of_key(
-    alloc: Global,
-    key: &Key<Global>,
-) -> Result<Vec<u8, Global>, OutOfMemory>
+pub fn record_of_key(alloc: Global, key: &Key<Global>) -> Result<Vec<u8, Global>, OutOfMemory>
     ensures bytes { IfOk result (λ bytes. bytes.items ≡ values_bytes key.now) }
     // It is read as the key again.
     ensures again { IfOk result (λ bytes. key_in bytes.items ≡ Ok key.now) }

@@ -11,8 +11,11 @@ use std::alloc::Global;
 
 // The type bytes of fields.
 const INTEGER: u8 = 0x01;
+
 const TEXT: u8 = 0x03;
+
 const BLOB: u8 = 0x04;
+
 const NULL: u8 = 0x05;
 
 // Appends a group of seven bits, unless it and all before it are zero.
