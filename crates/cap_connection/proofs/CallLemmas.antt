@@ -11,7 +11,7 @@ use Rattle.cap_hub.specs.declared.fault.HubFault.{HubFault}
 use Rattle.cap_hub.specs.declared.fault.HubFault.TheVariants.{Busy, Call}
 use Rattle.cap_locked.specs.declared.fault.CallFault.TheVariants.{OutOfMemory, Overtaken, HistoryFull}
 use Rattle.cap_script.specs.declared.line.Line.{Line}
-use Rattle.cap_connection.specs.Called.{Lacks}
+use Rattle.cap_connection.specs.Called.{HasNoReply}
 use Rattle.cap_connection.specs.Connection.{ConnectionState}
 use Rattle.cap_connection.specs.OneCommand.{SpellsOne}
 use Rattle.cap_connection.specs.Runs.{RunsWith, Stops, UnlessMemory, fault_of}
@@ -20,7 +20,7 @@ use Rattle.cap_connection.specs.declared.fault.ConnectionFault.{ConnectionFault}
 use Rattle.cap_connection.specs.declared.fault.ConnectionFault.TheVariants as fault
 
 -- where memory ran out the connection is as it was
-as_it_was : (asked : Command Global) (old new : ConnectionState) → Lacks asked old new (Call OutOfMemory) → new ≡ old
+as_it_was : (asked : Command Global) (old new : ConnectionState) → HasNoReply asked old new (Call OutOfMemory) → new ≡ old
 as_it_was asked old new lacks = λ i. record {
   client = record { book = lacks.not_called.book i; state = lacks.not_called.refused i };
   output = lacks.output_is i;
@@ -28,7 +28,7 @@ as_it_was asked old new lacks = λ i. record {
 
 module _ (refusal : Reply Global → Option Why) (output : Reply Global → List ℕ) (asked : Command Global) (old new : ConnectionState) where
   -- the command has no reply
-  pub stops : (why : HubFault) → Lacks asked old new why → Stops refusal output asked old new (fault_of why)
+  pub stops : (why : HubFault) → HasNoReply asked old new why → Stops refusal output asked old new (fault_of why)
   stops Busy lacks = lacks
   stops (Call OutOfMemory) lacks = lacks
   stops (Call (Overtaken front)) lacks = lacks

@@ -29,6 +29,6 @@ pub record Took (command : Command Global) (output : List ℕ) (old new : Connec
   pub output_is : new.output ≡ output
 
 -- The command has no reply, and what the connection has beside its client is as it was.
-pub record Lacks (command : Command Global) (old new : ConnectionState) (fault : HubFault) : Type 0 where
+pub record HasNoReply (command : Command Global) (old new : ConnectionState) (fault : HubFault) : Type 0 where
   pub not_called : NotCalled old.client new.client command fault
   pub output_is : new.output ≡ old.output

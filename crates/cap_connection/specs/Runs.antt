@@ -11,7 +11,7 @@ use Rattle.cap_core.specs.declared.reply.Reply.{Reply}
 use Rattle.cap_hub.specs.declared.fault.HubFault.{HubFault}
 use Rattle.cap_hub.specs.declared.fault.HubFault.TheVariants.{Busy, Call}
 use Rattle.cap_locked.specs.declared.fault.CallFault.TheVariants.{OutOfMemory, Overtaken, HistoryFull}
-use Rattle.cap_connection.specs.Called.{Lacks, Took}
+use Rattle.cap_connection.specs.Called.{HasNoReply, Took}
 use Rattle.cap_connection.specs.Connection.{ConnectionState}
 use Rattle.cap_connection.specs.declared.fault.ConnectionFault.{ConnectionFault}
 use Rattle.cap_connection.specs.declared.fault.ConnectionFault.TheVariants as fault
@@ -30,10 +30,10 @@ module _ (refusal : Reply Global → Option Why) (output : Reply Global → List
   abbrev pub Stops : Fault ConnectionFault → Type 0
   Stops (stop.Refused (fault.Refused at why)) = (reply : Reply Global)
       × Took command (output reply) old new reply × (refusal reply ≡ Some (at, why))
-  Stops (stop.Refused fault.Busy) = Lacks command old new Busy
-  Stops (stop.Refused (fault.Overtaken front)) = Lacks command old new (Call (Overtaken front))
-  Stops (stop.Refused fault.Full) = Lacks command old new (Call HistoryFull)
-  Stops stop.OutOfMemory = Lacks command old new (Call OutOfMemory)
+  Stops (stop.Refused fault.Busy) = HasNoReply command old new Busy
+  Stops (stop.Refused (fault.Overtaken front)) = HasNoReply command old new (Call (Overtaken front))
+  Stops (stop.Refused fault.Full) = HasNoReply command old new (Call HistoryFull)
+  Stops stop.OutOfMemory = HasNoReply command old new (Call OutOfMemory)
   Stops (stop.Refused why) = ⊥
 
   -- The call has the value of the reply, or none.

@@ -10,7 +10,7 @@ ghost use Rattle.cap_connection.specs.Calls.{Saves, SetsFilter, TakesSnapshot};
 ghost use Rattle.cap_connection.specs.Clients.{Joins, Looks, Meets, Opens};
 ghost use Rattle.cap_connection.specs.Commands.{IsApply, IsCapture, blob_in};
 ghost use Rattle.cap_connection.specs.Replies.{applied_in, flag_in, nothing_in, number_in};
-ghost use Rattle.cap_connection.specs.Runs.{Runs};
+ghost use Rattle.cap_connection.specs.Runs.{Runs, RunsMade};
 ghost use Rattle.cap_connection.specs.TextCall.{CallsText, RunsLine};
 
 use crate::captured::Captured;
@@ -399,7 +399,9 @@ impl Connection {
     }
 
     fn run_nothing(&mut self, command: &Command<Global>) -> Result<(), Fault<ConnectionFault>>
-        ensures { Runs nothing_in command.now self.old self.new result }
+        ensures runs { Runs nothing_in command.now self.old self.new result }
+        // The same of a command whose arguments took memory.
+        ensures made { RunsMade nothing_in command.now self.old self.new result }
     {
         match self.accepted(command) {
             Ok(_) => Ok(()),
@@ -408,7 +410,9 @@ impl Connection {
     }
 
     fn run_number(&mut self, command: &Command<Global>) -> Result<u64, Fault<ConnectionFault>>
-        ensures { Runs number_in command.now self.old self.new result }
+        ensures runs { Runs number_in command.now self.old self.new result }
+        // The same of a command whose arguments took memory.
+        ensures made { RunsMade number_in command.now self.old self.new result }
     {
         match self.accepted(command) {
             Ok(reply) => Ok(number_in(&reply)),

@@ -41,7 +41,8 @@ fn an_inserted_row_is_captured(rt: HostRuntime) -> Result<(), Fail> {
     assert!(rt; connection.attach(alloc, 1, b"t") == Ok(()));
     assert!(rt; puts_x(alloc, &mut batch));
     assert!(rt; connection.commit(alloc, &mut batch) == Ok(2));
-    assert!(rt; has_changeset(alloc, &connection.capture(1), &CHANGESET));
+    let captured = connection.capture(1);
+    assert!(rt; has_changeset(alloc, &captured, &CHANGESET));
     assert!(rt; puts_x(alloc, &mut batch));
     let duplicate = refused(Some(0), Refusal::Duplicate);
     assert!(rt; connection.commit(alloc, &mut batch) == Err(duplicate));

@@ -79,7 +79,8 @@ fn a_capture_is_written_as_often_as_it_is_asked_for(rt: HostRuntime) -> Result<(
     assert!(rt; connection.is_empty(1) == Ok(true));
     assert!(rt; has_changeset(alloc, &captured, &CHANGESET));
     assert!(rt; has_patchset(alloc, &captured, &PATCHSET));
-    assert!(rt; has_changeset(alloc, &connection.capture(1), &[]));
+    let empty = connection.capture(1);
+    assert!(rt; has_changeset(alloc, &empty, &[]));
     Ok(())
 }
 

@@ -65,7 +65,8 @@ fn a_capture_has_what_both_committed(rt: HostRuntime) -> Result<(), Fail> {
     let texts = ["create t kv", "session", "attach 1 t", "commit insert t (2,'y')"];
     assert!(rt; accepts(&mut first, alloc, &texts));
     assert!(rt; accepts(&mut second, alloc, &["commit insert t (1,'x')"]));
-    assert!(rt; has_changeset(alloc, &second.capture(1), &BOTH));
+    let captured = second.capture(1);
+    assert!(rt; has_changeset(alloc, &captured, &BOTH));
     Ok(())
 }
 
