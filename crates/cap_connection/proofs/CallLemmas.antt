@@ -1,24 +1,54 @@
--- A text that is one command is called as its line runs.
-use Rattle.std.proofs.Common.{Bool, ℕ, List}
+-- Calls without a value, and a text that is one command.
+use Rattle.std.proofs.Common.{◌≡◌, Bool, ℕ, List, Option}
 use Rattle.std.specs.Prelude.{Result, Ok, Err}
 use Rattle.std.specs.Global.{Global}
 use Rattle.cap_value.specs.declared.memory.Fault.{Fault}
 use Rattle.cap_value.specs.declared.memory.Fault.TheVariants as stop
+use Rattle.cap_core.specs.Outcome.{Refused as Why}
+use Rattle.cap_core.specs.declared.command.Command.{Command}
+use Rattle.cap_core.specs.declared.reply.Reply.{Reply}
+use Rattle.cap_hub.specs.declared.fault.HubFault.{HubFault}
+use Rattle.cap_hub.specs.declared.fault.HubFault.TheVariants.{Busy, Call}
+use Rattle.cap_locked.specs.declared.fault.CallFault.TheVariants.{OutOfMemory, Overtaken, HistoryFull}
 use Rattle.cap_script.specs.declared.line.Line.{Line}
+use Rattle.cap_connection.specs.Called.{HasNoReply}
 use Rattle.cap_connection.specs.Connection.{ConnectionState}
 use Rattle.cap_connection.specs.OneCommand.{SpellsOne}
+use Rattle.cap_connection.specs.Runs.{RunsWith, Stops, UnlessMemory, fault_of}
 use Rattle.cap_connection.specs.TextCall.{CallsText, RunsLine}
 use Rattle.cap_connection.specs.declared.fault.ConnectionFault.{ConnectionFault}
 use Rattle.cap_connection.specs.declared.fault.ConnectionFault.TheVariants as fault
 
+-- where memory ran out the connection is as it was
+as_it_was : (asked : Command Global) (old new : ConnectionState) → HasNoReply asked old new (Call OutOfMemory) → new ≡ old
+as_it_was asked old new lacks = λ i. record {
+  client = record { book = lacks.not_called.book i; state = lacks.not_called.refused i };
+  output = lacks.output_is i;
+}
+
+module _ (refusal : Reply Global → Option Why) (output : Reply Global → List ℕ) (asked : Command Global) (old new : ConnectionState) where
+  -- the command has no reply
+  pub stops : (why : HubFault) → HasNoReply asked old new why → Stops refusal output asked old new (fault_of why)
+  stops Busy lacks = lacks
+  stops (Call OutOfMemory) lacks = lacks
+  stops (Call (Overtaken front)) lacks = lacks
+  stops (Call HistoryFull) lacks = lacks
+
+  -- what is said of want of memory is no less than that all is as it was
+  pub unless_memory : {X : Type 0} (value : Reply Global → X) (result : Result X (Fault ConnectionFault)) → RunsWith refusal output asked old new value result
+      → UnlessMemory (λ r. RunsWith refusal output asked old new value r) old new result
+  unless_memory value (Ok x) runs = runs
+  unless_memory value (Err (stop.Refused why)) runs = runs
+  unless_memory value (Err stop.OutOfMemory) runs = as_it_was asked old new runs
+
 pub calls_text : (text : List ℕ) (line : Line Global) (old new : ConnectionState) → SpellsOne line text
     → (result : Result Bool (Fault ConnectionFault)) → RunsLine line old new result → CallsText text old new result
 calls_text text line old new spells (Ok accepted) runs = (line, spells, runs)
-calls_text text line old new spells (Err stop.OutOfMemory) runs = runs.1
+calls_text text line old new spells (Err stop.OutOfMemory) runs = runs
+calls_text text line old new spells (Err (stop.Refused fault.Busy)) runs = (line, spells, runs)
+calls_text text line old new spells (Err (stop.Refused (fault.Overtaken front))) runs = (line, spells, runs)
 calls_text text line old new spells (Err (stop.Refused fault.Full)) runs = (line, spells, runs)
 calls_text text line old new spells (Err (stop.Refused (fault.Refused at why))) runs = (line, spells, runs)
 calls_text text line old new spells (Err (stop.Refused fault.Misuse)) runs = absurd runs
-calls_text text line old new spells (Err (stop.Refused (fault.Malformed wrong))) runs = absurd runs
 calls_text text line old new spells (Err (stop.Refused (fault.NoFilter why))) runs = absurd runs
 calls_text text line old new spells (Err (stop.Refused (fault.NoCommand why))) runs = absurd runs
-calls_text text line old new spells (Err (stop.Refused (fault.NoRoom len))) runs = absurd runs

@@ -2,3 +2,4 @@ mod CallLemmas
 pub mod Crossing
 mod OneCommandLemmas
 mod PositionLemmas
+mod ReplyLemmas

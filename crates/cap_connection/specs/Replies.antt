@@ -1,21 +1,21 @@
 -- What a reply has for the caller. Of a reply of another kind, which such a command never has, it is nothing.
-use Rattle.std.specs.Prelude.{ℕ, Bool, false, List, [], length}
-use Rattle.cap_changes.specs.Group.{TableChanges}
+use Rattle.std.specs.Prelude.{ℕ, Bool, false, List, length, Option, Some, None}
 use Rattle.cap_changes.specs.Patch.{patch_list_of}
 use Rattle.cap_codec.specs.Changeset.{list_bytes_with}
 use Rattle.cap_codec.specs.Patchset.{patch_list_bytes_with}
 use Rattle.cap_codec.specs.declared.key_flags.KeyFlags.{KeyFlags}
+use Rattle.cap_database.specs.Snapshot.{SnapshotState}
+use Rattle.cap_core.specs.Capture.{CaptureState}
 use Rattle.cap_core.specs.declared.reply.Reply.{Reply}
 use Rattle.cap_core.specs.declared.reply.Reply.TheVariants as reply
 use Rattle.cap_connection.specs.declared.replies.Applied.{Applied}
 use Rattle.cap_connection.specs.declared.captured.CaptureKind.{CaptureKind}
-use Rattle.cap_connection.specs.declared.captured.CaptureKind.TheVariants.{Changeset, Patchset, Restart}
+use Rattle.cap_connection.specs.declared.captured.CaptureKind.TheVariants.{Changeset, Patchset}
 
--- the bytes of a session's changes
-abbrev pub captured_bytes : {A : Type 0} → CaptureKind → KeyFlags → List (TableChanges A) → List ℕ
-captured_bytes Changeset flags changes = list_bytes_with flags changes
-captured_bytes Patchset flags changes = patch_list_bytes_with flags (patch_list_of changes)
-captured_bytes Restart flags changes = list_bytes_with flags changes
+-- the bytes of a capture
+abbrev pub captured_bytes : {A : Type 0} → CaptureKind → KeyFlags → CaptureState A → List ℕ
+captured_bytes Changeset flags capture = list_bytes_with flags capture.changes
+captured_bytes Patchset flags capture = patch_list_bytes_with flags (patch_list_of capture.changes)
 
 module _ {A : Type 0} where
   abbrev pub nothing_in : Reply A → Unit {0}
@@ -42,7 +42,12 @@ module _ {A : Type 0} where
   }
   applied_in _ = record { version = 0; applied = 0; conflicts = 0; omitted = 0; skipped = 0 }
 
-  -- what a capture has to be written
-  abbrev pub bytes_in : CaptureKind → KeyFlags → Reply A → List ℕ
-  bytes_in kind flags (reply.Capture capture) = captured_bytes kind flags capture.changes
-  bytes_in kind flags _ = []
+  -- the tables with their version
+  abbrev pub snapshot_in : Reply A → Option (SnapshotState A)
+  snapshot_in (reply.Snapshot snapshot) = Some snapshot
+  snapshot_in _ = None
+
+  -- the session's changes, with the version of the tables
+  abbrev pub captured_in : Reply A → Option (CaptureState A)
+  captured_in (reply.Capture capture) = Some capture
+  captured_in _ = None

@@ -8,17 +8,16 @@ use Rattle.cap_script.specs.ReplyText.{reply_text}
 use Rattle.cap_script.specs.declared.line.Line.{Line}
 use Rattle.cap_connection.specs.Connection.{ConnectionState}
 use Rattle.cap_connection.specs.OneCommand.{IsNotOne, SpellsOne}
-use Rattle.cap_connection.specs.Runs.{RunsWith}
+use Rattle.cap_connection.specs.Runs.{RunsWith, UnlessMemory}
 use Rattle.cap_connection.specs.declared.fault.ConnectionFault.{ConnectionFault}
 use Rattle.cap_connection.specs.declared.fault.ConnectionFault.TheVariants as fault
 
--- The line's command takes effect, and its reply is printed, also where that is a refusal. The answer is
--- whether it is none.
+-- The line's command has a reply, which is printed, also where it is a refusal. The answer is whether it is
+-- none.
 abbrev pub RunsLine : Line Global → ConnectionState → ConnectionState →
     Result Bool (Fault ConnectionFault) → Type 0
-RunsLine line old new =
-    RunsWith (λ reply. None) (λ reply. record old { output = reply_text line reply }) line.command old new
-    is_accepted
+RunsLine line old new = UnlessMemory
+    (RunsWith (λ reply. None) (λ reply. reply_text line reply) line.command old new is_accepted) old new
 
 -- The text is one command, which runs; or it is not one.
 abbrev pub CallsText : List ℕ → ConnectionState → ConnectionState →

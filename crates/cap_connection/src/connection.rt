@@ -1,49 +1,48 @@
-//! A connection to a server in memory.
-ghost use Rattle.std.specs.Prelude.{◌≡◌, None, Some, false, true};
-ghost use Rattle.std.specs.Option.{option_copied};
-ghost use Rattle.std.specs.Result.{result_map_both};
+//! A connection to a history in memory, which several connections may share.
+ghost use Rattle.std.specs.Prelude.{◌≡◌, IfErr, IfOk, Some, length};
+ghost use mathlib.Core.List.{IsPrefix};
 ghost use Rattle.cap_txn.specs.Batch.{BatchState};
-ghost use Rattle.cap_core.specs.Past.{HasRoom};
 ghost use Rattle.cap_core.specs.declared.command.Command.TheVariants as command;
-ghost use Rattle.cap_connection.specs.Calls.{Applies, Attaches, Binds, BindsBlob, BindsText, Commits};
-ghost use Rattle.cap_connection.specs.Calls.{CreatesTable, Diffs, Drafts, Gets, Puts, Queries, Saves, Scans};
-ghost use Rattle.cap_connection.specs.Calls.{Sets, SetsFilter};
-ghost use Rattle.cap_connection.specs.Captures.{Captures};
-ghost use Rattle.cap_connection.specs.Connection.{new_connection};
-ghost use Rattle.cap_connection.specs.Draft.{draft_on, unbound};
+ghost use Rattle.cap_history.specs.History.{IsHistory};
+ghost use Rattle.cap_history.specs.Seat.{IsAnswered, calls};
+ghost use Rattle.cap_connection.specs.Calls.{Applies, Attaches, Captures, Commits, CreatesTable, Diffs};
+ghost use Rattle.cap_connection.specs.Calls.{Saves, SetsFilter, TakesSnapshot};
+ghost use Rattle.cap_connection.specs.Clients.{Joins, Looks, Meets, Opens};
+ghost use Rattle.cap_connection.specs.Commands.{IsApply, IsCapture, blob_in};
 ghost use Rattle.cap_connection.specs.Replies.{applied_in, flag_in, nothing_in, number_in};
-ghost use Rattle.cap_connection.specs.RowCursor.{Steps, columns_of, id_of_row, value_of};
-ghost use Rattle.cap_connection.specs.Runs.{Replies, Runs};
+ghost use Rattle.cap_connection.specs.Runs.{Runs, RunsMade};
 ghost use Rattle.cap_connection.specs.TextCall.{CallsText, RunsLine};
 
-use crate::captured::{CaptureHook, CaptureKind, capture_command};
-use crate::draft::{ActionKind, Draft, names_row, row_named};
-use crate::fault::{ConnectionFault, NoReply};
+use crate::captured::Captured;
+use crate::fault::{ConnectionFault, fault_of};
+use crate::iter::BlobIter;
 use crate::names::{are_columns, name_text, schema_of};
 use crate::one_command::one_command;
 use crate::printer::Printer;
-use crate::query::{Query, QueryHook, query_refusal};
-use crate::replies::{Applied, applied_in, flag_in, is_accepted, number_in, refusal_in};
-use crate::row_cursor::RowCursor;
+use crate::replies::{
+    Applied, applied_in, flag_in, is_accepted, number_in, refusal_in, snapshot_in,
+};
 use cap_apply::Policy;
-use cap_codec::{KeyFlags, read_blob};
-use cap_core::{Command, Core, EVENTS_MAX, NoHook, Reply};
-use cap_database::Cause;
+use cap_codec::Contents;
+use cap_core::{Command, Reply};
+use cap_database::Snapshot;
 use cap_filter::TableFilter;
+use cap_hub::{Client, JoinFault};
+use cap_locked::HookFault;
 use cap_script::Line;
 use cap_txn::Batch;
-use cap_value::{Fault, Name, Refusal, VALUE_BYTES_MAX, Value};
+use cap_value::{Fault, Name, OutOfMemory};
 use std::alloc::Global;
 use std::marker::Model;
+use std::mem;
 
-/// A server in memory, the text of its last reply, the batch that is put together, and the rows that were
-/// read last. Names and texts are bytes, as they come from another language.
+/// A client of a history in memory, and the text of its last reply to a command as text. Up to 64 connections
+/// share a history, each on one thread at a time. No call waits: while one connection's call has the state,
+/// those of others answer that it is busy. Names and texts are bytes, as they come from another language.
 #[derive(Drop)]
 pub struct Connection {
-    core: Core<Global>,
+    client: Client,
     output: Vec<u8, Global>,
-    draft: Draft,
-    cursor: RowCursor,
 }
 
 impl Model for Connection {
@@ -55,25 +54,88 @@ impl Model for Connection {
 
     ghost coded = { Prim.hlevel (codes, coded_rule) };
 
-    ghost view = { λ c. record {
-      core = c.core;
-      output = c.output.items;
-      draft = c.draft;
-      cursor = c.cursor;
-    } };
+    ghost view = { λ c. record { client = c.client; output = c.output.items } };
 }
 
 impl Connection {
-    /// A connection to an empty server. Takes no memory.
-    pub fn open(alloc: Global) -> Self
-        ensures { result ≡ new_connection }
+    /// The first connection to an empty history.
+    pub fn open(alloc: Global) -> Result<Self, OutOfMemory>
+        ensures { IfOk result Opens }
     {
-        Connection {
-            core: Core::new(alloc),
-            output: Vec::new(alloc),
-            draft: Draft::new(alloc, None),
-            cursor: RowCursor::new(Vec::new(alloc)),
+        match Client::open(alloc) {
+            Ok(client) => Ok(Connection {
+                client,
+                output: Vec::new(alloc),
+            }),
+            Err(fault) => Err(fault),
         }
+    }
+
+    /// A further connection to the history. It has the seat with the least number that no connection has,
+    /// with what its earlier ones have called and seen. While there are 64 it is refused.
+    pub fn join(&self, alloc: Global) -> Result<Self, JoinFault>
+        ensures { IfOk result (Joins self.now) }
+    {
+        match self.client.join() {
+            Ok(client) => Ok(Connection {
+                client,
+                output: Vec::new(alloc),
+            }),
+            Err(fault) => Err(fault),
+        }
+    }
+
+    /// Gives the seat back, with its number, its calls and what it has seen. While another call has the state
+    /// the connection is handed back.
+    pub fn close(self) -> Result<(), Self>
+        ensures { IfErr result (λ connection. connection ≡ self) }
+    {
+        let Connection { client, output } = self;
+        match client.close() {
+            Ok(()) => Ok(()),
+            Err(client) => Err(Connection { client, output }),
+        }
+    }
+
+    // ---- What others did
+
+    /// Sees the whole history, and gives the number of its events. It does without the state.
+    pub fn front(&mut self) -> u64
+        ensures { Looks self.old self.new result }
+    {
+        self.client.front()
+    }
+
+    /// Sees what another connection to the history has seen. It does without the state.
+    pub fn meet(&mut self, other: &Connection)
+        requires history { other.now.client.book ≡ self.old.client.book }
+        ensures { Meets self.old other.now self.new }
+    {
+        self.client.meet(&other.client);
+    }
+
+    /// The number of its seat, from 0.
+    pub fn number(&self) -> u64
+        ensures { result ≡ self.now.client.state.number }
+    {
+        self.client.number()
+    }
+
+    /// The number of events that it has seen.
+    pub fn seen(&self) -> u64
+        ensures length { result ≡ length self.now.client.state.seen }
+        ensures history { IsHistory self.now.client.state.seen }
+    {
+        self.client.seen()
+    }
+
+    /// The number of its seat's calls.
+    pub fn calls(&self) -> u64
+        ensures calls { result ≡ length (calls self.now.client.state) }
+        ensures seen { IsPrefix self.now.client.state.answered self.now.client.state.seen }
+        ensures answered { IsAnswered self.now.client.state.number self.now.client.state.answered }
+    {
+        self.client.calls()
     }
 
     // ---- A command as text
@@ -115,16 +177,13 @@ impl Connection {
         let Some(table) = name_text(table) else {
             return Err(Fault::Refused(ConnectionFault::Misuse));
         };
-        if self.is_full() {
-            return Err(Fault::Refused(ConnectionFault::Full));
-        }
         let Ok(table) = Name::new(alloc, table) else {
             return Err(Fault::OutOfMemory);
         };
         let Ok(schema) = schema_of(alloc, key) else {
             return Err(Fault::OutOfMemory);
         };
-        self.number(&Command::CreateTable { table, schema })
+        self.run_number(&Command::CreateTable { table, schema })
     }
 
     /// Saves the tables under a name, and replaces what was saved under it.
@@ -134,53 +193,50 @@ impl Connection {
         let Some(database) = name_text(database) else {
             return Err(Fault::Refused(ConnectionFault::Misuse));
         };
-        if self.is_full() {
-            return Err(Fault::Refused(ConnectionFault::Full));
-        }
         let Ok(database) = Name::new(alloc, database) else {
             return Err(Fault::OutOfMemory);
         };
-        self.nothing(&Command::SaveAs { database })
+        self.run_nothing(&Command::SaveAs { database })
     }
 
-    /// Applies a changeset or a patchset (sqlite3changeset_apply).
+    /// Applies the changeset or the patchset of an iterator (sqlite3changeset_apply). The iterator is as it
+    /// was.
     pub fn apply(
         &mut self,
         alloc: Global,
-        blob: &[u8],
+        it: &mut BlobIter,
         policy: Policy,
     ) -> Result<Applied, Fault<ConnectionFault>>
-        ensures { Applies blob.now policy self.old self.new result }
+        ensures { Applies policy it.old it.new self.old self.new result }
     {
-        if self.is_full() {
-            return Err(Fault::Refused(ConnectionFault::Full));
-        }
-        match read_blob(alloc, blob) {
-            Ok(blob) => self.applied(&Command::Apply { blob, policy }),
-            Err(Fault::Refused(wrong)) => Err(Fault::Refused(ConnectionFault::Malformed(wrong))),
-            Err(Fault::OutOfMemory) => Err(Fault::OutOfMemory),
-        }
+        let command = Command::Apply {
+            blob: it.take_contents(alloc),
+            policy,
+        };
+        let answer = self.run_applied(&command);
+        it.put_contents(contents_of(command));
+        answer
     }
 
     /// Makes a session (sqlite3session_create). The answer is its number.
     pub fn new_session(&mut self) -> Result<u64, Fault<ConnectionFault>>
         ensures { Runs number_in command.NewSession self.old self.new result }
     {
-        self.number(&Command::NewSession)
+        self.run_number(&Command::NewSession)
     }
 
     /// Ends a session (sqlite3session_delete).
     pub fn drop_session(&mut self, session: u64) -> Result<(), Fault<ConnectionFault>>
         ensures { Runs nothing_in (command.DropSession session) self.old self.new result }
     {
-        self.nothing(&Command::DropSession { session })
+        self.run_nothing(&Command::DropSession { session })
     }
 
     /// Attaches every table of which a row changes from now on.
     pub fn attach_all(&mut self, session: u64) -> Result<(), Fault<ConnectionFault>>
         ensures { Runs nothing_in (command.AttachAll session) self.old self.new result }
     {
-        self.nothing(&Command::AttachAll { session })
+        self.run_nothing(&Command::AttachAll { session })
     }
 
     /// Attaches a table (sqlite3session_attach).
@@ -195,13 +251,10 @@ impl Connection {
         let Some(table) = name_text(table) else {
             return Err(Fault::Refused(ConnectionFault::Misuse));
         };
-        if self.is_full() {
-            return Err(Fault::Refused(ConnectionFault::Full));
-        }
         let Ok(table) = Name::new(alloc, table) else {
             return Err(Fault::OutOfMemory);
         };
-        self.nothing(&Command::Attach { session, table })
+        self.run_nothing(&Command::Attach { session, table })
     }
 
     /// Attaches from now on each table of which a row changes and whose name the filter accepts
@@ -217,11 +270,8 @@ impl Connection {
         let Ok(text) = str::from_utf8(text) else {
             return Err(Fault::Refused(ConnectionFault::Misuse));
         };
-        if self.is_full() {
-            return Err(Fault::Refused(ConnectionFault::Full));
-        }
         match TableFilter::parse(alloc, text) {
-            Ok(filter) => self.nothing(&Command::SetFilter { session, filter }),
+            Ok(filter) => self.run_nothing(&Command::SetFilter { session, filter }),
             Err(Fault::Refused(why)) => Err(Fault::Refused(ConnectionFault::NoFilter(why))),
             Err(Fault::OutOfMemory) => Err(Fault::OutOfMemory),
         }
@@ -235,7 +285,7 @@ impl Connection {
     ) -> Result<bool, Fault<ConnectionFault>>
         ensures { Runs flag_in (command.Enable session enabled) self.old self.new result }
     {
-        self.flag(&Command::Enable { session, enabled })
+        self.run_flag(&Command::Enable { session, enabled })
     }
 
     /// Sets the indirect flag of a session, or asks for it (sqlite3session_indirect).
@@ -246,14 +296,14 @@ impl Connection {
     ) -> Result<bool, Fault<ConnectionFault>>
         ensures { Runs flag_in (command.Indirect session indirect) self.old self.new result }
     {
-        self.flag(&Command::Indirect { session, indirect })
+        self.run_flag(&Command::Indirect { session, indirect })
     }
 
     /// Whether a session has no records (sqlite3session_isempty).
     pub fn is_empty(&mut self, session: u64) -> Result<bool, Fault<ConnectionFault>>
         ensures { Runs flag_in (command.IsEmpty session) self.old self.new result }
     {
-        self.flag(&Command::IsEmpty { session })
+        self.run_flag(&Command::IsEmpty { session })
     }
 
     /// Records how a table differs from the one of the same name in a saved database (sqlite3session_diff).
@@ -272,280 +322,65 @@ impl Connection {
         let Some(table) = name_text(table) else {
             return Err(Fault::Refused(ConnectionFault::Misuse));
         };
-        if self.is_full() {
-            return Err(Fault::Refused(ConnectionFault::Full));
-        }
         let Ok(from) = Name::new(alloc, from) else {
             return Err(Fault::OutOfMemory);
         };
         let Ok(table) = Name::new(alloc, table) else {
             return Err(Fault::OutOfMemory);
         };
-        self.nothing(&Command::Diff {
+        self.run_nothing(&Command::Diff {
             session,
             from,
             table,
         })
     }
 
-    /// The bytes of what a session has captured. Where there are more than `room` the answer is how many, and
-    /// nothing has changed.
-    pub fn capture(
+    // ---- Snapshots, captures and batches
+
+    /// A snapshot of the tables.
+    pub fn read(&mut self) -> Result<Snapshot<Global>, Fault<ConnectionFault>>
+        ensures { TakesSnapshot self.old self.new result }
+    {
+        match self.accepted(&Command::Read) {
+            Ok(reply) => Ok(snapshot_in(reply)),
+            Err(why) => Err(why),
+        }
+    }
+
+    /// What a session has captured.
+    pub fn capture(&mut self, session: u64) -> Result<Captured, Fault<ConnectionFault>>
+        ensures { Captures (command.Capture session) self.old self.new result }
+    {
+        self.run_captured(&Command::Capture { session })
+    }
+
+    /// What a session has captured, whose records are then deleted.
+    pub fn restart(&mut self, session: u64) -> Result<Captured, Fault<ConnectionFault>>
+        ensures { Captures (command.Restart session) self.old self.new result }
+    {
+        self.run_captured(&Command::Restart { session })
+    }
+
+    /// Commits a batch. The answer is the new version, and then the batch is empty, and may be made on any
+    /// version. A batch that is refused, or has no reply, is as it was.
+    pub fn commit(
         &mut self,
         alloc: Global,
-        kind: CaptureKind,
-        session: u64,
-        key_flags: KeyFlags,
-        room: usize,
-    ) -> Result<Vec<u8, Global>, Fault<ConnectionFault>>
-        ensures { Captures kind session key_flags room self.old self.new
-            (result_map_both (λ bytes. bytes.items) (λ why. why) result) }
+        batch: &mut Batch<Global>,
+    ) -> Result<u64, Fault<ConnectionFault>>
+        ensures { Commits batch.old batch.new self.old self.new result }
     {
-        if self.is_full() {
-            return Err(Fault::Refused(ConnectionFault::Full));
-        }
-        let command = capture_command(kind, session);
-        let mut bytes = Vec::new(alloc);
-        let answer = {
-            let mut hook = CaptureHook {
-                alloc,
-                kind,
-                key_flags,
-                room,
-                bytes: &mut bytes,
-            };
-            self.core.step(&command, &mut hook)
-        };
-        match answer {
-            Ok(reply) => match refusal_in(&reply) {
-                Some((at, why)) => Err(Fault::Refused(ConnectionFault::Refused { at, why })),
-                None => Ok(bytes),
-            },
-            Err(Fault::Refused(Fault::Refused(len))) => {
-                Err(Fault::Refused(ConnectionFault::NoRoom { len }))
-            }
-            Err(_) => Err(Fault::OutOfMemory),
-        }
-    }
-
-    // ---- Batches
-
-    /// Begins a batch, which may be made on this version alone, or on any. The batch before it and what is
-    /// bound are dropped.
-    pub fn begin(&mut self, alloc: Global, version: Option<u64>)
-        ensures { Drafts (draft_on version) self.old self.new }
-    {
-        self.draft = Draft::new(alloc, version);
-    }
-
-    /// Drops what is bound (sqlite3_clear_bindings).
-    pub fn unbind(&mut self)
-        ensures { Drafts (unbound self.old.draft) self.old self.new }
-    {
-        self.draft.unbind();
-    }
-
-    /// Binds a value behind those before it (sqlite3_bind_int64).
-    pub fn bind(&mut self, value: Value<Global>) -> Result<(), Fault<ConnectionFault>>
-        ensures { Binds value self.old self.new result }
-    {
-        match self.draft.bind(value) {
-            Ok(()) => Ok(()),
-            Err(_) => Err(Fault::OutOfMemory),
-        }
-    }
-
-    /// Binds a text (sqlite3_bind_text).
-    pub fn bind_text(&mut self, alloc: Global, text: &[u8]) -> Result<(), Fault<ConnectionFault>>
-        ensures { BindsText text.now self.old self.new result }
-    {
-        if text.len() > VALUE_BYTES_MAX {
-            return Err(Fault::Refused(ConnectionFault::Misuse));
-        }
-        let Ok(text) = str::from_utf8(text) else {
-            return Err(Fault::Refused(ConnectionFault::Misuse));
-        };
-        match Value::text(alloc, text) {
-            Ok(value) => self.bind(value),
-            Err(_) => Err(Fault::OutOfMemory),
-        }
-    }
-
-    /// Binds a blob (sqlite3_bind_blob).
-    pub fn bind_blob(&mut self, alloc: Global, blob: &[u8]) -> Result<(), Fault<ConnectionFault>>
-        ensures { BindsBlob blob.now self.old self.new result }
-    {
-        if blob.len() > VALUE_BYTES_MAX {
-            return Err(Fault::Refused(ConnectionFault::Misuse));
-        }
-        match Value::blob(alloc, blob) {
-            Ok(value) => self.bind(value),
-            Err(_) => Err(Fault::OutOfMemory),
-        }
-    }
-
-    /// Makes the value that was bound last the new one of a column, for an update.
-    pub fn set(&mut self, column: usize) -> Result<(), Fault<ConnectionFault>>
-        ensures { Sets column self.old self.new result }
-    {
-        if self.draft.is_unbound() {
-            return Err(Fault::Refused(ConnectionFault::Misuse));
-        }
-        match self.draft.set(column) {
-            Ok(()) => Ok(()),
-            Err(_) => Err(Fault::OutOfMemory),
-        }
-    }
-
-    /// Puts an operation last in the batch, and drops what is bound. An insert takes the row that is bound.
-    /// An update and a delete take the row with this id, or where that is 0 with the key that is bound.
-    pub fn put(
-        &mut self,
-        alloc: Global,
-        kind: ActionKind,
-        table: &[u8],
-        id: u64,
-        cause: Cause,
-    ) -> Result<(), Fault<ConnectionFault>>
-        ensures { Puts kind table.now id cause self.old self.new result }
-    {
-        let Some(table) = name_text(table) else {
-            return Err(Fault::Refused(ConnectionFault::Misuse));
-        };
-        if !self.draft.can_make(kind, id) {
-            return Err(Fault::Refused(ConnectionFault::Misuse));
-        }
-        if self.draft.has_all_ops() {
-            return Err(Fault::Refused(ConnectionFault::Refused {
-                at: None,
-                why: Refusal::TooMany,
-            }));
-        }
-        match self.draft.put(alloc, table, cause, kind, id) {
-            Ok(()) => Ok(()),
-            Err(_) => Err(Fault::OutOfMemory),
-        }
-    }
-
-    /// Commits the batch, and begins one that may be made on any version. The answer is the new version.
-    /// Without a reply the batch stays.
-    pub fn commit(&mut self, alloc: Global) -> Result<u64, Fault<ConnectionFault>>
-        ensures { Commits self.old self.new result }
-    {
-        let command = Command::Commit(self.draft.take_batch(alloc));
-        match self.carry_out(&command) {
-            Ok(reply) => match refusal_in(&reply) {
-                Some((at, why)) => Err(Fault::Refused(ConnectionFault::Refused { at, why })),
-                None => Ok(number_in(&reply)),
-            },
-            Err(NoReply::Full) => {
-                self.draft.put_batch(batch_of(command));
-                Err(Fault::Refused(ConnectionFault::Full))
-            }
-            Err(NoReply::OutOfMemory) => {
-                self.draft.put_batch(batch_of(command));
-                Err(Fault::OutOfMemory)
+        let command = Command::Commit(mem::replace(batch, Batch::blind(alloc)));
+        match self.run_number(&command) {
+            Ok(version) => Ok(version),
+            Err(why) => {
+                *batch = batch_of(command);
+                Err(why)
             }
         }
-    }
-
-    // ---- Rows
-
-    /// Reads the row with this id, or where that is 0 with the key that is bound. Nothing is bound after
-    /// that.
-    pub fn get(
-        &mut self,
-        alloc: Global,
-        table: &[u8],
-        id: u64,
-    ) -> Result<(), Fault<ConnectionFault>>
-        ensures { Gets table.now id self.old self.new result }
-    {
-        let Some(table) = name_text(table) else {
-            return Err(Fault::Refused(ConnectionFault::Misuse));
-        };
-        if !names_row(id, self.draft.values()) {
-            return Err(Fault::Refused(ConnectionFault::Misuse));
-        }
-        if self.is_full() {
-            return Err(Fault::Refused(ConnectionFault::Full));
-        }
-        let Ok(table) = Name::new(alloc, table) else {
-            return Err(Fault::OutOfMemory);
-        };
-        let Ok(row) = row_named(alloc, id, self.draft.values()) else {
-            return Err(Fault::OutOfMemory);
-        };
-        self.query(alloc, &Query::One(row), &table)
-    }
-
-    /// Reads all rows of a table. Nothing is bound after that.
-    pub fn scan(&mut self, alloc: Global, table: &[u8]) -> Result<(), Fault<ConnectionFault>>
-        ensures { Scans table.now self.old self.new result }
-    {
-        let Some(table) = name_text(table) else {
-            return Err(Fault::Refused(ConnectionFault::Misuse));
-        };
-        if self.is_full() {
-            return Err(Fault::Refused(ConnectionFault::Full));
-        }
-        let Ok(table) = Name::new(alloc, table) else {
-            return Err(Fault::OutOfMemory);
-        };
-        self.query(alloc, &Query::All, &table)
-    }
-
-    /// Goes to the next of the rows that were read last, or behind them (sqlite3_step).
-    pub fn step(&mut self) -> bool
-        ensures stepped { Steps self.old.cursor self.new.cursor result }
-        ensures kept { self.new ≡ record self.old { cursor = self.new.cursor } }
-    {
-        self.cursor.step()
-    }
-
-    /// The id of the row, or 0 where it has a key. None where there is no row.
-    pub fn row_id(&self) -> Option<u64>
-        ensures { result ≡ id_of_row self.now.cursor }
-    {
-        self.cursor.id()
-    }
-
-    /// How many columns the row has.
-    pub fn columns(&self) -> Option<usize>
-        ensures { result ≡ columns_of self.now.cursor }
-    {
-        self.cursor.columns()
-    }
-
-    /// The value of a column of the row (sqlite3_column_value).
-    pub fn value(&self, column: usize) -> Option<&Value<Global>>
-        ensures { option_copied result ≡ value_of self.now.cursor column }
-    {
-        self.cursor.value(column)
     }
 
     // ---- What they share
-
-    // Whether the history has no room for another command.
-    fn is_full(&self) -> bool
-        ensures full { result ≡ true → ¬ (HasRoom self.now.core.events) }
-        ensures room { result ≡ false → HasRoom self.now.core.events }
-    {
-        self.core.events() >= EVENTS_MAX
-    }
-
-    // Carries out a command.
-    fn carry_out(&mut self, command: &Command<Global>) -> Result<Reply<Global>, NoReply>
-        ensures { Replies command.now self.old self.new result }
-    {
-        if self.is_full() {
-            return Err(NoReply::Full);
-        }
-        match self.core.step(command, &mut NoHook) {
-            Ok(reply) => Ok(reply),
-            Err(_) => Err(NoReply::OutOfMemory),
-        }
-    }
 
     // Carries out a command, and answers its reply where that is no refusal.
     fn accepted(
@@ -554,18 +389,19 @@ impl Connection {
     ) -> Result<Reply<Global>, Fault<ConnectionFault>>
         ensures { Runs (λ reply. reply) command.now self.old self.new result }
     {
-        match self.carry_out(command) {
+        match self.client.call(command) {
             Ok(reply) => match refusal_in(&reply) {
                 Some((at, why)) => Err(Fault::Refused(ConnectionFault::Refused { at, why })),
                 None => Ok(reply),
             },
-            Err(NoReply::Full) => Err(Fault::Refused(ConnectionFault::Full)),
-            Err(NoReply::OutOfMemory) => Err(Fault::OutOfMemory),
+            Err(fault) => Err(fault_of(fault)),
         }
     }
 
-    fn nothing(&mut self, command: &Command<Global>) -> Result<(), Fault<ConnectionFault>>
-        ensures { Runs nothing_in command.now self.old self.new result }
+    fn run_nothing(&mut self, command: &Command<Global>) -> Result<(), Fault<ConnectionFault>>
+        ensures runs { Runs nothing_in command.now self.old self.new result }
+        // The same of a command whose arguments took memory.
+        ensures made { RunsMade nothing_in command.now self.old self.new result }
     {
         match self.accepted(command) {
             Ok(_) => Ok(()),
@@ -573,8 +409,10 @@ impl Connection {
         }
     }
 
-    fn number(&mut self, command: &Command<Global>) -> Result<u64, Fault<ConnectionFault>>
-        ensures { Runs number_in command.now self.old self.new result }
+    fn run_number(&mut self, command: &Command<Global>) -> Result<u64, Fault<ConnectionFault>>
+        ensures runs { Runs number_in command.now self.old self.new result }
+        // The same of a command whose arguments took memory.
+        ensures made { RunsMade number_in command.now self.old self.new result }
     {
         match self.accepted(command) {
             Ok(reply) => Ok(number_in(&reply)),
@@ -582,7 +420,7 @@ impl Connection {
         }
     }
 
-    fn flag(&mut self, command: &Command<Global>) -> Result<bool, Fault<ConnectionFault>>
+    fn run_flag(&mut self, command: &Command<Global>) -> Result<bool, Fault<ConnectionFault>>
         ensures { Runs flag_in command.now self.old self.new result }
     {
         match self.accepted(command) {
@@ -591,11 +429,24 @@ impl Connection {
         }
     }
 
-    fn applied(&mut self, command: &Command<Global>) -> Result<Applied, Fault<ConnectionFault>>
+    fn run_applied(&mut self, command: &Command<Global>) -> Result<Applied, Fault<ConnectionFault>>
         ensures { Runs applied_in command.now self.old self.new result }
     {
         match self.accepted(command) {
             Ok(reply) => Ok(applied_in(&reply)),
+            Err(why) => Err(why),
+        }
+    }
+
+    fn run_captured(
+        &mut self,
+        command: &Command<Global>,
+    ) -> Result<Captured, Fault<ConnectionFault>>
+        requires captures { IsCapture command.now }
+        ensures { Captures command.now self.old self.new result }
+    {
+        match self.accepted(command) {
+            Ok(reply) => Ok(Captured::of(reply)),
             Err(why) => Err(why),
         }
     }
@@ -608,45 +459,22 @@ impl Connection {
     ) -> Result<bool, Fault<ConnectionFault>>
         ensures { RunsLine line.now self.old self.new result }
     {
-        if self.is_full() {
-            return Err(Fault::Refused(ConnectionFault::Full));
-        }
-        let mut printer = Printer {
-            alloc,
-            line,
-            output: &mut self.output,
+        let mut text = Vec::new(alloc);
+        let answer = {
+            let mut printer = Printer {
+                alloc,
+                line,
+                output: &mut text,
+            };
+            self.client.call_with_hook(&line.command, &mut printer)
         };
-        match self.core.step(&line.command, &mut printer) {
-            Ok(reply) => Ok(is_accepted(&reply)),
-            Err(_) => Err(Fault::OutOfMemory),
-        }
-    }
-
-    // Reads rows of a table.
-    fn query(
-        &mut self,
-        alloc: Global,
-        query: &Query,
-        table: &Name<Global>,
-    ) -> Result<(), Fault<ConnectionFault>>
-        requires room { HasRoom self.old.core.events }
-        ensures { Queries query.now table.now self.old self.new result }
-    {
-        let mut hook = QueryHook {
-            alloc,
-            query,
-            table,
-            cursor: &mut self.cursor,
-        };
-        match self.core.step(&Command::Read, &mut hook) {
+        match answer {
             Ok(reply) => {
-                self.draft.unbind();
-                match query_refusal(table, &reply) {
-                    Some((at, why)) => Err(Fault::Refused(ConnectionFault::Refused { at, why })),
-                    None => Ok(()),
-                }
+                self.output = text;
+                Ok(is_accepted(&reply))
             }
-            Err(_) => Err(Fault::OutOfMemory),
+            Err(HookFault::Refused(_)) => Err(Fault::OutOfMemory),
+            Err(HookFault::Call(fault)) => Err(fault_of(fault)),
         }
     }
 }
@@ -658,6 +486,17 @@ fn batch_of(commit: Command<Global>) -> Batch<Global>
 {
     match commit {
         Command::Commit(batch) => batch,
+        _ => unreachable!(),
+    }
+}
+
+// The contents that a command applies.
+fn contents_of(apply: Command<Global>) -> Contents<Global>
+    requires { IsApply apply }
+    ensures { blob_in apply ≡ Some result }
+{
+    match apply {
+        Command::Apply { blob, .. } => blob,
         _ => unreachable!(),
     }
 }

@@ -1,8 +1,11 @@
 //! Why a call has no answer.
+ghost use Rattle.std.specs.Prelude.{◌≡◌};
+ghost use Rattle.cap_connection.specs.Runs.{fault_of};
 
-use cap_codec::BlobFault;
+use cap_hub::HubFault;
+use cap_locked::CallFault;
 use cap_script::ScriptFault;
-use cap_value::Refusal;
+use cap_value::{Fault, Refusal};
 use thiserror::Error;
 
 /// Why a call on a connection is refused.
@@ -11,7 +14,17 @@ pub enum ConnectionFault {
     /// The call has no meaning for an argument.
     #[error("misuse")]
     Misuse,
-    /// The server has answered as many commands as it can.
+    /// Another call has the state. Nothing has changed, and the call may be made again.
+    #[error("busy")]
+    Busy,
+    /// S1: the history is longer than the one that the call found, or the client has made other calls than
+    /// are counted.
+    #[error("overtaken, front {front}")]
+    Overtaken {
+        /// The number of events of the history.
+        front: u64,
+    },
+    /// S2: the history has 2^63 - 1 events.
     #[error("history full")]
     Full,
     /// The server refuses the command.
@@ -22,21 +35,12 @@ pub enum ConnectionFault {
         /// Why.
         why: Refusal,
     },
-    /// The bytes are no blob.
-    #[error("fault {0}")]
-    Malformed(BlobFault),
     /// The text is no filter.
     #[error("no filter: {0}")]
     NoFilter(Refusal),
     /// The text is not one command.
     #[error("no command: {0}")]
     NoCommand(TextFault),
-    /// The bytes of a capture have no room.
-    #[error("no room for {len} bytes")]
-    NoRoom {
-        /// How many bytes there are.
-        len: usize,
-    },
 }
 
 /// Why a text is not one command.
@@ -50,9 +54,16 @@ pub enum TextFault {
     InLine(ScriptFault),
 }
 
-// Why a command has no reply.
-#[derive(Drop)]
-pub(crate) enum NoReply {
-    Full,
-    OutOfMemory,
+/// Why the client's call has no reply.
+pub(crate) fn fault_of(fault: HubFault) -> Fault<ConnectionFault>
+    ensures { result ≡ fault_of fault }
+{
+    match fault {
+        HubFault::Busy => Fault::Refused(ConnectionFault::Busy),
+        HubFault::Call(CallFault::OutOfMemory) => Fault::OutOfMemory,
+        HubFault::Call(CallFault::Overtaken { front }) => {
+            Fault::Refused(ConnectionFault::Overtaken { front })
+        }
+        HubFault::Call(CallFault::HistoryFull) => Fault::Refused(ConnectionFault::Full),
+    }
 }

@@ -9,10 +9,12 @@ ghost use Rattle.cap_connection.specs.Iter.{new_of, old_of, table_of};
 
 use crate::iter_fields::{ChangeHead, head_at, new_at, old_at, schema_at, table_at};
 use crate::iter_position::{Position, first_from};
+use cap_changes::ChangeList;
 use cap_codec::{BlobFault, Contents, read_blob};
 use cap_value::{Fault, Name, Value};
 use std::alloc::Global;
 use std::marker::Model;
+use std::mem;
 
 /// An iterator over the changes of a changeset or a patchset, which owns what it has read.
 #[derive(Drop)]
@@ -58,6 +60,21 @@ impl BlobIter {
                 change: 0,
             },
         }
+    }
+
+    // Takes the contents out, for a command. Takes no memory.
+    pub(crate) fn take_contents(&mut self, alloc: Global) -> Contents<Global>
+        ensures taken { result ≡ self.old.contents }
+        ensures rest { self.new ≡ record self.old { contents = self.new.contents } }
+    {
+        mem::replace(&mut self.contents, Contents::Changes(ChangeList::new(alloc)))
+    }
+
+    // Puts contents back.
+    pub(crate) fn put_contents(&mut self, contents: Contents<Global>)
+        ensures { self.new ≡ record self.old { contents = contents } }
+    {
+        self.contents = contents;
     }
 
     /// Goes to the next change, or behind the last (sqlite3changeset_next).

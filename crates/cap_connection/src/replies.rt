@@ -1,10 +1,13 @@
 //! What a reply has for the caller.
-ghost use Rattle.std.specs.Prelude.{◌≡◌};
+ghost use Rattle.std.specs.Prelude.{◌≡◌, Some};
 ghost use Rattle.cap_core.specs.Past.{is_accepted};
 ghost use Rattle.cap_core.specs.RefusedFirst.{refusal_in};
-ghost use Rattle.cap_connection.specs.Replies.{applied_in, flag_in, number_in};
+ghost use Rattle.cap_core.specs.declared.reply.Reply.TheVariants as replied;
+ghost use Rattle.cap_database.specs.Snapshot.{SnapshotState};
+ghost use Rattle.cap_connection.specs.Replies.{applied_in, flag_in, number_in, snapshot_in};
 
 use cap_core::Reply;
+use cap_database::Snapshot;
 use cap_value::Refusal;
 use std::alloc::Global;
 
@@ -82,5 +85,16 @@ pub(crate) fn applied_in(reply: &Reply<Global>) -> Applied
             omitted: 0,
             skipped: 0,
         },
+    }
+}
+
+/// The tables with their version.
+pub(crate) fn snapshot_in(reply: Reply<Global>) -> Snapshot<Global>
+    requires snapshot { (snapshot : SnapshotState Global) × (reply ≡ replied.Snapshot snapshot) }
+    ensures { snapshot_in reply ≡ Some result }
+{
+    match reply {
+        Reply::Snapshot(snapshot) => snapshot,
+        _ => unreachable!(),
     }
 }

@@ -1,93 +1,89 @@
 //! Tables, sessions, batches and texts.
+use crate::captures::{CHANGESET, has_changeset};
 use crate::texts::{MISUSE, accepts};
-use cap_codec::KeyFlags;
-use cap_connection::{ActionKind, CaptureKind, Connection, ConnectionFault, TextFault};
-use cap_database::Cause;
-use cap_value::{Fault, Refusal, Value};
+use cap_connection::{Connection, ConnectionFault, TextFault};
+use cap_database::{Action, Cause, Op};
+use cap_row::Row;
+use cap_txn::Batch;
+use cap_value::{Fault, Name, Refusal, Value};
 use std::alloc::Global;
+use std::test::Fail;
 
-// SQLite's changeset of one inserted row, (1,'x') of the table t, whose first column is its key.
-const CHANGESET: [u8; 20] = [
-    0x54, 2, 1, 0, b't', 0, 0x12, 0, 1, 0, 0, 0, 0, 0, 0, 0, 1, 3, 1, b'x',
-];
-
-const NO_ROOM: Fault<ConnectionFault> = Fault::Refused(ConnectionFault::NoRoom { len: 20 });
-
-fn refused(why: Refusal) -> Fault<ConnectionFault> {
-    Fault::Refused(ConnectionFault::Refused { at: None, why })
+fn refused(at: Option<u64>, why: Refusal) -> Fault<ConnectionFault> {
+    Fault::Refused(ConnectionFault::Refused { at, why })
 }
 
-// Whether the first session has captured the inserted row.
-fn captures(connection: &mut Connection, alloc: Global, kind: CaptureKind) -> bool {
-    match connection.capture(alloc, kind, 1, KeyFlags::Places, 20) {
-        Ok(bytes) => bytes.as_slice() == CHANGESET.as_slice(),
+// Inserts the row (1,'x') into the table t.
+fn insert_x(alloc: Global) -> Result<Op<Global>, Fault<Refusal>> {
+    let fields = vec![in alloc; Value::Int(1), Value::text(alloc, "x")?]?;
+    Ok(Op {
+        table: Name::new(alloc, "t")?,
+        cause: Cause::Direct,
+        action: Action::Insert(Row::new(fields)?),
+    })
+}
+
+// Puts that insertion last in a batch.
+fn puts_x(alloc: Global, batch: &mut Batch<Global>) -> bool {
+    match insert_x(alloc) {
+        Ok(op) => batch.push(op) == Ok(()),
         Err(_) => false,
     }
 }
 
-// Why the first session's capture has no bytes, if it has none.
-fn fault_of(
-    connection: &mut Connection,
-    alloc: Global,
-    kind: CaptureKind,
-    room: usize,
-) -> Option<Fault<ConnectionFault>> {
-    match connection.capture(alloc, kind, 1, KeyFlags::Places, room) {
-        Ok(_) => None,
-        Err(why) => Some(why),
-    }
-}
-
 #[test]
-fn an_inserted_row_is_captured(rt: HostRuntime) {
+fn an_inserted_row_is_captured(rt: HostRuntime) -> Result<(), Fail> {
     let alloc = rt.alloc();
-    let mut connection = Connection::open(alloc);
+    let mut connection = Connection::open(alloc)?;
+    let mut batch = Batch::blind(alloc);
     assert!(rt; connection.create_table(alloc, b"t", &[1, 0]) == Ok(1));
     assert!(rt; connection.new_session() == Ok(1));
     assert!(rt; connection.attach(alloc, 1, b"t") == Ok(()));
-    assert!(rt; connection.bind(Value::Int(1)) == Ok(()));
-    assert!(rt; connection.bind_text(alloc, b"x") == Ok(()));
-    assert!(rt; connection.put(alloc, ActionKind::Insert, b"t", 0, Cause::Direct) == Ok(()));
-    assert!(rt; connection.commit(alloc) == Ok(2));
-    assert!(rt; captures(&mut connection, alloc, CaptureKind::Changeset));
+    assert!(rt; puts_x(alloc, &mut batch));
+    assert!(rt; connection.commit(alloc, &mut batch) == Ok(2));
+    let captured = connection.capture(1);
+    assert!(rt; has_changeset(alloc, &captured, &CHANGESET));
+    assert!(rt; puts_x(alloc, &mut batch));
+    let duplicate = refused(Some(0), Refusal::Duplicate);
+    assert!(rt; connection.commit(alloc, &mut batch) == Err(duplicate));
+    assert!(rt; batch.ops().len() == 1);
+    Ok(())
 }
 
 #[test]
-fn a_capture_without_room_leaves_the_session(rt: HostRuntime) {
+fn sessions_and_saved_databases(rt: HostRuntime) -> Result<(), Fail> {
     let alloc = rt.alloc();
-    let mut connection = Connection::open(alloc);
-    let texts = [
-        "create t kv",
-        "session",
-        "attach 1 t",
-        "commit insert t (1,'x')",
-    ];
-    assert!(rt; accepts(&mut connection, alloc, &texts));
-    assert!(rt; fault_of(&mut connection, alloc, CaptureKind::Restart, 19) == Some(NO_ROOM));
-    assert!(rt; connection.is_empty(1) == Ok(false));
-    assert!(rt; captures(&mut connection, alloc, CaptureKind::Restart));
+    let mut connection = Connection::open(alloc)?;
+    assert!(rt; accepts(&mut connection, alloc, &["create t kv", "session"]));
+    assert!(rt; connection.attach_all(1) == Ok(()));
+    assert!(rt; connection.set_filter(alloc, 1, b"is t") == Ok(()));
+    assert!(rt; connection.enable(1, Some(false)) == Ok(false));
+    assert!(rt; connection.indirect(1, None) == Ok(false));
     assert!(rt; connection.is_empty(1) == Ok(true));
+    assert!(rt; connection.save(alloc, b"d") == Ok(()));
+    assert!(rt; connection.diff(alloc, 1, b"d", b"t") == Ok(()));
+    assert!(rt; connection.drop_session(1) == Ok(()));
+    Ok(())
 }
 
 #[test]
-fn refused_commands_and_misuse(rt: HostRuntime) {
+fn refused_commands_and_misuse(rt: HostRuntime) -> Result<(), Fail> {
     let alloc = rt.alloc();
-    let mut connection = Connection::open(alloc);
+    let mut connection = Connection::open(alloc)?;
+    let exists = refused(None, Refusal::TableExists);
     assert!(rt; connection.create_table(alloc, b"t", &[1]) == Ok(1));
-    assert!(rt; connection.create_table(alloc, b"t", &[1]) == Err(refused(Refusal::TableExists)));
+    assert!(rt; connection.create_table(alloc, b"t", &[1]) == Err(exists));
     assert!(rt; connection.create_table(alloc, b"", &[1]) == Err(MISUSE));
     assert!(rt; connection.create_table(alloc, b"u", &[]) == Err(MISUSE));
-    assert!(rt; connection.drop_session(1) == Err(refused(Refusal::NoSession)));
-    assert!(rt; connection.set(0) == Err(MISUSE));
-    assert!(rt; connection.bind_text(alloc, &[0xff]) == Err(MISUSE));
-    assert!(rt; connection.put(alloc, ActionKind::Delete, b"t", 0, Cause::Direct) == Err(MISUSE));
-    assert!(rt; connection.commit(alloc) == Ok(2));
+    assert!(rt; connection.drop_session(1) == Err(refused(None, Refusal::NoSession)));
+    assert!(rt; connection.set_filter(alloc, 1, &[0xff]) == Err(MISUSE));
+    Ok(())
 }
 
 #[test]
-fn a_text_is_one_command(rt: HostRuntime) {
+fn a_text_is_one_command(rt: HostRuntime) -> Result<(), Fail> {
     let alloc = rt.alloc();
-    let mut connection = Connection::open(alloc);
+    let mut connection = Connection::open(alloc)?;
     let not_one = Fault::Refused(ConnectionFault::NoCommand(TextFault::NotOne));
     assert!(rt; connection.call(alloc, b"# a note\ncreate t kv\n") == Ok(true));
     assert!(rt; connection.reply_text() == b"ok version 1".as_slice());
@@ -96,4 +92,5 @@ fn a_text_is_one_command(rt: HostRuntime) {
     assert!(rt; connection.reply_text() == b"ok version 1".as_slice());
     assert!(rt; connection.call(alloc, b"create t kv") == Ok(false));
     assert!(rt; connection.reply_text() == b"refused: E9 TableExists".as_slice());
+    Ok(())
 }

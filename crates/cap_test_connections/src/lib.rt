@@ -1,4 +1,5 @@
-//! Tests of connections, of iterators over blobs and of blobs in pieces, as a library in Rust has them.
+//! Tests of connections to a history, of iterators over blobs and of blobs in pieces, as a library in Rust has
+//! them.
 #![tactic(auto)]
 
 #[cfg(test)]
@@ -6,6 +7,8 @@ mod blobs;
 #[cfg(test)]
 mod calls;
 #[cfg(test)]
-mod rows;
+mod captures;
+#[cfg(test)]
+mod histories;
 #[cfg(test)]
 mod texts;

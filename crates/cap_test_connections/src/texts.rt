@@ -14,3 +14,8 @@ pub(crate) fn accepts(connection: &mut Connection, alloc: Global, texts: &[&str]
     }
     true
 }
+
+/// Whether a text is an accepted command with this reply.
+pub(crate) fn answers(connection: &mut Connection, alloc: Global, text: &str, reply: &str) -> bool {
+    accepts(connection, alloc, &[text]) && connection.reply_text() == reply.as_bytes()
+}

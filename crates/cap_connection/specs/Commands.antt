@@ -1,0 +1,20 @@
+-- The commands that apply a blob, and those that capture.
+use Rattle.std.specs.Prelude.{◌≡◌, ◌⊎◌, ℕ, Option, Some, None}
+use Rattle.std.specs.Global.{Global}
+use Rattle.cap_codec.specs.declared.read.Contents.{Contents}
+use Rattle.cap_apply.specs.declared.policy.Policy.{Policy}
+use Rattle.cap_core.specs.declared.command.Command.{Command}
+use Rattle.cap_core.specs.declared.command.Command.TheVariants.{Apply, Capture, Restart}
+
+-- a blob is applied
+abbrev pub IsApply : Command Global → Type 0
+IsApply command = (contents : Contents Global) × (policy : Policy) × (command ≡ Apply contents policy)
+
+-- the blob that is applied
+abbrev pub blob_in : Command Global → Option (Contents Global)
+blob_in (Apply contents policy) = Some contents
+blob_in _ = None
+
+-- a session is captured
+abbrev pub IsCapture : Command Global → Type 0
+IsCapture command = (session : ℕ) × ((command ≡ Capture session) ⊎ (command ≡ Restart session))
