@@ -8,10 +8,10 @@ ghost use Rattle.cap_c.specs.Handle.{Between, Opens, OpensOn};
 ghost use Rattle.cap_c.specs.Answered.{TellsPiece};
 
 use crate::answered::tell_piece;
-use crate::decoder_handle::{DecoderHandle, put, take};
+use crate::decoder_handle::{self, DecoderHandle, put, take};
 use crate::fault::PlacedFault;
 use crate::iter_handle::{self, IterHandle};
-use crate::status::{MALFORMED, NOMEM, OK};
+use crate::status::{MALFORMED, NOMEM};
 use cap_connection::PieceDecoder;
 use cap_value::Fault;
 use std::alloc::Global;
@@ -22,13 +22,7 @@ pub extern "C" fn changecap_decoder_open(alloc: Global, handle: &mut DecoderHand
     requires closed { handle.old.value ≡ None }
     ensures opened { OpensOn [] result handle.new.value }
 {
-    match Box::new(alloc, PieceDecoder::new(alloc)) {
-        Ok(decoder) => {
-            put(handle, decoder);
-            OK
-        }
-        Err(_) => NOMEM,
-    }
+    decoder_handle::open(alloc, handle, PieceDecoder::new(alloc))
 }
 
 /// Takes the next piece of the blob.
@@ -67,13 +61,7 @@ pub extern "C" fn changecap_decoder_finish(
 {
     let decoder = take(alloc, handle);
     match Box::into_inner(decoder).finish() {
-        Ok(it) => match Box::new(alloc, it) {
-            Ok(it) => {
-                iter_handle::put(iter, it);
-                OK
-            }
-            Err(_) => NOMEM,
-        },
+        Ok(it) => iter_handle::open(alloc, iter, it),
         Err(Fault::Refused(wrong)) => {
             *fault = PlacedFault::of(wrong);
             MALFORMED
