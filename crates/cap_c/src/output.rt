@@ -59,7 +59,7 @@ pub(crate) fn write_made(
         OutputsMade (Some bytes) result out.old out.new len.old len.new }
 {
     match made {
-        Ok(bytes) => write_bytes(bytes.as_slice(), out, len),
+        Ok(record) => write_bytes(record.as_slice(), out, len),
         Err(_) => NOMEM,
     }
 }
