@@ -1,14 +1,12 @@
 //! What C holds of a capture.
 ghost use Rattle.std.specs.Coded.{coded_option};
 ghost use Rattle.std.specs.Prelude.{◌≡◌, IsSome, List, None, Option, Some};
-ghost use Rattle.cap_c.specs.Handle.{OpensOn};
 ghost use Rattle.cap_c.specs.Owns.{capture_row};
 ghost use Rattle.cap_changes.specs.Group.{TableChanges};
 
 use crate::assert_send::assert_capture_send;
 use crate::held::HeldCapture;
 use crate::parts::Parts;
-use crate::status::{NOMEM, OK};
 use std::alloc::Global;
 use std::marker::Model;
 use std::{mem, ptr};
@@ -26,20 +24,6 @@ impl Model for CaptureHandle {
     ghost use Rattle.cap_c.specs.Owns.{capture_row, owns_if};
 
     ghost also_owns = { λ h. owns_if capture_row h.alloc h.at h.value };
-}
-
-/// Opens a closed handle on this.
-pub(crate) fn open(alloc: Global, handle: &mut CaptureHandle, capture: HeldCapture) -> u32
-    requires { handle.old.value ≡ None }
-    ensures { OpensOn capture result handle.new.value }
-{
-    match Box::new(alloc, capture) {
-        Ok(capture) => {
-            put(handle, capture);
-            OK
-        }
-        Err(_) => NOMEM,
-    }
 }
 
 /// Takes the capture out of an open handle, which is closed until it is put back.

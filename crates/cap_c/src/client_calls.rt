@@ -1,14 +1,15 @@
 //! The calls that open and end a client, see what others did, and give a command as text.
-ghost use Rattle.std.specs.Prelude.{◌≡◌, None, Some, IsSome};
+ghost use Rattle.std.specs.Prelude.{◌≡◌, IsSome, None, Some};
 ghost use Rattle.cap_connection.specs.Clients.{Looks, Meets, Opens as IsFirst};
 ghost use Rattle.cap_connection.specs.TextCall.{CallsText};
 ghost use Rattle.cap_c.specs.Client.{Closes, IsOfOne, Joins, Tallies};
 ghost use Rattle.cap_c.specs.Handle.{Between, Keeps, OpensAs};
-ghost use Rattle.cap_c.specs.Outputs.{OutputsBytes, OutputsFound};
+ghost use Rattle.cap_c.specs.Outputs.{OutputsBytes};
 ghost use Rattle.cap_c.specs.Answered.{Answers, TellsText};
+ghost use Rattle.cap_c.specs.declared.status.TheConstants.{NOMEM, OK};
 
 use crate::answered::{join_status, tell_text};
-use crate::client_handle::{self, ClientHandle, put, take};
+use crate::client_handle::{ClientHandle, put, take};
 use crate::fault::PlacedFault;
 use crate::output::write_bytes;
 use crate::status::{BUSY, NOMEM, OK};
@@ -22,7 +23,13 @@ pub extern "C" fn changecap_client_open(alloc: Global, client: &mut ClientHandle
     ensures opened { OpensAs IsFirst result client.new.value }
 {
     match Connection::open(alloc) {
-        Ok(connection) => client_handle::open(alloc, client, connection),
+        Ok(connection) => match Box::new(alloc, connection) {
+            Ok(connection) => {
+                put(client, connection);
+                OK
+            }
+            Err(_) => NOMEM,
+        },
         Err(_) => NOMEM,
     }
 }
@@ -32,23 +39,37 @@ pub extern "C" fn changecap_client_open(alloc: Global, client: &mut ClientHandle
 pub extern "C" fn changecap_try_join(
     alloc: Global,
     client: &mut ClientHandle,
-    of: &mut ClientHandle,
+    other: &mut ClientHandle,
 ) -> u32
     requires closed { client.old.value ≡ None }
-    requires opened { IsSome of.old.value }
-    ensures joined { Keeps of.old.value of.new.value (λ of. Joins of result client.new.value) }
+    requires opened { IsSome other.old.value }
+    ensures joined { Keeps other.old.value other.new.value (λ other. Joins other result client.new.value) }
 {
-    let connection = take(alloc, of);
+    let connection = take(alloc, other);
     let joined = connection.join(alloc);
-    put(of, connection);
+    put(other, connection);
     match joined {
-        Ok(made) => client_handle::open(alloc, client, made),
+        Ok(made) => match Box::new(alloc, made) {
+            Ok(made) => {
+                put(client, made);
+                OK
+            }
+            Err(unkept) => leave(unkept.value),
+        },
         Err(why) => join_status(why),
     }
 }
 
-/// Ends a client, and gives its seat back. Where another call has the state the client stays open. If there
-/// is no memory to keep it then, it ends with its seat.
+// A client that has no handle gives its seat back.
+fn leave(made: Connection) -> u32
+    ensures { result ≡ NOMEM }
+{
+    drop(made.close());
+    NOMEM
+}
+
+/// Ends a client, and gives its seat back. Where another call has the state the client stays open, unless
+/// there is no memory to keep it.
 #[unsafe(no_mangle)]
 pub extern "C" fn changecap_try_close(alloc: Global, client: &mut ClientHandle) -> u32
     requires opened { IsSome client.old.value }
@@ -71,7 +92,7 @@ fn keep(alloc: Global, client: &mut ClientHandle, connection: Connection) -> u32
             put(client, connection);
             BUSY
         }
-        Err(_) => NOMEM,
+        Err(unkept) => leave(unkept.value),
     }
 }
 
@@ -116,6 +137,8 @@ pub extern "C" fn changecap_client_meet(
     client: &mut ClientHandle,
     other: &mut ClientHandle,
 ) -> u32
+    requires opened { IsSome client.old.value }
+    requires beside { IsSome other.old.value }
     requires history { Between client.old.value other.old.value IsOfOne }
     ensures met { Keeps other.old.value other.new.value
         (λ other. Between client.old.value client.new.value (λ old new. Meets old other new)) }

@@ -1,13 +1,11 @@
 //! What C holds of a client.
 ghost use Rattle.std.specs.Coded.{coded_option};
 ghost use Rattle.std.specs.Prelude.{◌≡◌, IsSome, None, Option, Some};
-ghost use Rattle.cap_c.specs.Handle.{OpensOn};
 ghost use Rattle.cap_c.specs.Owns.{client_row};
 ghost use Rattle.cap_connection.specs.Connection.{ConnectionState};
 
 use crate::assert_send::assert_client_send;
 use crate::parts::Parts;
-use crate::status::{NOMEM, OK};
 use cap_connection::Connection;
 use std::alloc::Global;
 use std::marker::Model;
@@ -26,20 +24,6 @@ impl Model for ClientHandle {
     ghost use Rattle.cap_c.specs.Owns.{client_row, owns_if};
 
     ghost also_owns = { λ h. owns_if client_row h.alloc h.at h.value };
-}
-
-/// Opens a closed handle on this.
-pub(crate) fn open(alloc: Global, handle: &mut ClientHandle, connection: Connection) -> u32
-    requires { handle.old.value ≡ None }
-    ensures { OpensOn connection result handle.new.value }
-{
-    match Box::new(alloc, connection) {
-        Ok(connection) => {
-            put(handle, connection);
-            OK
-        }
-        Err(_) => NOMEM,
-    }
 }
 
 /// Takes the client out of an open handle, which is closed until it is put back.

@@ -11,7 +11,7 @@ use crate::answered::tell_piece;
 use crate::decoder_handle::{self, DecoderHandle, put, take};
 use crate::fault::PlacedFault;
 use crate::iter_handle::{self, IterHandle};
-use crate::status::{MALFORMED, NOMEM};
+use crate::status::{MALFORMED, NOMEM, OK};
 use cap_connection::PieceDecoder;
 use cap_value::Fault;
 use std::alloc::Global;
@@ -61,7 +61,13 @@ pub extern "C" fn changecap_decoder_finish(
 {
     let decoder = take(alloc, handle);
     match Box::into_inner(decoder).finish() {
-        Ok(it) => iter_handle::open(alloc, iter, it),
+        Ok(it) => match Box::new(alloc, it) {
+            Ok(it) => {
+                iter_handle::put(iter, it);
+                OK
+            }
+            Err(_) => NOMEM,
+        },
         Err(Fault::Refused(wrong)) => {
             *fault = PlacedFault::of(wrong);
             MALFORMED

@@ -9,11 +9,11 @@ ghost use Rattle.cap_c.specs.Outputs.{OutputsBytes, OutputsFound};
 
 use crate::change_info::{ChangeInfo, FieldValue};
 use crate::fault::PlacedFault;
-use crate::iter_handle::{self, IterHandle, put, take};
+use crate::iter_handle::{IterHandle, put, take};
 use crate::iter_outputs::{
     set_info, set_key, set_new, set_new_bytes, set_old, set_old_bytes, set_table, step_status,
 };
-use crate::status::{MALFORMED, NOMEM};
+use crate::status::{MALFORMED, NOMEM, OK};
 use cap_connection::BlobIter;
 use cap_value::Fault;
 use std::alloc::Global;
@@ -32,7 +32,13 @@ pub extern "C" fn changecap_iter_open(
     ensures spelled { IfSome handle.new.value (λ it. Spells it.contents blob.now) }
 {
     match BlobIter::open(alloc, blob) {
-        Ok(it) => iter_handle::open(alloc, handle, it),
+        Ok(it) => match Box::new(alloc, it) {
+            Ok(it) => {
+                put(handle, it);
+                OK
+            }
+            Err(_) => NOMEM,
+        },
         Err(Fault::Refused(wrong)) => {
             *fault = PlacedFault::of(wrong);
             MALFORMED

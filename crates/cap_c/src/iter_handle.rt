@@ -1,13 +1,11 @@
 //! What C holds of an iterator.
 ghost use Rattle.std.specs.Coded.{coded_option};
 ghost use Rattle.std.specs.Prelude.{◌≡◌, IsSome, None, Option, Some};
-ghost use Rattle.cap_c.specs.Handle.{OpensOn};
 ghost use Rattle.cap_c.specs.Owns.{iter_row};
 ghost use Rattle.cap_connection.specs.Iter.{IterState};
 
 use crate::assert_send::assert_iter_send;
 use crate::parts::Parts;
-use crate::status::{NOMEM, OK};
 use cap_connection::BlobIter;
 use std::alloc::Global;
 use std::marker::Model;
@@ -26,20 +24,6 @@ impl Model for IterHandle {
     ghost use Rattle.cap_c.specs.Owns.{iter_row, owns_if};
 
     ghost also_owns = { λ h. owns_if iter_row h.alloc h.at h.value };
-}
-
-/// Opens a closed handle on this.
-pub(crate) fn open(alloc: Global, handle: &mut IterHandle, it: BlobIter) -> u32
-    requires { handle.old.value ≡ None }
-    ensures { OpensOn it result handle.new.value }
-{
-    match Box::new(alloc, it) {
-        Ok(it) => {
-            put(handle, it);
-            OK
-        }
-        Err(_) => NOMEM,
-    }
 }
 
 /// Takes the iterator out of an open handle, which is closed until it is put back.

@@ -1,6 +1,6 @@
 //! The calls on the tables of a client's history.
 ghost use Rattle.std.specs.Prelude.{IsSome};
-ghost use Rattle.cap_connection.specs.Calls.{Applies, Commits, CreatesTable, Saves};
+ghost use Rattle.cap_connection.specs.Calls.{Commits, CreatesTable, Saves};
 ghost use Rattle.cap_c.specs.Numbers.{policy_of};
 ghost use Rattle.cap_c.specs.Answered.{Answers, AppliesBy, BothAnswer, Tells, TellsNumber, TellsReport};
 
