@@ -16,7 +16,7 @@ use Rattle.cap_connection.specs.declared.fault.ConnectionFault.TheVariants as fa
 use Rattle.cap_connection.specs.declared.replies.Applied.{Applied}
 use Rattle.cap_c.specs.Bits.{bit}
 use Rattle.cap_c.specs.Fault.{placed, placed_in_text}
-use Rattle.cap_c.specs.Handle.{Between, BetweenBoth, OpensOn}
+use Rattle.cap_c.specs.Handle.{Between, BetweenBoth}
 use Rattle.cap_c.specs.Refusal.{filter_fault, overtaken, refused}
 use Rattle.cap_c.specs.declared.apply_report.ApplyReport.{ApplyReport}
 use Rattle.cap_c.specs.declared.fault.PlacedFault.{PlacedFault}

@@ -43,7 +43,7 @@ pub extern "C" fn changecap_try_join(
 ) -> u32
     requires closed { client.old.value ≡ None }
     requires opened { IsSome other.old.value }
-    ensures joined { Keeps other.old.value other.new.value (λ other. Joins other result client.new.value) }
+    ensures joined { Keeps other.old.value other.new.value (λ had. Joins had result client.new.value) }
 {
     let connection = take(alloc, other);
     let joined = connection.join(alloc);
@@ -121,7 +121,7 @@ pub extern "C" fn changecap_seen(
     events: &mut u64,
 ) -> u32
     requires opened { IsSome client.old.value }
-    ensures outputs { Keeps client.old.value client.new.value (λ client. Tallies client events.new) }
+    ensures outputs { Keeps client.old.value client.new.value (λ had. Tallies had events.new) }
     ensures status { result ≡ OK }
 {
     let connection = take(alloc, client);
@@ -141,7 +141,7 @@ pub extern "C" fn changecap_client_meet(
     requires beside { IsSome other.old.value }
     requires history { Between client.old.value other.old.value IsOfOne }
     ensures met { Keeps other.old.value other.new.value
-        (λ other. Between client.old.value client.new.value (λ old new. Meets old other new)) }
+        (λ had. Between client.old.value client.new.value (λ old new. Meets old had new)) }
     ensures status { result ≡ OK }
 {
     let mut connection = take(alloc, client);
@@ -180,7 +180,7 @@ pub extern "C" fn changecap_reply(
 ) -> u32
     requires opened { IsSome client.old.value }
     ensures outputs { Keeps client.old.value client.new.value
-        (λ client. OutputsBytes (Some client.output) result out.old out.new len.old len.new) }
+        (λ had. OutputsBytes (Some had.output) result out.old out.new len.old len.new) }
 {
     let connection = take(alloc, client);
     let status = write_bytes(connection.reply_text(), out, len);

@@ -31,7 +31,7 @@ pub extern "C" fn changecap_batch_item(
 ) -> u32
     requires opened { IsSome batch.old.value }
     ensures outputs { Keeps batch.old.value batch.new.value
-        (λ batch. OutputsFound (option_map info_of (item_of batch at)) result item.old item.new) }
+        (λ had. OutputsFound (option_map info_of (item_of had at)) result item.old item.new) }
 {
     let held = take(alloc, batch);
     let status = set_item(&held.batch, at, item);
@@ -50,7 +50,7 @@ pub extern "C" fn changecap_batch_item_table(
 ) -> u32
     requires opened { IsSome batch.old.value }
     ensures outputs { Keeps batch.old.value batch.new.value
-        (λ batch. OutputsBytes (option_map table_named (item_of batch at)) result out.old out.new len.old
+        (λ had. OutputsBytes (option_map table_named (item_of had at)) result out.old out.new len.old
         len.new) }
 {
     let held = take(alloc, batch);
@@ -70,7 +70,7 @@ pub extern "C" fn changecap_batch_item_key(
 ) -> u32
     requires opened { IsSome batch.old.value }
     ensures outputs { Keeps batch.old.value batch.new.value
-        (λ batch. OutputsMade (option_map key_bytes (item_of batch at)) result out.old out.new len.old
+        (λ had. OutputsMade (option_map key_bytes (item_of had at)) result out.old out.new len.old
         len.new) }
 {
     let held = take(alloc, batch);

@@ -86,7 +86,7 @@ pub extern "C" fn changecap_snapshot_version(
 ) -> u32
     requires opened { IsSome snapshot.old.value }
     ensures outputs { Keeps snapshot.old.value snapshot.new.value
-        (λ snapshot. version.new ≡ snapshot.version) }
+        (λ had. version.new ≡ had.version) }
     ensures status { result ≡ OK }
 {
     let held = take(alloc, snapshot);
@@ -118,7 +118,7 @@ pub extern "C" fn changecap_get(
     requires opened { IsSome snapshot.old.value }
     requires closed { rows.old.value ≡ None }
     ensures read { Keeps snapshot.old.value snapshot.new.value
-        (λ snapshot. ReadsRows (get_in snapshot.database table.now key.now id)
+        (λ had. ReadsRows (get_in had.database table.now key.now id)
         (row_misuse table.now key.now id) result rows.new.value fault.old fault.new) }
 {
     let held = take(alloc, snapshot);
@@ -139,7 +139,7 @@ pub extern "C" fn changecap_scan(
     requires opened { IsSome snapshot.old.value }
     requires closed { rows.old.value ≡ None }
     ensures read { Keeps snapshot.old.value snapshot.new.value
-        (λ snapshot. ReadsRows (scan_in snapshot.database table.now) (table_misuse table.now) result
+        (λ had. ReadsRows (scan_in had.database table.now) (table_misuse table.now) result
         rows.new.value fault.old fault.new) }
 {
     let held = take(alloc, snapshot);
@@ -163,7 +163,7 @@ pub extern "C" fn changecap_scan_from(
     requires opened { IsSome snapshot.old.value }
     requires closed { rows.old.value ≡ None }
     ensures read { Keeps snapshot.old.value snapshot.new.value
-        (λ snapshot. ReadsRows (scan_from_in snapshot.database table.now key.now limit)
+        (λ had. ReadsRows (scan_from_in had.database table.now key.now limit)
         (row_misuse table.now key.now 0) result rows.new.value fault.old fault.new) }
 {
     let held = take(alloc, snapshot);

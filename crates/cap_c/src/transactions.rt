@@ -38,7 +38,7 @@ pub extern "C" fn changecap_begin(
     requires opened { IsSome snapshot.old.value }
     requires closed { transaction.old.value ≡ None }
     ensures begun { Keeps snapshot.old.value snapshot.new.value
-        (λ snapshot. OpensOn (begin_traced snapshot) result transaction.new.value) }
+        (λ had. OpensOn (begin_traced had) result transaction.new.value) }
 {
     let held = snapshot_handle::take(alloc, snapshot);
     let begun = Txn::begin(alloc, &held.snapshot);
