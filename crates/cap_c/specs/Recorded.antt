@@ -1,6 +1,5 @@
 -- What a call whose arguments are records leaves with its caller.
 use Rattle.std.specs.Prelude.{◌≡◌, ℕ, List, Option, Some, None, Result, Ok, Err, OnErr, IfOk}
-use Rattle.std.specs.Option.{option_map}
 use Rattle.std.specs.Global.{Global}
 use Rattle.cap_value.specs.Memory.{AnswersUnlessMemory, LeavesUnlessMemory, RefusesFirst}
 use Rattle.cap_value.specs.declared.memory.Fault.{Fault}
@@ -14,7 +13,7 @@ use Rattle.cap_txn.specs.declared.look.Answer.TheVariants as answered
 use Rattle.cap_txn.specs.declared.look.Asked.TheVariants as asked
 use Rattle.cap_txn.specs.declared.savepoint.Mark.{Mark}
 use Rattle.cap_records.specs.Arguments.{row_misuse, table_misuse}
-use Rattle.cap_records.specs.Fault.{HandsOn, refused as by_rules, ◌>>=◌}
+use Rattle.cap_records.specs.Fault.{HandsOn}
 use Rattle.cap_records.specs.Reads.{get_in, scan_in}
 use Rattle.cap_records.specs.Rows.{RowCursorState}
 use Rattle.cap_records.specs.Transactions.{LeavesAsked, LeavesScanned, MakesOp, get_asked, scan_asked}
@@ -71,10 +70,12 @@ module _ {X : Type 0} where
 -- ---- Reads of a snapshot
 
 -- What the tables have, refusals among them, opens closed rows. A refusal that needs no memory comes first.
-abbrev pub ReadsRows : Result RowCursorState RecordFault → Option RecordFault → ℕ → Option RowCursorState →
-    PlacedFault → PlacedFault → Type 0
-ReadsRows rows first status has old fault = (answer : Result RowCursorState (Fault RecordFault))
-    × AnswersUnlessMemory answer rows × RefusesFirst first answer × TellsRead status has old fault answer
+pub record ReadsRows (rows : Result RowCursorState RecordFault) (misuse : Option RecordFault) (status : ℕ)
+    (has : Option RowCursorState) (old fault : PlacedFault) : Type 0 where
+  pub answer : Result RowCursorState (Fault RecordFault)
+  pub answer_is : AnswersUnlessMemory answer rows
+  pub first : RefusesFirst misuse answer
+  pub tells : TellsRead status has old fault answer
 
 -- ---- Operations
 
@@ -88,36 +89,48 @@ abbrev pub caused_misuse : Option Cause → Option RecordFault → Option Record
 caused_misuse (Some cause) misuse = misuse
 caused_misuse None misuse = Some fault.Misuse
 
--- the refusal of a batch that has all its operations, or else this
-abbrev pub unless_full : {X : Type 0} → Option Refusal → (Refusal → X) → X → X
-unless_full (Some why) full other = full why
-unless_full None full other = other
+-- whether an operation was put, or made
+abbrev pub Done : Type 0
+Done = Result (Unit {0}) (Fault RecordFault)
 
--- The operation is the last of the batch. A batch that has all its operations is refused first.
-abbrev pub put_in : BatchState Global → Result (Op Global) RecordFault → Result (BatchState Global) RecordFault
-put_in batch made = unless_full (refused_push batch.ops) (λ why. Err (fault.Refused why))
-    (made >>= (λ op. by_rules (push batch op)))
-
-abbrev pub put_first : BatchState Global → Option RecordFault → Option RecordFault
-put_first batch misuse = unless_full (refused_push batch.ops) (λ why. Some (fault.Refused why)) misuse
-
--- so the batch is left; on an error it is as it was
-pub record Puts (made : Result (Op Global) RecordFault) (misuse : Option RecordFault)
-    (old new : BatchState Global) (answer : Result (Unit {0}) (Fault RecordFault)) : Type 0 where
-  pub batch : LeavesUnlessMemory answer (put_in old made) new
+-- The operation is the last of the batch. On an error the batch is as it was.
+pub record PutsOp (op : Op Global) (old new : BatchState Global) (answer : Done) : Type 0 where
+  pub batch : HandsOn (λ call. LeavesUnlessMemory call (push old op) new) answer
   pub kept : OnErr answer (new ≡ old)
-  pub first : RefusesFirst (put_first old misuse) answer
 
--- The operation is made by the transaction's own call. Arguments that are none leave it as it was.
-abbrev pub MakesMade : Result (Op Global) RecordFault → TxnState Global → TxnState Global →
-    Result (Unit {0}) (Fault RecordFault) → Type 0
+-- the same of the arguments' operation; arguments that make none leave the batch as it was
+abbrev pub PutsMade : Result (Op Global) (Fault RecordFault) → BatchState Global → BatchState Global → Done →
+    Type 0
+PutsMade (Ok op) old new answer = PutsOp op old new answer
+PutsMade (Err why) old new answer = (answer ≡ Err why) × (new ≡ old)
+
+-- A batch that has all its operations is refused first, whatever the arguments are.
+abbrev pub PutsUnlessFull : Option Refusal → Result (Op Global) (Fault RecordFault) → BatchState Global →
+    BatchState Global → Done → Type 0
+PutsUnlessFull (Some why) made old new answer = (answer ≡ Err (stop.Refused (fault.Refused why))) × (new ≡ old)
+PutsUnlessFull None made old new answer = PutsMade made old new answer
+
+-- The operation is the one that the arguments say, refusals among them. Misuse of them is known without
+-- memory.
+pub record Puts (said : Result (Op Global) RecordFault) (misuse : Option RecordFault)
+    (old new : BatchState Global) (answer : Done) : Type 0 where
+  pub made : Result (Op Global) (Fault RecordFault)
+  pub made_is : AnswersUnlessMemory made said
+  pub first : RefusesFirst misuse made
+  pub put : PutsUnlessFull (refused_push old.ops) made old new answer
+
+-- The operation is made by the transaction's own call. Arguments that make none leave it as it was.
+abbrev pub MakesMade : Result (Op Global) (Fault RecordFault) → TxnState Global → TxnState Global → Done →
+    Type 0
 MakesMade (Ok op) old new answer = MakesOp op old new answer
-MakesMade (Err why) old new answer = (new ≡ old) × AnswersUnlessMemory answer (Err why)
+MakesMade (Err why) old new answer = (answer ≡ Err why) × (new ≡ old)
 
-pub record Makes (made : Result (Op Global) RecordFault) (misuse : Option RecordFault)
-    (old new : TxnState Global) (answer : Result (Unit {0}) (Fault RecordFault)) : Type 0 where
+pub record Makes (said : Result (Op Global) RecordFault) (misuse : Option RecordFault)
+    (old new : TxnState Global) (answer : Done) : Type 0 where
+  pub made : Result (Op Global) (Fault RecordFault)
+  pub made_is : AnswersUnlessMemory made said
+  pub first : RefusesFirst misuse made
   pub makes : MakesMade made old new answer
-  pub first : RefusesFirst misuse answer
 
 -- ---- Transactions
 
@@ -140,7 +153,7 @@ pub record Marks (old new : TxnState Global) (answer : Result Mark (Fault Record
   pub once : IfOk answer (IsNewMark old)
 
 -- what stood at the savepoint of this number stands again
-abbrev pub GoesBack : ℕ → TxnState Global → TxnState Global → Result (Unit {0}) (Fault RecordFault) → Type 0
+abbrev pub GoesBack : ℕ → TxnState Global → TxnState Global → Done → Type 0
 GoesBack number old new answer = HandsOn
     (λ call. IsAnswered (λ _. answered.Done) call (asked.BackTo (record { number = number })) old new) answer
 

@@ -1,16 +1,13 @@
 //! The calls on a batch of operations.
-ghost use Rattle.std.specs.Prelude.{◌≡◌, IsSome, None, Option, Result, Some};
-ghost use Rattle.cap_value.specs.Memory.{AnswersUnlessMemory, RefusesFirst};
-ghost use Rattle.cap_database.specs.declared.op.Op.{Op as Operation};
+ghost use Rattle.std.specs.Prelude.{◌≡◌, IsSome, None, Some};
 ghost use Rattle.cap_txn.specs.Batch.{refused_push};
 ghost use Rattle.cap_records.specs.Arguments.{row_misuse, table_misuse};
 ghost use Rattle.cap_records.specs.Ops.{delete_in, insert_in, update_in};
-ghost use Rattle.cap_records.specs.declared.fault.RecordFault.{RecordFault as Wrong};
 ghost use Rattle.cap_c.specs.Answered.{Answers};
 ghost use Rattle.cap_c.specs.Batch.{batch_on};
 ghost use Rattle.cap_c.specs.Handle.{OpensOn};
 ghost use Rattle.cap_c.specs.Numbers.{cause_of};
-ghost use Rattle.cap_c.specs.Recorded.{Puts, TellsRecord, caused, caused_misuse};
+ghost use Rattle.cap_c.specs.Recorded.{Puts, PutsUnlessFull, TellsRecord, caused, caused_misuse};
 
 use crate::batch_handle::{self, BatchHandle, put, take};
 use crate::fault::PlacedFault;
@@ -18,7 +15,7 @@ use crate::held::HeldBatch;
 use crate::numbers::cause_of;
 use crate::operations::{delete_caused, insert_caused, update_caused};
 use crate::recorded::tell_record;
-use cap_database::{Cause, Op};
+use cap_database::Op;
 use cap_records::{RecordFault, has_all_ops, put_op};
 use cap_txn::Batch;
 use cap_value::{Fault, Refusal};
@@ -84,8 +81,9 @@ pub extern "C" fn changecap_insert(
         (caused_misuse (cause_of cause) (table_misuse table.now)))
         (TellsRecord result fault.old fault.new) }
 {
+    let made = insert_caused(alloc, table, row, cause_of(cause));
     let mut held = take(alloc, batch);
-    let answer = put_insert(alloc, &mut held.batch, table, row, cause_of(cause));
+    let answer = put_made(&mut held.batch, made);
     put(batch, held);
     tell_record(answer, fault)
 }
@@ -108,9 +106,9 @@ pub extern "C" fn changecap_update(
         (caused_misuse (cause_of cause) (row_misuse table.now key.now id)))
         (TellsRecord result fault.old fault.new) }
 {
+    let made = update_caused(alloc, table, key, id, fields, cause_of(cause));
     let mut held = take(alloc, batch);
-    let cause = cause_of(cause);
-    let answer = put_update(alloc, &mut held.batch, table, key, id, fields, cause);
+    let answer = put_made(&mut held.batch, made);
     put(batch, held);
     tell_record(answer, fault)
 }
@@ -132,73 +130,23 @@ pub extern "C" fn changecap_delete(
         (caused_misuse (cause_of cause) (row_misuse table.now key.now id)))
         (TellsRecord result fault.old fault.new) }
 {
+    let made = delete_caused(alloc, table, key, id, cause_of(cause));
     let mut held = take(alloc, batch);
-    let answer = put_delete(alloc, &mut held.batch, table, key, id, cause_of(cause));
+    let answer = put_made(&mut held.batch, made);
     put(batch, held);
     tell_record(answer, fault)
 }
 
-fn put_insert(
-    alloc: Global,
-    batch: &mut Batch<Global>,
-    table: &[u8],
-    row: &[u8],
-    cause: Option<Cause>,
-) -> Result<(), Fault<RecordFault>>
-    ensures { Puts (caused cause (insert_in table.now row.now))
-        (caused_misuse cause (table_misuse table.now)) batch.old batch.new result }
-{
-    if has_all_ops(batch) {
-        return Err(Fault::Refused(RecordFault::Refused(Refusal::TooMany)));
-    }
-    put_made(batch, insert_caused(alloc, table, row, cause))
-}
-
-fn put_update(
-    alloc: Global,
-    batch: &mut Batch<Global>,
-    table: &[u8],
-    key: &[u8],
-    id: u64,
-    fields: &[u8],
-    cause: Option<Cause>,
-) -> Result<(), Fault<RecordFault>>
-    ensures { Puts (caused cause (update_in table.now key.now id fields.now))
-        (caused_misuse cause (row_misuse table.now key.now id)) batch.old batch.new result }
-{
-    if has_all_ops(batch) {
-        return Err(Fault::Refused(RecordFault::Refused(Refusal::TooMany)));
-    }
-    put_made(batch, update_caused(alloc, table, key, id, fields, cause))
-}
-
-fn put_delete(
-    alloc: Global,
-    batch: &mut Batch<Global>,
-    table: &[u8],
-    key: &[u8],
-    id: u64,
-    cause: Option<Cause>,
-) -> Result<(), Fault<RecordFault>>
-    ensures { Puts (caused cause (delete_in table.now key.now id))
-        (caused_misuse cause (row_misuse table.now key.now id)) batch.old batch.new result }
-{
-    if has_all_ops(batch) {
-        return Err(Fault::Refused(RecordFault::Refused(Refusal::TooMany)));
-    }
-    put_made(batch, delete_caused(alloc, table, key, id, cause))
-}
-
-// The batch has room for another operation.
+// A batch that has all its operations is refused, whatever the arguments are.
 fn put_made(
     batch: &mut Batch<Global>,
     made: Result<Op<Global>, Fault<RecordFault>>,
 ) -> Result<(), Fault<RecordFault>>
-    requires roomy { refused_push batch.old.ops ≡ None }
-    ensures { (said : Result (Operation Global) Wrong) → (misuse : Option Wrong) →
-        AnswersUnlessMemory made said → RefusesFirst misuse made →
-        Puts said misuse batch.old batch.new result }
+    ensures { PutsUnlessFull (refused_push batch.old.ops) made batch.old batch.new result }
 {
+    if has_all_ops(batch) {
+        return Err(Fault::Refused(RecordFault::Refused(Refusal::TooMany)));
+    }
     match made {
         Ok(op) => put_op(batch, op),
         Err(why) => Err(why),

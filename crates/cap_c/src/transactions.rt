@@ -1,16 +1,13 @@
 //! The calls on a transaction.
-ghost use Rattle.std.specs.Prelude.{◌≡◌, IsSome, None, Option, Result};
-ghost use Rattle.cap_value.specs.Memory.{AnswersUnlessMemory, RefusesFirst};
-ghost use Rattle.cap_database.specs.declared.op.Op.{Op as Operation};
+ghost use Rattle.std.specs.Prelude.{◌≡◌, IsSome, None};
 ghost use Rattle.cap_txn.specs.Transaction.{begin_traced};
 ghost use Rattle.cap_records.specs.Arguments.{row_misuse, table_misuse};
 ghost use Rattle.cap_records.specs.Ops.{delete_in, insert_in, update_in};
-ghost use Rattle.cap_records.specs.declared.fault.RecordFault.{RecordFault as Wrong};
 ghost use Rattle.cap_c.specs.Answered.{Answers};
 ghost use Rattle.cap_c.specs.Handle.{Keeps, OpensOn};
 ghost use Rattle.cap_c.specs.Numbers.{cause_of};
-ghost use Rattle.cap_c.specs.Recorded.{Ends, Gets, GoesBack, Makes, Marks, Scans, TellsMark, TellsRead};
-ghost use Rattle.cap_c.specs.Recorded.{TellsRecord, caused, caused_misuse};
+ghost use Rattle.cap_c.specs.Recorded.{Ends, Gets, GoesBack, Makes, MakesMade, Marks, Scans, TellsMark};
+ghost use Rattle.cap_c.specs.Recorded.{TellsRead, TellsRecord, caused, caused_misuse};
 
 use crate::batch_handle::{self, BatchHandle};
 use crate::fault::PlacedFault;
@@ -134,9 +131,7 @@ fn make(
     txn: &mut Txn<Global>,
     made: Result<Op<Global>, Fault<RecordFault>>,
 ) -> Result<(), Fault<RecordFault>>
-    ensures { (said : Result (Operation Global) Wrong) → (misuse : Option Wrong) →
-        AnswersUnlessMemory made said → RefusesFirst misuse made →
-        Makes said misuse txn.old txn.new result }
+    ensures { MakesMade made txn.old txn.new result }
 {
     match made {
         Ok(op) => txn_op(txn, op),
