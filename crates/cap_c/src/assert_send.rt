@@ -1,7 +1,7 @@
 //! What a handle owns may go from one thread to another.
 
-use crate::held::{HeldBatch, HeldSnapshot, HeldTransaction};
-use cap_connection::{BlobIter, Captured, Connection, PieceDecoder};
+use crate::held::{HeldBatch, HeldCapture, HeldSnapshot, HeldTransaction};
+use cap_connection::{BlobIter, Connection, PieceDecoder};
 use cap_records::RowCursor;
 
 fn assert_send<T: Send>(_owned: &T) {}
@@ -26,8 +26,8 @@ pub(crate) fn assert_rows_send(cursor: &RowCursor) {
     assert_send(cursor);
 }
 
-pub(crate) fn assert_capture_send(captured: &Captured) {
-    assert_send(captured);
+pub(crate) fn assert_capture_send(capture: &HeldCapture) {
+    assert_send(capture);
 }
 
 pub(crate) fn assert_iter_send(it: &BlobIter) {

@@ -98,11 +98,7 @@ fn keep(alloc: Global, client: &mut ClientHandle, connection: Connection) -> u32
 
 /// Sees the whole history, and sets `events` to the number of its events.
 #[unsafe(no_mangle)]
-pub extern "C" fn changecap_front(
-    alloc: Global,
-    client: &mut ClientHandle,
-    events: &mut u64,
-) -> u32
+pub extern "C" fn changecap_front(alloc: Global, client: &mut ClientHandle, events: &mut u64) -> u32
     requires opened { IsSome client.old.value }
     ensures seen { Between client.old.value client.new.value (λ old new. Looks old new events.new) }
     ensures status { result ≡ OK }
@@ -115,11 +111,7 @@ pub extern "C" fn changecap_front(
 
 /// Sets `events` to the number of events that the client has seen.
 #[unsafe(no_mangle)]
-pub extern "C" fn changecap_seen(
-    alloc: Global,
-    client: &mut ClientHandle,
-    events: &mut u64,
-) -> u32
+pub extern "C" fn changecap_seen(alloc: Global, client: &mut ClientHandle, events: &mut u64) -> u32
     requires opened { IsSome client.old.value }
     ensures outputs { Keeps client.old.value client.new.value (λ had. Tallies had events.new) }
     ensures status { result ≡ OK }

@@ -96,7 +96,8 @@ fn place_of(at: Option<u64>, why: Refusal) -> u64
 {
     match why {
         Refusal::Stale {
-            item: Some(item), ..
+            item: Some(item),
+            ..
         } => item,
         _ => at.unwrap_or(0),
     }

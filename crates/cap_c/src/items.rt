@@ -104,13 +104,7 @@ fn set_table(batch: &Batch<Global>, at: usize, out: &mut [u8], len: &mut usize) 
     }
 }
 
-fn set_key(
-    alloc: Global,
-    batch: &Batch<Global>,
-    at: usize,
-    out: &mut [u8],
-    len: &mut usize,
-) -> u32
+fn set_key(alloc: Global, batch: &Batch<Global>, at: usize, out: &mut [u8], len: &mut usize) -> u32
     ensures { OutputsMade (option_map key_bytes (item_of batch.now at)) result out.old out.new len.old
         len.new }
 {

@@ -29,7 +29,11 @@ impl Model for TransactionHandle {
 }
 
 /// Opens a closed handle on this.
-pub(crate) fn open(alloc: Global, handle: &mut TransactionHandle, transaction: HeldTransaction) -> u32
+pub(crate) fn open(
+    alloc: Global,
+    handle: &mut TransactionHandle,
+    transaction: HeldTransaction,
+) -> u32
     requires { handle.old.value ≡ None }
     ensures { OpensOn transaction result handle.new.value }
 {
