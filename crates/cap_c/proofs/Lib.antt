@@ -1,4 +1,3 @@
-mod DecoderAsBox
+mod Boxes
+mod Crossing
 mod HandleLemmas
-mod IterAsBox
-mod ServerAsBox

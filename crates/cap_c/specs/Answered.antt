@@ -1,49 +1,46 @@
 -- What a call leaves with its caller, by the answer of the library's call. Each status that the header does
 -- not name for an output leaves it as it was.
-use Rattle.std.specs.Prelude.{◌≡◌, ℕ, Bool, List, Option, Some, None, Result, Ok, Err}
+use Rattle.std.specs.Prelude.{◌≡◌, ℕ, Bool, Option, Some, None, Result, Ok, Err}
 use Rattle.std.specs.Prelude.{if◌then◌else◌}
 use Rattle.std.specs.Result.{result_unwrap_or}
 use Rattle.cap_value.specs.declared.memory.Fault.{Fault}
 use Rattle.cap_value.specs.declared.memory.Fault.TheVariants as stop
 use Rattle.cap_codec.specs.declared.fault.BlobFault.{BlobFault}
+use Rattle.cap_apply.specs.declared.policy.Policy.{Policy}
+use Rattle.cap_connection.specs.Calls.{Applies}
 use Rattle.cap_connection.specs.Connection.{ConnectionState}
+use Rattle.cap_connection.specs.Iter.{IterState}
 use Rattle.cap_connection.specs.Runs.{misused}
 use Rattle.cap_connection.specs.declared.fault.ConnectionFault.{ConnectionFault}
 use Rattle.cap_connection.specs.declared.fault.ConnectionFault.TheVariants as fault
 use Rattle.cap_connection.specs.declared.replies.Applied.{Applied}
 use Rattle.cap_c.specs.Bits.{bit}
 use Rattle.cap_c.specs.Fault.{placed, placed_in_text}
-use Rattle.cap_c.specs.Handle.{Between}
-use Rattle.cap_c.specs.Outputs.{OutputsBytes}
-use Rattle.cap_c.specs.Refusal.{filter_fault, refused}
+use Rattle.cap_c.specs.Handle.{Between, BetweenBoth}
+use Rattle.cap_c.specs.Refusal.{filter_fault, overtaken, refused}
 use Rattle.cap_c.specs.declared.apply_report.ApplyReport.{ApplyReport}
 use Rattle.cap_c.specs.declared.fault.PlacedFault.{PlacedFault}
-use Rattle.cap_c.specs.declared.status.TheConstants.{COMMAND, FILTER, FULL, MALFORMED, MISUSE, NOMEM, OK}
-use Rattle.cap_c.specs.declared.status.TheConstants.{REFUSED, ROOM}
+use Rattle.cap_c.specs.declared.status.TheConstants.{BUSY, COMMAND, FILTER, FULL, MALFORMED, MISUSE, NOMEM}
+use Rattle.cap_c.specs.declared.status.TheConstants.{OK, OVERTAKEN, REFUSED}
 
--- the status of a call that has no answer
+-- the status of a call on a client that has no answer
 abbrev pub fault_status : Fault ConnectionFault → ℕ
 fault_status stop.OutOfMemory = NOMEM
 fault_status (stop.Refused fault.Misuse) = MISUSE
+fault_status (stop.Refused fault.Busy) = BUSY
+fault_status (stop.Refused (fault.Overtaken front)) = OVERTAKEN
 fault_status (stop.Refused fault.Full) = FULL
 fault_status (stop.Refused (fault.Refused at why)) = REFUSED
-fault_status (stop.Refused (fault.Malformed wrong)) = MALFORMED
 fault_status (stop.Refused (fault.NoFilter why)) = FILTER
 fault_status (stop.Refused (fault.NoCommand why)) = COMMAND
-fault_status (stop.Refused (fault.NoRoom len)) = ROOM
 
 -- the fault that is set then, or what was there before
 abbrev pub fault_output : Fault ConnectionFault → PlacedFault → PlacedFault
 fault_output (stop.Refused (fault.Refused at why)) old = refused at why
-fault_output (stop.Refused (fault.Malformed wrong)) old = placed wrong
+fault_output (stop.Refused (fault.Overtaken front)) old = overtaken front
 fault_output (stop.Refused (fault.NoFilter why)) old = filter_fault why
 fault_output (stop.Refused (fault.NoCommand why)) old = placed_in_text why
 fault_output _ old = old
-
--- the length that is set then
-abbrev pub len_output : Fault ConnectionFault → ℕ → ℕ
-len_output (stop.Refused (fault.NoRoom len)) old = len
-len_output _ old = old
 
 module _ {X : Type 0} where
   abbrev pub answer_status : Result X (Fault ConnectionFault) → ℕ
@@ -53,6 +50,17 @@ module _ {X : Type 0} where
   abbrev pub answer_fault : Result X (Fault ConnectionFault) → PlacedFault → PlacedFault
   answer_fault (Ok x) old = old
   answer_fault (Err why) old = fault_output why old
+
+  -- The answer opens a closed handle; where there is none it stays closed.
+  abbrev pub OpensAnswer : ℕ → Option X → Result X (Fault ConnectionFault) → Type 0
+  OpensAnswer status has (Ok x) = (status ≡ OK) × (has ≡ Some x)
+  OpensAnswer status has (Err why) = (status ≡ fault_status why) × (has ≡ None)
+
+  -- and the fault
+  pub record TellsOpened (status : ℕ) (has : Option X) (old fault : PlacedFault)
+      (answer : Result X (Fault ConnectionFault)) : Type 0 where
+    pub opened : OpensAnswer status has answer
+    pub fault_is : fault ≡ answer_fault answer old
 
   -- the status and the fault
   pub record Tells (status : ℕ) (old fault : PlacedFault) (answer : Result X (Fault ConnectionFault))
@@ -92,15 +100,6 @@ pub record TellsReport (status : ℕ) (old_report report : ApplyReport) (old fau
   pub told : Tells status old fault answer
   pub report_is : report ≡ report_output answer old_report
 
--- the bytes, or how many there are
-abbrev pub TellsBytes : ℕ → List ℕ → List ℕ → ℕ → ℕ → PlacedFault → PlacedFault →
-    Result (List ℕ) (Fault ConnectionFault) → Type 0
-TellsBytes status old_out out old_len len old fault (Ok bytes) =
-    OutputsBytes (Some bytes) status old_out out old_len len × (fault ≡ old)
-TellsBytes status old_out out old_len len old fault (Err why) =
-    (status ≡ fault_status why) × (out ≡ old_out) × (len ≡ len_output why old_len)
-    × (fault ≡ fault_output why old)
-
 -- whether a command by text is accepted: its reply says why it is not
 abbrev pub text_status : Result Bool (Fault ConnectionFault) → ℕ
 text_status (Ok accepted) = if accepted then OK else REFUSED
@@ -117,17 +116,28 @@ TellsPiece (Ok taken) status old fault = (status ≡ OK) × (fault ≡ old)
 TellsPiece (Err (stop.Refused wrong)) status old fault = (status ≡ MALFORMED) × (fault ≡ placed wrong)
 TellsPiece (Err stop.OutOfMemory) status old fault = (status ≡ NOMEM) × (fault ≡ old)
 
-module _ {X : Type 0} where
-  -- An open handle has what the library's call left of what it had, and the outputs are of the call's answer.
-  abbrev pub Answers : Option ConnectionState → Option ConnectionState →
-      (ConnectionState → ConnectionState → Result X (Fault ConnectionFault) → Type 0) →
-      (Result X (Fault ConnectionFault) → Type 0) → Type 0
-  Answers before after calls tells = Between before after
-      (λ old new. (answer : Result X (Fault ConnectionFault)) × calls old new answer × tells answer)
+-- An open handle has what the library's call left of what it had, and the outputs are of the call's answer.
+abbrev pub Answers : {S R : Type 0} → Option S → Option S → (S → S → R → Type 0) → (R → Type 0) → Type 0
+Answers {S} {R} before after calls tells =
+    Between before after (λ old new. (answer : R) × calls old new answer × tells answer)
 
+-- the same of two open handles
+abbrev pub BothAnswer : {S T R : Type 0} → Option S → Option S → Option T → Option T →
+    (S → S → T → T → R → Type 0) → (R → Type 0) → Type 0
+BothAnswer {S} {T} {R} before after beside behind calls tells = BetweenBoth before after beside behind
+    (λ old new had has. (answer : R) × calls old new had has answer × tells answer)
+
+module _ {X : Type 0} where
   -- the call with what a number means, or misuse where it means nothing
   abbrev pub Given : {N : Type 0} → Option N →
       (N → ConnectionState → ConnectionState → Result X (Fault ConnectionFault) → Type 0) →
       ConnectionState → ConnectionState → Result X (Fault ConnectionFault) → Type 0
   Given (Some meant) calls old new answer = calls meant old new answer
   Given None calls old new answer = (answer ≡ misused) × (new ≡ old)
+
+-- What an iterator was opened on is applied, or misuse where the policy means nothing. The iterator is as it
+-- was.
+abbrev pub AppliesBy : Option Policy → IterState → IterState → ConnectionState → ConnectionState →
+    Result Applied (Fault ConnectionFault) → Type 0
+AppliesBy (Some policy) before after old new answer = Applies policy before after old new answer
+AppliesBy None before after old new answer = (answer ≡ misused) × (new ≡ old) × (after ≡ before)

@@ -1,5 +1,5 @@
 -- What a call leaves with its caller, by its status.
-use Rattle.std.specs.Prelude.{◌≡◌, ℕ, pos, List, [], ◌++◌, drop, length}
+use Rattle.std.specs.Prelude.{◌≡◌, ◌⊎◌, ℕ, pos, List, [], ◌++◌, drop, length}
 use Rattle.std.specs.Prelude.{Option, Some, None, Result, Ok, Err}
 use Rattle.cap_value.specs.declared.value.Value.{Value}
 use Rattle.cap_value.specs.declared.value.Value.TheVariants.{Null, Int, Text, Blob}
@@ -90,6 +90,18 @@ abbrev pub OutputsBytes : Option (List ℕ) → ℕ → List ℕ → List ℕ �
 OutputsBytes (Some bytes) status old new old_len len =
     (status ≡ room_status (length bytes) (length old)) × Writes bytes status old new len
 OutputsBytes None status old new old_len len = (status ≡ MISUSE) × (new ≡ old) × (len ≡ old_len)
+
+-- there was no memory, and all is as it was
+pub record GivesUp (status : ℕ) (old new : List ℕ) (old_len len : ℕ) : Type 0 where
+  pub status_is : status ≡ NOMEM
+  pub out_kept : new ≡ old
+  pub len_kept : len ≡ old_len
+
+-- bytes that are made for the call, unless memory runs out
+abbrev pub OutputsMade : Option (List ℕ) → ℕ → List ℕ → List ℕ → ℕ → ℕ → Type 0
+OutputsMade (Some bytes) status old new old_len len =
+    OutputsBytes (Some bytes) status old new old_len len ⊎ GivesUp status old new old_len len
+OutputsMade None status old new old_len len = OutputsBytes None status old new old_len len
 
 module _ {A : Type 0} where
   -- a field, by SQLite's numbers of storage classes

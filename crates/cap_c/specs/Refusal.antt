@@ -1,4 +1,4 @@
--- The refusal of a command, as C sees it.
+-- The refusal of a command, and a call that is overtaken, as C sees them.
 use Rattle.std.specs.Prelude.{ℕ, Option, Some, None}
 use Rattle.std.specs.Option.{unwrap_or}
 use Rattle.cap_value.specs.declared.refusal.Refusal.{Refusal}
@@ -32,9 +32,17 @@ refusal_number NoSession = 18
 refusal_number NoDatabase = 19
 refusal_number NoMark = 20
 
--- with the number of the refused operation or change, or 0
+-- the number of the refused operation or change; or of the first item of a transaction that has changed; or 0
+abbrev pub place_of : Option ℕ → Refusal → ℕ
+place_of at (Stale base now (Some item)) = item
+place_of at _ = unwrap_or at 0
+
 abbrev pub refused : Option ℕ → Refusal → PlacedFault
-refused at why = record { kind = refusal_number why; at = unwrap_or at 0 }
+refused at why = record { kind = refusal_number why; at = place_of at why }
+
+-- The history is longer than the one that a call found: its length.
+abbrev pub overtaken : ℕ → PlacedFault
+overtaken front = record { kind = 0; at = front }
 
 -- Of a text that is no filter: with the byte of the first token that does not fit, or 0.
 abbrev pub filter_fault : Refusal → PlacedFault

@@ -1,17 +1,15 @@
--- The outputs for the row at which a server stands.
+-- The outputs for the row at which a cursor stands.
 use Rattle.std.specs.Prelude.{◌≡◌, ℕ, Bool, List, Option, Some}
 use Rattle.std.specs.Option.{option_map}
-use Rattle.cap_connection.specs.Connection.{ConnectionState}
-use Rattle.cap_connection.specs.RowCursor.{RowCursorState, Steps, value_of}
+use Rattle.cap_records.specs.Rows.{RowCursorState, Steps, value_of}
 use Rattle.cap_c.specs.IterOutputs.{step_status}
 use Rattle.cap_c.specs.Outputs.{value_bytes, value_output}
 use Rattle.cap_c.specs.declared.change_info.FieldValue.{FieldValue}
 
 -- the status says whether there is a next row
-pub record StepsTo (status : ℕ) (old new : ConnectionState) : Type 0 where
+pub record StepsTo (status : ℕ) (old new : RowCursorState) : Type 0 where
   pub is_row : Bool
-  pub stepped : Steps old.cursor new.cursor is_row
-  pub kept : new ≡ record old { cursor = new.cursor }
+  pub stepped : Steps old new is_row
   pub status_is : status ≡ step_status is_row
 
 -- a value of the row

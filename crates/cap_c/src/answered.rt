@@ -1,62 +1,57 @@
 //! What a call leaves with its caller, by the answer of the library's call.
 ghost use Rattle.std.specs.Prelude.{◌≡◌};
-ghost use Rattle.std.specs.Result.{result_map_both};
+ghost use Rattle.cap_c.specs.Client.{join_status};
 ghost use Rattle.cap_c.specs.Outputs.{OutputsFound};
-ghost use Rattle.cap_c.specs.Answered.{Tells, TellsBytes, TellsFlag, TellsNumber, TellsPiece, TellsReport};
-ghost use Rattle.cap_c.specs.Answered.{TellsText, answer_status, fault_output, fault_status, len_output};
+ghost use Rattle.cap_c.specs.Answered.{Tells, TellsFlag, TellsNumber, TellsPiece, TellsReport, TellsText};
+ghost use Rattle.cap_c.specs.Answered.{fault_output, fault_status};
 
 use crate::apply_report::ApplyReport;
 use crate::fault::PlacedFault;
-use crate::output::write_bytes;
-use crate::status::{COMMAND, FILTER, FULL, MALFORMED, MISUSE, NOMEM, OK, REFUSED, ROOM};
+use crate::status::{
+    BUSY, CLIENTS, COMMAND, FILTER, FULL, MALFORMED, MISUSE, NOMEM, OK, OVERTAKEN, REFUSED,
+};
 use cap_codec::BlobFault;
 use cap_connection::{Applied, ConnectionFault};
+use cap_hub::JoinFault;
 use cap_value::Fault;
-use std::alloc::Global;
 
-fn fault_status(why: Fault<ConnectionFault>) -> u32
+/// The status of a call on a client that has no answer.
+pub(crate) fn fault_status(why: Fault<ConnectionFault>) -> u32
     ensures { result ≡ fault_status why }
 {
     match why {
         Fault::OutOfMemory => NOMEM,
         Fault::Refused(ConnectionFault::Misuse) => MISUSE,
+        Fault::Refused(ConnectionFault::Busy) => BUSY,
+        Fault::Refused(ConnectionFault::Overtaken { .. }) => OVERTAKEN,
         Fault::Refused(ConnectionFault::Full) => FULL,
         Fault::Refused(ConnectionFault::Refused { .. }) => REFUSED,
-        Fault::Refused(ConnectionFault::Malformed(_)) => MALFORMED,
         Fault::Refused(ConnectionFault::NoFilter(_)) => FILTER,
         Fault::Refused(ConnectionFault::NoCommand(_)) => COMMAND,
-        Fault::Refused(ConnectionFault::NoRoom { .. }) => ROOM,
     }
 }
 
-fn fault_output(why: Fault<ConnectionFault>, old: PlacedFault) -> PlacedFault
+/// The fault that is set then, or what was there before.
+pub(crate) fn fault_output(why: Fault<ConnectionFault>, old: PlacedFault) -> PlacedFault
     ensures { result ≡ fault_output why old }
 {
     match why {
         Fault::Refused(ConnectionFault::Refused { at, why }) => PlacedFault::refused(at, why),
-        Fault::Refused(ConnectionFault::Malformed(wrong)) => PlacedFault::of(wrong),
+        Fault::Refused(ConnectionFault::Overtaken { front }) => PlacedFault::overtaken(front),
         Fault::Refused(ConnectionFault::NoFilter(why)) => PlacedFault::in_filter(why),
         Fault::Refused(ConnectionFault::NoCommand(why)) => PlacedFault::in_text(why),
         _ => old,
     }
 }
 
-fn len_output(why: Fault<ConnectionFault>, old: usize) -> usize
-    ensures { result ≡ len_output why old }
+/// The status of a client that does not join.
+pub(crate) fn join_status(why: JoinFault) -> u32
+    ensures { result ≡ join_status why }
 {
     match why {
-        Fault::Refused(ConnectionFault::NoRoom { len }) => len,
-        _ => old,
-    }
-}
-
-/// The status alone.
-pub(crate) fn answer_status(answer: Result<(), Fault<ConnectionFault>>) -> u32
-    ensures { result ≡ answer_status answer }
-{
-    match answer {
-        Ok(()) => OK,
-        Err(why) => fault_status(why),
+        JoinFault::Busy => BUSY,
+        JoinFault::TooMany => CLIENTS,
+        JoinFault::OutOfMemory => NOMEM,
     }
 }
 
@@ -133,26 +128,6 @@ pub(crate) fn tell_report(
             OK
         }
         Err(why) => {
-            *fault = fault_output(why, *fault);
-            fault_status(why)
-        }
-    }
-}
-
-/// Writes bytes, or sets how many there are, or the fault.
-pub(crate) fn tell_bytes(
-    answer: Result<Vec<u8, Global>, Fault<ConnectionFault>>,
-    out: &mut [u8],
-    len: &mut usize,
-    fault: &mut PlacedFault,
-) -> u32
-    ensures { TellsBytes result out.old out.new len.old len.new fault.old fault.new
-        (result_map_both (λ bytes. bytes.items) (λ why. why) answer) }
-{
-    match answer {
-        Ok(bytes) => write_bytes(bytes.as_slice(), out, len),
-        Err(why) => {
-            *len = len_output(why, *len);
             *fault = fault_output(why, *fault);
             fault_status(why)
         }

@@ -1,141 +1,214 @@
-//! The calls that write what a session has captured.
-ghost use Rattle.std.specs.Prelude.{IsSome, length};
-ghost use Rattle.std.specs.Result.{result_map_both};
-ghost use Rattle.cap_connection.specs.Captures.{Captures};
+//! The calls that capture what a session has recorded, and write a capture.
+ghost use Rattle.std.specs.Prelude.{◌≡◌, ◌⊎◌, IfOk, IsSome, None};
+ghost use Rattle.std.specs.Option.{option_map};
+ghost use Rattle.cap_core.specs.declared.command.Command.TheVariants as command;
+ghost use Rattle.cap_connection.specs.Calls.{Captures};
+ghost use Rattle.cap_connection.specs.Replies.{captured_bytes};
 ghost use Rattle.cap_connection.specs.declared.captured.CaptureKind.TheVariants.{Changeset, Patchset};
-ghost use Rattle.cap_connection.specs.declared.captured.CaptureKind.TheVariants.{Restart};
+ghost use Rattle.cap_c.specs.Answered.{Answers, TellsOpened};
+ghost use Rattle.cap_c.specs.Handle.{Keeps, LacksMemory};
 ghost use Rattle.cap_c.specs.Numbers.{key_flags_of};
-ghost use Rattle.cap_c.specs.Answered.{Answers, Given, TellsBytes};
+ghost use Rattle.cap_c.specs.Outputs.{OutputsMade};
 
-use crate::answered::tell_bytes;
+use crate::answered::{fault_output, fault_status};
+use crate::capture_handle::{self, CaptureHandle};
+use crate::client_handle::{ClientHandle, put, take};
 use crate::fault::PlacedFault;
+use crate::held::HeldCapture;
 use crate::numbers::key_flags_of;
-use crate::server_handle::{ServerHandle, put, take};
+use crate::output::write_made;
+use crate::status::{MISUSE, NOMEM, OK};
 use cap_codec::KeyFlags;
-use cap_connection::{CaptureKind, Connection, ConnectionFault};
-use cap_value::Fault;
+use cap_connection::{CaptureKind, Captured, ConnectionFault};
+use cap_value::{Fault, OutOfMemory};
 use std::alloc::Global;
 
-/// Writes the changeset of a session, as `sqlite3session_changeset`.
+/// Opens a capture of what a session has recorded.
 #[unsafe(no_mangle)]
-pub extern "C" fn changecap_session_changeset(
+pub extern "C" fn changecap_try_session_capture(
     alloc: Global,
-    handle: &mut ServerHandle,
+    client: &mut ClientHandle,
     session: u64,
+    capture: &mut CaptureHandle,
+    fault: &mut PlacedFault,
+) -> u32
+    requires opened { IsSome client.old.value }
+    requires closed { capture.old.value ≡ None }
+    ensures captured { Answers client.old.value client.new.value (Captures (command.Capture session))
+        (TellsOpened result capture.new.value fault.old fault.new)
+        ⊎ (LacksMemory client.old.value client.new.value capture.new.value result
+        × (fault.new ≡ fault.old)) }
+{
+    match Box::new(alloc, HeldCapture { captured: None }) {
+        Ok(room) => capture_in(alloc, client, session, room, capture, fault),
+        Err(_) => NOMEM,
+    }
+}
+
+/// The same, and deletes the session's records then.
+#[unsafe(no_mangle)]
+pub extern "C" fn changecap_try_session_restart(
+    alloc: Global,
+    client: &mut ClientHandle,
+    session: u64,
+    capture: &mut CaptureHandle,
+    fault: &mut PlacedFault,
+) -> u32
+    requires opened { IsSome client.old.value }
+    requires closed { capture.old.value ≡ None }
+    ensures restarted { Answers client.old.value client.new.value (Captures (command.Restart session))
+        (TellsOpened result capture.new.value fault.old fault.new)
+        ⊎ (LacksMemory client.old.value client.new.value capture.new.value result
+        × (fault.new ≡ fault.old)) }
+{
+    match Box::new(alloc, HeldCapture { captured: None }) {
+        Ok(room) => restart_in(alloc, client, session, room, capture, fault),
+        Err(_) => NOMEM,
+    }
+}
+
+// Memory for the capture is taken first, so that no capture is lost.
+fn capture_in(
+    alloc: Global,
+    client: &mut ClientHandle,
+    session: u64,
+    room: Box<HeldCapture>,
+    capture: &mut CaptureHandle,
+    fault: &mut PlacedFault,
+) -> u32
+    requires opened { IsSome client.old.value }
+    requires closed { capture.old.value ≡ None }
+    ensures captured { Answers client.old.value client.new.value (Captures (command.Capture session))
+        (TellsOpened result capture.new.value fault.old fault.new) }
+{
+    let mut connection = take(alloc, client);
+    let answer = connection.capture(session);
+    put(client, connection);
+    tell_capture(answer, room, capture, fault)
+}
+
+fn restart_in(
+    alloc: Global,
+    client: &mut ClientHandle,
+    session: u64,
+    room: Box<HeldCapture>,
+    capture: &mut CaptureHandle,
+    fault: &mut PlacedFault,
+) -> u32
+    requires opened { IsSome client.old.value }
+    requires closed { capture.old.value ≡ None }
+    ensures restarted { Answers client.old.value client.new.value (Captures (command.Restart session))
+        (TellsOpened result capture.new.value fault.old fault.new) }
+{
+    let mut connection = take(alloc, client);
+    let answer = connection.restart(session);
+    put(client, connection);
+    tell_capture(answer, room, capture, fault)
+}
+
+// Opens the capture, or sets the fault.
+fn tell_capture(
+    answer: Result<Captured, Fault<ConnectionFault>>,
+    mut room: Box<HeldCapture>,
+    capture: &mut CaptureHandle,
+    fault: &mut PlacedFault,
+) -> u32
+    requires closed { capture.old.value ≡ None }
+    ensures { TellsOpened result capture.new.value fault.old fault.new answer }
+{
+    match answer {
+        Ok(captured) => {
+            room.captured = Some(captured);
+            capture_handle::put(capture, room);
+            OK
+        }
+        Err(why) => {
+            *fault = fault_output(why, *fault);
+            fault_status(why)
+        }
+    }
+}
+
+/// Writes a capture as a changeset, as `sqlite3session_changeset`.
+#[unsafe(no_mangle)]
+pub extern "C" fn changecap_capture_changeset(
+    alloc: Global,
+    capture: &mut CaptureHandle,
     key_flags: u32,
     out: &mut [u8],
     len: &mut usize,
-    fault: &mut PlacedFault,
 ) -> u32
-    requires opened { IsSome handle.old.value }
-    ensures written { Answers handle.old.value handle.new.value
-        (Given (key_flags_of key_flags) (λ flags. Captures Changeset session flags (length out.old)))
-        (TellsBytes result out.old out.new len.old len.new fault.old fault.new) }
+    requires opened { IsSome capture.old.value }
+    // A number that names no key flags is misuse.
+    ensures written { Keeps capture.old.value capture.new.value
+        (λ changes. OutputsMade (option_map (λ flags. captured_bytes Changeset flags changes)
+        (key_flags_of key_flags)) result out.old out.new len.old len.new) }
 {
-    write(
-        alloc,
-        handle,
-        CaptureKind::Changeset,
-        session,
-        key_flags,
-        out,
-        len,
-        fault,
-    )
+    let held = capture_handle::take(alloc, capture);
+    let flags = key_flags_of(key_flags);
+    let status = write(alloc, &held, CaptureKind::Changeset, flags, out, len);
+    capture_handle::put(capture, held);
+    status
 }
 
-/// Writes the patchset of a session, as `sqlite3session_patchset`.
+/// Writes a capture as a patchset, as `sqlite3session_patchset`.
 #[unsafe(no_mangle)]
-pub extern "C" fn changecap_session_patchset(
+pub extern "C" fn changecap_capture_patchset(
     alloc: Global,
-    handle: &mut ServerHandle,
-    session: u64,
+    capture: &mut CaptureHandle,
     key_flags: u32,
     out: &mut [u8],
     len: &mut usize,
-    fault: &mut PlacedFault,
 ) -> u32
-    requires opened { IsSome handle.old.value }
-    ensures written { Answers handle.old.value handle.new.value
-        (Given (key_flags_of key_flags) (λ flags. Captures Patchset session flags (length out.old)))
-        (TellsBytes result out.old out.new len.old len.new fault.old fault.new) }
+    requires opened { IsSome capture.old.value }
+    // A number that names no key flags is misuse.
+    ensures written { Keeps capture.old.value capture.new.value
+        (λ changes. OutputsMade (option_map (λ flags. captured_bytes Patchset flags changes)
+        (key_flags_of key_flags)) result out.old out.new len.old len.new) }
 {
-    write(
-        alloc,
-        handle,
-        CaptureKind::Patchset,
-        session,
-        key_flags,
-        out,
-        len,
-        fault,
-    )
+    let held = capture_handle::take(alloc, capture);
+    let flags = key_flags_of(key_flags);
+    let status = write(alloc, &held, CaptureKind::Patchset, flags, out, len);
+    capture_handle::put(capture, held);
+    status
 }
 
-/// Writes the changeset of a session, and deletes the session's records.
-#[unsafe(no_mangle)]
-pub extern "C" fn changecap_session_restart(
-    alloc: Global,
-    handle: &mut ServerHandle,
-    session: u64,
-    key_flags: u32,
-    out: &mut [u8],
-    len: &mut usize,
-    fault: &mut PlacedFault,
-) -> u32
-    requires opened { IsSome handle.old.value }
-    ensures written { Answers handle.old.value handle.new.value
-        (Given (key_flags_of key_flags) (λ flags. Captures Restart session flags (length out.old)))
-        (TellsBytes result out.old out.new len.old len.new fault.old fault.new) }
-{
-    write(
-        alloc,
-        handle,
-        CaptureKind::Restart,
-        session,
-        key_flags,
-        out,
-        len,
-        fault,
-    )
-}
-
-// A number that names no key flags is misuse.
 fn write(
     alloc: Global,
-    handle: &mut ServerHandle,
+    held: &HeldCapture,
     kind: CaptureKind,
-    session: u64,
-    key_flags: u32,
+    flags: Option<KeyFlags>,
     out: &mut [u8],
     len: &mut usize,
-    fault: &mut PlacedFault,
 ) -> u32
-    requires opened { IsSome handle.old.value }
-    ensures written { Answers handle.old.value handle.new.value
-        (Given (key_flags_of key_flags) (λ flags. Captures kind session flags (length out.old)))
-        (TellsBytes result out.old out.new len.old len.new fault.old fault.new) }
-{
-    let mut connection = take(alloc, handle);
-    let flags = key_flags_of(key_flags);
-    let answer = captured(alloc, &mut connection, kind, session, flags, out.len());
-    put(handle, connection);
-    tell_bytes(answer, out, len, fault)
-}
-
-fn captured(
-    alloc: Global,
-    connection: &mut Connection,
-    kind: CaptureKind,
-    session: u64,
-    flags: Option<KeyFlags>,
-    room: usize,
-) -> Result<Vec<u8, Global>, Fault<ConnectionFault>>
-    ensures { Given flags (λ flags. Captures kind session flags room) connection.old connection.new
-        (result_map_both (λ bytes. bytes.items) (λ why. why) result) }
+    ensures { OutputsMade (option_map (λ flags. captured_bytes kind flags held.now) flags) result out.old
+        out.new len.old len.new }
 {
     match flags {
-        Some(flags) => connection.capture(alloc, kind, session, flags, room),
-        None => Err(Fault::Refused(ConnectionFault::Misuse)),
+        Some(flags) => write_made(bytes_of(alloc, held, kind, flags), out, len),
+        None => MISUSE,
     }
+}
+
+fn bytes_of(
+    alloc: Global,
+    held: &HeldCapture,
+    kind: CaptureKind,
+    flags: KeyFlags,
+) -> Result<Vec<u8, Global>, OutOfMemory>
+    ensures { IfOk result (λ bytes. bytes.items ≡ captured_bytes kind flags held.now) }
+{
+    match &held.captured {
+        Some(captured) => captured.bytes(alloc, kind, flags),
+        None => Ok(Vec::new(alloc)),
+    }
+}
+
+/// Closes a capture, and frees what it has.
+#[unsafe(no_mangle)]
+pub extern "C" fn changecap_capture_close(alloc: Global, capture: &mut CaptureHandle)
+    requires opened { IsSome capture.old.value }
+    ensures closed { capture.new.value ≡ None }
+{
+    drop(capture_handle::take(alloc, capture));
 }

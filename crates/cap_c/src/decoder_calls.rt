@@ -8,7 +8,7 @@ ghost use Rattle.cap_c.specs.Handle.{Between, Opens, OpensOn};
 ghost use Rattle.cap_c.specs.Answered.{TellsPiece};
 
 use crate::answered::tell_piece;
-use crate::decoder_handle::{DecoderHandle, put, take};
+use crate::decoder_handle::{self, DecoderHandle, put, take};
 use crate::fault::PlacedFault;
 use crate::iter_handle::{self, IterHandle};
 use crate::status::{MALFORMED, NOMEM, OK};
@@ -22,13 +22,7 @@ pub extern "C" fn changecap_decoder_open(alloc: Global, handle: &mut DecoderHand
     requires closed { handle.old.value ≡ None }
     ensures opened { OpensOn [] result handle.new.value }
 {
-    match Box::new(alloc, PieceDecoder::new(alloc)) {
-        Ok(decoder) => {
-            put(handle, decoder);
-            OK
-        }
-        Err(_) => NOMEM,
-    }
+    decoder_handle::open(alloc, handle, PieceDecoder::new(alloc))
 }
 
 /// Takes the next piece of the blob.

@@ -1,10 +1,12 @@
 //! What C holds of a decoder.
 ghost use Rattle.std.specs.Coded.{coded_option};
 ghost use Rattle.std.specs.Prelude.{◌≡◌, ℕ, IsSome, List, None, Option, Some};
-ghost use Rattle.cap_c.specs.DecoderHandle.{code};
+ghost use Rattle.cap_c.specs.Handle.{OpensOn};
+ghost use Rattle.cap_c.specs.Owns.{decoder_row};
 
 use crate::assert_send::assert_decoder_send;
 use crate::parts::Parts;
+use crate::status::{NOMEM, OK};
 use cap_connection::PieceDecoder;
 use std::alloc::Global;
 use std::marker::Model;
@@ -16,13 +18,27 @@ use std::{mem, ptr};
 pub struct DecoderHandle {
     at: *mut u8,
     alloc: Global,
-    pub ghost value: { Option (List ℕ) } by { coded_option code },
+    pub ghost value: { Option (List ℕ) } by { coded_option decoder_row.coded },
 }
 
 impl Model for DecoderHandle {
-    ghost use Rattle.cap_c.specs.DecoderHandle.{owns_if};
+    ghost use Rattle.cap_c.specs.Owns.{decoder_row, owns_if};
 
-    ghost also_owns = { λ h. owns_if h.alloc h.at h.value };
+    ghost also_owns = { λ h. owns_if decoder_row h.alloc h.at h.value };
+}
+
+/// Opens a closed handle on this.
+pub(crate) fn open(alloc: Global, handle: &mut DecoderHandle, decoder: PieceDecoder) -> u32
+    requires { handle.old.value ≡ None }
+    ensures { OpensOn decoder result handle.new.value }
+{
+    match Box::new(alloc, decoder) {
+        Ok(decoder) => {
+            put(handle, decoder);
+            OK
+        }
+        Err(_) => NOMEM,
+    }
 }
 
 /// Takes the decoder out of an open handle, which is closed until it is put back.

@@ -2,7 +2,7 @@
 ghost use Rattle.std.specs.Prelude.{◌≡◌};
 ghost use Rattle.cap_c.specs.Fault.{kind_number, placed, placed_in_text};
 ghost use Rattle.cap_connection.specs.declared.fault.TextFault.TheVariants.{InLine};
-ghost use Rattle.cap_c.specs.Refusal.{filter_fault, refusal_number, refused};
+ghost use Rattle.cap_c.specs.Refusal.{filter_fault, overtaken, place_of, refusal_number, refused};
 
 use cap_codec::{BlobFault, FaultKind};
 use cap_connection::TextFault;
@@ -17,8 +17,8 @@ const BAD_BLOB: u32 = 3;
 
 /// Why a call is refused, and where. For bytes that are no blob: the number of the fault
 /// (docs/manual/formats.md, "Reading"), and its offset. For a command: the number of the refusal
-/// (docs/manual/rules.md, "Refusals"), and that of the refused operation or change, from 0. For a text that
-/// is no command or no filter `changecap.h` has both.
+/// (docs/manual/rules.md, "Refusals"), and that of the refused operation or change, or of the item that has
+/// changed, from 0. For a text that is no command or no filter `changecap.h` has both.
 #[repr(C)]
 #[derive(Clone, Copy, Drop)]
 pub struct PlacedFault {
@@ -41,7 +41,16 @@ impl PlacedFault {
     {
         PlacedFault {
             kind: refusal_number(why),
-            at: at.unwrap_or(0) as usize,
+            at: place_of(at, why) as usize,
+        }
+    }
+
+    pub(crate) fn overtaken(front: u64) -> Self
+        ensures { result ≡ overtaken front }
+    {
+        PlacedFault {
+            kind: 0,
+            at: front as usize,
         }
     }
 
@@ -78,6 +87,19 @@ impl PlacedFault {
                 at: fault.at,
             },
         }
+    }
+}
+
+// The number of the refused operation or change, or of the item that has changed, or 0.
+fn place_of(at: Option<u64>, why: Refusal) -> u64
+    ensures { result ≡ place_of at why }
+{
+    match why {
+        Refusal::Stale {
+            item: Some(item),
+            ..
+        } => item,
+        _ => at.unwrap_or(0),
     }
 }
 

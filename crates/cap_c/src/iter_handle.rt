@@ -1,7 +1,7 @@
 //! What C holds of an iterator.
 ghost use Rattle.std.specs.Coded.{coded_option};
 ghost use Rattle.std.specs.Prelude.{◌≡◌, IsSome, None, Option, Some};
-ghost use Rattle.cap_c.specs.IterHandle.{code};
+ghost use Rattle.cap_c.specs.Owns.{iter_row};
 ghost use Rattle.cap_connection.specs.Iter.{IterState};
 
 use crate::assert_send::assert_iter_send;
@@ -17,13 +17,13 @@ use std::{mem, ptr};
 pub struct IterHandle {
     at: *mut u8,
     alloc: Global,
-    pub ghost value: { Option IterState } by { coded_option code },
+    pub ghost value: { Option IterState } by { coded_option iter_row.coded },
 }
 
 impl Model for IterHandle {
-    ghost use Rattle.cap_c.specs.IterHandle.{owns_if};
+    ghost use Rattle.cap_c.specs.Owns.{iter_row, owns_if};
 
-    ghost also_owns = { λ h. owns_if h.alloc h.at h.value };
+    ghost also_owns = { λ h. owns_if iter_row h.alloc h.at h.value };
 }
 
 /// Takes the iterator out of an open handle, which is closed until it is put back.

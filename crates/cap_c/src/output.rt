@@ -1,15 +1,15 @@
 //! Bytes, written to the caller's buffer.
-ghost use Rattle.std.specs.Prelude.{◌≡◌, ℕ, List, Result, length};
+ghost use Rattle.std.specs.Prelude.{◌≡◌, ℕ, IfOk, List, Result, Some, length};
 ghost use Rattle.cap_value.specs.Memory.{ShowsUnlessMemory};
 ghost use Rattle.cap_blob.specs.declared.refusal.ChangesetRefusal.{ChangesetRefusal as Refused};
 ghost use Rattle.cap_c.specs.Status.{room_status};
-ghost use Rattle.cap_c.specs.Outputs.{Converts, begins_with};
+ghost use Rattle.cap_c.specs.Outputs.{Converts, OutputsMade, begins_with};
 ghost use Rattle.cap_c.specs.declared.status.TheConstants.{OK, ROOM};
 
 use crate::fault::PlacedFault;
 use crate::status::{MALFORMED, NOMEM, OK, PATCHSET, ROOM};
 use cap_blob::ChangesetRefusal;
-use cap_value::Fault;
+use cap_value::{Fault, OutOfMemory};
 use std::alloc::Global;
 
 /// Writes the bytes to the beginning of the buffer, or sets how long they are where it has no room.
@@ -46,5 +46,20 @@ pub(crate) fn set_bytes(
         }
         Err(Fault::Refused(ChangesetRefusal::Patchset)) => PATCHSET,
         Err(Fault::OutOfMemory) => NOMEM,
+    }
+}
+
+/// Writes the bytes that were made, unless memory ran out.
+pub(crate) fn write_made(
+    made: Result<Vec<u8, Global>, OutOfMemory>,
+    out: &mut [u8],
+    len: &mut usize,
+) -> u32
+    ensures { (bytes : List ℕ) → IfOk made (λ made. made.items ≡ bytes) →
+        OutputsMade (Some bytes) result out.old out.new len.old len.new }
+{
+    match made {
+        Ok(record) => write_bytes(record.as_slice(), out, len),
+        Err(_) => NOMEM,
     }
 }

@@ -1,4 +1,4 @@
-//! The calls on the sessions of a server.
+//! The calls on the sessions of a client's history.
 ghost use Rattle.std.specs.Prelude.{IsSome};
 ghost use Rattle.cap_core.specs.declared.command.Command.TheVariants as command;
 ghost use Rattle.cap_connection.specs.Calls.{Attaches, Diffs, SetsFilter};
@@ -8,145 +8,145 @@ ghost use Rattle.cap_c.specs.Numbers.{asked_of};
 ghost use Rattle.cap_c.specs.Answered.{Answers, Given, Tells, TellsFlag, TellsNumber};
 
 use crate::answered::{tell, tell_flag, tell_number};
+use crate::client_handle::{ClientHandle, put, take};
 use crate::fault::PlacedFault;
 use crate::numbers::asked_of;
-use crate::server_handle::{ServerHandle, put, take};
 use cap_connection::{Connection, ConnectionFault};
 use cap_value::Fault;
 use std::alloc::Global;
 
 /// Makes a session, as `sqlite3session_create`.
 #[unsafe(no_mangle)]
-pub extern "C" fn changecap_session_new(
+pub extern "C" fn changecap_try_session_new(
     alloc: Global,
-    handle: &mut ServerHandle,
+    client: &mut ClientHandle,
     session: &mut u64,
     fault: &mut PlacedFault,
 ) -> u32
-    requires opened { IsSome handle.old.value }
-    ensures made { Answers handle.old.value handle.new.value (Runs number_in command.NewSession)
+    requires opened { IsSome client.old.value }
+    ensures made { Answers client.old.value client.new.value (Runs number_in command.NewSession)
         (TellsNumber result session.old session.new fault.old fault.new) }
 {
-    let mut connection = take(alloc, handle);
+    let mut connection = take(alloc, client);
     let answer = connection.new_session();
-    put(handle, connection);
+    put(client, connection);
     tell_number(answer, session, fault)
 }
 
 /// Ends a session, as `sqlite3session_delete`.
 #[unsafe(no_mangle)]
-pub extern "C" fn changecap_session_drop(
+pub extern "C" fn changecap_try_session_drop(
     alloc: Global,
-    handle: &mut ServerHandle,
+    client: &mut ClientHandle,
     session: u64,
     fault: &mut PlacedFault,
 ) -> u32
-    requires opened { IsSome handle.old.value }
-    ensures ended { Answers handle.old.value handle.new.value (Runs nothing_in (command.DropSession session))
+    requires opened { IsSome client.old.value }
+    ensures ended { Answers client.old.value client.new.value (Runs nothing_in (command.DropSession session))
         (Tells result fault.old fault.new) }
 {
-    let mut connection = take(alloc, handle);
+    let mut connection = take(alloc, client);
     let answer = connection.drop_session(session);
-    put(handle, connection);
+    put(client, connection);
     tell(answer, fault)
 }
 
 /// Attaches a table, as `sqlite3session_attach`.
 #[unsafe(no_mangle)]
-pub extern "C" fn changecap_session_attach(
+pub extern "C" fn changecap_try_session_attach(
     alloc: Global,
-    handle: &mut ServerHandle,
+    client: &mut ClientHandle,
     session: u64,
     table: &[u8],
     fault: &mut PlacedFault,
 ) -> u32
-    requires opened { IsSome handle.old.value }
-    ensures attached { Answers handle.old.value handle.new.value (Attaches session table.now)
+    requires opened { IsSome client.old.value }
+    ensures attached { Answers client.old.value client.new.value (Attaches session table.now)
         (Tells result fault.old fault.new) }
 {
-    let mut connection = take(alloc, handle);
+    let mut connection = take(alloc, client);
     let answer = connection.attach(alloc, session, table);
-    put(handle, connection);
+    put(client, connection);
     tell(answer, fault)
 }
 
 /// Attaches every table of which a row changes from now on, as `sqlite3session_attach` without a name.
 #[unsafe(no_mangle)]
-pub extern "C" fn changecap_session_attach_all(
+pub extern "C" fn changecap_try_session_attach_all(
     alloc: Global,
-    handle: &mut ServerHandle,
+    client: &mut ClientHandle,
     session: u64,
     fault: &mut PlacedFault,
 ) -> u32
-    requires opened { IsSome handle.old.value }
-    ensures attached { Answers handle.old.value handle.new.value (Runs nothing_in (command.AttachAll session))
+    requires opened { IsSome client.old.value }
+    ensures attached { Answers client.old.value client.new.value (Runs nothing_in (command.AttachAll session))
         (Tells result fault.old fault.new) }
 {
-    let mut connection = take(alloc, handle);
+    let mut connection = take(alloc, client);
     let answer = connection.attach_all(session);
-    put(handle, connection);
+    put(client, connection);
     tell(answer, fault)
 }
 
 /// Attaches from now on each table of which a row changes and whose name the filter accepts, as
 /// `sqlite3session_table_filter`.
 #[unsafe(no_mangle)]
-pub extern "C" fn changecap_session_filter(
+pub extern "C" fn changecap_try_session_filter(
     alloc: Global,
-    handle: &mut ServerHandle,
+    client: &mut ClientHandle,
     session: u64,
     text: &[u8],
     fault: &mut PlacedFault,
 ) -> u32
-    requires opened { IsSome handle.old.value }
-    ensures filtered { Answers handle.old.value handle.new.value (SetsFilter session text.now)
+    requires opened { IsSome client.old.value }
+    ensures filtered { Answers client.old.value client.new.value (SetsFilter session text.now)
         (Tells result fault.old fault.new) }
 {
-    let mut connection = take(alloc, handle);
+    let mut connection = take(alloc, client);
     let answer = connection.set_filter(alloc, session, text);
-    put(handle, connection);
+    put(client, connection);
     tell(answer, fault)
 }
 
 /// Records how a table differs from the one of the same name in a saved database, as `sqlite3session_diff`.
 #[unsafe(no_mangle)]
-pub extern "C" fn changecap_session_diff(
+pub extern "C" fn changecap_try_session_diff(
     alloc: Global,
-    handle: &mut ServerHandle,
+    client: &mut ClientHandle,
     session: u64,
     from: &[u8],
     table: &[u8],
     fault: &mut PlacedFault,
 ) -> u32
-    requires opened { IsSome handle.old.value }
-    ensures compared { Answers handle.old.value handle.new.value (Diffs session from.now table.now)
+    requires opened { IsSome client.old.value }
+    ensures compared { Answers client.old.value client.new.value (Diffs session from.now table.now)
         (Tells result fault.old fault.new) }
 {
-    let mut connection = take(alloc, handle);
+    let mut connection = take(alloc, client);
     let answer = connection.diff(alloc, session, from, table);
-    put(handle, connection);
+    put(client, connection);
     tell(answer, fault)
 }
 
 /// Enables or disables a session, or asks whether it is enabled, as `sqlite3session_enable`.
 #[unsafe(no_mangle)]
-pub extern "C" fn changecap_session_enable(
+pub extern "C" fn changecap_try_session_enable(
     alloc: Global,
-    handle: &mut ServerHandle,
+    client: &mut ClientHandle,
     session: u64,
     asked: u32,
     flag: &mut u32,
     fault: &mut PlacedFault,
 ) -> u32
-    requires opened { IsSome handle.old.value }
+    requires opened { IsSome client.old.value }
     // A number that asks for nothing is misuse.
-    ensures enabled { Answers handle.old.value handle.new.value
+    ensures enabled { Answers client.old.value client.new.value
         (Given (asked_of asked) (λ value. Runs flag_in (command.Enable session value)))
         (TellsFlag result flag.old flag.new fault.old fault.new) }
 {
-    let mut connection = take(alloc, handle);
+    let mut connection = take(alloc, client);
     let answer = enable(&mut connection, session, asked_of(asked));
-    put(handle, connection);
+    put(client, connection);
     tell_flag(answer, flag, fault)
 }
 
@@ -166,23 +166,23 @@ fn enable(
 
 /// Sets the indirect flag of a session, or asks for it, as `sqlite3session_indirect`.
 #[unsafe(no_mangle)]
-pub extern "C" fn changecap_session_indirect(
+pub extern "C" fn changecap_try_session_indirect(
     alloc: Global,
-    handle: &mut ServerHandle,
+    client: &mut ClientHandle,
     session: u64,
     asked: u32,
     flag: &mut u32,
     fault: &mut PlacedFault,
 ) -> u32
-    requires opened { IsSome handle.old.value }
+    requires opened { IsSome client.old.value }
     // A number that asks for nothing is misuse.
-    ensures marked { Answers handle.old.value handle.new.value
+    ensures marked { Answers client.old.value client.new.value
         (Given (asked_of asked) (λ value. Runs flag_in (command.Indirect session value)))
         (TellsFlag result flag.old flag.new fault.old fault.new) }
 {
-    let mut connection = take(alloc, handle);
+    let mut connection = take(alloc, client);
     let answer = indirect(&mut connection, session, asked_of(asked));
-    put(handle, connection);
+    put(client, connection);
     tell_flag(answer, flag, fault)
 }
 
@@ -202,19 +202,19 @@ fn indirect(
 
 /// Whether a session has no records, as `sqlite3session_isempty`.
 #[unsafe(no_mangle)]
-pub extern "C" fn changecap_session_isempty(
+pub extern "C" fn changecap_try_session_isempty(
     alloc: Global,
-    handle: &mut ServerHandle,
+    client: &mut ClientHandle,
     session: u64,
     flag: &mut u32,
     fault: &mut PlacedFault,
 ) -> u32
-    requires opened { IsSome handle.old.value }
-    ensures asked { Answers handle.old.value handle.new.value (Runs flag_in (command.IsEmpty session))
+    requires opened { IsSome client.old.value }
+    ensures asked { Answers client.old.value client.new.value (Runs flag_in (command.IsEmpty session))
         (TellsFlag result flag.old flag.new fault.old fault.new) }
 {
-    let mut connection = take(alloc, handle);
+    let mut connection = take(alloc, client);
     let answer = connection.is_empty(session);
-    put(handle, connection);
+    put(client, connection);
     tell_flag(answer, flag, fault)
 }

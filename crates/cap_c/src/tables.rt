@@ -1,92 +1,121 @@
-//! The calls on the tables of a server.
+//! The calls on the tables of a client's history.
 ghost use Rattle.std.specs.Prelude.{IsSome};
-ghost use Rattle.cap_connection.specs.Calls.{Applies, CreatesTable, Saves};
+ghost use Rattle.cap_connection.specs.Calls.{Commits, CreatesTable, Saves};
 ghost use Rattle.cap_c.specs.Numbers.{policy_of};
-ghost use Rattle.cap_c.specs.Answered.{Answers, Given, Tells, TellsNumber, TellsReport};
+ghost use Rattle.cap_c.specs.Answered.{Answers, AppliesBy, BothAnswer, Tells, TellsNumber, TellsReport};
 
 use crate::answered::{tell, tell_number, tell_report};
 use crate::apply_report::ApplyReport;
+use crate::batch_handle::{self, BatchHandle};
+use crate::client_handle::{ClientHandle, put, take};
 use crate::fault::PlacedFault;
+use crate::iter_handle::{self, IterHandle};
 use crate::numbers::policy_of;
-use crate::server_handle::{ServerHandle, put, take};
 use cap_apply::Policy;
-use cap_connection::{Applied, Connection, ConnectionFault};
+use cap_connection::{Applied, BlobIter, Connection, ConnectionFault};
 use cap_value::Fault;
 use std::alloc::Global;
 
 /// Creates a table. A byte for each column says whether it is in the primary key.
 #[unsafe(no_mangle)]
-pub extern "C" fn changecap_create(
+pub extern "C" fn changecap_try_create(
     alloc: Global,
-    handle: &mut ServerHandle,
+    client: &mut ClientHandle,
     table: &[u8],
     key: &[u8],
     version: &mut u64,
     fault: &mut PlacedFault,
 ) -> u32
-    requires opened { IsSome handle.old.value }
-    ensures created { Answers handle.old.value handle.new.value (CreatesTable table.now key.now)
+    requires opened { IsSome client.old.value }
+    ensures created { Answers client.old.value client.new.value (CreatesTable table.now key.now)
         (TellsNumber result version.old version.new fault.old fault.new) }
 {
-    let mut connection = take(alloc, handle);
+    let mut connection = take(alloc, client);
     let answer = connection.create_table(alloc, table, key);
-    put(handle, connection);
+    put(client, connection);
     tell_number(answer, version, fault)
 }
 
 /// Saves the tables under a name, and replaces what was saved under it.
 #[unsafe(no_mangle)]
-pub extern "C" fn changecap_save(
+pub extern "C" fn changecap_try_save(
     alloc: Global,
-    handle: &mut ServerHandle,
+    client: &mut ClientHandle,
     database: &[u8],
     fault: &mut PlacedFault,
 ) -> u32
-    requires opened { IsSome handle.old.value }
-    ensures saved { Answers handle.old.value handle.new.value (Saves database.now)
+    requires opened { IsSome client.old.value }
+    ensures saved { Answers client.old.value client.new.value (Saves database.now)
         (Tells result fault.old fault.new) }
 {
-    let mut connection = take(alloc, handle);
+    let mut connection = take(alloc, client);
     let answer = connection.save(alloc, database);
-    put(handle, connection);
+    put(client, connection);
     tell(answer, fault)
 }
 
-/// Applies a changeset or a patchset, as `sqlite3changeset_apply`, with an answer to each kind of conflict.
+/// Commits the batch, which is empty after that, and may be made on any version.
 #[unsafe(no_mangle)]
-pub extern "C" fn changecap_apply(
+pub extern "C" fn changecap_try_commit(
     alloc: Global,
-    handle: &mut ServerHandle,
-    blob: &[u8],
+    client: &mut ClientHandle,
+    batch: &mut BatchHandle,
+    version: &mut u64,
+    fault: &mut PlacedFault,
+) -> u32
+    requires opened { IsSome client.old.value }
+    requires filled { IsSome batch.old.value }
+    ensures committed { BothAnswer client.old.value client.new.value batch.old.value batch.new.value
+        (λ old new before after. Commits before after old new)
+        (TellsNumber result version.old version.new fault.old fault.new) }
+{
+    let mut connection = take(alloc, client);
+    let mut held = batch_handle::take(alloc, batch);
+    let answer = connection.commit(alloc, &mut held.batch);
+    batch_handle::put(batch, held);
+    put(client, connection);
+    tell_number(answer, version, fault)
+}
+
+/// Applies the changeset or the patchset of an iterator, as `sqlite3changeset_apply`, with an answer to each
+/// kind of conflict. The iterator is as it was.
+#[unsafe(no_mangle)]
+pub extern "C" fn changecap_try_apply(
+    alloc: Global,
+    client: &mut ClientHandle,
+    iter: &mut IterHandle,
     on_data: u32,
     on_notfound: u32,
     on_conflict: u32,
     report: &mut ApplyReport,
     fault: &mut PlacedFault,
 ) -> u32
-    requires opened { IsSome handle.old.value }
+    requires opened { IsSome client.old.value }
+    requires read { IsSome iter.old.value }
     // A number that is no answer is misuse.
-    ensures applied { Answers handle.old.value handle.new.value
-        (Given (policy_of on_data on_notfound on_conflict) (Applies blob.now))
+    ensures applied { BothAnswer client.old.value client.new.value iter.old.value iter.new.value
+        (λ old new before after. AppliesBy (policy_of on_data on_notfound on_conflict) before after old new)
         (TellsReport result report.old report.new fault.old fault.new) }
 {
-    let mut connection = take(alloc, handle);
+    let mut connection = take(alloc, client);
+    let mut it = iter_handle::take(alloc, iter);
     let policy = policy_of(on_data, on_notfound, on_conflict);
-    let answer = apply(alloc, &mut connection, blob, policy);
-    put(handle, connection);
+    let answer = apply(alloc, &mut connection, &mut it, policy);
+    iter_handle::put(iter, it);
+    put(client, connection);
     tell_report(answer, report, fault)
 }
 
 fn apply(
     alloc: Global,
     connection: &mut Connection,
-    blob: &[u8],
+    it: &mut BlobIter,
     policy: Option<Policy>,
 ) -> Result<Applied, Fault<ConnectionFault>>
-    ensures { Given policy (Applies blob.now) connection.old connection.new result }
+    ensures { AppliesBy policy it.old it.new connection.old connection.new result }
 {
     match policy {
-        Some(policy) => connection.apply(alloc, blob, policy),
+        Some(policy) => connection.apply(alloc, it, policy),
         None => Err(Fault::Refused(ConnectionFault::Misuse)),
     }
 }

@@ -34,7 +34,7 @@ use Rattle.std.specs.contracts.alloc.Global as heap
 use Rattle.std.proofs.alloc.Global.TheLaws as heap_laws
 use Rattle.std.specs.contracts.impls.GlobalAllocator.TheImpl.{ghosts}
 use Rattle.std.specs.Prelude.{Option, Some, None, IsSome}
-use Rattle.cap_c.specs.DecoderHandle.{owns_if}
+use Rattle.cap_c.specs.Owns.{owns_if}
 use Rattle.cap_connection.specs.contracts.decoder.PieceDecoder as state
 use Rattle.cap_c.specs.contracts.decoder_handle.DecoderHandle as handle
 use Rattle.cap_c.specs.contracts.parts.Parts as parts
@@ -60,7 +60,7 @@ into_parts_spec 𝓤 𝓛 𝓜 𝓡 wired =
     let h = z.0.3.0 in let a = h.alloc in let vs = z.0.4.0 in
     qed 𝓛 ((raw (alive 𝓛 ended.signature z.0.0 z.0.1) ⊛ ‵ (owns (types_at ended.signature.params z.0.0) z.0.3 z.0.4)) ∷ raw ((c z.0.0 z.0.3).requires z.1) ∷ []) ∵
     move ! (1 ∷ []) $ heard ! (IsSome h.value) (λ is. let x = (some_of h.value is).0 in let known = (some_of h.value is).1 in split ! $ move ! (1 ∷ []) $ fsplit ! $
-    fsplit ! $ fpick ! (λ ws. fsplit ! $ feq_l ! (λ ev. fsplit ! $ feq_l ! (λ ep. fsplit ! $ handle_tells al ! a ws.1.0 (λ hv eh fa. move ! (1 ∷ []) $ drop ! $ move ! (1 ∷ []) $ rewrite ! 0 (λ (m : Option S.Denot). ‵ (owns_if a h.at m)) known refl $
+    fsplit ! $ fpick ! (λ ws. fsplit ! $ feq_l ! (λ ev. fsplit ! $ feq_l ! (λ ep. fsplit ! $ handle_tells al ! a ws.1.0 (λ hv eh fa. move ! (1 ∷ []) $ drop ! $ move ! (1 ∷ []) $ rewrite ! 0 (λ (m : Option S.Denot). ‵ (owns_if S a h.at m)) known refl $
     in_a_block ! h.at (λ p. box_owns (ghosts.dealloc_token a) S p x) (fst∗ 𝓤 (never 𝓤) (sem 𝓛 (ghosts.dealloc_token a (bare (lone S.mir)) null_ptr))) (λ b o e.
     -- [what it owns; the allocator; nothing; the tokens]
     let v : Val = vstruct (vcons (vptr b o) (vcons hv vnil)) in

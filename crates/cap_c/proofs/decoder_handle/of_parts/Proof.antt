@@ -25,7 +25,7 @@ use denote.Triple.Table.{entered}
 use denote.Triple.Walked.{says, Stays, stay_dropped, walk_of, ends_at, Goes-dropped, walk_Meets}
 use Rattle.std.proofs.BoxSteps.Form.{D, B, word, box_typed}
 use Rattle.std.proofs.BoxSteps.Steps.{box_out, box_in}
-use Rattle.cap_c.proofs.DecoderAsBox.{E, FromParts as From}
+use Rattle.cap_c.proofs.Boxes.{decoder_box as E, decoder_parts as From}
 use Rattle.cap_c.specs.contracts.decoder_handle.of_parts as F
 use Rattle.cap_c.specs.contracts.decoder_handle.of_parts.Key.{name as #self}
 use Rattle.cap_c.proofs.decoder_handle.of_parts.Statement as stated

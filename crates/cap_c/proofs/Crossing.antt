@@ -1,0 +1,81 @@
+-- What handles have goes from one thread to another.
+use denote.RattleType.{RattleType}
+use denote.Enum.Declared.{shape, variants}
+use denote.Param.Send.{EachSend, EachSync, IsSend, IsSync, Frees, enum_send, enum_sync, sendable}
+use Rattle.std.proofs.Crossing.{crosses, frees, send, sync}
+use Rattle.std.specs.declared.alloc.Allocator as allocator
+use Rattle.std.specs.declared.clone.Clone as clone
+use Rattle.cap_value.specs.declared.memory.AllocHandle as handle
+use Rattle.cap_value.proofs.name.Name.TheSendSync as name
+use Rattle.cap_value.proofs.refusal.Refusal.TheSendSync as refusal
+use Rattle.cap_row.proofs.key.Key.TheSendSync as key
+use Rattle.cap_row.proofs.row.Row.TheSendSync as row
+use Rattle.cap_tree.proofs.Crossing.{tree_send, tree_sync}
+use Rattle.cap_table.proofs.row_ref.RowRef.TheSendSync as ref
+use Rattle.cap_table.specs.contracts.rows.Rows as Rows
+use Rattle.cap_database.proofs.Crossing.{database_send, database_sync, snapshot_send, snapshot_sync}
+use Rattle.cap_database.proofs.op.Op.TheSendSync as op
+use Rattle.cap_txn.proofs.Crossing.{batch_send}
+use Rattle.cap_txn.proofs.item.Item.TheSendSync as item
+use Rattle.cap_txn.specs.contracts.look.Answer as Answer
+use Rattle.cap_txn.specs.contracts.look.Asked as Asked
+use Rattle.cap_txn.specs.contracts.look.Look as Look
+use Rattle.cap_txn.specs.contracts.txn.Txn as Txn
+use Rattle.cap_txn.specs.contracts.workspace.Workspace as Workspace
+use Rattle.cap_session.proofs.Crossing.{session_send}
+use Rattle.cap_core.specs.contracts.capture.Capture as Capture
+use Rattle.cap_connection.specs.contracts.captured.Captured as Captured
+use Rattle.cap_records.specs.contracts.rows.RowCursor as RowCursor
+use Rattle.cap_c.specs.contracts.held.HeldBatch as HeldBatch
+use Rattle.cap_c.specs.contracts.held.HeldCapture as HeldCapture
+use Rattle.cap_c.specs.contracts.held.HeldSnapshot as HeldSnapshot
+use Rattle.cap_c.specs.contracts.held.HeldTransaction as HeldTransaction
+
+ruleset sends = (name.the_send, ref.the_field_send, op.the_send, op.the_field_send, key.the_send, row.the_send, refusal.the_field_send, sendable)
+
+module _ (A : RattleType) (h : handle.Ghosts A.Denot) (a : allocator.Ghosts A.Denot) (c : clone.Ghosts A.Denot)
+    (al : IsSend A) (ay : IsSync A) (frees : Frees a a.dealloc_token) where
+  rows_send : IsSend (Rows.the_row A h a c)
+  rows_send = search (tree_send, key.the_send, key.the_sync, row.the_send, row.the_sync, sendable) depth 20
+
+  asked_send : EachSend (variants (Asked.the_type A a))
+  asked_send = (search sends depth 20, (search sends depth 20, (search sends depth 20, (search sends depth 20, (search sends depth 20, tt)))))
+
+  answer_send : EachSend (variants (Answer.the_type A h a c))
+  answer_send = (search sends depth 20, (search sends depth 20, (search sends depth 20, (search (rows_send, sendable) depth 20, (search sends depth 20, tt)))))
+
+  asked_field_send : IsSend (Asked.the_field A a).row
+  asked_field_send = enum_send (shape (Asked.the_type A a)) asked_send
+
+  answer_field_send : IsSend (Answer.the_field A h a c).row
+  answer_field_send = enum_send (shape (Answer.the_type A h a c)) answer_send
+
+  look_send : IsSend (Look.the_row A h a c)
+  look_send = search (asked_field_send, answer_field_send, sendable) depth 20
+
+  workspace_send : IsSend (Workspace.the_row A h a c)
+  workspace_send = search (snapshot_send, database_send, op.the_send, op.the_field_send, sendable, crosses) depth 40 fits 100000
+
+  txn_send : IsSend (Txn.the_row A h a c)
+  txn_send = search (workspace_send, tree_send, item.the_send, item.the_sync, item.the_field_send, look_send, sendable, crosses) depth 40 fits 100000
+
+  capture_send : IsSend (Capture.the_row A h a c)
+  capture_send = search (database_send, session_send, sendable) depth 40 fits 100000
+
+pub held_batch_send : IsSend HeldBatch.the_row
+held_batch_send = search (batch_send, send, sync, frees, sendable, crosses) depth 40 fits 100000
+
+pub held_snapshot_send : IsSend HeldSnapshot.the_row
+held_snapshot_send = search (snapshot_send, send, sync, frees, sendable, crosses) depth 40 fits 100000
+
+pub held_transaction_send : IsSend HeldTransaction.the_row
+held_transaction_send = search (txn_send, send, sync, frees, sendable, crosses) depth 40 fits 100000
+
+pub rows_handle_send : IsSend RowCursor.the_row
+rows_handle_send = search (row.the_send, send, sync, frees, sendable, crosses) depth 40 fits 100000
+
+captured_send : IsSend Captured.the_row
+captured_send = search (capture_send, send, sync, frees, sendable, crosses) depth 40 fits 100000
+
+pub held_capture_send : IsSend HeldCapture.the_row
+held_capture_send = search (captured_send, send, sync, frees, sendable, crosses) depth 40 fits 100000

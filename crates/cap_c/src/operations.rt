@@ -1,0 +1,61 @@
+//! Operations of which the number of the cause is an argument.
+ghost use Rattle.cap_value.specs.Memory.{AnswersUnlessMemory, RefusesFirst};
+ghost use Rattle.cap_records.specs.Arguments.{row_misuse, table_misuse};
+ghost use Rattle.cap_records.specs.Ops.{delete_in, insert_in, update_in};
+ghost use Rattle.cap_c.specs.Recorded.{caused, caused_misuse};
+
+use cap_database::{Cause, Op};
+use cap_records::{RecordFault, delete_op, insert_op, update_op};
+use cap_value::Fault;
+use std::alloc::Global;
+
+/// An INSERT of a row.
+pub(crate) fn insert_caused(
+    alloc: Global,
+    table: &[u8],
+    row: &[u8],
+    cause: Option<Cause>,
+) -> Result<Op<Global>, Fault<RecordFault>>
+    ensures op { AnswersUnlessMemory result (caused cause (insert_in table.now row.now)) }
+    ensures first { RefusesFirst (caused_misuse cause (table_misuse table.now)) result }
+{
+    match cause {
+        Some(cause) => insert_op(alloc, table, row, cause),
+        None => Err(Fault::Refused(RecordFault::Misuse)),
+    }
+}
+
+/// An UPDATE of the row with a key, or with an id.
+pub(crate) fn update_caused(
+    alloc: Global,
+    table: &[u8],
+    key: &[u8],
+    id: u64,
+    fields: &[u8],
+    cause: Option<Cause>,
+) -> Result<Op<Global>, Fault<RecordFault>>
+    ensures op { AnswersUnlessMemory result (caused cause (update_in table.now key.now id fields.now)) }
+    ensures first { RefusesFirst (caused_misuse cause (row_misuse table.now key.now id)) result }
+{
+    match cause {
+        Some(cause) => update_op(alloc, table, key, id, fields, cause),
+        None => Err(Fault::Refused(RecordFault::Misuse)),
+    }
+}
+
+/// A DELETE of the row with a key, or with an id.
+pub(crate) fn delete_caused(
+    alloc: Global,
+    table: &[u8],
+    key: &[u8],
+    id: u64,
+    cause: Option<Cause>,
+) -> Result<Op<Global>, Fault<RecordFault>>
+    ensures op { AnswersUnlessMemory result (caused cause (delete_in table.now key.now id)) }
+    ensures first { RefusesFirst (caused_misuse cause (row_misuse table.now key.now id)) result }
+{
+    match cause {
+        Some(cause) => delete_op(alloc, table, key, id, cause),
+        None => Err(Fault::Refused(RecordFault::Misuse)),
+    }
+}
