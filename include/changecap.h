@@ -287,7 +287,7 @@ void changecap_decoder_close(changecap_decoder *decoder);
 /* The room for a field of an INTEGER, NULL or none, where n is 0, or of a TEXT or a BLOB of n bytes. */
 #define CHANGECAP_FIELD_MAX(n) ((size_t)(n) + 9)
 
-/* Write a field, and answer how many bytes it has. A value has at most 1,000,000,000 bytes; the type is TEXT or BLOB. */
+/* Write a field, and answer how many bytes it has. A value has at most 1,000,000,000; the type is TEXT or BLOB. */
 static inline size_t changecap_put_undefined(uint8_t *to){ *to = CHANGECAP_UNDEFINED; return 1; }
 static inline size_t changecap_put_null(uint8_t *to){ *to = CHANGECAP_NULL; return 1; }
 static inline size_t changecap_put_int(uint8_t *to, int64_t number){
