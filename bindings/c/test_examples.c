@@ -247,17 +247,20 @@ static void *work(void *given){
   return NULL;
 }
 
-/* Two threads, each with a client of its own, add to one row. */
+/* Starts a thread with a client of its own. Whether it has both. */
+static int started(pthread_t *thread, worker *own, changecap_client *client){
+  if( changecap_join(&own->client, client) != CHANGECAP_OK ) return 0;
+  return pthread_create(thread, NULL, work, own) == 0;
+}
+
+/* Two threads add to one row. */
 static void shared_history(void){
   changecap_client client = with_table();
   worker both[2] = { { CHANGECAP_CLOSED, 0 }, { CHANGECAP_CLOSED, 0 } };
   pthread_t thread[2];
   changecap_fault fault;
   CHECK(changecap_call(&client, "commit insert t (1,0)", 21, &fault) == CHANGECAP_OK);
-  for(int i = 0; i < 2; i++){
-    CHECK(changecap_join(&both[i].client, &client) == CHANGECAP_OK);
-    CHECK(pthread_create(&thread[i], NULL, work, &both[i]) == 0);
-  }
+  for(int i = 0; i < 2; i++) CHECK(started(&thread[i], &both[i], &client));
   for(int i = 0; i < 2; i++) CHECK(pthread_join(thread[i], NULL) == 0);
   CHECK(both[0].commits == 100 && both[1].commits == 100 && sum_of_rows(&client) == 200);
   changecap_close(&client);
