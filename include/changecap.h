@@ -358,7 +358,7 @@ uint32_t changecap_meet(changecap_client *client, changecap_client *other);
 /* ---- Commands ---- */
 
 /* Each call from here on that takes a client, but changecap_reply, asks for the state of the history, waits while
- * another call has it, and may answer CHANGECAP_OVERTAKEN, with the number of events in fault->at and 0 in fault->kind.
+ * another call has it, and may answer CHANGECAP_OVERTAKEN, with 0 in fault->kind and the number of events in fault->at.
  * All other calls touch the caller's handles alone, and wait for nothing.
  *
  * Where the status is REFUSED, fault->kind is the number of the refusal, 1 to 20 as in E1 to E20 of

@@ -189,7 +189,8 @@ void changecap_close(changecap_client *client){
 }
 
 uint32_t changecap_meet(changecap_client *client, changecap_client *other){
-  return client->shared == other->shared ? changecap_client_meet(client, other) : CHANGECAP_MISUSE;
+  if( client->shared != other->shared ) return CHANGECAP_MISUSE;
+  return client == other ? CHANGECAP_OK : changecap_client_meet(client, other);
 }
 
 /* ---- Commands ---- */
