@@ -316,6 +316,74 @@ static void texts(const char *name, int is_update) {
     close_all(db, &made, 1);
 }
 
+/* A thread of a load of several. All use one connection, with its statements, behind one lock. */
+typedef struct {
+    pthread_mutex_t *lock;
+    sqlite3_stmt *insert, *get, *begin, *commit;
+    sqlite3_session *session;
+    int number, threads;
+} worker;
+
+/* Commits of one inserted row, in the keys of the thread's own. */
+static void *commits_of(void *given) {
+    worker *own = given;
+    for (long number = own->number; number < COMMITS; number += own->threads) {
+        pthread_mutex_lock(own->lock);
+        insert(own->insert, number);
+        pthread_mutex_unlock(own->lock);
+    }
+    return NULL;
+}
+
+/* Transactions that each read ten rows. */
+static void *reads_of(void *given) {
+    worker *own = given;
+    for (long number = own->number; number < TRANSACTIONS; number += own->threads) {
+        pthread_mutex_lock(own->lock);
+        done(own->begin);
+        for (long row = 0; row < ROWS_A_TRANSACTION; row++) {
+            sqlite3_bind_int64(own->get, 1, key_to_read(number * ROWS_A_TRANSACTION + row));
+            check(sqlite3_step(own->get) == SQLITE_ROW && sqlite3_column_bytes(own->get, 0) == 1, "get");
+            sqlite3_reset(own->get);
+        }
+        done(own->commit);
+        pthread_mutex_unlock(own->lock);
+    }
+    return NULL;
+}
+
+/* Captures of a session as bytes. */
+static void *captures_of(void *given) {
+    worker *own = given;
+    for (long number = own->number; number < CAPTURES; number += own->threads) {
+        int length;
+        pthread_mutex_lock(own->lock);
+        void *content = changeset(own->session, &length);
+        pthread_mutex_unlock(own->lock);
+        sqlite3_free(content);
+    }
+    return NULL;
+}
+
+/* The same work by so many threads, on one connection whose table has rows and a session. */
+static void threads(const char *name, int count, void *(*work)(void *), long rows, long amount) {
+    pthread_mutex_t lock = PTHREAD_MUTEX_INITIALIZER;
+    sqlite3 *db = table();
+    sqlite3_session *made = session(db);
+    worker workers[THREADS];
+    insert_together(db, rows, 0);
+    worker first = {&lock, prepared(db, INSERT), prepared(db, "SELECT c1 FROM t WHERE c0 = ?1"),
+                    prepared(db, "BEGIN"), prepared(db, "COMMIT"), made, 0, count};
+    for (int at = 0; at < count; at++) {
+        workers[at] = first;
+        workers[at].number = at;
+    }
+    together(name, count, work, workers, sizeof *workers, amount);
+    sqlite3_finalize(first.insert), sqlite3_finalize(first.get);
+    sqlite3_finalize(first.begin), sqlite3_finalize(first.commit);
+    close_all(db, &made, 1);
+}
+
 static void load(const char *name) {
     if (!strcmp(name, "version")) {
         printf("%s\n", sqlite3_libversion());
@@ -343,6 +411,14 @@ static void load(const char *name) {
     } else if (!strcmp(name, "transactions")) {
         transactions("transactions", 1);
         transactions("batches_of_10", 0);
+    } else if (!strcmp(name, "threads")) {
+        threads("commits_1", 1, commits_of, 0, COMMITS);
+        threads("commits_2", 2, commits_of, 0, COMMITS);
+        threads("commits_4", 4, commits_of, 0, COMMITS);
+        threads("reads_1", 1, reads_of, COMMITS, TRANSACTIONS);
+        threads("reads_4", 4, reads_of, COMMITS, TRANSACTIONS);
+        threads("captures_1", 1, captures_of, UPDATED, CAPTURES * UPDATED);
+        threads("captures_4", 4, captures_of, UPDATED, CAPTURES * UPDATED);
     } else {
         check(0, "no such load");
     }

@@ -1,21 +1,24 @@
 /*
  * changecap.h - changesets and patchsets of SQLite's session extension, from verified code.
  *
- * The calls of the static library libchangecap.a. Each is proved to do what is said of it here, as far as
+ * The calls of the library libchangecap.a. Each is proved to do what is said of it here, as far as
  * docs/design/promises.md of the sources says; what a caller has to see to, nothing checks.
  *
  * Every call
  *   - answers a status: CHANGECAP_OK, or why it did nothing;
- *   - keeps nothing of the caller's, and reads and writes it only until it returns;
+ *   - keeps nothing of the caller's but what a handle owns, and reads and writes the rest only until it returns;
  *   - may answer CHANGECAP_NOMEM: then it has changed nothing, unless said otherwise, and may be made again.
  *
  * A caller sees to it that
  *   - no pointer is NULL, but that of bytes, or of a buffer, may be where their number, or its room, is 0;
  *   - what a call writes overlaps nothing else that the call is given;
+ *   - each handle is used by one call at a time: it may go to another thread between two calls that are ordered, as by
+ *     a lock, or by the start or the end of a thread;
  *   - no thread changes what a call reads, or reads what a call writes, while the call runs;
  *   - the calls are not made in a signal handler, nor in the forked child of a process that has threads.
  *
- * Memory comes from malloc, realloc and free of the program. Calls of several threads may run at once.
+ * Calls on different handles may run at once, whatever these have in common: a history has a client for each thread.
+ * Memory comes from malloc, realloc and free of the program.
  *
  *     uint8_t *out = malloc(n);
  *     size_t len;
@@ -33,27 +36,41 @@
 
 #include <stddef.h>
 #include <stdint.h>
+#include <string.h>
 
 #ifdef __cplusplus
 extern "C" {
 #endif
 
+/* ---- The version ---- */
+
+#define CHANGECAP_VERSION "0.1.0"
+
+/* The version of the library: CHANGECAP_VERSION of the header that it was made with. */
+const char *changecap_version(void);
+
 /* ---- Statuses ---- */
 
 #define CHANGECAP_OK        0 /* the call did what it says */
-#define CHANGECAP_MALFORMED 1 /* the bytes are no blob: the fault is set */
+#define CHANGECAP_MALFORMED 1 /* the bytes are no blob, or no record: the fault is set */
 #define CHANGECAP_ROOM      2 /* the buffer is too short: the length that it takes is set */
 #define CHANGECAP_NOMEM     3 /* out of memory */
 #define CHANGECAP_PATCHSET  4 /* a patchset, where only a changeset serves */
 #define CHANGECAP_MISUSE    5 /* an argument that the call has no meaning for */
-#define CHANGECAP_REFUSED   6 /* the server refuses the command: its reply, or the fault, says why */
+#define CHANGECAP_REFUSED   6 /* the rules refuse the command: its reply, or the fault, says why */
 #define CHANGECAP_COMMAND   7 /* the text is not one command: the fault is set */
-#define CHANGECAP_FULL      8 /* the server has answered 2^63 - 1 commands */
+#define CHANGECAP_FULL      8 /* the history has 2^63 - 1 events */
 #define CHANGECAP_KIND      9 /* a changeset where the blob before it is a patchset, or the other way round */
 #define CHANGECAP_COLUMNS  10 /* a table that had other columns, or another key, before */
 #define CHANGECAP_FILTER   11 /* the text is no filter: the fault is set */
-#define CHANGECAP_ROW     100 /* the iterator is at a change, or the server at one of the rows that were read */
-#define CHANGECAP_DONE    101 /* the iterator is behind the last change, or the server behind the last row */
+#define CHANGECAP_BUSY     12 /* another call has the state of the history: the call may be made again */
+#define CHANGECAP_OVERTAKEN 13 /* S1 of docs/manual/threads.md; never, where a client has one call at a time */
+#define CHANGECAP_CLIENTS  14 /* the history has 64 clients */
+#define CHANGECAP_ROW     100 /* the iterator is at a change, or the rows are at one of them */
+#define CHANGECAP_DONE    101 /* the iterator is behind the last change, or the rows are behind the last one */
+
+/* A status in words, as sqlite3_errstr. The text is never freed. */
+const char *changecap_errstr(uint32_t status);
 
 /* ---- Faults of blobs ---- */
 
@@ -86,26 +103,42 @@ typedef struct changecap_fault {
 
 /* The pointer, or one that is not NULL. SQLite gives NULL for a changeset of no bytes, and every call that takes bytes
  * takes NULL for none. */
-static inline const uint8_t *changecap_bytes(const void *bytes){
-  return bytes ? (const uint8_t *)bytes : (const uint8_t *)"";
+static inline const void *changecap_bytes(const void *bytes){
+  return bytes ? bytes : "";
 }
+
+/* The buffer, or one of no bytes that is not NULL. */
+static inline void *changecap_room(void *out){
+  static uint8_t none;
+  return out ? out : &none;
+}
+
+/* ---- Handles ---- */
+
+/* What a handle is before a call opens it, and again when one has closed it; in between it owns memory. Its at is NULL
+ * while it is closed, and else nothing for the caller. */
+#ifdef __cplusplus
+#define CHANGECAP_CLOSED {}
+#else
+#define CHANGECAP_CLOSED { 0 }
+#endif
 
 /* ---- Whole blobs ---- */
 
 /* Whether the n bytes are a changeset or a patchset. Zero bytes are the empty changeset.
  *   OK, MALFORMED (*fault), NOMEM. */
-uint32_t changecap_check(const uint8_t *blob, size_t n, changecap_fault *fault);
+uint32_t changecap_check(const void *blob, size_t n, changecap_fault *fault);
 
 /* The inverse of a changeset, as sqlite3changeset_invert. Writes it to the beginning of out, which has room for that
  * many bytes, and its length to *len. It is no longer than the changeset.
  *   OK (*len), MALFORMED (*fault), ROOM (*len), NOMEM, PATCHSET, MISUSE (no such key_flags).
  * Unless the status is OK, out is as it was. */
-uint32_t changecap_invert(const uint8_t *blob, size_t n, uint32_t key_flags, uint8_t *out, size_t room, size_t *len,
+uint32_t changecap_invert(const void *blob, size_t n, uint32_t key_flags, void *out, size_t room, size_t *len,
                           changecap_fault *fault);
 
 /* The patchset of a changeset, as sqlite3session_patchset would have written it, in no more bytes.
  *   The rest as of changecap_invert. */
-uint32_t changecap_patchset(const uint8_t *blob, size_t n, uint32_t key_flags, uint8_t *out, size_t room, size_t *len,
+uint32_t changecap_patchset(const void *blob, size_t n, uint32_t key_flags, void *out, size_t room, size_t *len,
                             changecap_fault *fault);
 
 /* The concatenation of two changesets or of two patchsets, as sqlite3changeset_concat: one change for each row that
@@ -115,8 +148,8 @@ uint32_t changecap_patchset(const uint8_t *blob, size_t n, uint32_t key_flags, u
  *   OK (*len), MALFORMED (*fault, *blob), ROOM (*len), NOMEM, MISUSE (no such key_flags), KIND (*blob),
  *   COLUMNS (*blob).
  * Unless the status is OK, out is as it was. */
-uint32_t changecap_concat(const uint8_t *first, size_t n, const uint8_t *second, size_t m, uint32_t key_flags,
-                          uint8_t *out, size_t room, size_t *len, changecap_fault *fault, size_t *blob);
+uint32_t changecap_concat(const void *first, size_t n, const void *second, size_t m, uint32_t key_flags,
+                          void *out, size_t room, size_t *len, changecap_fault *fault, size_t *blob);
 
 /* A changeset or a patchset as JSON: an array with an object for each change, and a line feed, in UTF-8 without a
  * zero byte at its end. An object has the "table", the "op" ("insert", "update" or "delete"), whether it is
@@ -125,12 +158,11 @@ uint32_t changecap_concat(const uint8_t *first, size_t n, const uint8_t *second,
  * key in "new" too.
  *   OK (*len), MALFORMED (*fault), ROOM (*len), NOMEM.
  * Unless the status is OK, out is as it was. */
-uint32_t changecap_json(const uint8_t *blob, size_t n, uint8_t *out, size_t room, size_t *len, changecap_fault *fault);
+uint32_t changecap_json(const void *blob, size_t n, void *out, size_t room, size_t *len, changecap_fault *fault);
 
 /* ---- Changes of a blob ---- */
 
-/* An iterator over the changes of a changeset or a patchset. It owns what it has read, not the blob. One call at a time
- * may have it; it may go to another thread between two calls that are ordered, as by a lock.
+/* An iterator over the changes of a changeset or a patchset. It owns what it has read, not the blob.
  *
  *     changecap_iter it = CHANGECAP_CLOSED;
  *     changecap_change change;
@@ -146,11 +178,7 @@ uint32_t changecap_json(const uint8_t *blob, size_t n, uint8_t *out, size_t room
  *       changecap_iter_close(&it);
  *     }
  */
-typedef struct changecap_iter {
-  void *at; /* NULL while it is closed. Nothing of it is for the caller. */
-} changecap_iter;
-
-#define CHANGECAP_CLOSED { NULL }
+typedef struct changecap_iter { void *at; } changecap_iter;
 
 typedef struct changecap_change {
   uint32_t op;       /* SQLite's numbers: 18 INSERT, 23 UPDATE, 9 DELETE */
@@ -177,7 +205,7 @@ typedef struct changecap_value {
 
 /* Opens a closed iterator before the first change of the blob, all of which is read.
  *   OK, MALFORMED (*fault), NOMEM. Unless the status is OK the iterator stays closed. */
-uint32_t changecap_iter_open(const uint8_t *blob, size_t n, changecap_iter *it, changecap_fault *fault);
+uint32_t changecap_iter_open(const void *blob, size_t n, changecap_iter *it, changecap_fault *fault);
 
 /* Goes to the next change. The rest takes an open iterator too.
  *   ROW, or DONE behind the last change, and from then on. */
@@ -189,7 +217,7 @@ uint32_t changecap_iter_op(changecap_iter *it, changecap_change *change);
 
 /* Writes the name of the change's table, 1 to 255 bytes of UTF-8, without a zero byte at its end.
  *   OK (*len), ROOM (*len), MISUSE. */
-uint32_t changecap_iter_table(changecap_iter *it, uint8_t *out, size_t room, size_t *len);
+uint32_t changecap_iter_table(changecap_iter *it, void *out, size_t room, size_t *len);
 
 /* Sets *is_key to 1 where a column, from 0 on, is in the key of the change's table, and else to 0.
  *   OK, MISUSE (there is no change, or no such column). */
@@ -203,8 +231,8 @@ uint32_t changecap_iter_new(changecap_iter *it, size_t column, changecap_value *
 
 /* Write the bytes of a TEXT or a BLOB; any other value has none.
  *   OK (*len), ROOM (*len), MISUSE. */
-uint32_t changecap_iter_old_bytes(changecap_iter *it, size_t column, uint8_t *out, size_t room, size_t *len);
-uint32_t changecap_iter_new_bytes(changecap_iter *it, size_t column, uint8_t *out, size_t room, size_t *len);
+uint32_t changecap_iter_old_bytes(changecap_iter *it, size_t column, void *out, size_t room, size_t *len);
+uint32_t changecap_iter_new_bytes(changecap_iter *it, size_t column, void *out, size_t room, size_t *len);
 
 /* Closes the iterator and frees what it has. A closed one stays closed. */
 void changecap_iter_close(changecap_iter *it);
@@ -223,9 +251,7 @@ void changecap_iter_close(changecap_iter *it);
  *       else changecap_decoder_close(&decoder);
  *     }
  */
-typedef struct changecap_decoder {
-  void *at; /* NULL while it is closed. Nothing of it is for the caller. */
-} changecap_decoder;
+typedef struct changecap_decoder { void *at; } changecap_decoder;
 
 /* Opens a closed decoder, without bytes.
  *   OK, NOMEM. */
@@ -235,7 +261,7 @@ uint32_t changecap_decoder_open(changecap_decoder *decoder);
  * counted from the first byte of the first piece, and it is set again whatever follows. The rest takes an open decoder
  * too.
  *   OK, MALFORMED (*fault), NOMEM (the piece is not taken). */
-uint32_t changecap_decoder_feed(changecap_decoder *decoder, const uint8_t *piece, size_t n, changecap_fault *fault);
+uint32_t changecap_decoder_feed(changecap_decoder *decoder, const void *piece, size_t n, changecap_fault *fault);
 
 /* Closes the decoder, whatever the status is, and opens a closed iterator before the first change of all the pieces.
  *   OK, MALFORMED (*fault), NOMEM (the pieces are lost). Unless the status is OK the iterator stays closed. */
@@ -244,57 +270,122 @@ uint32_t changecap_decoder_finish(changecap_decoder *decoder, changecap_iter *it
 /* Closes the decoder and frees what it has. A closed one stays closed. */
 void changecap_decoder_close(changecap_decoder *decoder);
 
-/* ---- A server ---- */
+/* ---- Records ---- */
 
-/* A table server in memory. One call at a time may have it; callers of several threads share it behind a lock.
+/* A row, a key and the new values of an update are each a record: fields one after the other, as a changeset has them
+ * (docs/manual/formats.md). A row has a value for each column. A key has one for each column of the primary key, in the
+ * order of the columns, none of them NULL. The new values of an update are a field for each column from the first on;
+ * a column stays as it is where its field is undefined or left out.
  *
- *     changecap_server server = CHANGECAP_CLOSED;
- *     if( changecap_server_open(&server) == CHANGECAP_OK ){
- *       const char *text = "create t kv";
- *       uint32_t status = changecap_server_call(&server, (const uint8_t *)text, strlen(text), &fault);
+ *     uint8_t row[CHANGECAP_FIELD_MAX(0) + CHANGECAP_FIELD_MAX(1)];
+ *     size_t len = changecap_put_int(row, 1);
+ *     len += changecap_put_text(row + len, "x", 1); // (1,'x')
+ *
+ * Bytes that are no such record have a fault as those of a blob: TRUNCATED, BAD_VARINT, BAD_FIELD, REAL, BAD_TEXT or
+ * BAD_RECORD, at its byte of the record. */
+
+/* The room for a field of an INTEGER, NULL or none, where n is 0, or of a TEXT or a BLOB of n bytes. */
+#define CHANGECAP_FIELD_MAX(n) ((size_t)(n) + 9)
+
+/* Write a field, and answer how many bytes it has. A value has at most 1,000,000,000; the type is TEXT or BLOB. */
+static inline size_t changecap_put_undefined(uint8_t *to){ *to = CHANGECAP_UNDEFINED; return 1; }
+static inline size_t changecap_put_null(uint8_t *to){ *to = CHANGECAP_NULL; return 1; }
+static inline size_t changecap_put_int(uint8_t *to, int64_t number){
+  to[0] = CHANGECAP_INTEGER;
+  for(int i = 0; i < 8; i++) to[1 + i] = (uint8_t)((uint64_t)number >> (56 - 8 * i));
+  return 9;
+}
+static inline size_t changecap_put_bytes(uint8_t *to, uint32_t type, const void *bytes, size_t n){
+  size_t len = 1;
+  int shift = 28;
+  to[0] = (uint8_t)type;
+  while( shift > 0 && (uint64_t)n >> shift == 0 ) shift -= 7;
+  for(; shift > 0; shift -= 7) to[len++] = (uint8_t)((uint64_t)n >> shift | 0x80);
+  to[len++] = (uint8_t)(n & 0x7f);
+  if( n ) memcpy(to + len, bytes, n);
+  return len + n;
+}
+static inline size_t changecap_put_text(uint8_t *to, const void *text, size_t n){
+  return changecap_put_bytes(to, CHANGECAP_TEXT, text, n);
+}
+static inline size_t changecap_put_blob(uint8_t *to, const void *blob, size_t n){
+  return changecap_put_bytes(to, CHANGECAP_BLOB, blob, n);
+}
+
+/* ---- Clients ---- */
+
+/* A client of a history, which is a table server in memory that up to 64 clients share. What each call answers is the
+ * answer of a server without threads at one point of one growing history, behind all that the client has seen
+ * (docs/manual/threads.md).
+ *
+ *     changecap_client client = CHANGECAP_CLOSED;
+ *     if( changecap_open(&client) == CHANGECAP_OK ){
+ *       uint32_t status = changecap_call(&client, "create t kv", strlen("create t kv"), &fault);
  *       uint8_t reply[256];
  *       size_t len;
- *       if( status == CHANGECAP_OK && changecap_server_reply(&server, reply, sizeof reply, &len) == CHANGECAP_OK )
+ *       if( status == CHANGECAP_OK && changecap_reply(&client, reply, sizeof reply, &len) == CHANGECAP_OK )
  *         fwrite(reply, 1, len, stdout);
- *       changecap_server_close(&server);
+ *       changecap_close(&client);
  *     }
  */
-typedef struct changecap_server {
-  void *at; /* NULL while it is closed. Nothing of it is for the caller. */
-} changecap_server;
+typedef struct changecap_client {
+  void *at;
+  void *shared; /* what the clients of a history have in common */
+} changecap_client;
 
-/* Opens a closed server, which is empty.
+/* Opens a closed client, the first of a history that is empty.
  *   OK, NOMEM. */
-uint32_t changecap_server_open(changecap_server *server);
+uint32_t changecap_open(changecap_client *client);
+
+/* Opens a closed client of the history of another one, and has then seen what that one has seen.
+ *   OK, CLIENTS, NOMEM. */
+uint32_t changecap_join(changecap_client *client, changecap_client *of);
+
+/* Closes the client. Another client may have its seat then, and goes on where it ended. The history ends with its last
+ * client; other handles stay as they are. A closed one stays closed. */
+void changecap_close(changecap_client *client);
+
+/* Set *events to the number of events of the history that the client sees: all that there are, or those that it has
+ * seen before. A command that was answered, be it refused, is an event; it was seen by the client that made the call.
+ *   OK. */
+uint32_t changecap_front(changecap_client *client, uint64_t *events);
+uint32_t changecap_seen(changecap_client *client, uint64_t *events);
+
+/* Sees what another client has seen.
+ *   OK, MISUSE (the other is of another history). */
+uint32_t changecap_meet(changecap_client *client, changecap_client *other);
+
+/* ---- Commands ---- */
+
+/* Each call from here on that takes a client, but changecap_reply, asks for the state of the history, waits while
+ * another call has it, and may answer CHANGECAP_OVERTAKEN, with 0 in fault->kind and the number of events in fault->at.
+ * All other calls touch the caller's handles alone, and wait for nothing.
+ *
+ * Where the status is REFUSED, fault->kind is the number of the refusal, 1 to 20 as in E1 to E20 of
+ * docs/manual/rules.md, and fault->at is 0 unless said otherwise. Unless the status is OK or REFUSED the history is as
+ * it was. A name is 1 to 255 bytes of UTF-8 without a zero byte. */
 
 /* Carries out the one command that the n bytes are, in the language of docs/manual/formats.md ("Workload text"), and
- * keeps the text of its reply until the next call. The rest takes an open server too.
+ * keeps the text of its reply until the client's next changecap_call.
  *   OK, REFUSED (the reply says why), COMMAND (*fault), NOMEM, FULL.
  * Of a fault, kind is 1 where a token does not fit, 2 where a limit is passed, 3 where the bytes to apply are no
  * blob, and 0 where the text is not UTF-8 or not just one command; at is the offset in the line, or in the bytes to
- * apply. Unless the status is OK or REFUSED, the server is as it was. */
-uint32_t changecap_server_call(changecap_server *server, const uint8_t *text, size_t n, changecap_fault *fault);
+ * apply. */
+uint32_t changecap_call(changecap_client *client, const void *text, size_t n, changecap_fault *fault);
 
-/* Writes the text of the last reply, as docs/manual/formats.md has it, without a line feed at its end.
+/* Writes the text of the client's last reply, as docs/manual/formats.md has it, without a line feed at its end.
  *   OK (*len), ROOM (*len). */
-uint32_t changecap_server_reply(changecap_server *server, uint8_t *out, size_t room, size_t *len);
-
-/* ---- Commands by words and numbers ---- */
-
-/* Each is a command of docs/manual/formats.md that needs no text, and leaves the text of the last reply as it is. Where
- * the status is REFUSED, fault->kind is the number of the refusal, 1 to 20 as in E1 to E20 of docs/manual/rules.md, and
- * fault->at is the number of the refused change of a blob, from 0, and 0 of any other command. Unless the status is
- * OK or REFUSED, the server is as it was. A name is 1 to 255 bytes of UTF-8 without a zero byte. */
+uint32_t changecap_reply(changecap_client *client, void *out, size_t room, size_t *len);
 
 /* Creates a table. Each of the bytes at key is a column, and is in the primary key unless the byte is 0. The columns
  * are 1 to 2,000.
  *   OK (*version is the new version), REFUSED, MISUSE (no such name, or number of columns), NOMEM, FULL. */
-uint32_t changecap_create(changecap_server *server, const uint8_t *table, size_t n, const uint8_t *key, size_t columns,
+uint32_t changecap_create(changecap_client *client, const void *table, size_t n, const void *key, size_t columns,
                           uint64_t *version, changecap_fault *fault);
 
 /* Saves the tables under a name, for changecap_session_diff, and replaces what was saved under it.
  *   OK, REFUSED, MISUSE (no such name), NOMEM, FULL. */
-uint32_t changecap_save(changecap_server *server, const uint8_t *database, size_t n, changecap_fault *fault);
+uint32_t changecap_save(changecap_client *client, const void *database, size_t n, changecap_fault *fault);
 
 #define CHANGECAP_OMIT    0 /* the change is omitted */
 #define CHANGECAP_REPLACE 1 /* it is applied all the same; where there is no row, the blob is refused */
@@ -310,27 +401,32 @@ typedef struct changecap_report {
 
 /* Applies a changeset or a patchset, as sqlite3changeset_apply: data is the answer where a row has other values than
  * those before the change, notfound where there is no row, conflict where the key of an inserted row is in use. A
- * blob that is refused changes no table.
- *   OK (*report), REFUSED, MALFORMED (*fault), MISUSE (no such answer), NOMEM, FULL. */
-uint32_t changecap_apply(changecap_server *server, const uint8_t *blob, size_t n, uint32_t data, uint32_t notfound,
+ * blob that is refused changes no table. It is read before the call asks for the state.
+ *   OK (*report), REFUSED (fault->at is the number of the change, from 0), MALFORMED (*fault),
+ *   MISUSE (no such answer), NOMEM, FULL. */
+uint32_t changecap_apply(changecap_client *client, const void *blob, size_t n, uint32_t data, uint32_t notfound,
                          uint32_t conflict, changecap_report *report, changecap_fault *fault);
 
-/* Makes a session, as sqlite3session_create. Sessions have numbers, from 1 on.
+/* ---- Sessions ---- */
+
+/* Sessions have numbers, from 1 on, which every client may use. */
+
+/* Makes a session, as sqlite3session_create.
  *   OK (*session), REFUSED, NOMEM, FULL. */
-uint32_t changecap_session_new(changecap_server *server, uint64_t *session, changecap_fault *fault);
+uint32_t changecap_session_new(changecap_client *client, uint64_t *session, changecap_fault *fault);
 
 /* Ends a session, as sqlite3session_delete.
  *   OK, REFUSED, NOMEM, FULL. */
-uint32_t changecap_session_drop(changecap_server *server, uint64_t session, changecap_fault *fault);
+uint32_t changecap_session_drop(changecap_client *client, uint64_t session, changecap_fault *fault);
 
 /* Attaches a table, as sqlite3session_attach. The table need not be there yet.
  *   OK, REFUSED, MISUSE (no such name), NOMEM, FULL. */
-uint32_t changecap_session_attach(changecap_server *server, uint64_t session, const uint8_t *table, size_t n,
+uint32_t changecap_session_attach(changecap_client *client, uint64_t session, const void *table, size_t n,
                                   changecap_fault *fault);
 
 /* Attaches from now on each table of which a row changes, as sqlite3session_attach without a name.
  *   OK, REFUSED, NOMEM, FULL. */
-uint32_t changecap_session_attach_all(changecap_server *server, uint64_t session, changecap_fault *fault);
+uint32_t changecap_session_attach_all(changecap_client *client, uint64_t session, changecap_fault *fault);
 
 /* Attaches from now on each table of which a row changes and whose name the filter accepts, as
  * sqlite3session_table_filter. The filter's text is that of docs/manual/formats.md ("Filter text"), as in
@@ -338,13 +434,13 @@ uint32_t changecap_session_attach_all(changecap_server *server, uint64_t session
  *   OK, REFUSED, FILTER (*fault), MISUSE (the text is not UTF-8), NOMEM, FULL.
  * Of a text that is no filter fault->kind is 12, and fault->at is where the first token does not fit; or 13 where it
  * has more than 32 levels or 1,000 filters, and 0. */
-uint32_t changecap_session_filter(changecap_server *server, uint64_t session, const uint8_t *text, size_t n,
+uint32_t changecap_session_filter(changecap_client *client, uint64_t session, const void *text, size_t n,
                                   changecap_fault *fault);
 
 /* Records how a table differs from the one of the same name in a saved database, as sqlite3session_diff.
  *   OK, REFUSED, MISUSE (no such names), NOMEM, FULL. */
-uint32_t changecap_session_diff(changecap_server *server, uint64_t session, const uint8_t *from, size_t n,
-                                const uint8_t *table, size_t m, changecap_fault *fault);
+uint32_t changecap_session_diff(changecap_client *client, uint64_t session, const void *from, size_t n,
+                                const void *table, size_t m, changecap_fault *fault);
 
 #define CHANGECAP_OFF 0
 #define CHANGECAP_ON  1
@@ -353,294 +449,350 @@ uint32_t changecap_session_diff(changecap_server *server, uint64_t session, cons
 /* Enables or disables a session, and makes its touches indirect or direct, as sqlite3session_enable and
  * sqlite3session_indirect.
  *   OK (*flag is its value from now on), REFUSED, MISUSE (set is none of the three), NOMEM, FULL. */
-uint32_t changecap_session_enable(changecap_server *server, uint64_t session, uint32_t set, uint32_t *flag,
+uint32_t changecap_session_enable(changecap_client *client, uint64_t session, uint32_t set, uint32_t *flag,
                                   changecap_fault *fault);
-uint32_t changecap_session_indirect(changecap_server *server, uint64_t session, uint32_t set, uint32_t *flag,
+uint32_t changecap_session_indirect(changecap_client *client, uint64_t session, uint32_t set, uint32_t *flag,
                                     changecap_fault *fault);
 
 /* Asks whether a session has no records, as sqlite3session_isempty.
  *   OK (*flag is 0 or 1), REFUSED, NOMEM, FULL. */
-uint32_t changecap_session_isempty(changecap_server *server, uint64_t session, uint32_t *flag, changecap_fault *fault);
+uint32_t changecap_session_isempty(changecap_client *client, uint64_t session, uint32_t *flag, changecap_fault *fault);
 
-/* Write what a session has captured, as sqlite3session_changeset and sqlite3session_patchset. The third writes the
- * changeset, and then deletes the session's records; its flags and tables stay.
- *   OK (*len), ROOM (*len), REFUSED, MISUSE (no such key_flags), NOMEM, FULL.
- * Where there is no room the command is not carried out: no record is deleted. Unless the status is OK, out is as it
- * was. */
-uint32_t changecap_session_changeset(changecap_server *server, uint64_t session, uint32_t key_flags, uint8_t *out,
-                                     size_t room, size_t *len, changecap_fault *fault);
-uint32_t changecap_session_patchset(changecap_server *server, uint64_t session, uint32_t key_flags, uint8_t *out,
-                                    size_t room, size_t *len, changecap_fault *fault);
-uint32_t changecap_session_restart(changecap_server *server, uint64_t session, uint32_t key_flags, uint8_t *out,
-                                   size_t room, size_t *len, changecap_fault *fault);
+/* ---- Captures ---- */
+
+/* What a session had captured at one event of the history. It stays as it is, whatever is committed, and becomes bytes
+ * without the state. */
+typedef struct changecap_capture { void *at; } changecap_capture;
+
+/* Open a closed capture of what a session has captured. The second then deletes the session's records; its flags and
+ * tables stay.
+ *   OK, REFUSED, NOMEM, FULL. Unless the status is OK the capture stays closed. */
+uint32_t changecap_session_capture(changecap_client *client, uint64_t session, changecap_capture *capture,
+                                   changecap_fault *fault);
+uint32_t changecap_session_restart(changecap_client *client, uint64_t session, changecap_capture *capture,
+                                   changecap_fault *fault);
+
+/* Write a capture, as sqlite3session_changeset and sqlite3session_patchset.
+ *   OK (*len), ROOM (*len), MISUSE (no such key_flags), NOMEM.
+ * Unless the status is OK, out is as it was. */
+uint32_t changecap_capture_changeset(changecap_capture *capture, uint32_t key_flags, void *out, size_t room,
+                                     size_t *len);
+uint32_t changecap_capture_patchset(changecap_capture *capture, uint32_t key_flags, void *out, size_t room,
+                                    size_t *len);
+
+/* Closes the capture and frees what it has. A closed one stays closed. */
+void changecap_capture_close(changecap_capture *capture);
 
 /* ---- Batches ---- */
 
-/* A server has one batch that is put together: operations that are made together or not at all. Each operation is
- * made of the values that were bound before it, in the manner of sqlite3_bind_int64 and its like, and nothing is
- * bound after it.
+/* Operations that are made together or not at all. A batch is put together without the state, and any client commits
+ * it.
  *
+ *     changecap_batch batch = CHANGECAP_CLOSED;
+ *     uint8_t key[CHANGECAP_FIELD_MAX(0)], row[64];
  *     uint64_t version;
- *     changecap_begin(&server);
- *     changecap_bind_int(&server, 1);
- *     changecap_bind_text(&server, (const uint8_t *)"x", 1);
- *     changecap_insert(&server, (const uint8_t *)"t", 1, CHANGECAP_DIRECT, &fault);    // insert t (1,'x')
- *     changecap_bind_int(&server, 2);
- *     changecap_bind_null(&server);
- *     changecap_set(&server, 1);
- *     changecap_update(&server, (const uint8_t *)"t", 1, 0, CHANGECAP_DIRECT, &fault); // update t key(2) set 1 = null
- *     if( changecap_commit(&server, &version, &fault) == CHANGECAP_REFUSED )
+ *     changecap_batch_open(&batch);
+ *     size_t len = changecap_put_int(row, 1);
+ *     len += changecap_put_text(row + len, "x", 1);
+ *     changecap_insert(&batch, "t", 1, row, len, CHANGECAP_DIRECT, &fault);           // insert t (1,'x')
+ *     size_t m = changecap_put_int(key, 2);
+ *     len = changecap_put_undefined(row);
+ *     len += changecap_put_null(row + len);
+ *     changecap_update(&batch, "t", 1, key, m, 0, row, len, CHANGECAP_DIRECT, &fault); // update t key(2) set 1 = null
+ *     if( changecap_commit(&client, &batch, &version, &fault) == CHANGECAP_REFUSED )
  *       fprintf(stderr, "E%u at operation %zu\n", fault.kind, fault.at);
+ *     changecap_batch_close(&batch);
  */
+typedef struct changecap_batch { void *at; } changecap_batch;
 
-/* Begins a batch without operations, in place of the one before it, and drops what is bound. A server begins with
- * one. The second takes the version on which alone the batch may be committed: on any other it is refused with 11. */
-void changecap_begin(changecap_server *server);
-void changecap_begin_at(changecap_server *server, uint64_t version);
+/* Open a closed batch, without operations. The second takes the version on which alone the batch may be committed: on
+ * any other it is refused with 11.
+ *   OK, NOMEM. */
+uint32_t changecap_batch_open(changecap_batch *batch);
+uint32_t changecap_batch_open_at(changecap_batch *batch, uint64_t version);
 
-/* Bind a value behind those that are bound.
- *   OK, NOMEM, MISUSE (a text that is not UTF-8, or more than 1,000,000,000 bytes). */
-uint32_t changecap_bind_null(changecap_server *server);
-uint32_t changecap_bind_int(changecap_server *server, int64_t number);
-uint32_t changecap_bind_text(changecap_server *server, const uint8_t *text, size_t n);
-uint32_t changecap_bind_blob(changecap_server *server, const uint8_t *blob, size_t n);
+/* Takes all operations out of the batch, which may be committed on any version then. */
+void changecap_batch_clear(changecap_batch *batch);
 
-/* Takes the value that was bound last as the new one of a column, from 0 on, for the next update.
- *   OK, NOMEM, MISUSE (nothing is bound). */
-uint32_t changecap_set(changecap_server *server, size_t column);
-
-/* Drops what is bound, as sqlite3_clear_bindings: after a misuse it is still bound. */
-void changecap_clear_bindings(changecap_server *server);
+/* Closes the batch and frees what it has. A closed one stays closed. */
+void changecap_batch_close(changecap_batch *batch);
 
 #define CHANGECAP_DIRECT  0 /* the operation itself: a session marks its touch by the session's flag */
 #define CHANGECAP_CASCADE 1 /* what a trigger or a foreign key action did: its touch is indirect */
 
-/* Put an operation last in the batch, and drop what is bound. An insert takes the row that is bound, a value a
- * column. An update and a delete take the key that is bound, a value for each column of the primary key; or a row
- * that has no key by its id, where that is not 0. Whether there is such a table, row or column is looked at when the
- * batch is committed.
- *   OK, REFUSED (*fault: 10, the batch has 10,000 operations), NOMEM,
- *   MISUSE (no such name or cause; the id is 0, and nothing or NULL is bound for the key). */
-uint32_t changecap_insert(changecap_server *server, const uint8_t *table, size_t n, uint32_t cause,
-                          changecap_fault *fault);
-uint32_t changecap_update(changecap_server *server, const uint8_t *table, size_t n, uint64_t id, uint32_t cause,
-                          changecap_fault *fault);
-uint32_t changecap_delete(changecap_server *server, const uint8_t *table, size_t n, uint64_t id, uint32_t cause,
-                          changecap_fault *fault);
+/* Put an operation last in the batch. An insert takes a row of len bytes. An update and a delete take a key of m bytes;
+ * or a row that has no key by its id, where that is not 0, and then m is 0. Whether there is such a table, row or
+ * column is looked at when the batch is committed.
+ *   OK, REFUSED (*fault: 10, the batch has 10,000 operations), MALFORMED (*fault, of the key or else of the rest),
+ *   NOMEM, MISUSE (no such name or cause; the id is 0 and m as well; neither is 0). */
+uint32_t changecap_insert(changecap_batch *batch, const void *table, size_t n, const void *row, size_t len,
+                          uint32_t cause, changecap_fault *fault);
+uint32_t changecap_update(changecap_batch *batch, const void *table, size_t n, const void *key, size_t m, uint64_t id,
+                          const void *fields, size_t len, uint32_t cause, changecap_fault *fault);
+uint32_t changecap_delete(changecap_batch *batch, const void *table, size_t n, const void *key, size_t m, uint64_t id,
+                          uint32_t cause, changecap_fault *fault);
 
-/* Commits the batch: all of its operations, or none. Where it is refused, fault->kind is the number of the refusal, and
- * fault->at is that of the operation, from 0. Then a batch is begun that may be committed on any version.
- *   OK (*version is the new version), REFUSED, NOMEM, FULL. With NOMEM and FULL the batch stays. */
-uint32_t changecap_commit(changecap_server *server, uint64_t *version, changecap_fault *fault);
+/* Commits the batch: all of its operations, or none. Then it is as changecap_batch_open leaves it.
+ *   OK (*version is the new version), REFUSED, NOMEM, FULL.
+ * Where it is refused, fault->at is the number of the operation, from 0; of a transaction's batch that is refused with
+ * 11 it is the number of the first item that has changed. Unless the status is OK the batch is as it was. */
+uint32_t changecap_commit(changecap_client *client, changecap_batch *batch, uint64_t *version, changecap_fault *fault);
+
+/* An item that a transaction looked at, for its batch. The rest of an item is its table and its key. */
+typedef struct changecap_item {
+  uint32_t kind;
+  uint64_t id; /* of a ROW without a key, else 0 */
+} changecap_item;
+
+#define CHANGECAP_ITEM_TABLE   0 /* whether there is such a table, and its columns */
+#define CHANGECAP_ITEM_ROW     1 /* a row, or that there is none */
+#define CHANGECAP_ITEM_SCAN    2 /* all rows of a table */
+#define CHANGECAP_ITEM_NEXT_ID 3 /* the id that the table's next row without a key gets */
+
+/* Sets *item to an item of a transaction's batch, from 0 on, as fault->at of a refused commit.
+ *   OK, MISUSE (there is no such item). */
+uint32_t changecap_batch_item(changecap_batch *batch, size_t at, changecap_item *item);
+
+/* Write the name of the item's table, and the record of its key: of a ROW with a key; no bytes of any other.
+ *   OK (*len), ROOM (*len), NOMEM, MISUSE. */
+uint32_t changecap_batch_item_table(changecap_batch *batch, size_t at, void *out, size_t room, size_t *len);
+uint32_t changecap_batch_item_key(changecap_batch *batch, size_t at, void *out, size_t room, size_t *len);
+
+/* ---- Snapshots ---- */
+
+/* The tables as they were at one event of the history. A snapshot stays as it is, whatever is committed, and is read
+ * without the state. */
+typedef struct changecap_snapshot { void *at; } changecap_snapshot;
+
+/* Opens a closed snapshot, of the tables as they are now.
+ *   OK, NOMEM, FULL. Unless the status is OK the snapshot stays closed. */
+uint32_t changecap_snapshot_open(changecap_client *client, changecap_snapshot *snapshot);
+
+/* Sets *version to that of the tables.
+ *   OK. */
+uint32_t changecap_snapshot_version(changecap_snapshot *snapshot, uint64_t *version);
+
+/* Closes the snapshot and frees what it alone has. A closed one stays closed. */
+void changecap_snapshot_close(changecap_snapshot *snapshot);
 
 /* ---- Rows ---- */
 
-/* Rows are read in the manner of sqlite3_step and sqlite3_column_int64 and its like. A query keeps what it read until
- * the next one, whatever is committed meanwhile.
+/* Rows that were read, in the manner of sqlite3_step and sqlite3_column_int64 and its like. They stay, whatever becomes
+ * of what they were read from.
  *
- *     changecap_scan(&server, (const uint8_t *)"t", 1, &fault);
- *     while( changecap_step(&server) == CHANGECAP_ROW ){
- *       changecap_column(&server, 0, &value);
- *       if( value.type == CHANGECAP_INTEGER ) printf("%lld\n", (long long)value.number);
+ *     changecap_rows rows = CHANGECAP_CLOSED;
+ *     if( changecap_scan(&snapshot, "t", 1, &rows, &fault) == CHANGECAP_OK ){
+ *       while( changecap_step(&rows) == CHANGECAP_ROW ){
+ *         changecap_column(&rows, 0, &value);
+ *         if( value.type == CHANGECAP_INTEGER ) printf("%lld\n", (long long)value.number);
+ *       }
+ *       changecap_rows_close(&rows);
  *     }
  */
+typedef struct changecap_rows { void *at; } changecap_rows;
 
-/* Read a row by the key that is bound, or one that has no key by its id, where that is not 0; and all rows, those
- * with a key in the order of their keys, and then the others by their ids. Nothing is bound after that. Each is a
- * command, as any other.
- *   OK, REFUSED (*fault: 8, there is no such table), NOMEM, FULL,
- *   MISUSE (no such name; the id is 0, and nothing or NULL is bound for the key). */
-uint32_t changecap_get(changecap_server *server, const uint8_t *table, size_t n, uint64_t id, changecap_fault *fault);
-uint32_t changecap_scan(changecap_server *server, const uint8_t *table, size_t n, changecap_fault *fault);
+/* Open closed rows before the first of them. changecap_get reads a row by its key, or one that has no key by its id,
+ * where that is not 0, and then m is 0: one row or none. changecap_scan reads all rows, those with a key in the order
+ * of their keys, and then the others by their ids; changecap_scan_from those with a key that is not below the given
+ * one, at most limit of them.
+ *   OK, REFUSED (*fault: 8, there is no such table), MALFORMED (*fault), NOMEM,
+ *   MISUSE (no such name; the id is 0 and m as well; neither is 0).
+ * Unless the status is OK the rows stay closed. */
+uint32_t changecap_get(changecap_snapshot *snapshot, const void *table, size_t n, const void *key, size_t m,
+                       uint64_t id, changecap_rows *rows, changecap_fault *fault);
+uint32_t changecap_scan(changecap_snapshot *snapshot, const void *table, size_t n, changecap_rows *rows,
+                        changecap_fault *fault);
+uint32_t changecap_scan_from(changecap_snapshot *snapshot, const void *table, size_t n, const void *key, size_t m,
+                             uint64_t limit, changecap_rows *rows, changecap_fault *fault);
 
-/* Goes to the next of the rows that were read last.
+/* Goes to the next of the rows.
  *   ROW, or DONE behind the last row, and from then on. */
-uint32_t changecap_step(changecap_server *server);
+uint32_t changecap_step(changecap_rows *rows);
 
 /* Set *id to that of the row, or to 0 where it has a key, and *columns to how many the row has.
  *   OK, MISUSE (there is no row: before the first, behind the last). */
-uint32_t changecap_row_id(changecap_server *server, uint64_t *id);
-uint32_t changecap_columns(changecap_server *server, size_t *columns);
+uint32_t changecap_row_id(changecap_rows *rows, uint64_t *id);
+uint32_t changecap_columns(changecap_rows *rows, size_t *columns);
 
 /* Set *value to that of a column, from 0 on, and write the bytes of a TEXT or a BLOB; any other value has none.
  *   OK (*len), ROOM (*len), MISUSE (there is no row, or no such column). */
-uint32_t changecap_column(changecap_server *server, size_t column, changecap_value *value);
-uint32_t changecap_column_bytes(changecap_server *server, size_t column, uint8_t *out, size_t room, size_t *len);
+uint32_t changecap_column(changecap_rows *rows, size_t column, changecap_value *value);
+uint32_t changecap_column_bytes(changecap_rows *rows, size_t column, void *out, size_t room, size_t *len);
 
-/* Ends the server and frees what it has. A closed one stays closed. */
-void changecap_server_close(changecap_server *server);
+/* Writes the row as its record.
+ *   OK (*len), ROOM (*len), NOMEM, MISUSE (there is no row). */
+uint32_t changecap_row(changecap_rows *rows, void *out, size_t room, size_t *len);
+
+/* Closes the rows and frees what they have. Closed ones stay closed. */
+void changecap_rows_close(changecap_rows *rows);
+
+/* ---- Transactions ---- */
+
+/* A transaction reads a snapshot as its own operations have left it. Its batch is accepted exactly if all that it
+ * looked at is then as it was in the snapshot, and else refused with 11: begin again on a new snapshot.
+ *
+ *     do{
+ *       changecap_snapshot_open(&client, &snapshot);
+ *       changecap_begin(&snapshot, &transaction);
+ *       changecap_snapshot_close(&snapshot);
+ *       changecap_transaction_get(&transaction, "t", 1, key, m, 0, &rows, &fault);
+ *       ...
+ *       changecap_transaction_update(&transaction, "t", 1, key, m, 0, fields, len, CHANGECAP_DIRECT, &fault);
+ *       changecap_end(&transaction, &batch);
+ *       status = changecap_commit(&client, &batch, &version, &fault);
+ *       changecap_batch_close(&batch);
+ *     }while( status == CHANGECAP_REFUSED && fault.kind == 11 );
+ */
+typedef struct changecap_transaction { void *at; } changecap_transaction;
+
+/* Opens a closed transaction on a snapshot, which may be closed from then on.
+ *   OK, NOMEM. */
+uint32_t changecap_begin(changecap_snapshot *snapshot, changecap_transaction *transaction);
+
+/* Closes the transaction, of which nothing is left. A closed one stays closed. */
+void changecap_rollback(changecap_transaction *transaction);
+
+/* Make an operation. The arguments are those of changecap_insert, _update and _delete.
+ *   OK, REFUSED (*fault: 10, there are 10,000 operations; or what a commit would be refused for), MALFORMED (*fault),
+ *   MISUSE, NOMEM.
+ * Unless the status is OK the rows that the transaction reads are as they were. */
+uint32_t changecap_transaction_insert(changecap_transaction *transaction, const void *table, size_t n,
+                                      const void *row, size_t len, uint32_t cause, changecap_fault *fault);
+uint32_t changecap_transaction_update(changecap_transaction *transaction, const void *table, size_t n,
+                                      const void *key, size_t m, uint64_t id, const void *fields, size_t len,
+                                      uint32_t cause, changecap_fault *fault);
+uint32_t changecap_transaction_delete(changecap_transaction *transaction, const void *table, size_t n,
+                                      const void *key, size_t m, uint64_t id, uint32_t cause,
+                                      changecap_fault *fault);
+
+/* Open closed rows, as changecap_get and changecap_scan, of what the transaction reads. */
+uint32_t changecap_transaction_get(changecap_transaction *transaction, const void *table, size_t n, const void *key,
+                                   size_t m, uint64_t id, changecap_rows *rows, changecap_fault *fault);
+uint32_t changecap_transaction_scan(changecap_transaction *transaction, const void *table, size_t n,
+                                    changecap_rows *rows, changecap_fault *fault);
+
+/* Makes a savepoint, and goes back to one: all operations since are undone, later savepoints too, and the savepoint
+ * itself stays.
+ *   OK (*mark), REFUSED (*fault: 10, it has made 10,000 savepoints; 20, there is none of the mark), NOMEM. */
+uint32_t changecap_savepoint(changecap_transaction *transaction, uint64_t *mark, changecap_fault *fault);
+uint32_t changecap_rollback_to(changecap_transaction *transaction, uint64_t mark, changecap_fault *fault);
+
+/* Closes the transaction, and opens a closed batch with its operations, for changecap_commit.
+ *   OK, NOMEM (both are as they were). */
+uint32_t changecap_end(changecap_transaction *transaction, changecap_batch *batch);
+
+/* ---- Calls that do not wait ---- */
+
+/* Each is the call of its name without try_, but answers CHANGECAP_BUSY where another call has the state, and has
+ * changed nothing then. They take no NULL. changecap_try_apply applies what an iterator was opened on, wherever it
+ * stands, and leaves it as it was. */
+uint32_t changecap_try_call(changecap_client *client, const void *text, size_t n, changecap_fault *fault);
+uint32_t changecap_try_create(changecap_client *client, const void *table, size_t n, const void *key, size_t columns,
+                              uint64_t *version, changecap_fault *fault);
+uint32_t changecap_try_save(changecap_client *client, const void *database, size_t n, changecap_fault *fault);
+uint32_t changecap_try_apply(changecap_client *client, changecap_iter *it, uint32_t data, uint32_t notfound,
+                             uint32_t conflict, changecap_report *report, changecap_fault *fault);
+uint32_t changecap_try_session_new(changecap_client *client, uint64_t *session, changecap_fault *fault);
+uint32_t changecap_try_session_drop(changecap_client *client, uint64_t session, changecap_fault *fault);
+uint32_t changecap_try_session_attach(changecap_client *client, uint64_t session, const void *table, size_t n,
+                                      changecap_fault *fault);
+uint32_t changecap_try_session_attach_all(changecap_client *client, uint64_t session, changecap_fault *fault);
+uint32_t changecap_try_session_filter(changecap_client *client, uint64_t session, const void *text, size_t n,
+                                      changecap_fault *fault);
+uint32_t changecap_try_session_diff(changecap_client *client, uint64_t session, const void *from, size_t n,
+                                    const void *table, size_t m, changecap_fault *fault);
+uint32_t changecap_try_session_enable(changecap_client *client, uint64_t session, uint32_t set, uint32_t *flag,
+                                      changecap_fault *fault);
+uint32_t changecap_try_session_indirect(changecap_client *client, uint64_t session, uint32_t set, uint32_t *flag,
+                                        changecap_fault *fault);
+uint32_t changecap_try_session_isempty(changecap_client *client, uint64_t session, uint32_t *flag,
+                                       changecap_fault *fault);
+uint32_t changecap_try_session_capture(changecap_client *client, uint64_t session, changecap_capture *capture,
+                                       changecap_fault *fault);
+uint32_t changecap_try_session_restart(changecap_client *client, uint64_t session, changecap_capture *capture,
+                                       changecap_fault *fault);
+uint32_t changecap_try_commit(changecap_client *client, changecap_batch *batch, uint64_t *version,
+                              changecap_fault *fault);
+uint32_t changecap_try_snapshot_open(changecap_client *client, changecap_snapshot *snapshot);
 
 /* ---- NULL ---- */
 
-/* The library itself takes no NULL, and closes no closed handle. These functions stand before it: the name of each call
- * that takes bytes, a buffer or a handle to close is a macro for one of them. Who calls the library without this header
- * sees to it as they do. */
+/* The calls that are not made under a lock take no NULL, and close no closed handle. These stand before them: a macro
+ * of the same name gives a call bytes, or room, for NULL, or makes it only where the handle is open. Who takes the
+ * address of such a call, or calls the library without this header, sees to it as they do. */
+#define CHANGECAP_END(handle, call) \
+  static inline void changecap_end_##handle(changecap_##handle *it){ if( it->at ) call(it); }
+CHANGECAP_END(iter, changecap_iter_close)
+CHANGECAP_END(decoder, changecap_decoder_close)
+CHANGECAP_END(capture, changecap_capture_close)
+CHANGECAP_END(batch, changecap_batch_close)
+CHANGECAP_END(snapshot, changecap_snapshot_close)
+CHANGECAP_END(rows, changecap_rows_close)
+CHANGECAP_END(transaction, changecap_rollback)
+#undef CHANGECAP_END
 
-/* The buffer, or one of no bytes that is not NULL. */
-static inline uint8_t *changecap_room(uint8_t *out){
-  static uint8_t none;
-  return out ? out : &none;
-}
+#define changecap_iter_close changecap_end_iter
+#define changecap_decoder_close changecap_end_decoder
+#define changecap_capture_close changecap_end_capture
+#define changecap_batch_close changecap_end_batch
+#define changecap_snapshot_close changecap_end_snapshot
+#define changecap_rows_close changecap_end_rows
+#define changecap_rollback changecap_end_transaction
 
-static inline uint32_t changecap_null_check(const uint8_t *blob, size_t n, changecap_fault *fault){
-  return changecap_check(changecap_bytes(blob), n, fault);
-}
-static inline uint32_t changecap_null_invert(const uint8_t *blob, size_t n, uint32_t key_flags, uint8_t *out,
-                                             size_t room, size_t *len, changecap_fault *fault){
-  return changecap_invert(changecap_bytes(blob), n, key_flags, changecap_room(out), room, len, fault);
-}
-static inline uint32_t changecap_null_patchset(const uint8_t *blob, size_t n, uint32_t key_flags, uint8_t *out,
-                                               size_t room, size_t *len, changecap_fault *fault){
-  return changecap_patchset(changecap_bytes(blob), n, key_flags, changecap_room(out), room, len, fault);
-}
-static inline uint32_t changecap_null_concat(const uint8_t *first, size_t n, const uint8_t *second, size_t m,
-                                             uint32_t key_flags, uint8_t *out, size_t room, size_t *len,
-                                             changecap_fault *fault, size_t *blob){
-  return changecap_concat(changecap_bytes(first), n, changecap_bytes(second), m, key_flags, changecap_room(out),
-                          room, len, fault, blob);
-}
-static inline uint32_t changecap_null_json(const uint8_t *blob, size_t n, uint8_t *out, size_t room, size_t *len,
-                                           changecap_fault *fault){
-  return changecap_json(changecap_bytes(blob), n, changecap_room(out), room, len, fault);
-}
-static inline uint32_t changecap_null_iter_open(const uint8_t *blob, size_t n, changecap_iter *it,
-                                                changecap_fault *fault){
-  return changecap_iter_open(changecap_bytes(blob), n, it, fault);
-}
-static inline uint32_t changecap_null_iter_table(changecap_iter *it, uint8_t *out, size_t room, size_t *len){
-  return changecap_iter_table(it, changecap_room(out), room, len);
-}
-static inline uint32_t changecap_null_iter_old_bytes(changecap_iter *it, size_t column, uint8_t *out, size_t room,
-                                                     size_t *len){
-  return changecap_iter_old_bytes(it, column, changecap_room(out), room, len);
-}
-static inline uint32_t changecap_null_iter_new_bytes(changecap_iter *it, size_t column, uint8_t *out, size_t room,
-                                                     size_t *len){
-  return changecap_iter_new_bytes(it, column, changecap_room(out), room, len);
-}
-static inline void changecap_null_iter_close(changecap_iter *it){
-  if( it->at ) changecap_iter_close(it);
-}
-static inline uint32_t changecap_null_decoder_feed(changecap_decoder *decoder, const uint8_t *piece, size_t n,
-                                                   changecap_fault *fault){
-  return changecap_decoder_feed(decoder, changecap_bytes(piece), n, fault);
-}
-static inline void changecap_null_decoder_close(changecap_decoder *decoder){
-  if( decoder->at ) changecap_decoder_close(decoder);
-}
-static inline uint32_t changecap_null_server_call(changecap_server *server, const uint8_t *text, size_t n,
-                                                  changecap_fault *fault){
-  return changecap_server_call(server, changecap_bytes(text), n, fault);
-}
-static inline uint32_t changecap_null_server_reply(changecap_server *server, uint8_t *out, size_t room, size_t *len){
-  return changecap_server_reply(server, changecap_room(out), room, len);
-}
-static inline uint32_t changecap_null_create(changecap_server *server, const uint8_t *table, size_t n,
-                                             const uint8_t *key, size_t columns, uint64_t *version,
-                                             changecap_fault *fault){
-  return changecap_create(server, changecap_bytes(table), n, changecap_bytes(key), columns, version, fault);
-}
-static inline uint32_t changecap_null_save(changecap_server *server, const uint8_t *database, size_t n,
-                                           changecap_fault *fault){
-  return changecap_save(server, changecap_bytes(database), n, fault);
-}
-static inline uint32_t changecap_null_apply(changecap_server *server, const uint8_t *blob, size_t n, uint32_t data,
-                                            uint32_t notfound, uint32_t conflict, changecap_report *report,
-                                            changecap_fault *fault){
-  return changecap_apply(server, changecap_bytes(blob), n, data, notfound, conflict, report, fault);
-}
-static inline uint32_t changecap_null_session_attach(changecap_server *server, uint64_t session,
-                                                     const uint8_t *table, size_t n, changecap_fault *fault){
-  return changecap_session_attach(server, session, changecap_bytes(table), n, fault);
-}
-static inline uint32_t changecap_null_session_filter(changecap_server *server, uint64_t session, const uint8_t *text,
-                                                     size_t n, changecap_fault *fault){
-  return changecap_session_filter(server, session, changecap_bytes(text), n, fault);
-}
-static inline uint32_t changecap_null_session_diff(changecap_server *server, uint64_t session, const uint8_t *from,
-                                                   size_t n, const uint8_t *table, size_t m, changecap_fault *fault){
-  return changecap_session_diff(server, session, changecap_bytes(from), n, changecap_bytes(table), m, fault);
-}
-static inline uint32_t changecap_null_session_changeset(changecap_server *server, uint64_t session,
-                                                        uint32_t key_flags, uint8_t *out, size_t room, size_t *len,
-                                                        changecap_fault *fault){
-  return changecap_session_changeset(server, session, key_flags, changecap_room(out), room, len, fault);
-}
-static inline uint32_t changecap_null_session_patchset(changecap_server *server, uint64_t session,
-                                                       uint32_t key_flags, uint8_t *out, size_t room, size_t *len,
-                                                       changecap_fault *fault){
-  return changecap_session_patchset(server, session, key_flags, changecap_room(out), room, len, fault);
-}
-static inline uint32_t changecap_null_session_restart(changecap_server *server, uint64_t session, uint32_t key_flags,
-                                                      uint8_t *out, size_t room, size_t *len, changecap_fault *fault){
-  return changecap_session_restart(server, session, key_flags, changecap_room(out), room, len, fault);
-}
-static inline uint32_t changecap_null_bind_text(changecap_server *server, const uint8_t *text, size_t n){
-  return changecap_bind_text(server, changecap_bytes(text), n);
-}
-static inline uint32_t changecap_null_bind_blob(changecap_server *server, const uint8_t *blob, size_t n){
-  return changecap_bind_blob(server, changecap_bytes(blob), n);
-}
-static inline uint32_t changecap_null_insert(changecap_server *server, const uint8_t *table, size_t n,
-                                             uint32_t cause, changecap_fault *fault){
-  return changecap_insert(server, changecap_bytes(table), n, cause, fault);
-}
-static inline uint32_t changecap_null_update(changecap_server *server, const uint8_t *table, size_t n, uint64_t id,
-                                             uint32_t cause, changecap_fault *fault){
-  return changecap_update(server, changecap_bytes(table), n, id, cause, fault);
-}
-static inline uint32_t changecap_null_delete(changecap_server *server, const uint8_t *table, size_t n, uint64_t id,
-                                             uint32_t cause, changecap_fault *fault){
-  return changecap_delete(server, changecap_bytes(table), n, id, cause, fault);
-}
-static inline uint32_t changecap_null_get(changecap_server *server, const uint8_t *table, size_t n, uint64_t id,
-                                          changecap_fault *fault){
-  return changecap_get(server, changecap_bytes(table), n, id, fault);
-}
-static inline uint32_t changecap_null_scan(changecap_server *server, const uint8_t *table, size_t n,
-                                           changecap_fault *fault){
-  return changecap_scan(server, changecap_bytes(table), n, fault);
-}
-static inline uint32_t changecap_null_column_bytes(changecap_server *server, size_t column, uint8_t *out,
-                                                   size_t room, size_t *len){
-  return changecap_column_bytes(server, column, changecap_room(out), room, len);
-}
-static inline void changecap_null_server_close(changecap_server *server){
-  if( server->at ) changecap_server_close(server);
-}
-
-#define changecap_check changecap_null_check
-#define changecap_invert changecap_null_invert
-#define changecap_patchset changecap_null_patchset
-#define changecap_concat changecap_null_concat
-#define changecap_json changecap_null_json
-#define changecap_iter_open changecap_null_iter_open
-#define changecap_iter_table changecap_null_iter_table
-#define changecap_iter_old_bytes changecap_null_iter_old_bytes
-#define changecap_iter_new_bytes changecap_null_iter_new_bytes
-#define changecap_iter_close changecap_null_iter_close
-#define changecap_decoder_feed changecap_null_decoder_feed
-#define changecap_decoder_close changecap_null_decoder_close
-#define changecap_server_call changecap_null_server_call
-#define changecap_server_reply changecap_null_server_reply
-#define changecap_create changecap_null_create
-#define changecap_save changecap_null_save
-#define changecap_apply changecap_null_apply
-#define changecap_session_attach changecap_null_session_attach
-#define changecap_session_filter changecap_null_session_filter
-#define changecap_session_diff changecap_null_session_diff
-#define changecap_session_changeset changecap_null_session_changeset
-#define changecap_session_patchset changecap_null_session_patchset
-#define changecap_session_restart changecap_null_session_restart
-#define changecap_bind_text changecap_null_bind_text
-#define changecap_bind_blob changecap_null_bind_blob
-#define changecap_insert changecap_null_insert
-#define changecap_update changecap_null_update
-#define changecap_delete changecap_null_delete
-#define changecap_get changecap_null_get
-#define changecap_scan changecap_null_scan
-#define changecap_column_bytes changecap_null_column_bytes
-#define changecap_server_close changecap_null_server_close
+#define changecap_check(blob, n, fault) changecap_check(changecap_bytes(blob), n, fault)
+#define changecap_invert(blob, n, key_flags, out, room, len, fault) \
+  changecap_invert(changecap_bytes(blob), n, key_flags, changecap_room(out), room, len, fault)
+#define changecap_patchset(blob, n, key_flags, out, room, len, fault) \
+  changecap_patchset(changecap_bytes(blob), n, key_flags, changecap_room(out), room, len, fault)
+#define changecap_concat(first, n, second, m, key_flags, out, room, len, fault, blob) \
+  changecap_concat(changecap_bytes(first), n, changecap_bytes(second), m, key_flags, changecap_room(out), room, len, \
+                   fault, blob)
+#define changecap_json(blob, n, out, room, len, fault) \
+  changecap_json(changecap_bytes(blob), n, changecap_room(out), room, len, fault)
+#define changecap_iter_open(blob, n, it, fault) changecap_iter_open(changecap_bytes(blob), n, it, fault)
+#define changecap_iter_table(it, out, room, len) changecap_iter_table(it, changecap_room(out), room, len)
+#define changecap_iter_old_bytes(it, column, out, room, len) \
+  changecap_iter_old_bytes(it, column, changecap_room(out), room, len)
+#define changecap_iter_new_bytes(it, column, out, room, len) \
+  changecap_iter_new_bytes(it, column, changecap_room(out), room, len)
+#define changecap_decoder_feed(decoder, piece, n, fault) \
+  changecap_decoder_feed(decoder, changecap_bytes(piece), n, fault)
+#define changecap_reply(client, out, room, len) changecap_reply(client, changecap_room(out), room, len)
+#define changecap_capture_changeset(capture, key_flags, out, room, len) \
+  changecap_capture_changeset(capture, key_flags, changecap_room(out), room, len)
+#define changecap_capture_patchset(capture, key_flags, out, room, len) \
+  changecap_capture_patchset(capture, key_flags, changecap_room(out), room, len)
+#define changecap_insert(batch, table, n, row, len, cause, fault) \
+  changecap_insert(batch, changecap_bytes(table), n, changecap_bytes(row), len, cause, fault)
+#define changecap_update(batch, table, n, key, m, id, fields, len, cause, fault) \
+  changecap_update(batch, changecap_bytes(table), n, changecap_bytes(key), m, id, changecap_bytes(fields), len, \
+                   cause, fault)
+#define changecap_delete(batch, table, n, key, m, id, cause, fault) \
+  changecap_delete(batch, changecap_bytes(table), n, changecap_bytes(key), m, id, cause, fault)
+#define changecap_batch_item_table(batch, at, out, room, len) \
+  changecap_batch_item_table(batch, at, changecap_room(out), room, len)
+#define changecap_batch_item_key(batch, at, out, room, len) \
+  changecap_batch_item_key(batch, at, changecap_room(out), room, len)
+#define changecap_get(snapshot, table, n, key, m, id, rows, fault) \
+  changecap_get(snapshot, changecap_bytes(table), n, changecap_bytes(key), m, id, rows, fault)
+#define changecap_scan(snapshot, table, n, rows, fault) \
+  changecap_scan(snapshot, changecap_bytes(table), n, rows, fault)
+#define changecap_scan_from(snapshot, table, n, key, m, limit, rows, fault) \
+  changecap_scan_from(snapshot, changecap_bytes(table), n, changecap_bytes(key), m, limit, rows, fault)
+#define changecap_column_bytes(rows, column, out, room, len) \
+  changecap_column_bytes(rows, column, changecap_room(out), room, len)
+#define changecap_row(rows, out, room, len) changecap_row(rows, changecap_room(out), room, len)
+#define changecap_transaction_insert(transaction, table, n, row, len, cause, fault) \
+  changecap_transaction_insert(transaction, changecap_bytes(table), n, changecap_bytes(row), len, cause, fault)
+#define changecap_transaction_update(transaction, table, n, key, m, id, fields, len, cause, fault) \
+  changecap_transaction_update(transaction, changecap_bytes(table), n, changecap_bytes(key), m, id, \
+                               changecap_bytes(fields), len, cause, fault)
+#define changecap_transaction_delete(transaction, table, n, key, m, id, cause, fault) \
+  changecap_transaction_delete(transaction, changecap_bytes(table), n, changecap_bytes(key), m, id, cause, fault)
+#define changecap_transaction_get(transaction, table, n, key, m, id, rows, fault) \
+  changecap_transaction_get(transaction, changecap_bytes(table), n, changecap_bytes(key), m, id, rows, fault)
+#define changecap_transaction_scan(transaction, table, n, rows, fault) \
+  changecap_transaction_scan(transaction, changecap_bytes(table), n, rows, fault)
 
 #ifdef __cplusplus
 }

@@ -1,5 +1,5 @@
 /*
- * Runs a workload from standard input on a server, and prints the reply to each command, as `changecap run` does.
+ * Runs a workload from standard input by a client, and prints the reply to each command, as `changecap run` does.
  * The status is 1 where a line is not one command, and 3 where memory runs out.
  */
 #include "changecap.h"
@@ -15,26 +15,25 @@ static int is_ignored(const char *line, size_t n){
 }
 
 int main(void){
-  changecap_server server = CHANGECAP_CLOSED;
+  changecap_client client = CHANGECAP_CLOSED;
   changecap_fault fault;
   char *line = NULL;
   uint8_t *reply = NULL;
   size_t room = 0, reply_room = 0, len;
   ssize_t n;
   int status = 0;
-  if( changecap_server_open(&server) != CHANGECAP_OK ) return 3;
+  if( changecap_open(&client) != CHANGECAP_OK ) return 3;
   while( status == 0 && (n = getline(&line, &room, stdin)) > 0 ){
     if( line[n - 1] == '\n' ) n--;
     if( is_ignored(line, (size_t)n) ) continue;
-    uint32_t answer = changecap_server_call(&server, (const uint8_t *)line, (size_t)n, &fault);
+    uint32_t answer = changecap_call(&client, line, (size_t)n, &fault);
     if( answer == CHANGECAP_COMMAND ){
       fprintf(stderr, "G%u at %zu\n", fault.kind, fault.at);
       status = 1;
     }else if( answer != CHANGECAP_OK && answer != CHANGECAP_REFUSED ){
       status = 3;
     }else{
-      uint8_t none;
-      while( changecap_server_reply(&server, reply ? reply : &none, reply_room, &len) == CHANGECAP_ROOM ){
+      while( changecap_reply(&client, reply, reply_room, &len) == CHANGECAP_ROOM ){
         reply = realloc(reply, len);
         reply_room = len;
         if( reply == NULL ) return 3;
@@ -43,7 +42,7 @@ int main(void){
       putchar('\n');
     }
   }
-  changecap_server_close(&server);
+  changecap_close(&client);
   free(line);
   free(reply);
   return status;

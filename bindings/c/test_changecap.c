@@ -9,6 +9,8 @@
  */
 #include "testing.h"
 
+#include <stdarg.h>
+
 /* ---- Memory that can be refused ---- */
 
 /* How many requests are granted before one is refused. None is refused while it is negative. */
@@ -74,9 +76,68 @@ int is_hex(bytes is, const char *hex){
   return same;
 }
 
+bytes record(const char *letters, ...){
+  uint8_t fields[512];
+  size_t n = 0;
+  va_list list;
+  va_start(list, letters);
+  for(; *letters; letters++){
+    if( *letters == 'i' ){
+      n += changecap_put_int(fields + n, va_arg(list, int));
+    }else if( *letters == 't' ){
+      const char *text = va_arg(list, const char *);
+      n += changecap_put_text(fields + n, text, strlen(text));
+    }else if( *letters == 'b' ){
+      const char *hex = va_arg(list, const char *);
+      bytes blob = of_hex(hex, strlen(hex));
+      n += changecap_put_blob(fields + n, blob.at, blob.n);
+      free(blob.at);
+    }else{
+      n += *letters == 'n' ? changecap_put_null(fields + n) : changecap_put_undefined(fields + n);
+    }
+  }
+  va_end(list);
+  return copy_of(fields, n);
+}
+
+/* The lengths at which a varint gets a byte more, as the format has them. */
+static void put_lengths(void){
+  static const struct { size_t n; const char *hex; } front[] = {
+    { 0, "0400" }, { 1, "0401" }, { 127, "047f" }, { 128, "048100" }, { 300, "04822c" }, { 16383, "04ff7f" },
+    { 16384, "04818000" }, { 2097151, "04ffff7f" }, { 2097152, "0481808000" },
+  };
+  bytes room = { calloc(1, CHANGECAP_FIELD_MAX(2097152)), 0 }, zeros = { calloc(1, 2097152), 0 };
+  for(size_t i = 0; i < sizeof front / sizeof *front; i++){
+    size_t digits = strlen(front[i].hex), n = changecap_put_blob(room.at, zeros.at, front[i].n);
+    CHECK(n == digits / 2 + front[i].n && n <= CHANGECAP_FIELD_MAX(front[i].n));
+    CHECK(is_hex((bytes){ room.at, digits / 2 }, front[i].hex));
+  }
+  CHECK(changecap_put_int(room.at, -2) == 9 && is_hex((bytes){ room.at, 9 }, "01fffffffffffffffe"));
+  CHECK(changecap_put_text(room.at, "ab", 2) == 4 && is_hex((bytes){ room.at, 4 }, "03026162"));
+  CHECK(changecap_put_null(room.at) == 1 && is_hex((bytes){ room.at, 1 }, "05"));
+  CHECK(changecap_put_undefined(room.at) == 1 && is_hex((bytes){ room.at, 1 }, "00"));
+  CHECK(changecap_put_text(room.at, NULL, 0) == 2);
+  free(room.at);
+  free(zeros.at);
+}
+
+/* ---- Words ---- */
+
+/* Each status has words of its own, and any other number has the same. */
+static void words_of_statuses(void){
+  const char *other = changecap_errstr(99);
+  for(uint32_t status = 0; status <= CHANGECAP_DONE; status++){
+    const char *words = changecap_errstr(status);
+    int is_status = status <= CHANGECAP_CLIENTS || status >= CHANGECAP_ROW;
+    CHECK(is_status ? strcmp(words, other) != 0 : !strcmp(words, other));
+    for(uint32_t earlier = 0; is_status && earlier < status; earlier++) CHECK(changecap_errstr(earlier) != words);
+  }
+  CHECK(!strcmp(changecap_version(), CHANGECAP_VERSION));
+}
+
 /* ---- The calls on whole blobs ---- */
 
-typedef uint32_t (*convert)(const uint8_t *, size_t, uint32_t, uint8_t *, size_t, size_t *, changecap_fault *);
+typedef uint32_t (*convert)(const void *, size_t, uint32_t, void *, size_t, size_t *, changecap_fault *);
 
 /* What a call makes of a blob: first it reports the length, then it gets a buffer that is just as long. */
 static uint32_t made_by(convert call, bytes blob, uint32_t key_flags, bytes *made, changecap_fault *fault){
@@ -321,7 +382,7 @@ static void refused_check(bytes blob){
 
 /* ---- The calls on an iterator ---- */
 
-typedef uint32_t (*bytes_of)(changecap_iter *, size_t, uint8_t *, size_t, size_t *);
+typedef uint32_t (*bytes_of)(changecap_iter *, size_t, void *, size_t, size_t *);
 
 /* The bytes of a field, in a buffer that is just as long. A shorter one is left as it was. */
 static bytes field_bytes(changecap_iter *it, size_t column, size_t n, bytes_of call){
@@ -711,6 +772,8 @@ int main(int words, char **word){
     fputs("test_changecap BLOBS COUNT\n", stderr);
     return 2;
   }
+  put_lengths();
+  words_of_statuses();
   worked_values();
   worked_concatenations();
   worked_json();

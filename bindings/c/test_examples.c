@@ -7,13 +7,12 @@
 
 /* ---- A session ---- */
 
-/* What a session has captured, in memory that the caller frees, or NULL. */
-static uint8_t *changeset_of(changecap_server *server, uint64_t session, size_t *len, changecap_fault *fault){
+/* What a capture has, in memory that the caller frees, or NULL. */
+static uint8_t *changeset_of(changecap_capture *capture, size_t *len){
   uint8_t *out = NULL;
   size_t room = 0;
   uint32_t status;
-  while( (status = changecap_session_changeset(server, session, CHANGECAP_KEYS_PLACES, out, room, len, fault))
-         == CHANGECAP_ROOM ){
+  while( (status = changecap_capture_changeset(capture, CHANGECAP_KEYS_PLACES, out, room, len)) == CHANGECAP_ROOM ){
     uint8_t *more = realloc(out, *len);
     if( more == NULL ) break;
     out = more;
@@ -25,70 +24,74 @@ static uint8_t *changeset_of(changecap_server *server, uint64_t session, size_t 
 }
 
 static void captured_session(void){
-  changecap_server server = CHANGECAP_CLOSED;
+  changecap_client client = CHANGECAP_CLOSED;
+  changecap_batch batch = CHANGECAP_CLOSED;
+  changecap_capture capture = CHANGECAP_CLOSED;
   changecap_fault fault;
   uint64_t version, session;
-  const uint8_t *t = (const uint8_t *)"t";
   const uint8_t key[] = { 1, 0 }; /* two columns, the first of them in the primary key */
-  uint8_t out[256];
-  size_t len;
-  if( changecap_server_open(&server) != CHANGECAP_OK ) return;
-  changecap_create(&server, t, 1, key, 2, &version, &fault);
-  changecap_session_new(&server, &session, &fault);
-  changecap_session_attach(&server, session, t, 1, &fault);
-  changecap_bind_int(&server, 1);
-  changecap_bind_text(&server, (const uint8_t *)"x", 1);
-  changecap_insert(&server, t, 1, CHANGECAP_DIRECT, &fault); /* insert t (1,'x') */
-  if( changecap_commit(&server, &version, &fault) == CHANGECAP_REFUSED )
+  uint8_t row[64], out[256];
+  size_t n, len;
+  if( changecap_open(&client) != CHANGECAP_OK ) return;
+  changecap_create(&client, "t", 1, key, 2, &version, &fault);
+  changecap_session_new(&client, &session, &fault);
+  changecap_session_attach(&client, session, "t", 1, &fault);
+  n = changecap_put_int(row, 1);
+  n += changecap_put_text(row + n, "x", 1);
+  changecap_batch_open(&batch);
+  changecap_insert(&batch, "t", 1, row, n, CHANGECAP_DIRECT, &fault); /* insert t (1,'x') */
+  if( changecap_commit(&client, &batch, &version, &fault) == CHANGECAP_REFUSED )
     fprintf(stderr, "E%u at operation %zu\n", fault.kind, fault.at);
-  changecap_session_changeset(&server, session, CHANGECAP_KEYS_PLACES, out, sizeof out, &len, &fault);
+  changecap_batch_close(&batch);
+  changecap_session_capture(&client, session, &capture, &fault);
+  changecap_capture_changeset(&capture, CHANGECAP_KEYS_PLACES, out, sizeof out, &len);
   CHECK(is_hex((bytes){ out, len }, INSERT));
-  uint8_t *made = changeset_of(&server, session, &len, &fault);
+  uint8_t *made = changeset_of(&capture, &len);
   CHECK(made != NULL && is_hex((bytes){ made, len }, INSERT));
   free(made);
-  CHECK(changeset_of(&server, session + 1, &len, &fault) == NULL && fault.kind == 18);
-  changecap_server_close(&server);
+  changecap_capture_close(&capture);
+  CHECK(changecap_session_capture(&client, session + 1, &capture, &fault) == CHANGECAP_REFUSED && fault.kind == 18);
+  changecap_close(&client);
 }
 
 /* ---- Applying ---- */
 
 /* Applies a changeset where nothing is in the way. Else by other answers: rows that differ and keys in use take what
  * the changeset has, and changes of missing rows are left out. */
-static uint32_t applied(changecap_server *server, const uint8_t *changeset, size_t n, changecap_report *report,
+static uint32_t applied(changecap_client *client, const uint8_t *changeset, size_t n, changecap_report *report,
                         changecap_fault *fault){
-  uint32_t status = changecap_apply(server, changeset, n, CHANGECAP_ABORT, CHANGECAP_ABORT, CHANGECAP_ABORT, report,
+  uint32_t status = changecap_apply(client, changeset, n, CHANGECAP_ABORT, CHANGECAP_ABORT, CHANGECAP_ABORT, report,
                                     fault);
   if( status == CHANGECAP_REFUSED && fault->kind == 15 ) /* change fault->at met a conflict: nothing was changed */
-    status = changecap_apply(server, changeset, n, CHANGECAP_REPLACE, CHANGECAP_OMIT, CHANGECAP_REPLACE, report, fault);
+    status = changecap_apply(client, changeset, n, CHANGECAP_REPLACE, CHANGECAP_OMIT, CHANGECAP_REPLACE, report, fault);
   return status;
 }
 
-/* A server with the table t, whose key is its first column, or a closed one. */
-static changecap_server with_table(void){
-  changecap_server server = CHANGECAP_CLOSED;
+/* A client of a history with the table t, whose key is its first column, or a closed one. */
+static changecap_client with_table(void){
+  changecap_client client = CHANGECAP_CLOSED;
   changecap_fault fault;
   uint64_t version;
-  CHECK(changecap_server_open(&server) == CHANGECAP_OK);
-  CHECK(changecap_create(&server, (const uint8_t *)"t", 1, (const uint8_t *)"\1\0", 2, &version, &fault)
-        == CHANGECAP_OK);
-  return server;
+  CHECK(changecap_open(&client) == CHANGECAP_OK);
+  CHECK(changecap_create(&client, "t", 1, "\1\0", 2, &version, &fault) == CHANGECAP_OK);
+  return client;
 }
 
 static void applied_changesets(void){
-  changecap_server server = with_table();
+  changecap_client client = with_table();
   changecap_fault fault = { 77, 77 };
   changecap_report report;
   bytes insert = of_hex(INSERT, strlen(INSERT)), update = of_hex(UPDATE, strlen(UPDATE));
-  CHECK(applied(&server, insert.at, insert.n, &report, &fault) == CHANGECAP_OK);
+  CHECK(applied(&client, insert.at, insert.n, &report, &fault) == CHANGECAP_OK);
   CHECK(report.applied == 1 && report.conflicts == 0 && fault.kind == 77);
-  CHECK(applied(&server, insert.at, insert.n, &report, &fault) == CHANGECAP_OK);
+  CHECK(applied(&client, insert.at, insert.n, &report, &fault) == CHANGECAP_OK);
   CHECK(report.applied == 1 && report.conflicts == 1 && fault.kind == 15 && fault.at == 0);
-  CHECK(applied(&server, update.at, update.n, &report, &fault) == CHANGECAP_OK && report.conflicts == 0);
-  CHECK(applied(&server, update.at, update.n, &report, &fault) == CHANGECAP_OK && report.conflicts == 1);
-  CHECK(applied(&server, (const uint8_t *)"T\x80", 2, &report, &fault) == CHANGECAP_MALFORMED && fault.kind == 3);
+  CHECK(applied(&client, update.at, update.n, &report, &fault) == CHANGECAP_OK && report.conflicts == 0);
+  CHECK(applied(&client, update.at, update.n, &report, &fault) == CHANGECAP_OK && report.conflicts == 1);
+  CHECK(applied(&client, (const uint8_t *)"T\x80", 2, &report, &fault) == CHANGECAP_MALFORMED && fault.kind == 3);
   free(insert.at);
   free(update.at);
-  changecap_server_close(&server);
+  changecap_close(&client);
 }
 
 /* ---- Blobs ---- */
@@ -167,58 +170,105 @@ static void read_blobs(void){
   free(blob.at);
 }
 
-/* ---- Several threads ---- */
+/* ---- Rows ---- */
 
-static pthread_mutex_t lock = PTHREAD_MUTEX_INITIALIZER;
-
-typedef struct worker {
-  changecap_server *server;
-  int64_t first;
-  size_t commits;
-} worker;
-
-/* Makes 100 commits. The lock is held from the first bind to the commit, since a server has one batch. */
-static void *work(void *given){
-  worker *own = given;
-  changecap_fault fault;
-  uint64_t version;
-  for(int64_t i = 0; i < 100; i++){
-    pthread_mutex_lock(&lock);
-    changecap_bind_int(own->server, own->first + i);
-    changecap_bind_null(own->server);
-    changecap_insert(own->server, (const uint8_t *)"t", 1, CHANGECAP_DIRECT, &fault);
-    if( changecap_commit(own->server, &version, &fault) == CHANGECAP_OK ) own->commits++;
-    pthread_mutex_unlock(&lock);
-  }
-  return NULL;
-}
-
-/* The sum of the first column of the table t. */
-static int64_t sum_of_rows(changecap_server *server){
+/* The sum of the integers in the second column of the table t, or -1. */
+static int64_t sum_of_rows(changecap_client *client){
+  changecap_snapshot snapshot = CHANGECAP_CLOSED;
+  changecap_rows rows = CHANGECAP_CLOSED;
   changecap_fault fault;
   changecap_value value;
   int64_t sum = 0;
-  if( changecap_scan(server, (const uint8_t *)"t", 1, &fault) != CHANGECAP_OK ) return -1;
-  while( changecap_step(server) == CHANGECAP_ROW ){
-    changecap_column(server, 0, &value);
+  if( changecap_snapshot_open(client, &snapshot) != CHANGECAP_OK ) return -1;
+  uint32_t status = changecap_scan(&snapshot, "t", 1, &rows, &fault);
+  changecap_snapshot_close(&snapshot);
+  if( status != CHANGECAP_OK ) return -1;
+  while( changecap_step(&rows) == CHANGECAP_ROW ){
+    changecap_column(&rows, 1, &value);
     if( value.type == CHANGECAP_INTEGER ) sum += value.number;
   }
+  changecap_rows_close(&rows);
   return sum;
 }
 
-static void shared_server(void){
-  changecap_server server = with_table();
-  worker both[2] = { { &server, 0, 0 }, { &server, 100, 0 } };
+/* ---- Several threads ---- */
+
+/* Adds to the second column of a row, which it reads, in a transaction of its own. */
+static uint32_t prepared(changecap_client *client, int64_t at, int64_t more, changecap_batch *batch,
+                         changecap_fault *fault){
+  changecap_snapshot snapshot = CHANGECAP_CLOSED;
+  changecap_transaction transaction = CHANGECAP_CLOSED;
+  changecap_rows rows = CHANGECAP_CLOSED;
+  changecap_value value;
+  uint8_t key[CHANGECAP_FIELD_MAX(0)], fields[2 * CHANGECAP_FIELD_MAX(0)];
+  size_t m = changecap_put_int(key, at), n = changecap_put_undefined(fields);
+  uint32_t status = changecap_snapshot_open(client, &snapshot);
+  if( status != CHANGECAP_OK ) return status;
+  status = changecap_begin(&snapshot, &transaction);
+  changecap_snapshot_close(&snapshot);
+  if( status != CHANGECAP_OK ) return status;
+  status = changecap_transaction_get(&transaction, "t", 1, key, m, 0, &rows, fault);
+  if( status == CHANGECAP_OK && changecap_step(&rows) == CHANGECAP_ROW ){
+    changecap_column(&rows, 1, &value);
+    n += changecap_put_int(fields + n, value.number + more);
+    status = changecap_transaction_update(&transaction, "t", 1, key, m, 0, fields, n, CHANGECAP_DIRECT, fault);
+  }
+  changecap_rows_close(&rows);
+  if( status == CHANGECAP_OK ) status = changecap_end(&transaction, batch);
+  changecap_rollback(&transaction);
+  return status;
+}
+
+/* The same as a commit. It begins again where another thread has changed the row in between. */
+static uint32_t added(changecap_client *client, int64_t at, int64_t more, changecap_fault *fault){
+  changecap_batch batch = CHANGECAP_CLOSED;
+  uint64_t version;
+  uint32_t status;
+  do{
+    status = prepared(client, at, more, &batch, fault);
+    if( status != CHANGECAP_OK ) return status;
+    status = changecap_commit(client, &batch, &version, fault);
+    changecap_batch_close(&batch);
+  }while( status == CHANGECAP_REFUSED && fault->kind == 11 );
+  return status;
+}
+
+typedef struct worker {
+  changecap_client client;
+  size_t commits;
+} worker;
+
+static void *work(void *given){
+  worker *own = given;
+  changecap_fault fault;
+  for(int i = 0; i < 100; i++)
+    if( added(&own->client, 1, 1, &fault) == CHANGECAP_OK ) own->commits++;
+  changecap_close(&own->client);
+  return NULL;
+}
+
+/* Starts a thread with a client of its own. Whether it has both. */
+static int started(pthread_t *thread, worker *own, changecap_client *client){
+  if( changecap_join(&own->client, client) != CHANGECAP_OK ) return 0;
+  return pthread_create(thread, NULL, work, own) == 0;
+}
+
+/* Two threads add to one row. */
+static void shared_history(void){
+  changecap_client client = with_table();
+  worker both[2] = { { CHANGECAP_CLOSED, 0 }, { CHANGECAP_CLOSED, 0 } };
   pthread_t thread[2];
-  for(int i = 0; i < 2; i++) CHECK(pthread_create(&thread[i], NULL, work, &both[i]) == 0);
+  changecap_fault fault;
+  CHECK(changecap_call(&client, "commit insert t (1,0)", 21, &fault) == CHANGECAP_OK);
+  for(int i = 0; i < 2; i++) CHECK(started(&thread[i], &both[i], &client));
   for(int i = 0; i < 2; i++) CHECK(pthread_join(thread[i], NULL) == 0);
-  CHECK(both[0].commits == 100 && both[1].commits == 100 && sum_of_rows(&server) == 199 * 100);
-  changecap_server_close(&server);
+  CHECK(both[0].commits == 100 && both[1].commits == 100 && sum_of_rows(&client) == 200);
+  changecap_close(&client);
 }
 
 void test_examples(void){
   captured_session();
   applied_changesets();
   read_blobs();
-  shared_server();
+  shared_history();
 }

@@ -43,6 +43,9 @@ bytes copy_of(const uint8_t *at, size_t n);
 bytes of_hex(const char *hex, size_t digits);
 int is_hex(bytes is, const char *hex);
 
+/* A record with a field for each letter: i an int, n NULL, t a text, b the hex digits of a blob, u undefined. */
+bytes record(const char *letters, ...);
+
 /* Changesets as digits: of the row (1,'x') of the table t, which is inserted, updated to (1,'y') or deleted, of a table
  * with a key of two columns, and of the table u. PATCH is the patchset of INSERT. */
 #define INSERT "5402010074001200010000000000000001030178"
