@@ -1,4 +1,4 @@
-"""Clients of one server, on one thread and on several, and captures that find no memory."""
+"""Clients of one server, on one thread and on several, and captures that fail."""
 import sys
 import threading
 import unittest
@@ -61,12 +61,15 @@ class Clients(unittest.TestCase):
             self.assertEqual((failed, sorted(rows)), ([], [1000 * it + at for it in range(4) for at in range(100)]))
             self.assertEqual([it.values[0] for it in server.scan("t")], sorted(rows))
 
-    def test_captures_that_find_no_memory(self):
+    def test_captures_of_which_no_record_is_lost(self):
         with changecap.Server() as server:
             server.create_table("t", [True, False])
             session = server.session()
             session.attach()
             server.commit(("insert", "t", (1, "x")))
+            with self.assertRaises(changecap.Error) as raised:
+                session.restart(7)
+            self.assertEqual((raised.exception.status, session.changeset()), (changecap.MISUSE, INSERT))
             library = Counted(changecap._library)
             library.capture_changeset = lambda *words: changecap.NOMEM
             with unittest.mock.patch.object(changecap, "_library", library):
@@ -75,7 +78,7 @@ class Clients(unittest.TestCase):
                 self.assertRaises(MemoryError, session.restart)
             self.assertEqual(library.counts["session_restart"], 1)
             server.commit(("insert", "t", (2, "y")))
-            # No record is lost: the next restart answers what the one before it has captured.
+            # The next restart answers what the one before it has captured.
             self.assertEqual(session.restart(), INSERT)
             self.assertEqual([it.new for it in changecap.iterate(session.restart())], [{0: 2, 1: "y"}])
 
