@@ -23,6 +23,7 @@ import ctypes
 import ctypes.util
 import os
 import re
+import struct
 import threading
 from collections import deque
 from collections.abc import Mapping, Sequence
@@ -31,7 +32,7 @@ from dataclasses import dataclass
 from json import JSONDecoder
 
 OK, MALFORMED, ROOM, NOMEM, PATCHSET, MISUSE, REFUSED, COMMAND, FULL, ROW, DONE = 0, 1, 2, 3, 4, 5, 6, 7, 8, 100, 101
-KIND, COLUMNS, FILTER = 9, 10, 11
+KIND, COLUMNS, FILTER, BUSY, OVERTAKEN, CLIENTS = 9, 10, 11, 12, 13, 14
 KEYS_ONES, KEYS_PLACES = 0, 1
 OFF, ON, ASK = 0, 1, 2
 OMIT, REPLACE, ABORT = 0, 1, 2
@@ -130,8 +131,29 @@ class _Report(ctypes.Structure):
     _fields_ = [(it, c_uint64) for it in ("version", "applied", "conflicts", "omitted", "skipped")]
 
 
+class _Client(ctypes.Structure):
+    _fields_ = [("at", c_void_p), ("shared", c_void_p)]
+
+
 class _Handle(ctypes.Structure):
     _fields_ = [("at", c_void_p)]
+
+
+class _Owned(_Handle):
+    """A handle that a call closes at the end of its block, or when nobody refers to it any more."""
+
+    def __init__(self, close):
+        super().__init__()
+        self._close = close
+
+    def __enter__(self):
+        return self
+
+    def __exit__(self, *_):
+        if self.at:
+            self._close(self)
+
+    __del__ = __exit__
 
 
 _BYTES, _LEN, _OUT = ctypes.c_char_p, c_size_t, c_void_p
@@ -155,47 +177,46 @@ _CALLS = {
     "decoder_feed": [POINTER(_Handle), _BYTES, _LEN, POINTER(_Fault)],
     "decoder_finish": [POINTER(_Handle), POINTER(_Handle), POINTER(_Fault)],
     "decoder_close": [POINTER(_Handle)],
-    "server_open": [POINTER(_Handle)],
-    "server_call": [POINTER(_Handle), _BYTES, _LEN, POINTER(_Fault)],
-    "server_reply": [POINTER(_Handle), _OUT, _LEN, POINTER(c_size_t)],
-    "server_close": [POINTER(_Handle)],
-    "create": [POINTER(_Handle), _BYTES, _LEN, _BYTES, _LEN, POINTER(c_uint64), POINTER(_Fault)],
-    "save": [POINTER(_Handle), _BYTES, _LEN, POINTER(_Fault)],
-    "apply": [POINTER(_Handle), _BYTES, _LEN, c_uint32, c_uint32, c_uint32, POINTER(_Report), POINTER(_Fault)],
-    "session_new": [POINTER(_Handle), POINTER(c_uint64), POINTER(_Fault)],
-    "session_drop": [POINTER(_Handle), c_uint64, POINTER(_Fault)],
-    "session_attach": [POINTER(_Handle), c_uint64, _BYTES, _LEN, POINTER(_Fault)],
-    "session_attach_all": [POINTER(_Handle), c_uint64, POINTER(_Fault)],
-    "session_filter": [POINTER(_Handle), c_uint64, _BYTES, _LEN, POINTER(_Fault)],
-    "session_diff": [POINTER(_Handle), c_uint64, _BYTES, _LEN, _BYTES, _LEN, POINTER(_Fault)],
-    "session_enable": [POINTER(_Handle), c_uint64, c_uint32, POINTER(c_uint32), POINTER(_Fault)],
-    "session_indirect": [POINTER(_Handle), c_uint64, c_uint32, POINTER(c_uint32), POINTER(_Fault)],
-    "session_isempty": [POINTER(_Handle), c_uint64, POINTER(c_uint32), POINTER(_Fault)],
-    "session_changeset": [POINTER(_Handle), c_uint64, c_uint32, _OUT, _LEN, POINTER(c_size_t), POINTER(_Fault)],
-    "session_patchset": [POINTER(_Handle), c_uint64, c_uint32, _OUT, _LEN, POINTER(c_size_t), POINTER(_Fault)],
-    "session_restart": [POINTER(_Handle), c_uint64, c_uint32, _OUT, _LEN, POINTER(c_size_t), POINTER(_Fault)],
-    "begin": [POINTER(_Handle)],
-    "begin_at": [POINTER(_Handle), c_uint64],
-    "clear_bindings": [POINTER(_Handle)],
-    "bind_null": [POINTER(_Handle)],
-    "bind_int": [POINTER(_Handle), c_int64],
-    "bind_text": [POINTER(_Handle), _BYTES, _LEN],
-    "bind_blob": [POINTER(_Handle), _BYTES, _LEN],
-    "set": [POINTER(_Handle), _LEN],
-    "insert": [POINTER(_Handle), _BYTES, _LEN, c_uint32, POINTER(_Fault)],
-    "update": [POINTER(_Handle), _BYTES, _LEN, c_uint64, c_uint32, POINTER(_Fault)],
-    "delete": [POINTER(_Handle), _BYTES, _LEN, c_uint64, c_uint32, POINTER(_Fault)],
-    "commit": [POINTER(_Handle), POINTER(c_uint64), POINTER(_Fault)],
-    "get": [POINTER(_Handle), _BYTES, _LEN, c_uint64, POINTER(_Fault)],
-    "scan": [POINTER(_Handle), _BYTES, _LEN, POINTER(_Fault)],
+    "open": [POINTER(_Client)],
+    "join": [POINTER(_Client), POINTER(_Client)],
+    "close": [POINTER(_Client)],
+    "call": [POINTER(_Client), _BYTES, _LEN, POINTER(_Fault)],
+    "reply": [POINTER(_Client), _OUT, _LEN, POINTER(c_size_t)],
+    "create": [POINTER(_Client), _BYTES, _LEN, _BYTES, _LEN, POINTER(c_uint64), POINTER(_Fault)],
+    "save": [POINTER(_Client), _BYTES, _LEN, POINTER(_Fault)],
+    "apply": [POINTER(_Client), _BYTES, _LEN, c_uint32, c_uint32, c_uint32, POINTER(_Report), POINTER(_Fault)],
+    "session_new": [POINTER(_Client), POINTER(c_uint64), POINTER(_Fault)],
+    "session_drop": [POINTER(_Client), c_uint64, POINTER(_Fault)],
+    "session_attach": [POINTER(_Client), c_uint64, _BYTES, _LEN, POINTER(_Fault)],
+    "session_attach_all": [POINTER(_Client), c_uint64, POINTER(_Fault)],
+    "session_filter": [POINTER(_Client), c_uint64, _BYTES, _LEN, POINTER(_Fault)],
+    "session_diff": [POINTER(_Client), c_uint64, _BYTES, _LEN, _BYTES, _LEN, POINTER(_Fault)],
+    "session_enable": [POINTER(_Client), c_uint64, c_uint32, POINTER(c_uint32), POINTER(_Fault)],
+    "session_indirect": [POINTER(_Client), c_uint64, c_uint32, POINTER(c_uint32), POINTER(_Fault)],
+    "session_isempty": [POINTER(_Client), c_uint64, POINTER(c_uint32), POINTER(_Fault)],
+    "session_capture": [POINTER(_Client), c_uint64, POINTER(_Handle), POINTER(_Fault)],
+    "session_restart": [POINTER(_Client), c_uint64, POINTER(_Handle), POINTER(_Fault)],
+    "capture_changeset": [POINTER(_Handle), c_uint32, _OUT, _LEN, POINTER(c_size_t)],
+    "capture_patchset": [POINTER(_Handle), c_uint32, _OUT, _LEN, POINTER(c_size_t)],
+    "capture_close": [POINTER(_Handle)],
+    "batch_open": [POINTER(_Handle)],
+    "batch_open_at": [POINTER(_Handle), c_uint64],
+    "batch_close": [POINTER(_Handle)],
+    "insert": [POINTER(_Handle), _BYTES, _LEN, _BYTES, _LEN, c_uint32, POINTER(_Fault)],
+    "update": [POINTER(_Handle), _BYTES, _LEN, _BYTES, _LEN, c_uint64, _BYTES, _LEN, c_uint32, POINTER(_Fault)],
+    "delete": [POINTER(_Handle), _BYTES, _LEN, _BYTES, _LEN, c_uint64, c_uint32, POINTER(_Fault)],
+    "commit": [POINTER(_Client), POINTER(_Handle), POINTER(c_uint64), POINTER(_Fault)],
+    "snapshot_open": [POINTER(_Client), POINTER(_Handle)],
+    "snapshot_close": [POINTER(_Handle)],
+    "get": [POINTER(_Handle), _BYTES, _LEN, _BYTES, _LEN, c_uint64, POINTER(_Handle), POINTER(_Fault)],
+    "scan": [POINTER(_Handle), _BYTES, _LEN, POINTER(_Handle), POINTER(_Fault)],
     "step": [POINTER(_Handle)],
     "row_id": [POINTER(_Handle), POINTER(c_uint64)],
-    "columns": [POINTER(_Handle), POINTER(c_size_t)],
-    "column": [POINTER(_Handle), _LEN, POINTER(_Field)],
-    "column_bytes": [POINTER(_Handle), _LEN, _OUT, _LEN, POINTER(c_size_t)],
+    "row": [POINTER(_Handle), _OUT, _LEN, POINTER(c_size_t)],
+    "rows_close": [POINTER(_Handle)],
 }
 # Calls without a status.
-_SILENT = {"begin", "begin_at", "clear_bindings", "iter_close", "decoder_close", "server_close"}
+_SILENT = {"close", *(it for it in _CALLS if it.endswith("_close"))}
 
 
 class _Library:
@@ -222,6 +243,8 @@ _MESSAGES = {
     PATCHSET: "a patchset, where only a changeset serves",
     MISUSE: "misuse",
     FULL: "history full",
+    OVERTAKEN: "another call had the client",
+    CLIENTS: "too many clients",
     KIND: "a changeset and a patchset",
     COLUMNS: "a table that had other columns before",
 }
@@ -241,6 +264,12 @@ def _check(status, fault=None, has_place=lambda kind: False):
         raise MemoryError
     if status != OK:
         raise Error(status, _MESSAGES.get(status, f"status {status}"))
+
+
+def _check_records(status, fault):
+    """The same of a call that takes records. A value with more bytes than a value may have makes none, nor does NULL
+    in a key."""
+    _check(MISUSE if status == MALFORMED else status, fault)
 
 
 def _content(blob):
@@ -264,6 +293,12 @@ def _number(number, bits=32):
         raise TypeError(f"a number is an int, not {_type(number)}")
     if not 0 <= number < 2**bits:
         raise ValueError(f"{int(number)} is not a number of {bits} bits")
+    return number
+
+
+def _key_flags(number):
+    """The number of key flags."""
+    _check(OK if _number(number) in (KEYS_ONES, KEYS_PLACES) else MISUSE)
     return number
 
 
@@ -419,64 +454,105 @@ class Row:
     values: tuple
 
 
-def _binding(value):
-    """The call that binds a value, and its words."""
+# A record has the fields of a row, of a key or of an update, one after the other as a changeset has them
+# (docs/manual/formats.md, "Changeset").
+_INTEGER = struct.Struct(">Bq")
+_NULL = bytes((NULL,))
+_NO_COLUMN = 2000  # The first column that no table has.
+
+
+def _sized(kind, content):
+    """The field of a text or of a blob: how many bytes it has is in groups of seven bits, the most significant
+    first."""
+    length = len(content)
+    if length < 0x80:
+        return bytes((kind, length)) + content
+    groups = [length & 0x7F]
+    while length := length >> 7:
+        groups.append(length & 0x7F | 0x80)
+    return bytes((kind, *groups[::-1])) + content
+
+
+def _field(value):
+    """The field of a value."""
     if value is None:
-        return (_library.bind_null,)
+        return _NULL
     if isinstance(value, int):
         if not -2**63 <= value < 2**63:
             raise OverflowError("an integer has 64 bits")
-        return _library.bind_int, value
+        return _INTEGER.pack(INTEGER, value)
     if isinstance(value, str):
-        text = value.encode()
-        return _library.bind_text, text, len(text)
+        return _sized(TEXT, value.encode())
     if not isinstance(value, (bytes, bytearray, memoryview)):
         raise TypeError(f"a value is None, int, str or bytes, not {_type(value)}")
-    content = _content(value)
-    return _library.bind_blob, content, len(content)
+    return _sized(BLOB, _content(value))
 
 
-def _bindings(values, what="a row"):
-    """The calls that bind the values of a row or of a key."""
+def _record(values, what="a row"):
+    """The record of a row or of a key."""
     if not isinstance(values, Sequence) or isinstance(values, (str, bytes, bytearray, memoryview)):
         raise TypeError(f"{what} is a tuple or a list of values, as in (1,), not {_type(values)}")
-    return [_binding(it) for it in values]
+    return b"".join(map(_field, values))
+
+
+def _assignments(fields):
+    """The record of the new values of an update. A column that no table has stands for any other such."""
+    if not isinstance(fields, Mapping):
+        raise TypeError(f"the new values are a dict, as in {{1: 'x'}}, not {_type(fields)}")
+    by_column = {min(_number(column, 64), _NO_COLUMN): _field(value) for column, value in fields.items()}
+    return b"".join(by_column.get(it, b"\0") for it in range(max(by_column, default=-1) + 1))
+
+
+def _values(record):
+    """The values of the record of a row."""
+    values, at = [], 0
+    while at < len(record):
+        kind, at = record[at], at + 1
+        if kind == INTEGER:
+            values.append(int.from_bytes(record[at:at + 8], "big", signed=True))
+            at += 8
+        elif kind == NULL:
+            values.append(None)
+        else:
+            length, group = 0, 0x80
+            while group & 0x80:
+                group, at = record[at], at + 1
+                length = length << 7 | group & 0x7F
+            content = record[at:at + length]
+            values.append(content.decode() if kind == TEXT else content)
+            at += length
+    return tuple(values)
 
 
 def _named(row):
-    """The calls that bind the key of a row, and 0; or none, and its id."""
+    """The record of a row's key, and 0; or no bytes, and its id."""
     if isinstance(row, RowId):
-        return [], _number(row, 64)
+        return b"", _number(row, 64)
     if isinstance(row, int):
         raise TypeError(f"a row is named by its key, as in ({row!r},), or by its id, as in RowId({row!r})")
-    return _bindings(row, "a key"), 0
+    return _record(row, "a key"), 0
 
 
-def _insert(fault, table, values, cause=DIRECT):
-    name = _text(table)
-    return [*_bindings(values), (_library.insert, name, len(name), _number(cause), byref(fault))]
+def _insert(table, values, cause=DIRECT):
+    name, row = _text(table), _record(values)
+    return _library.insert, name, len(name), row, len(row), _number(cause)
 
 
-def _update(fault, table, row, fields, cause=DIRECT):
-    name, (calls, number) = _text(table), _named(row)
-    if not isinstance(fields, Mapping):
-        raise TypeError(f"the new values are a dict, as in {{1: 'x'}}, not {_type(fields)}")
-    for column, value in fields.items():
-        calls += [_binding(value), (_library.set, _number(column, 64))]
-    return [*calls, (_library.update, name, len(name), number, _number(cause), byref(fault))]
+def _update(table, row, fields, cause=DIRECT):
+    name, (key, number), fields = _text(table), _named(row), _assignments(fields)
+    return _library.update, name, len(name), key, len(key), number, fields, len(fields), _number(cause)
 
 
-def _delete(fault, table, row, cause=DIRECT):
-    name, (calls, number) = _text(table), _named(row)
-    return [*calls, (_library.delete, name, len(name), number, _number(cause), byref(fault))]
+def _delete(table, row, cause=DIRECT):
+    name, (key, number) = _text(table), _named(row)
+    return _library.delete, name, len(name), key, len(key), number, _number(cause)
 
 
 _PUT = {"insert": (_insert, 3), "update": (_update, 4), "delete": (_delete, 3)}
 
 
-def _put(operation, fault):
-    """The calls that put an operation last in the batch, made of the tuple that `Server.commit` takes. No call is
-    made here, so that nothing is bound where a part of it does not fit."""
+def _put(operation):
+    """The call that puts an operation last in a batch, and its words, made of the tuple that `Server.commit` takes."""
     if not isinstance(operation, (tuple, list)) or not operation or not isinstance(operation[0], str):
         raise TypeError(f"an operation is a tuple, as in ('insert', 't', (1, 'x')), not {operation!r:.50}")
     word, *parts = operation
@@ -485,47 +561,45 @@ def _put(operation, fault):
     call, least = _PUT[word]
     if not least <= len(operation) <= least + 1:
         raise ValueError(f"the operation {word!r} has {least} parts, and a cause behind them or none")
-    return call(fault, *parts)
+    return call(*parts)
 
 
-def _value(handle, column):
-    """The value of a column of the row that a server is at."""
-    field = _Field()
-    _check(_library.column(byref(handle), column, byref(field)))
-    if field.kind not in (TEXT, BLOB):
-        return field.number if field.kind == INTEGER else None
-    content = _taken(lambda *out: _library.column_bytes(byref(handle), column, *out), field.len)
-    return content.decode() if field.kind == TEXT else content
-
-
-def _rows(handle):
-    """The rows that were read last."""
-    number, columns = c_uint64(), c_size_t()
-    while _library.step(byref(handle)) == ROW:
-        _check(_library.row_id(byref(handle), byref(number)))
-        _check(_library.columns(byref(handle), byref(columns)))
-        yield Row(RowId(number.value) if number.value else None,
-                  tuple(_value(handle, it) for it in range(columns.value)))
+def _rows(rows):
+    """Each of the rows that were read."""
+    number, length, out = c_uint64(), c_size_t(), ctypes.create_string_buffer(256)
+    while _library.step(rows) == ROW:
+        _check(_library.row_id(rows, byref(number)))
+        while (status := _library.row(rows, out, len(out), byref(length))) == ROOM:
+            out = ctypes.create_string_buffer(length.value)
+        _check(status)
+        yield Row(RowId(number.value) if number.value else None, _values(out[:length.value]))
 
 
 class Server:
-    """A table server in memory. Calls of several threads wait for each other."""
+    """A table server in memory, or a further client of one. Calls of several threads on one client wait for each
+    other."""
 
-    def __init__(self):
-        self._lock, self._handle = threading.Lock(), _Handle()
-        # The numbers of sessions that nobody refers to any more. They are ended before the next call.
-        self._unused = deque()
-        _check(_library.server_open(byref(self._handle)))
+    def __init__(self, _of=None):
+        # The numbers of the sessions that this client made, and of those that nobody refers to any more. The latter are
+        # ended before the next call.
+        self._live, self._unused = set(), deque()
+        self._lock, self._handle = threading.Lock(), _Client()
+        _check(_library.open(self._handle) if _of is None else _library.join(self._handle, _of))
+
+    def join(self):
+        """A further client of the same server, for another thread: calls of both may run at once. As many as 64 may
+        be open. The server ends when the last of them is closed."""
+        return self._made(lambda handle, _: Server(handle))
 
     def call(self, command):
         """The text of the reply to one command of the workload language (docs/manual/formats.md)."""
         text = _text(command)
 
         def replied(handle, fault):
-            status = _library.server_call(handle, text, len(text), byref(fault))
+            status = _library.call(handle, text, len(text), byref(fault))
             if status not in (OK, REFUSED):
                 _check(status, fault)
-            reply = _taken(lambda *out: _library.server_reply(handle, *out)).decode()
+            reply = _taken(lambda *out: _library.reply(handle, *out)).decode()
             if status == REFUSED:
                 raise Refused.of_reply(reply)
             return reply
@@ -544,9 +618,10 @@ class Server:
         """Ends the sessions that nobody refers to any more, while this thread has the handle."""
         while self._unused:
             number = self._unused.popleft()
-            if _library.session_drop(byref(self._handle), number, byref(_Fault())) == NOMEM:
+            if _library.session_drop(self._handle, number, byref(_Fault())) == NOMEM:
                 self._unused.append(number)
                 return
+            self._live.discard(number)
 
     def _done(self, call, *words, has_place=lambda kind: False):
         """Makes a call with the handle, the words and a fault."""
@@ -566,52 +641,33 @@ class Server:
         ("delete", table, row), and CASCADE behind it where a trigger or a foreign key action is its cause. A row
         is a tuple, its key, or a `RowId` where it has no key. Of a `Refused`, `at` is the number of the operation,
         from 0."""
-        refusal, version = _Fault(), c_uint64()
-        calls = [call for it in operations for call in _put(it, refusal)]
-        base = None if base is None else _number(base, 64)
+        calls, version = [_put(it) for it in operations], c_uint64()
+        base, fault = None if base is None else _number(base, 64), _Fault()
+        with _Owned(_library.batch_close) as batch:
+            _check(_library.batch_open(batch) if base is None else _library.batch_open_at(batch, base))
+            for call, *words in calls:
+                _check_records(call(batch, *words, byref(fault)), fault)
+            # E11 is the refusal of the whole batch.
+            self._done(_library.commit, batch, byref(version), has_place=lambda kind: kind != 11)
+        return version.value
 
-        def committed(handle, fault):
-            try:
-                if base is None:
-                    _library.begin(handle)
-                else:
-                    _library.begin_at(handle, base)
-                for call, *words in calls:
-                    _check(call(handle, *words), refusal)
-                status = _library.commit(handle, byref(version), byref(fault))
-                # E11 is the refusal of the whole batch.
-                _check(status, fault, lambda kind: kind != 11)
-            finally:
-                # Of a batch that is not committed neither an operation nor a value stays.
-                _library.begin(handle)
-            return version.value
-
-        return self._made(committed)
-
-    def _read(self, call, name, *words):
-        """The rows that a call reads, while this thread has the handle."""
+    def _read(self, call, *words):
+        """The rows that a call reads of a snapshot."""
         fault = _Fault()
-        _check(call(byref(self._handle), name, len(name), *words, byref(fault)), fault)
-        return list(_rows(self._handle))
+        with _Owned(_library.snapshot_close) as snapshot, _Owned(_library.rows_close) as rows:
+            self._made(lambda handle, _: _check(_library.snapshot_open(handle, snapshot)))
+            _check_records(call(snapshot, *words, rows, byref(fault)), fault)
+            return list(_rows(rows))
 
     def get(self, table, row):
         """The row with this key, a tuple, or with this `RowId`; or None."""
-        name, (calls, number) = _text(table), _named(row)
-
-        def found(handle, _):
-            try:
-                for call, *words in calls:
-                    _check(call(handle, *words))
-                return self._read(_library.get, name, number)
-            finally:
-                _library.clear_bindings(handle)
-
-        return next(iter(self._made(found)), None)
+        name, (key, number) = _text(table), _named(row)
+        return next(iter(self._read(_library.get, name, len(name), key, len(key), number)), None)
 
     def scan(self, table):
         """All rows of a table: those with a key in the order of their keys, and then the others by their ids."""
         name = _text(table)
-        return self._made(lambda *_: self._read(_library.scan, name))
+        return self._read(_library.scan, name, len(name))
 
     def save(self, database):
         """Saves the tables under a name, for `Session.diff`."""
@@ -628,15 +684,21 @@ class Server:
 
     def session(self):
         """Makes a session, which ends when nobody refers to it any more."""
-        number = c_uint64()
-        self._done(_library.session_new, byref(number))
-        return Session(self, number.value)
+        def new_session(handle, fault):
+            number = c_uint64()
+            _check(_library.session_new(handle, byref(number), byref(fault)), fault)
+            self._live.add(number.value)
+            return Session(self, number.value)
+
+        return self._made(new_session)
 
     def close(self):
-        """Ends the server. Closing it again does nothing."""
+        """Ends the sessions of this client, and the server where it is the last. Closing it again does nothing."""
         with self._lock:
             if self._handle.at:
-                _library.server_close(byref(self._handle))
+                for number in list(self._live):
+                    _library.session_drop(self._handle, number, byref(_Fault()))
+                _library.close(self._handle)
 
     def __enter__(self):
         return self
@@ -654,6 +716,8 @@ class Session:
 
     def __init__(self, server, number):
         self._server, self.number, self._is_ended = server, number, False
+        # What a restart has captured where there was no memory for its bytes.
+        self._kept = deque()
 
     def __del__(self):
         # The server's lock may be this thread's already: the collector runs at any time.
@@ -696,28 +760,40 @@ class Session:
         """Whether the session has no records."""
         return self._flag(_library.session_isempty)
 
-    def _captured(self, call, key_flags):
-        """The blob that a call writes."""
-        key_flags = _number(key_flags)
-
-        def taken(handle, fault):
-            return _taken(lambda *out: call(handle, self.number, key_flags, *out, byref(fault)), fault=fault)
-
-        return self._server._made(taken)
+    def _captured(self, call):
+        """What a call captures."""
+        capture = _Owned(_library.capture_close)
+        self._server._done(call, self.number, capture)
+        return capture
 
     def changeset(self, key_flags=KEYS_PLACES):
         """The changeset of what the session has captured."""
-        return self._captured(_library.session_changeset, key_flags)
+        key_flags = _key_flags(key_flags)
+        with self._captured(_library.session_capture) as capture:
+            return _taken(lambda *out: _library.capture_changeset(capture, key_flags, *out))
 
     def patchset(self, key_flags=KEYS_PLACES):
         """The patchset of what the session has captured."""
-        return self._captured(_library.session_patchset, key_flags)
+        key_flags = _key_flags(key_flags)
+        with self._captured(_library.session_capture) as capture:
+            return _taken(lambda *out: _library.capture_patchset(capture, key_flags, *out))
 
     def restart(self, key_flags=KEYS_PLACES):
-        """The changeset. The session goes on without its records; its flags and tables stay."""
-        return self._captured(_library.session_restart, key_flags)
+        """The changeset. The session goes on without its records; its flags and tables stay. Where there is no memory
+        for the bytes, the next restart answers them."""
+        key_flags = _key_flags(key_flags)
+        try:
+            capture = self._kept.popleft()
+        except IndexError:
+            capture = self._captured(_library.session_restart)
+        try:
+            return _taken(lambda *out: _library.capture_changeset(capture, key_flags, *out))
+        except BaseException:
+            self._kept.appendleft(capture)
+            raise
 
     def drop(self):
         """Ends the session."""
         self._server._done(_library.session_drop, self.number)
         self._is_ended = True
+        self._server._live.discard(self.number)

@@ -499,6 +499,33 @@ class Servers(unittest.TestCase):
             for other in OTHERS:
                 self.assertRaises(TypeError, server.apply, other)
 
+    def test_values_of_many_lengths(self):
+        with changecap.Server() as server:
+            server.create_table("t", [True, False])
+            lengths = 0, 1, 127, 128, 300, 16383, 16384, 2097152
+            rows = [(number, content * length) for number, (content, length) in
+                    enumerate((content, length) for content in ("x", b"\xff") for length in lengths)]
+            rows += [(number, number) for number in (-2**63, -1, 2**63 - 1)]
+            server.commit(*(("insert", "t", row) for row in rows))
+            self.assertEqual([it.values for it in server.scan("t")], sorted(rows, key=lambda row: row[0]))
+            for row in rows:
+                self.assertEqual(server.get("t", row[:1]), changecap.Row(None, row))
+                server.commit(("update", "t", row[:1], {0: row[1]}))
+                self.assertEqual(server.get("t", row[1:]), changecap.Row(None, (row[1], row[1])))
+                server.commit(("delete", "t", row[1:]))
+            self.assertEqual(server.scan("t"), [])
+
+    def test_columns_that_are_not_there(self):
+        with changecap.Server() as server:
+            server.create_table("t", [True, False])
+            server.commit(("insert", "t", (1, "x")))
+            for columns in (2,), (1999,), (2000,), (2**64 - 1,), (0, 2**32, 2**33):
+                with self.assertRaises(changecap.Refused) as raised:
+                    server.commit(("update", "t", (1,), dict.fromkeys(columns)))
+                self.assertEqual((raised.exception.kind, raised.exception.at), (4, 0))
+            server.commit(("update", "t", (1,), {}))
+            self.assertEqual(server.scan("t"), [changecap.Row(None, (1, "x"))])
+
     def test_numbers_of_refusals(self):
         second = bytes.fromhex("12000100000000000000020301")
         with changecap.Server() as server:
@@ -715,6 +742,22 @@ class Examples(unittest.TestCase):
             def commit(first):
                 for number in range(first, first + 100):
                     server.commit(("insert", "t", (number, None)))
+
+            threads = [threading.Thread(target=commit, args=(first,)) for first in (0, 100)]
+            for thread in threads:
+                thread.start()
+            for thread in threads:
+                thread.join()
+            self.assertEqual([row.values[0] for row in server.scan("t")], list(range(200)))
+
+    def test_clients(self):
+        with changecap.Server() as server:
+            server.create_table("t", [True, False])
+
+            def commit(first):
+                with server.join() as client:
+                    for number in range(first, first + 100):
+                        client.commit(("insert", "t", (number, None)))
 
             threads = [threading.Thread(target=commit, args=(first,)) for first in (0, 100)]
             for thread in threads:

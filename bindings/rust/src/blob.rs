@@ -64,11 +64,11 @@ fn json_of(blob: &[u8]) -> Result<String> {
 
 /// The bytes of a changeset.
 #[derive(Clone, Debug, PartialEq, Eq)]
-pub struct Changeset(Vec<u8>);
+pub struct Changeset(pub(crate) Vec<u8>);
 
 /// The bytes of a patchset.
 #[derive(Clone, Debug, PartialEq, Eq)]
-pub struct Patchset(Vec<u8>);
+pub struct Patchset(pub(crate) Vec<u8>);
 
 impl Changeset {
     /// The changeset with these bytes, which are checked. No bytes are a changeset without changes.

@@ -11,23 +11,36 @@ pub(crate) fn done(call: impl FnOnce(&mut ffi::Fault) -> u32) -> Result<()> {
     }
 }
 
+/// The same of a call that takes records. A value with more bytes than a value may have makes none, nor does
+/// NULL in a key.
+pub(crate) fn done_with_records(call: impl FnOnce(&mut ffi::Fault) -> u32) -> Result<()> {
+    done(call).map_err(|error| if let Error::Malformed(_) = error { Error::Misuse } else { error })
+}
+
+/// How many bytes a call writes to the buffer, which grows where it is too short.
+pub(crate) fn taken_into(
+    out: &mut Vec<u8>,
+    call: impl Fn(&mut [u8], &mut usize, &mut ffi::Fault) -> u32,
+) -> Result<usize> {
+    let (mut len, mut fault) = (0, ffi::Fault::default());
+    loop {
+        match call(out, &mut len, &mut fault) {
+            ffi::OK => return Ok(len),
+            ffi::ROOM => out.resize(len, 0),
+            status => return Err(Error::of(status, fault)),
+        }
+    }
+}
+
 /// The bytes that a call writes, which gets a buffer of this length first.
 pub(crate) fn taken(
     room: usize,
     call: impl Fn(&mut [u8], &mut usize, &mut ffi::Fault) -> u32,
 ) -> Result<Vec<u8>> {
     let mut out = vec![0; room];
-    let (mut len, mut fault) = (0, ffi::Fault::default());
-    loop {
-        match call(&mut out, &mut len, &mut fault) {
-            ffi::OK => {
-                out.truncate(len);
-                return Ok(out);
-            }
-            ffi::ROOM => out.resize(len, 0),
-            status => return Err(Error::of(status, fault)),
-        }
-    }
+    let len = taken_into(&mut out, call)?;
+    out.truncate(len);
+    Ok(out)
 }
 
 /// The text of bytes that a call writes as UTF-8.

@@ -41,6 +41,10 @@ pub enum Error {
     Filter(Fault),
     /// The server has answered as many commands as it can.
     HistoryFull,
+    /// Another call had the client at the same time, which this crate never lets happen.
+    Overtaken,
+    /// As many clients of one history are open as there may be, 64.
+    TooManyClients,
     /// A stream could not be read or written.
     Io(io::Error),
 }
@@ -61,6 +65,8 @@ impl Error {
             ffi::COMMAND => Error::Command(fault),
             ffi::FILTER => Error::Filter(fault),
             ffi::FULL => Error::HistoryFull,
+            ffi::OVERTAKEN => Error::Overtaken,
+            ffi::CLIENTS => Error::TooManyClients,
             _ => Error::Misuse,
         }
     }
@@ -89,6 +95,8 @@ impl fmt::Display for Error {
             Error::Command(fault) => write!(f, "not one command: G{} at {}", fault.kind, fault.at),
             Error::Filter(fault) => write!(f, "no filter: E{} at {}", fault.kind, fault.at),
             Error::HistoryFull => f.write_str("history full"),
+            Error::Overtaken => f.write_str("another call had the client"),
+            Error::TooManyClients => f.write_str("too many clients"),
             Error::Io(error) => error.fmt(f),
         }
     }

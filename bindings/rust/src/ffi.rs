@@ -13,6 +13,9 @@ pub const FULL: u32 = 8;
 pub const KIND: u32 = 9;
 pub const COLUMNS: u32 = 10;
 pub const FILTER: u32 = 11;
+pub const BUSY: u32 = 12;
+pub const OVERTAKEN: u32 = 13;
+pub const CLIENTS: u32 = 14;
 pub const ROW: u32 = 100;
 
 pub const KEYS_ONES: u32 = 0;
@@ -72,7 +75,18 @@ pub struct Report {
     pub skipped: u64,
 }
 
-/// A `changecap_iter`, a `changecap_decoder` or a `changecap_server`: null while it is closed.
+/// A `changecap_client`: `at` is null while it is closed.
+#[repr(C)]
+pub struct Client {
+    pub at: *mut u8,
+    pub shared: *mut u8,
+}
+
+impl Client {
+    pub const CLOSED: Client = Client { at: std::ptr::null_mut(), shared: std::ptr::null_mut() };
+}
+
+/// A handle of any other kind, as a `changecap_iter` or a `changecap_batch`: null while it is closed.
 #[repr(C)]
 pub struct Handle {
     pub at: *mut u8,
@@ -82,9 +96,10 @@ impl Handle {
     pub const CLOSED: Handle = Handle { at: std::ptr::null_mut() };
 }
 
-pub type FlagCall = unsafe extern "C" fn(*mut Handle, u64, u32, *mut u32, *mut Fault) -> u32;
-pub type CaptureCall =
-    unsafe extern "C" fn(*mut Handle, u64, u32, *mut u8, usize, *mut usize, *mut Fault) -> u32;
+pub type CloseCall = unsafe extern "C" fn(*mut Handle);
+pub type FlagCall = unsafe extern "C" fn(*mut Client, u64, u32, *mut u32, *mut Fault) -> u32;
+pub type CaptureCall = unsafe extern "C" fn(*mut Client, u64, *mut Handle, *mut Fault) -> u32;
+pub type WriteCall = unsafe extern "C" fn(*mut Handle, u32, *mut u8, usize, *mut usize) -> u32;
 pub type ConvertCall =
     unsafe extern "C" fn(*const u8, usize, u32, *mut u8, usize, *mut usize, *mut Fault) -> u32;
 pub type FieldCall = unsafe extern "C" fn(*mut Handle, usize, *mut Field) -> u32;
@@ -160,13 +175,14 @@ unsafe extern "C" {
     pub fn changecap_decoder_finish(decoder: *mut Handle, iter: *mut Handle, fault: *mut Fault) -> u32;
     pub fn changecap_decoder_close(decoder: *mut Handle);
 
-    pub fn changecap_server_open(server: *mut Handle) -> u32;
-    pub fn changecap_server_call(server: *mut Handle, text: *const u8, n: usize, fault: *mut Fault) -> u32;
-    pub fn changecap_server_reply(server: *mut Handle, out: *mut u8, room: usize, len: *mut usize) -> u32;
-    pub fn changecap_server_close(server: *mut Handle);
+    pub fn changecap_open(client: *mut Client) -> u32;
+    pub fn changecap_join(client: *mut Client, of: *mut Client) -> u32;
+    pub fn changecap_close(client: *mut Client);
+    pub fn changecap_call(client: *mut Client, text: *const u8, n: usize, fault: *mut Fault) -> u32;
+    pub fn changecap_reply(client: *mut Client, out: *mut u8, room: usize, len: *mut usize) -> u32;
 
     pub fn changecap_create(
-        server: *mut Handle,
+        client: *mut Client,
         table: *const u8,
         n: usize,
         key: *const u8,
@@ -174,9 +190,9 @@ unsafe extern "C" {
         version: *mut u64,
         fault: *mut Fault,
     ) -> u32;
-    pub fn changecap_save(server: *mut Handle, database: *const u8, n: usize, fault: *mut Fault) -> u32;
+    pub fn changecap_save(client: *mut Client, database: *const u8, n: usize, fault: *mut Fault) -> u32;
     pub fn changecap_apply(
-        server: *mut Handle,
+        client: *mut Client,
         blob: *const u8,
         n: usize,
         data: u32,
@@ -185,25 +201,25 @@ unsafe extern "C" {
         report: *mut Report,
         fault: *mut Fault,
     ) -> u32;
-    pub fn changecap_session_new(server: *mut Handle, session: *mut u64, fault: *mut Fault) -> u32;
-    pub fn changecap_session_drop(server: *mut Handle, session: u64, fault: *mut Fault) -> u32;
+    pub fn changecap_session_new(client: *mut Client, session: *mut u64, fault: *mut Fault) -> u32;
+    pub fn changecap_session_drop(client: *mut Client, session: u64, fault: *mut Fault) -> u32;
     pub fn changecap_session_attach(
-        server: *mut Handle,
+        client: *mut Client,
         session: u64,
         table: *const u8,
         n: usize,
         fault: *mut Fault,
     ) -> u32;
-    pub fn changecap_session_attach_all(server: *mut Handle, session: u64, fault: *mut Fault) -> u32;
+    pub fn changecap_session_attach_all(client: *mut Client, session: u64, fault: *mut Fault) -> u32;
     pub fn changecap_session_filter(
-        server: *mut Handle,
+        client: *mut Client,
         session: u64,
         text: *const u8,
         n: usize,
         fault: *mut Fault,
     ) -> u32;
     pub fn changecap_session_diff(
-        server: *mut Handle,
+        client: *mut Client,
         session: u64,
         from: *const u8,
         n: usize,
@@ -212,97 +228,116 @@ unsafe extern "C" {
         fault: *mut Fault,
     ) -> u32;
     pub fn changecap_session_enable(
-        server: *mut Handle,
+        client: *mut Client,
         session: u64,
         set: u32,
         flag: *mut u32,
         fault: *mut Fault,
     ) -> u32;
     pub fn changecap_session_indirect(
-        server: *mut Handle,
+        client: *mut Client,
         session: u64,
         set: u32,
         flag: *mut u32,
         fault: *mut Fault,
     ) -> u32;
     pub fn changecap_session_isempty(
-        server: *mut Handle,
+        client: *mut Client,
         session: u64,
         flag: *mut u32,
         fault: *mut Fault,
     ) -> u32;
-    pub fn changecap_session_changeset(
-        server: *mut Handle,
+    pub fn changecap_session_capture(
+        client: *mut Client,
         session: u64,
-        key_flags: u32,
-        out: *mut u8,
-        room: usize,
-        len: *mut usize,
-        fault: *mut Fault,
-    ) -> u32;
-    pub fn changecap_session_patchset(
-        server: *mut Handle,
-        session: u64,
-        key_flags: u32,
-        out: *mut u8,
-        room: usize,
-        len: *mut usize,
+        capture: *mut Handle,
         fault: *mut Fault,
     ) -> u32;
     pub fn changecap_session_restart(
-        server: *mut Handle,
+        client: *mut Client,
         session: u64,
+        capture: *mut Handle,
+        fault: *mut Fault,
+    ) -> u32;
+    pub fn changecap_capture_changeset(
+        capture: *mut Handle,
         key_flags: u32,
         out: *mut u8,
         room: usize,
         len: *mut usize,
-        fault: *mut Fault,
     ) -> u32;
+    pub fn changecap_capture_patchset(
+        capture: *mut Handle,
+        key_flags: u32,
+        out: *mut u8,
+        room: usize,
+        len: *mut usize,
+    ) -> u32;
+    pub fn changecap_capture_close(capture: *mut Handle);
 
-    pub fn changecap_begin(server: *mut Handle);
-    pub fn changecap_begin_at(server: *mut Handle, version: u64);
-    pub fn changecap_clear_bindings(server: *mut Handle);
-    pub fn changecap_bind_null(server: *mut Handle) -> u32;
-    pub fn changecap_bind_int(server: *mut Handle, number: i64) -> u32;
-    pub fn changecap_bind_text(server: *mut Handle, text: *const u8, n: usize) -> u32;
-    pub fn changecap_bind_blob(server: *mut Handle, blob: *const u8, n: usize) -> u32;
-    pub fn changecap_set(server: *mut Handle, column: usize) -> u32;
+    pub fn changecap_batch_open(batch: *mut Handle) -> u32;
+    pub fn changecap_batch_open_at(batch: *mut Handle, version: u64) -> u32;
+    pub fn changecap_batch_close(batch: *mut Handle);
     pub fn changecap_insert(
-        server: *mut Handle,
+        batch: *mut Handle,
         table: *const u8,
         n: usize,
+        row: *const u8,
+        len: usize,
         cause: u32,
         fault: *mut Fault,
     ) -> u32;
     pub fn changecap_update(
-        server: *mut Handle,
+        batch: *mut Handle,
         table: *const u8,
         n: usize,
+        key: *const u8,
+        m: usize,
         id: u64,
+        fields: *const u8,
+        len: usize,
         cause: u32,
         fault: *mut Fault,
     ) -> u32;
     pub fn changecap_delete(
-        server: *mut Handle,
+        batch: *mut Handle,
         table: *const u8,
         n: usize,
+        key: *const u8,
+        m: usize,
         id: u64,
         cause: u32,
         fault: *mut Fault,
     ) -> u32;
-    pub fn changecap_commit(server: *mut Handle, version: *mut u64, fault: *mut Fault) -> u32;
-
-    pub fn changecap_get(server: *mut Handle, table: *const u8, n: usize, id: u64, fault: *mut Fault) -> u32;
-    pub fn changecap_scan(server: *mut Handle, table: *const u8, n: usize, fault: *mut Fault) -> u32;
-    pub fn changecap_step(server: *mut Handle) -> u32;
-    pub fn changecap_row_id(server: *mut Handle, id: *mut u64) -> u32;
-    pub fn changecap_columns(server: *mut Handle, columns: *mut usize) -> u32;
-    pub fn changecap_column(server: *mut Handle, column: usize, field: *mut Field) -> u32;
-    pub fn changecap_column_bytes(
-        server: *mut Handle,
-        column: usize,
-        out: *mut u8,
-        room: usize,
-        len: *mut usize,
+    pub fn changecap_commit(
+        client: *mut Client,
+        batch: *mut Handle,
+        version: *mut u64,
+        fault: *mut Fault,
     ) -> u32;
+
+    pub fn changecap_snapshot_open(client: *mut Client, snapshot: *mut Handle) -> u32;
+    pub fn changecap_snapshot_close(snapshot: *mut Handle);
+    pub fn changecap_get(
+        snapshot: *mut Handle,
+        table: *const u8,
+        n: usize,
+        key: *const u8,
+        m: usize,
+        id: u64,
+        rows: *mut Handle,
+        fault: *mut Fault,
+    ) -> u32;
+    pub fn changecap_scan(
+        snapshot: *mut Handle,
+        table: *const u8,
+        n: usize,
+        rows: *mut Handle,
+        fault: *mut Fault,
+    ) -> u32;
+
+    pub fn changecap_step(rows: *mut Handle) -> u32;
+    pub fn changecap_row_id(rows: *mut Handle, id: *mut u64) -> u32;
+    pub fn changecap_row(rows: *mut Handle, out: *mut u8, room: usize, len: *mut usize) -> u32;
+    pub fn changecap_rows_close(rows: *mut Handle);
 }

@@ -1,8 +1,7 @@
 //! An iterator over the changes of a blob.
 use crate::call::{done, taken, text_of};
-use crate::ffi;
-use crate::Result;
-use std::cell::UnsafeCell;
+use crate::handle::Owned;
+use crate::{ffi, Result};
 use std::io::{ErrorKind, Read};
 
 /// What a change does to its row.
@@ -63,20 +62,17 @@ impl Operation {
 
 /// Goes over the changes of a changeset or a patchset. It owns what it reads, and may go to another thread.
 pub struct ChangesetIter {
-    // Each call takes the handle by `&mut` and puts it back as it was, so the iterator is not `Sync`.
-    handle: UnsafeCell<ffi::Handle>,
+    handle: Owned,
 }
-
-// SAFETY: what the handle owns is proved to be `Send`.
-unsafe impl Send for ChangesetIter {}
 
 impl ChangesetIter {
     /// Before the first change of a blob.
     pub fn start(blob: &[u8]) -> Result<ChangesetIter> {
-        let mut handle = ffi::Handle::CLOSED;
         // SAFETY: the handle is closed.
-        done(|fault| unsafe { ffi::changecap_iter_open(blob.as_ptr(), blob.len(), &mut handle, fault) })?;
-        Ok(ChangesetIter { handle: handle.into() })
+        let handle = Owned::open(ffi::changecap_iter_close, |iter| {
+            done(|fault| unsafe { ffi::changecap_iter_open(blob.as_ptr(), blob.len(), iter, fault) })
+        })?;
+        Ok(ChangesetIter { handle })
     }
 
     /// The same of all bytes that the reader gives, which is read to its end or to the piece that shows a
@@ -98,34 +94,26 @@ impl ChangesetIter {
     #[allow(clippy::should_implement_trait)]
     pub fn next(&mut self) -> Result<Option<ChangesetItem<'_>>> {
         // SAFETY: the handle is open as long as the iterator is there. So in each call of this file.
-        match unsafe { ffi::changecap_iter_next(self.handle.get()) } {
+        match unsafe { ffi::changecap_iter_next(self.handle.at()) } {
             ffi::ROW => Ok(Some(ChangesetItem { iter: self })),
             _ => Ok(None),
         }
     }
 }
 
-impl Drop for ChangesetIter {
-    fn drop(&mut self) {
-        unsafe { ffi::changecap_iter_close(self.handle.get()) }
-    }
-}
-
 /// A decoder that gets a blob in pieces of any lengths. It may go to another thread.
 pub struct Decoder {
-    handle: ffi::Handle,
+    handle: Owned,
 }
-
-// SAFETY: what the handle owns is proved to be `Send`, and each call on it takes the decoder by `&mut`.
-unsafe impl Send for Decoder {}
 
 impl Decoder {
     /// A decoder without bytes.
     pub fn new() -> Result<Decoder> {
-        let mut decoder = Decoder { handle: ffi::Handle::CLOSED };
         // SAFETY: the handle is closed.
-        done(|_| unsafe { ffi::changecap_decoder_open(&mut decoder.handle) })?;
-        Ok(decoder)
+        let handle = Owned::open(ffi::changecap_decoder_close, |decoder| {
+            done(|_| unsafe { ffi::changecap_decoder_open(decoder) })
+        })?;
+        Ok(Decoder { handle })
     }
 
     /// Takes the next piece. A fault that no further bytes can mend is reported with the piece that shows it,
@@ -133,25 +121,17 @@ impl Decoder {
     pub fn feed(&mut self, piece: &[u8]) -> Result<()> {
         // SAFETY: the handle is open until `finish`, which takes the decoder.
         done(|fault| unsafe {
-            ffi::changecap_decoder_feed(&mut self.handle, piece.as_ptr(), piece.len(), fault)
+            ffi::changecap_decoder_feed(self.handle.at(), piece.as_ptr(), piece.len(), fault)
         })
     }
 
     /// An iterator before the first change of all the pieces.
-    pub fn finish(mut self) -> Result<ChangesetIter> {
-        let mut handle = ffi::Handle::CLOSED;
+    pub fn finish(self) -> Result<ChangesetIter> {
         // SAFETY: the decoder is open, and the iterator closed.
-        done(|fault| unsafe { ffi::changecap_decoder_finish(&mut self.handle, &mut handle, fault) })?;
-        Ok(ChangesetIter { handle: handle.into() })
-    }
-}
-
-impl Drop for Decoder {
-    fn drop(&mut self) {
-        if !self.handle.at.is_null() {
-            // SAFETY: the handle is open.
-            unsafe { ffi::changecap_decoder_close(&mut self.handle) }
-        }
+        let handle = Owned::open(ffi::changecap_iter_close, |iter| {
+            done(|fault| unsafe { ffi::changecap_decoder_finish(self.handle.at(), iter, fault) })
+        })?;
+        Ok(ChangesetIter { handle })
     }
 }
 
@@ -162,7 +142,7 @@ pub struct ChangesetItem<'it> {
 
 impl ChangesetItem<'_> {
     fn at(&self) -> *mut ffi::Handle {
-        self.iter.handle.get()
+        self.iter.handle.at()
     }
 
     /// What the change is.
@@ -206,36 +186,26 @@ impl ChangesetItem<'_> {
         self.value(column, ffi::changecap_iter_new, ffi::changecap_iter_new_bytes)
     }
 
+    /// The value of a column by two calls, that of the value and that of its bytes.
     fn value(
         &self,
         column: usize,
         field_of: ffi::FieldCall,
         bytes_of: ffi::BytesCall,
     ) -> Result<Option<Value>> {
-        unsafe { value_of(self.at(), column, field_of, bytes_of) }
+        let mut field = ffi::Field::default();
+        done(|_| unsafe { field_of(self.at(), column, &mut field) })?;
+        let bytes = || {
+            taken(field.len, |out, len, _| unsafe {
+                bytes_of(self.at(), column, out.as_mut_ptr(), out.len(), len)
+            })
+        };
+        Ok(match field.kind {
+            ffi::UNDEFINED => None,
+            ffi::INTEGER => Some(Value::Integer(field.number)),
+            ffi::TEXT => Some(Value::Text(text_of(bytes()?)?)),
+            ffi::BLOB => Some(Value::Blob(bytes()?)),
+            _ => Some(Value::Null),
+        })
     }
-}
-
-/// The value of a column by two calls, that of the value and that of its bytes; none where it is undefined.
-///
-/// # Safety
-///
-/// The handle is an open one, of the kind that the calls take.
-pub(crate) unsafe fn value_of(
-    at: *mut ffi::Handle,
-    column: usize,
-    field_of: ffi::FieldCall,
-    bytes_of: ffi::BytesCall,
-) -> Result<Option<Value>> {
-    let mut field = ffi::Field::default();
-    done(|_| unsafe { field_of(at, column, &mut field) })?;
-    let bytes =
-        || taken(field.len, |out, len, _| unsafe { bytes_of(at, column, out.as_mut_ptr(), out.len(), len) });
-    Ok(match field.kind {
-        ffi::UNDEFINED => None,
-        ffi::INTEGER => Some(Value::Integer(field.number)),
-        ffi::TEXT => Some(Value::Text(text_of(bytes()?)?)),
-        ffi::BLOB => Some(Value::Blob(bytes()?)),
-        _ => Some(Value::Null),
-    })
 }

@@ -13,14 +13,19 @@
 
 mod blob;
 mod call;
+mod client;
 mod error;
 mod ffi;
+mod handle;
 mod iter;
+mod record;
 mod rows;
 mod server;
+mod session;
 
 pub use blob::{check, invert_strm, Changeset, KeyFlags, Patchset};
 pub use error::{Error, Fault, Result};
 pub use iter::{Action, ChangesetItem, ChangesetIter, Decoder, Operation, Value};
 pub use rows::{Cause, Row, RowRef};
-pub use server::{ConflictAction, Connection, Report, Session};
+pub use server::{ConflictAction, Connection, Report};
+pub use session::Session;

@@ -1,8 +1,7 @@
 //! Batches of operations, and the rows of a server.
-use crate::call::done;
-use crate::ffi;
-use crate::iter::value_of;
-use crate::{Connection, Error, Result, Value};
+use crate::call::{done, done_with_records, taken_into};
+use crate::handle::Owned;
+use crate::{ffi, record, Connection, Error, Result, Value};
 
 /// What causes an operation, by which a session marks its touch.
 #[derive(Clone, Copy, Debug, PartialEq, Eq)]
@@ -44,6 +43,47 @@ pub struct Row {
 /// operation.
 const STALE: u32 = 11;
 
+/// The operations that are put together.
+#[derive(Default)]
+pub(crate) struct Batch {
+    /// It is opened for the first operation, or for the commit.
+    handle: Option<Owned>,
+    /// The version on which alone it may be committed.
+    base: Option<u64>,
+    /// Whether an operation could not be put in it.
+    has_failed: bool,
+}
+
+impl Batch {
+    /// A batch without operations in place of this one.
+    fn begin(&mut self, base: Option<u64>) {
+        *self = Batch { handle: None, base, has_failed: false };
+    }
+
+    /// The open handle.
+    fn at(&mut self) -> Result<*mut ffi::Handle> {
+        if let Some(handle) = &self.handle {
+            return Ok(handle.at());
+        }
+        // SAFETY: the handle is closed.
+        let handle = Owned::open(ffi::changecap_batch_close, |batch| {
+            done(|_| match self.base {
+                None => unsafe { ffi::changecap_batch_open(batch) },
+                Some(version) => unsafe { ffi::changecap_batch_open_at(batch, version) },
+            })
+        })?;
+        Ok(self.handle.insert(handle).at())
+    }
+}
+
+/// The key of a row as its record, and its id, or 0.
+fn name_of(row: RowRef) -> (Vec<u8>, u64) {
+    match row {
+        RowRef::Key(key) => (record::of_values(key), 0),
+        RowRef::Id(id) => (Vec::new(), id),
+    }
+}
+
 /// A connection has one batch that is put together: operations that are made together or not at all.
 ///
 /// Where `insert`, `update` or `delete` fails, the whole batch has failed, as a transaction that SQLite has
@@ -53,137 +93,117 @@ const STALE: u32 = 11;
 impl Connection {
     /// Begins a batch in place of the one before it, of which nothing is made.
     pub fn begin(&self) {
-        self.has_failed.set(false);
-        // SAFETY: the handle is open as long as the connection is there, and no other call runs: the
-        // connection is not `Sync`. So in each call of this file.
-        unsafe { ffi::changecap_begin(self.at()) }
+        self.batch.borrow_mut().begin(None);
     }
 
     /// The same of a batch that may be committed on this version alone.
     pub fn begin_at(&self, version: u64) {
-        self.has_failed.set(false);
-        unsafe { ffi::changecap_begin_at(self.at(), version) }
-    }
-
-    fn bind(&self, values: &[Value]) -> Result<()> {
-        for value in values {
-            done(|_| unsafe {
-                match value {
-                    Value::Null => ffi::changecap_bind_null(self.at()),
-                    Value::Integer(number) => ffi::changecap_bind_int(self.at(), *number),
-                    Value::Text(text) => ffi::changecap_bind_text(self.at(), text.as_ptr(), text.len()),
-                    Value::Blob(blob) => ffi::changecap_bind_blob(self.at(), blob.as_ptr(), blob.len()),
-                }
-            })?;
-        }
-        Ok(())
-    }
-
-    /// Binds the key of a row, and answers its id, or 0.
-    fn bind_name(&self, row: RowRef) -> Result<u64> {
-        match row {
-            RowRef::Key(key) => self.bind(key).map(|()| 0),
-            RowRef::Id(0) => Err(Error::Misuse),
-            RowRef::Id(id) => Ok(id),
-        }
-    }
-
-    /// What a call makes of what is bound, of which nothing is left.
-    fn bound<T>(&self, call: impl FnOnce() -> Result<T>) -> Result<T> {
-        let made = call();
-        unsafe { ffi::changecap_clear_bindings(self.at()) };
-        made
+        self.batch.borrow_mut().begin(Some(version));
     }
 
     /// Puts an operation last in the batch by a call. Where it fails, the batch does.
-    fn put(&self, call: impl FnOnce() -> Result<()>) -> Result<()> {
-        let put = self.bound(call);
-        if put.is_err() {
-            self.has_failed.set(true);
-        }
+    fn put(&self, call: impl FnOnce(*mut ffi::Handle, &mut ffi::Fault) -> u32) -> Result<()> {
+        let mut batch = self.batch.borrow_mut();
+        let put = batch.at().and_then(|at| done_with_records(|fault| call(at, fault)));
+        batch.has_failed |= put.is_err();
         put
     }
 
     /// Puts an operation last in the batch that inserts a row. Whether there is such a table is looked at when
     /// the batch is committed.
     pub fn insert(&self, table: &str, row: &[Value], cause: Cause) -> Result<()> {
-        self.put(|| {
-            self.bind(row)?;
-            done(|fault| unsafe {
-                ffi::changecap_insert(self.at(), table.as_ptr(), table.len(), cause.number(), fault)
-            })
+        let (n, row) = (table.len(), record::of_values(row));
+        // SAFETY: the batch is open, and no other call has it. So in each call of this file.
+        self.put(|batch, fault| unsafe {
+            let (table, cause) = (table.as_ptr(), cause.number());
+            ffi::changecap_insert(batch, table, n, row.as_ptr(), row.len(), cause, fault)
         })
     }
 
     /// The same of one that sets columns, from 0 on, of a row.
     pub fn update(&self, table: &str, row: RowRef, set: &[(usize, Value)], cause: Cause) -> Result<()> {
-        self.put(|| {
-            let id = self.bind_name(row)?;
-            for (column, value) in set {
-                self.bind(std::slice::from_ref(value))?;
-                done(|_| unsafe { ffi::changecap_set(self.at(), *column) })?;
-            }
-            done(|fault| unsafe {
-                ffi::changecap_update(self.at(), table.as_ptr(), table.len(), id, cause.number(), fault)
-            })
+        let (n, (key, id), set) = (table.len(), name_of(row), record::of_assignments(set));
+        self.put(|batch, fault| unsafe {
+            let (table, key, m, cause) = (table.as_ptr(), key.as_ptr(), key.len(), cause.number());
+            ffi::changecap_update(batch, table, n, key, m, id, set.as_ptr(), set.len(), cause, fault)
         })
     }
 
     /// The same of one that deletes a row.
     pub fn delete(&self, table: &str, row: RowRef, cause: Cause) -> Result<()> {
-        self.put(|| {
-            let id = self.bind_name(row)?;
-            done(|fault| unsafe {
-                ffi::changecap_delete(self.at(), table.as_ptr(), table.len(), id, cause.number(), fault)
-            })
+        let (n, (key, id)) = (table.len(), name_of(row));
+        self.put(|batch, fault| unsafe {
+            let (table, cause) = (table.as_ptr(), cause.number());
+            ffi::changecap_delete(batch, table, n, key.as_ptr(), key.len(), id, cause, fault)
         })
     }
 
-    /// Commits the batch, and answers the new version. A refusal has the number of the operation, from 0. Then
-    /// another batch begins, but for [`Error::OutOfMemory`], which leaves the batch: it may be committed again.
+    /// Commits the batch, and answers the new version. A refusal has the number of the operation, from 0. After
+    /// both another batch begins. With any other error, as [`Error::OutOfMemory`], the batch stays: it may be
+    /// committed again.
     pub fn commit(&self) -> Result<u64> {
-        if self.has_failed.get() {
-            self.begin();
+        let mut batch = self.batch.borrow_mut();
+        if batch.has_failed {
+            batch.begin(None);
             return Err(Error::FailedBatch);
         }
-        let (mut version, mut fault) = (0, ffi::Fault::default());
-        match unsafe { ffi::changecap_commit(self.at(), &mut version, &mut fault) } {
-            ffi::OK => Ok(version),
-            status => Err(Error::at_part(status, fault, |kind| kind != STALE)),
+        let (at, mut version, mut fault) = (batch.at()?, 0, ffi::Fault::default());
+        let status =
+            self.client.with(|client| unsafe { ffi::changecap_commit(client, at, &mut version, &mut fault) });
+        if status == ffi::OK {
+            // The handle has another batch now, for any version.
+            batch.base = None;
+            return Ok(version);
         }
+        if status == ffi::REFUSED {
+            batch.begin(None);
+        }
+        Err(Error::at_part(status, fault, |kind| kind != STALE))
     }
 
-    fn column(&self, column: usize) -> Result<Value> {
-        let value =
-            unsafe { value_of(self.at(), column, ffi::changecap_column, ffi::changecap_column_bytes) }?;
-        value.ok_or(Error::Misuse)
-    }
-
-    /// The rows that were read last.
-    fn rows(&self) -> Result<Vec<Row>> {
-        let mut rows = Vec::new();
-        while unsafe { ffi::changecap_step(self.at()) } == ffi::ROW {
-            let (mut id, mut columns) = (0, 0);
-            done(|_| unsafe { ffi::changecap_row_id(self.at(), &mut id) })?;
-            done(|_| unsafe { ffi::changecap_columns(self.at(), &mut columns) })?;
-            let values = (0..columns).map(|column| self.column(column)).collect::<Result<_>>()?;
-            rows.push(Row { id: (id != 0).then_some(id), values });
-        }
-        Ok(rows)
+    /// The rows that a call reads of a snapshot.
+    fn read(
+        &self,
+        call: impl FnOnce(*mut ffi::Handle, *mut ffi::Handle, &mut ffi::Fault) -> u32,
+    ) -> Result<Vec<Row>> {
+        // SAFETY: the handles are closed.
+        let snapshot = Owned::open(ffi::changecap_snapshot_close, |snapshot| {
+            self.client.done(|client, _| unsafe { ffi::changecap_snapshot_open(client, snapshot) })
+        })?;
+        let rows = Owned::open(ffi::changecap_rows_close, |rows| {
+            done_with_records(|fault| call(snapshot.at(), rows, fault))
+        })?;
+        rows_of(&rows)
     }
 
     /// The row of this name, if there is one.
     pub fn get(&self, table: &str, row: RowRef) -> Result<Option<Row>> {
-        self.bound(|| {
-            let id = self.bind_name(row)?;
-            done(|fault| unsafe { ffi::changecap_get(self.at(), table.as_ptr(), table.len(), id, fault) })
+        let (n, (key, id)) = (table.len(), name_of(row));
+        let mut rows = self.read(|snapshot, rows, fault| unsafe {
+            ffi::changecap_get(snapshot, table.as_ptr(), n, key.as_ptr(), key.len(), id, rows, fault)
         })?;
-        Ok(self.rows()?.pop())
+        Ok(rows.pop())
     }
 
     /// All rows of a table: those with a key in the order of their keys, and then the others by their ids.
     pub fn scan(&self, table: &str) -> Result<Vec<Row>> {
-        done(|fault| unsafe { ffi::changecap_scan(self.at(), table.as_ptr(), table.len(), fault) })?;
-        self.rows()
+        self.read(|snapshot, rows, fault| unsafe {
+            ffi::changecap_scan(snapshot, table.as_ptr(), table.len(), rows, fault)
+        })
     }
+}
+
+/// Each of the rows that were read.
+fn rows_of(rows: &Owned) -> Result<Vec<Row>> {
+    let (mut made, mut out) = (Vec::new(), Vec::new());
+    while unsafe { ffi::changecap_step(rows.at()) } == ffi::ROW {
+        let mut id = 0;
+        done(|_| unsafe { ffi::changecap_row_id(rows.at(), &mut id) })?;
+        let len = taken_into(&mut out, |out, len, _| unsafe {
+            ffi::changecap_row(rows.at(), out.as_mut_ptr(), out.len(), len)
+        })?;
+        let values = record::values_of(&out[..len]).ok_or(Error::Misuse)?;
+        made.push(Row { id: (id != 0).then_some(id), values });
+    }
+    Ok(made)
 }

@@ -298,6 +298,122 @@ fn a_batch_with_an_operation_too_many() {
 }
 
 #[test]
+fn values_of_many_lengths() {
+    let source = with_tables();
+    let lengths = [0, 1, 127, 128, 300, 16_383, 16_384, 2_097_152];
+    for (number, length) in (0..).zip(lengths) {
+        for value in [Value::Text("x".repeat(length)), Value::Blob(vec![0xff; length])] {
+            let row = vec![Value::Integer(number), value.clone()];
+            source.insert("t", &row, Cause::Direct).unwrap();
+            let key = [value, Value::Integer(number)];
+            source.insert("u", &[vec![Value::Null], key.to_vec()].concat(), Cause::Direct).unwrap();
+            source.commit().unwrap();
+            assert_eq!(source.get("t", RowRef::Key(&row[..1])).unwrap().unwrap().values, row);
+            assert_eq!(source.get("u", RowRef::Key(&key)).unwrap().unwrap().values[1..], key);
+            source.delete("t", RowRef::Key(&row[..1]), Cause::Direct).unwrap();
+            source.update("u", RowRef::Key(&key), &[(0, key[0].clone())], Cause::Direct).unwrap();
+            source.commit().unwrap();
+            assert_eq!(source.get("u", RowRef::Key(&key)).unwrap().unwrap().values[0], key[0]);
+        }
+    }
+    assert_eq!(source.scan("t").unwrap(), []);
+    assert_eq!(source.scan("u").unwrap().len(), 2 * lengths.len());
+    let numbers = [i64::MIN, -1, 0, i64::MAX].map(Value::Integer);
+    for number in &numbers {
+        source.insert("t", &[number.clone(), number.clone()], Cause::Direct).unwrap();
+    }
+    source.commit().unwrap();
+    let rows: Vec<_> = source.scan("t").unwrap().into_iter().map(|row| row.values[1].clone()).collect();
+    assert_eq!(rows, numbers);
+}
+
+#[test]
+fn new_values_of_columns_that_are_not_there_or_twice() {
+    let source = with_tables();
+    let (one, two) = ([Value::Integer(1)], [Value::Integer(2)]);
+    source.insert("t", &[one.clone(), two.clone()].concat(), Cause::Direct).unwrap();
+    source.commit().unwrap();
+    let update = |row, set: &[(usize, Value)]| {
+        source.update("t", RowRef::Key(row), set, Cause::Direct).unwrap();
+        source.commit()
+    };
+    let twice = [(1, Value::Null), (0, Value::Integer(1)), (1, Value::Null)];
+    for set in [&[(2, Value::Null)][..], &[(2_000, Value::Null)], &[(usize::MAX, Value::Null)], &twice] {
+        assert!(matches!(update(&one, set), Err(Error::Refused(why)) if why == "refused at 0: E4"));
+    }
+    assert!(matches!(update(&two, &[]), Err(Error::Refused(why)) if why == "refused at 0: E6"));
+    update(&one, &[]).unwrap();
+    assert_eq!(source.scan("t").unwrap(), [Row { id: None, values: [one, two].concat() }]);
+}
+
+#[test]
+fn clients_of_one_server() {
+    let first = with_tables();
+    let second = first.join().unwrap();
+    let mut session = Session::new(&first).unwrap();
+    session.attach(Some("t")).unwrap();
+    // Each has a batch of its own.
+    let row = [Value::Integer(1), Value::Text("x".into())];
+    first.insert("t", &[Value::Integer(2), Value::Null], Cause::Direct).unwrap();
+    second.insert("t", &row, Cause::Direct).unwrap();
+    assert_eq!(second.commit().unwrap(), 3);
+    first.begin();
+    assert_eq!(first.scan("t").unwrap(), [Row { id: None, values: row.to_vec() }]);
+    assert_eq!(session.changeset(KeyFlags::Places).unwrap().as_bytes(), of_hex(INSERT));
+    // A batch for a version that another client has left behind.
+    first.begin_at(3);
+    second.execute("commit delete t key(1)").unwrap();
+    assert!(matches!(first.commit(), Err(Error::Refused(why)) if why == "refused: E11"));
+    // The session keeps its server, and so does the second client.
+    drop(first);
+    assert!(session.restart(KeyFlags::Places).unwrap().as_bytes().is_empty());
+    drop(session);
+    assert!(second.execute("isempty 1").is_err());
+    assert_eq!(second.scan("t").unwrap(), []);
+    let others: Vec<_> = (0..63).map(|_| second.join().unwrap()).collect();
+    assert!(matches!(second.join(), Err(Error::TooManyClients)));
+    drop(others);
+    let third = second.join().unwrap();
+    drop(second);
+    assert_eq!(third.execute("commit insert t (1,'x')").unwrap(), "ok version 5");
+}
+
+#[test]
+fn clients_of_several_threads() {
+    let source = with_tables();
+    let mut session = Session::new(&source).unwrap();
+    session.attach(None).unwrap();
+    let threads: Vec<_> = (0..4)
+        .map(|first| {
+            let client = source.join().unwrap();
+            std::thread::spawn(move || {
+                for number in 0..100 {
+                    let row = [Value::Integer(1000 * first + number), Value::Null];
+                    client.insert("t", &row, Cause::Direct).unwrap();
+                    client.commit().unwrap();
+                    assert_eq!(client.get("t", RowRef::Key(&row[..1])).unwrap().unwrap().values, row);
+                }
+            })
+        })
+        .collect();
+    // Meanwhile a session of the first client captures what they commit, each row once.
+    let taken = std::thread::spawn(move || {
+        let mut rows = 0;
+        while rows < 400 {
+            let mut changes = session.restart(KeyFlags::Places).unwrap().iter().unwrap();
+            while changes.next().unwrap().is_some() {
+                rows += 1;
+            }
+        }
+        (rows, session.is_empty().unwrap())
+    });
+    threads.into_iter().for_each(|thread| thread.join().unwrap());
+    assert_eq!(taken.join().unwrap(), (400, true));
+    assert_eq!(source.scan("t").unwrap().len(), 400);
+    assert_eq!(source.execute("create v kv").unwrap(), "ok version 403");
+}
+
+#[test]
 fn applications() {
     let target = Connection::open_in_memory().unwrap();
     target.create_table("t", &[true, false]).unwrap();

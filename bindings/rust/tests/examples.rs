@@ -76,8 +76,31 @@ fn the_inserted_rows_of_a_blob() {
     assert!(matches!(inserted(b"T\x80"), Err(Error::Malformed(Fault { kind: 3, at: 1 }))));
 }
 
+/// Makes commits from two threads, each with a client of its own.
+fn committed(connection: &Connection) -> Result<Vec<Row>> {
+    let clients = [(0, connection.join()?), (100, connection.join()?)];
+    std::thread::scope(|scope| {
+        for (first, client) in clients {
+            scope.spawn(move || {
+                for number in first..first + 100 {
+                    client.insert("t", &[Value::Integer(number), Value::Null], Cause::Direct).unwrap();
+                    client.commit().unwrap();
+                }
+            });
+        }
+    });
+    connection.scan("t")
+}
+
+#[test]
+fn commits_of_two_clients() {
+    let rows = committed(&with_table().unwrap()).unwrap();
+    let keys: Vec<_> = rows.into_iter().map(|row| row.values[0].clone()).collect();
+    assert_eq!(keys, (0..200).map(Value::Integer).collect::<Vec<_>>());
+}
+
 /// Makes commits from two threads, each of which holds the lock for a whole batch.
-fn committed(connection: Connection) -> Result<Vec<Row>> {
+fn committed_by_one(connection: Connection) -> Result<Vec<Row>> {
     let shared = Mutex::new(connection);
     std::thread::scope(|scope| {
         for first in [0, 100] {
@@ -98,7 +121,7 @@ fn committed(connection: Connection) -> Result<Vec<Row>> {
 
 #[test]
 fn commits_of_two_threads() {
-    let rows = committed(with_table().unwrap()).unwrap();
+    let rows = committed_by_one(with_table().unwrap()).unwrap();
     let keys: Vec<_> = rows.into_iter().map(|row| row.values[0].clone()).collect();
     assert_eq!(keys, (0..200).map(Value::Integer).collect::<Vec<_>>());
 }
