@@ -1,5 +1,5 @@
 -- The record of a row or of a key is read as it again, and spells nothing else.
-use Rattle.std.proofs.Common.{◌≡◌, ℕ, zero, suc, ◌≤◌, Bool, true, false, not, ◌&&◌, nat_le, IsTrue, List, [], ◌∷◌, ◌++◌, length, map, Option, Some, None, IfSome, Ok, refl, sym, ap, subst, ◌∙◌, arith, length-append}
+use Rattle.std.proofs.Common.{◌≡◌, ℕ, zero, suc, ◌≤◌, true, false, not, nat_le, IsTrue, List, [], ◌∷◌, ◌++◌, length, map, Option, Some, None, IfSome, Ok, refl, sym, ap, subst, ◌∙◌, arith, length-append}
 use Rattle.std.specs.Global.{Global}
 use Rattle.std.specs.List.{AllByRecursion, list_any}
 use Rattle.std.specs.Prelude.{All, IfOk, OnOk, Result, Err}
@@ -16,10 +16,9 @@ use Rattle.cap_changes.specs.declared.field_requirement.FieldRequirement.TheVari
 use Rattle.cap_codec.specs.Reading.{◌>>=◌}
 use Rattle.cap_codec.specs.Field.{field_bytes, record_bytes, value_bytes}
 use Rattle.cap_codec.specs.FieldReading.{field_at}
-use Rattle.cap_codec.proofs.FieldAgain.{asked_bytes, field_again}
-use Rattle.cap_codec.proofs.Spelled.{AreLow}
+use Rattle.cap_codec.proofs.FieldAgain.{field_again}
 use Rattle.cap_records.specs.Record.{defined, fields_at, has_byte, key_in, record_in, row_in, values_bytes}
-use Rattle.cap_records.proofs.FieldLemmas.{AreMet, a_byte, asked-is, fields_meet, fields_spelled, no_more, one_more}
+use Rattle.cap_records.proofs.FieldLemmas.{AreMet, a_byte, asked-is, fields_meet, no_more, one_more}
 
 -- ---- fields
 

@@ -1,5 +1,5 @@
 -- Operations whose arguments are bytes.
-use Rattle.std.specs.Prelude.{ℕ, List, Option, Result, Ok}
+use Rattle.std.specs.Prelude.{ℕ, List, Result, Ok}
 use Rattle.std.specs.Global.{Global}
 use Rattle.cap_database.specs.declared.cause.Cause.{Cause}
 use Rattle.cap_database.specs.declared.op.Action.{Action}
