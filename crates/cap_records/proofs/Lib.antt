@@ -1,0 +1,4 @@
+mod AgainLemmas
+pub mod Crossing
+mod FieldLemmas
+mod ListLemmas

@@ -1,0 +1,10 @@
+pub mod Arguments
+pub mod Fault
+pub mod Items
+pub mod Names
+pub mod Ops
+pub mod Reads
+pub mod Record
+pub mod Rows
+pub mod Transactions
+pub mod WithIds

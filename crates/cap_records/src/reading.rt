@@ -1,0 +1,117 @@
+//! Reading of records that stand alone.
+ghost use Rattle.std.specs.Prelude.{◌≡◌, ◌≤◌, ◌++◌, ◌∷◌, [], length, IfOk, IsTrue, OnOk};
+ghost use Rattle.cap_value.specs.declared.limits.TheConstants.{VALUE_BYTES_MAX};
+ghost use Rattle.cap_value.specs.Memory.{ShowsUnlessMemory};
+ghost use Rattle.cap_codec.specs.Field.{record_bytes};
+ghost use Rattle.cap_codec.specs.FieldReading.{IsWithin, value_of};
+ghost use Rattle.cap_records.specs.Record.{columns_set, defined, has_byte, record_in};
+
+use cap_changes::FieldRequirement;
+use cap_codec::{BlobFault, FieldRef, take_field};
+use cap_database::Assignments;
+use cap_value::{Blob, Fault, OutOfMemory, Text, Value};
+use std::alloc::Global;
+
+fn text_value(alloc: Global, text: &str) -> Result<Value<Global>, Fault<BlobFault>>
+    requires { length text.now ≤ VALUE_BYTES_MAX }
+    ensures { ShowsUnlessMemory (λ value. value) result (Ok (Value.Text text.now)) }
+{
+    match Text::new(alloc, text) {
+        Ok(text) => Ok(Value::Text(text)),
+        Err(Fault::OutOfMemory) => Err(Fault::OutOfMemory),
+        Err(Fault::Refused(_)) => unreachable!(),
+    }
+}
+
+fn blob_value(alloc: Global, bytes: &[u8]) -> Result<Value<Global>, Fault<BlobFault>>
+    requires { length bytes.now ≤ VALUE_BYTES_MAX }
+    ensures { ShowsUnlessMemory (λ value. value) result (Ok (Value.Blob bytes.now)) }
+{
+    match Blob::new(alloc, bytes) {
+        Ok(blob) => Ok(Value::Blob(blob)),
+        Err(Fault::OutOfMemory) => Err(Fault::OutOfMemory),
+        Err(Fault::Refused(_)) => unreachable!(),
+    }
+}
+
+// An owned copy of the field.
+fn own(alloc: Global, field: FieldRef<'_>) -> Result<Option<Value<Global>>, Fault<BlobFault>>
+    requires { IsWithin field }
+    ensures { ShowsUnlessMemory (λ value. value) result (Ok (value_of {A = Global} field.entry)) }
+{
+    match field {
+        FieldRef::Undefined => Ok(None),
+        FieldRef::Null => Ok(Some(Value::Null)),
+        FieldRef::Int(number) => Ok(Some(Value::Int(number))),
+        FieldRef::Text(text) => Ok(Some(text_value(alloc, text)?)),
+        FieldRef::Blob(bytes) => Ok(Some(blob_value(alloc, bytes)?)),
+    }
+}
+
+fn push_field(
+    fields: &mut Vec<Option<Value<Global>>, Global>,
+    field: Option<Value<Global>>,
+) -> Result<(), OutOfMemory>
+    ensures { OnOk result (fields.new.items ≡ fields.old.items ++ field ∷ []) }
+{
+    fields.push(field)?;
+    Ok(())
+}
+
+/// Fields with this requirement, up to the end of the bytes.
+pub(crate) fn take_fields(
+    alloc: Global,
+    requirement: FieldRequirement,
+    bytes: &[u8],
+) -> Result<Vec<Option<Value<Global>>, Global>, Fault<BlobFault>>
+    requires { IsTrue (has_byte requirement) }
+    // Which fields, or which fault.
+    ensures gives { ShowsUnlessMemory (λ fields. fields.items) result (record_in requirement bytes.now) }
+    // The bytes, all of them, spell what is read.
+    ensures spelled { IfOk result (λ fields. record_bytes fields.items ≡ bytes.now) }
+{
+    let mut fields = Vec::new(alloc);
+    let mut rest = bytes;
+    while !rest.is_empty() {
+        match take_field::<Global>(bytes.len(), requirement, rest) {
+            Ok((field, after)) => {
+                push_field(&mut fields, own(alloc, field)?)?;
+                rest = after;
+            }
+            Err(fault) => return Err(Fault::Refused(fault)),
+        }
+    }
+    Ok(fields)
+}
+
+/// The values of the fields that are defined.
+pub(crate) fn defined(
+    alloc: Global,
+    fields: &[Option<Value<Global>>],
+) -> Result<Vec<Value<Global>, Global>, OutOfMemory>
+    ensures { IfOk result (λ values. values.items ≡ defined fields.now) }
+{
+    let mut values = Vec::with_capacity(alloc, fields.len())?;
+    for field in fields {
+        if let Some(value) = field {
+            values.push(value.copy()?)?;
+        }
+    }
+    Ok(values)
+}
+
+/// The columns whose fields are defined, counted from 0, each with its value.
+pub(crate) fn columns_set(
+    alloc: Global,
+    fields: &[Option<Value<Global>>],
+) -> Result<Assignments<Global>, OutOfMemory>
+    ensures { IfOk result (λ assignments. assignments ≡ columns_set fields.now) }
+{
+    let mut columns = Vec::with_capacity(alloc, fields.len())?;
+    for (column, field) in fields.iter().enumerate() {
+        if let Some(value) = field {
+            columns.push((column, value.copy()?))?;
+        }
+    }
+    Ok(Assignments::new(columns))
+}

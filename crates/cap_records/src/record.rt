@@ -1,0 +1,66 @@
+//! Rows, keys and new values as records.
+ghost use Rattle.std.specs.Prelude.{◌≡◌, ◌≤◌, length, IfOk};
+ghost use Rattle.cap_value.specs.Memory.{AnswersUnlessMemory};
+ghost use Rattle.cap_records.specs.Record.{assigned_in, key_in, row_in, values_bytes};
+
+use crate::reading::{columns_set, defined, take_fields};
+use crate::writing::values_record;
+use cap_changes::FieldRequirement;
+use cap_codec::BlobFault;
+use cap_database::Assignments;
+use cap_row::{Key, Row};
+use cap_value::{Fault, OutOfMemory};
+use std::alloc::Global;
+
+/// The row of a record in which every field is defined.
+pub fn row_of(alloc: Global, bytes: &[u8]) -> Result<Row<Global>, Fault<BlobFault>>
+    // Which row, or which fault.
+    ensures row { AnswersUnlessMemory result (row_in bytes.now) }
+    // The bytes, all of them, are the record of what is read.
+    ensures spelled { IfOk result (λ row. values_bytes row ≡ bytes.now) }
+{
+    let fields = take_fields(alloc, FieldRequirement::Defined, bytes)?;
+    Ok(Row::new(defined(alloc, fields.as_slice())?)?)
+}
+
+/// The key of a record in which every field is defined and not NULL.
+pub(crate) fn key_of(alloc: Global, bytes: &[u8]) -> Result<Key<Global>, Fault<BlobFault>>
+    requires some { 1 ≤ length bytes.now }
+    ensures { AnswersUnlessMemory result (key_in bytes.now) }
+{
+    let fields = take_fields(alloc, FieldRequirement::Key, bytes)?;
+    match Key::new(alloc, defined(alloc, fields.as_slice())?)? {
+        Some(key) => Ok(key),
+        None => unreachable!(),
+    }
+}
+
+/// The new values of a record in which the fields of the columns that stay are undefined, or left out behind
+/// the last one.
+pub(crate) fn assignments_of(
+    alloc: Global,
+    bytes: &[u8],
+) -> Result<Assignments<Global>, Fault<BlobFault>>
+    ensures { AnswersUnlessMemory result (assigned_in bytes.now) }
+{
+    let fields = take_fields(alloc, FieldRequirement::Any, bytes)?;
+    Ok(columns_set(alloc, fields.as_slice())?)
+}
+
+/// The record of a row.
+pub fn record_of_row(alloc: Global, row: &Row<Global>) -> Result<Vec<u8, Global>, OutOfMemory>
+    ensures bytes { IfOk result (λ bytes. bytes.items ≡ values_bytes row.now) }
+    // It is read as the row again.
+    ensures again { IfOk result (λ bytes. row_in bytes.items ≡ Ok row.now) }
+{
+    values_record(alloc, row.fields())
+}
+
+/// The record of a key.
+pub fn record_of_key(alloc: Global, key: &Key<Global>) -> Result<Vec<u8, Global>, OutOfMemory>
+    ensures bytes { IfOk result (λ bytes. bytes.items ≡ values_bytes key.now) }
+    // It is read as the key again.
+    ensures again { IfOk result (λ bytes. key_in bytes.items ≡ Ok key.now) }
+{
+    values_record(alloc, key.fields())
+}
