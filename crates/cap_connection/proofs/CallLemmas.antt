@@ -1,15 +1,22 @@
 -- Calls without a value, and a text that is one command.
-use Rattle.std.proofs.Common.{◌≡◌, Bool, ℕ, List, Option}
-use Rattle.std.specs.Prelude.{Result, Ok, Err}
+use Rattle.std.proofs.Common.{◌≡◌, Bool, ℕ, List, Option, None, refl, subst, sym}
+use Rattle.std.specs.Prelude.{⊤, IfErr, Result, Ok, Err}
 use Rattle.std.specs.Global.{Global}
 use Rattle.cap_value.specs.declared.memory.Fault.{Fault}
 use Rattle.cap_value.specs.declared.memory.Fault.TheVariants as stop
 use Rattle.cap_core.specs.Outcome.{Refused as Why}
+use Rattle.cap_core.specs.Past.{is_accepted}
 use Rattle.cap_core.specs.declared.command.Command.{Command}
 use Rattle.cap_core.specs.declared.reply.Reply.{Reply}
+use Rattle.cap_history.specs.Seen.{Seated}
+use Rattle.cap_hub.specs.Fault.{MatchHubFault}
 use Rattle.cap_hub.specs.declared.fault.HubFault.{HubFault}
 use Rattle.cap_hub.specs.declared.fault.HubFault.TheVariants.{Busy, Call}
+use Rattle.cap_locked.specs.Fault.{HasCause, LeavesSeat, MatchHookFault}
 use Rattle.cap_locked.specs.declared.fault.CallFault.TheVariants.{OutOfMemory, Overtaken, HistoryFull}
+use Rattle.cap_locked.specs.declared.fault.HookFault.{HookFault}
+use Rattle.cap_locked.specs.declared.fault.HookFault.TheVariants as hook
+use Rattle.cap_script.specs.ReplyText.{reply_text}
 use Rattle.cap_script.specs.declared.line.Line.{Line}
 use Rattle.cap_connection.specs.Called.{HasNoReply}
 use Rattle.cap_connection.specs.Connection.{ConnectionState}
@@ -40,6 +47,20 @@ module _ (refusal : Reply Global → Option Why) (output : Reply Global → List
   unless_memory value (Ok x) runs = runs
   unless_memory value (Err (stop.Refused why)) runs = runs
   unless_memory value (Err stop.OutOfMemory) runs = as_it_was asked old new runs
+
+-- a line's command has no reply, by what the client's call says of that
+pub line_stops : {R X : Type 0} (line : Line Global) (client after : Seated Global) (output : List ℕ) (old : ConnectionState) (answer : Result X (HookFault R HubFault)) (why : HubFault)
+    (told : Fault ConnectionFault) → record { client = client; output = output } ≡ old → answer ≡ Err (hook.Call why) → told ≡ fault_of why → after.book ≡ client.book
+    → IfErr answer (λ fault. MatchHookFault fault (λ why. after ≡ client) (λ fault. MatchHubFault fault (after ≡ client) (λ fault. LeavesSeat fault client.state after.state)))
+    → IfErr answer (λ fault. MatchHookFault fault (λ why. ⊤) (λ fault. MatchHubFault fault ⊤ (λ fault. HasCause fault client.state line.command)))
+    → RunsLine line old (record { client = after; output = output }) (Err told)
+line_stops line client after output old answer why told old_is is told_is book refused cause =
+    let from : ConnectionState = record { client = client; output = output } in
+    let to : ConnectionState = record { client = after; output = output } in
+    let none : HasNoReply line.command from to why = record { not_called = record { book = book; refused = rw is at refused; cause = rw is at cause }; output_is = refl } in
+    let runs : RunsLine line from to (Err (fault_of why)) = unless_memory (λ reply. None) (λ reply. reply_text line reply) line.command from to is_accepted (Err (fault_of why))
+    (stops (λ reply. None) (λ reply. reply_text line reply) line.command from to why none) in
+    subst (λ (s : ConnectionState). RunsLine line s to (Err told)) old_is (subst (λ (t : Fault ConnectionFault). RunsLine line from to (Err t)) (sym told_is) runs)
 
 pub calls_text : (text : List ℕ) (line : Line Global) (old new : ConnectionState) → SpellsOne line text
     → (result : Result Bool (Fault ConnectionFault)) → RunsLine line old new result → CallsText text old new result

@@ -1,7 +1,7 @@
 -- The reply to a call is of its command's kind.
-use Rattle.std.proofs.Common.{◌≡◌, ◌⊎◌, inl, inr, ℕ, List, [], ◌∷◌, ◌++◌, Option, Some, None, ap, append_assoc, refl, subst, sym, ◌∙◌}
+use Rattle.std.proofs.Common.{◌≡◌, inl, inr, List, [], ◌∷◌, ◌++◌, Option, Some, None, ap, refl, subst, sym, ◌∙◌}
 use mathlib.Core.Bool.{true≢false}
-use Rattle.std.specs.Prelude.{is_some}
+use Rattle.std.specs.Prelude.{Ok, is_some}
 use Rattle.std.specs.Global.{Global}
 use Rattle.cap_database.specs.Snapshot.{SnapshotState}
 use Rattle.cap_session.specs.Session.{SessionState}
@@ -18,6 +18,8 @@ use Rattle.cap_core.proofs.CommitLemmas.{was-answered}
 use Rattle.cap_core.proofs.LawLemmas.{answered}
 use Rattle.cap_history.specs.Seat.{HasCalled, SeatState}
 use Rattle.cap_connection.specs.Commands.{IsCapture}
+use Rattle.cap_connection.specs.Connection.{ConnectionState}
+use Rattle.cap_connection.specs.Runs.{Runs}
 
 -- the reply is that of the sequential server in some state
 answered_in : (old new : SeatState Global) (asked : Command Global) (told : Reply Global) → HasCalled old new asked told
@@ -25,12 +27,12 @@ answered_in : (old new : SeatState Global) (asked : Command Global) (told : Repl
 answered_in old new asked told called =
     let before = old.seen ++ called.seen.0 in
     let event : Event Global = event_by old.number asked told in
-    let is : new.seen ≡ before ++ event ∷ [] = called.seen.1.0 ∙ sym (append_assoc old.seen called.seen.0 (event ∷ [])) in
+    let is : new.seen ≡ before ++ event ∷ [] = called.seen.1 in
     let legal : IsLegal (before ++ event ∷ []) = subst IsLegal is called.legal in
     (state before, was-answered before old.number asked told legal ∙ answered before asked)
 
 -- a reply with the tables
-pub reads : (old new : SeatState Global) (told : Reply Global) → HasCalled old new Read told
+reads : (old new : SeatState Global) (told : Reply Global) → HasCalled old new Read told
     → (snapshot : SnapshotState Global) × (told ≡ reply.Snapshot snapshot)
 reads old new told called = let found = answered_in old new Read told called in (snapshot_of found.0, found.1)
 
@@ -42,7 +44,7 @@ captured_of (Some session) now told captured accepted =
     (capture, captured session)
 
 -- a reply with the session's changes, where it is no refusal
-pub captures : (old new : SeatState Global) (asked : Command Global) (told : Reply Global) → IsCapture asked → HasCalled old new asked told
+captures : (old new : SeatState Global) (asked : Command Global) (told : Reply Global) → IsCapture asked → HasCalled old new asked told
     → refusal_in told ≡ None → (capture : CaptureState Global) × (told ≡ reply.Capture capture)
 captures old new asked told (session, inl is) called accepted =
     let found = answered_in old new asked told called in
@@ -54,3 +56,15 @@ captures old new asked told (session, inr is) called accepted =
     let same : told ≡ answer found.0 (Restart session) = found.1 ∙ ap (answer found.0) is in
     let made = captured_of (session_numbered found.0.sessions session) found.0 (session_reply found.0 (Restart session)) (λ s. refl) (subst (λ (r : Reply Global). refusal_in r ≡ None) same accepted) in
     (made.0, same ∙ made.1)
+
+-- ---- the same of what a call has taken
+
+pub snapshot_taken : (old new : ConnectionState) (told : Reply Global) → Runs (λ reply. reply) Read old new (Ok told)
+    → (snapshot : SnapshotState Global) × (told ≡ reply.Snapshot snapshot)
+snapshot_taken old new told (answer, took, accepted, is) =
+    let found = reads old.client.state new.client.state answer took.called.called in (found.0, sym is ∙ found.1)
+
+pub capture_taken : (old new : ConnectionState) (asked : Command Global) (told : Reply Global) → IsCapture asked → Runs (λ reply. reply) asked old new (Ok told)
+    → (changes : CaptureState Global) × (told ≡ reply.Capture changes)
+capture_taken old new asked told capture (answer, took, accepted, is) =
+    let found = captures old.client.state new.client.state asked answer capture took.called.called accepted in (found.0, sym is ∙ found.1)

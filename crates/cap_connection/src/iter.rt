@@ -67,7 +67,10 @@ impl BlobIter {
         ensures taken { result ≡ self.old.contents }
         ensures rest { self.new ≡ record self.old { contents = self.new.contents } }
     {
-        mem::replace(&mut self.contents, Contents::Changes(ChangeList::new(alloc)))
+        mem::replace(
+            &mut self.contents,
+            Contents::Changes(ChangeList::new(alloc)),
+        )
     }
 
     // Puts contents back.

@@ -5,7 +5,7 @@ use cap_connection::{Connection, ConnectionFault, TextFault};
 use cap_database::{Action, Cause, Op};
 use cap_row::Row;
 use cap_txn::Batch;
-use cap_value::{Fault, Name, Refusal, Value};
+use cap_value::{Fault, Name, OutOfMemory, Refusal, Value};
 use std::alloc::Global;
 use std::test::Fail;
 
@@ -13,13 +13,17 @@ fn refused(at: Option<u64>, why: Refusal) -> Fault<ConnectionFault> {
     Fault::Refused(ConnectionFault::Refused { at, why })
 }
 
-// Inserts the row (1,'x') into the table t.
+// The row (1,'x').
+fn row_x(alloc: Global, text: Value<Global>) -> Result<Row<Global>, OutOfMemory> {
+    Row::new(vec![in alloc; Value::Int(1), text]?)
+}
+
+// Inserts it into the table t.
 fn insert_x(alloc: Global) -> Result<Op<Global>, Fault<Refusal>> {
-    let fields = vec![in alloc; Value::Int(1), Value::text(alloc, "x")?]?;
     Ok(Op {
         table: Name::new(alloc, "t")?,
         cause: Cause::Direct,
-        action: Action::Insert(Row::new(fields)?),
+        action: Action::Insert(row_x(alloc, Value::text(alloc, "x")?)?),
     })
 }
 

@@ -73,7 +73,12 @@ fn applied(
 fn a_capture_is_written_as_often_as_it_is_asked_for(rt: HostRuntime) -> Result<(), Fail> {
     let alloc = rt.alloc();
     let mut connection = Connection::open(alloc)?;
-    let texts = ["create t kv", "session", "attach 1 t", "commit insert t (1,'x')"];
+    let texts = [
+        "create t kv",
+        "session",
+        "attach 1 t",
+        "commit insert t (1,'x')",
+    ];
     assert!(rt; accepts(&mut connection, alloc, &texts));
     let captured = connection.restart(1);
     assert!(rt; connection.is_empty(1) == Ok(true));

@@ -62,7 +62,12 @@ fn a_capture_has_what_both_committed(rt: HostRuntime) -> Result<(), Fail> {
     let alloc = rt.alloc();
     let mut first = Connection::open(alloc)?;
     let mut second = first.join(alloc)?;
-    let texts = ["create t kv", "session", "attach 1 t", "commit insert t (2,'y')"];
+    let texts = [
+        "create t kv",
+        "session",
+        "attach 1 t",
+        "commit insert t (2,'y')",
+    ];
     assert!(rt; accepts(&mut first, alloc, &texts));
     assert!(rt; accepts(&mut second, alloc, &["commit insert t (1,'x')"]));
     let captured = second.capture(1);
