@@ -3,6 +3,7 @@ use denote.RattleType.{RattleType}
 use denote.Enum.Declared.{shape, variants}
 use denote.Param.Send.{EachSend, EachSync, IsSend, IsSync, Frees, enum_send, enum_sync, sendable}
 use Rattle.std.proofs.Crossing.{crosses, frees, send, sync}
+use Rattle.std.proofs.CrossingOver.{crosses as owned}
 use Rattle.std.specs.declared.alloc.Allocator as allocator
 use Rattle.std.specs.declared.clone.Clone as clone
 use Rattle.cap_value.specs.declared.memory.AllocHandle as handle
@@ -20,6 +21,7 @@ use Rattle.cap_txn.proofs.item.Item.TheSendSync as item
 use Rattle.cap_txn.specs.contracts.look.Answer as Answer
 use Rattle.cap_txn.specs.contracts.look.Asked as Asked
 use Rattle.cap_txn.specs.contracts.look.Look as Look
+use Rattle.cap_txn.specs.contracts.savepoint.Savepoint as Savepoint
 use Rattle.cap_txn.specs.contracts.txn.Txn as Txn
 use Rattle.cap_txn.specs.contracts.workspace.Workspace as Workspace
 use Rattle.cap_session.proofs.Crossing.{session_send}
@@ -53,11 +55,14 @@ module _ (A : RattleType) (h : handle.Ghosts A.Denot) (a : allocator.Ghosts A.De
   look_send : IsSend (Look.the_row A h a c)
   look_send = search (asked_field_send, answer_field_send, sendable) depth 20
 
+  savepoint_send : IsSend (Savepoint.the_row A h a c)
+  savepoint_send = search (database_send, sendable) depth 20
+
   workspace_send : IsSend (Workspace.the_row A h a c)
-  workspace_send = search (snapshot_send, database_send, op.the_send, op.the_field_send, sendable, crosses) depth 40 fits 100000
+  workspace_send = search (snapshot_send, database_send, savepoint_send, op.the_send, op.the_field_send, sendable, owned) depth 40 fits 100000
 
   txn_send : IsSend (Txn.the_row A h a c)
-  txn_send = search (workspace_send, tree_send, item.the_send, item.the_sync, item.the_field_send, look_send, sendable, crosses) depth 40 fits 100000
+  txn_send = search (workspace_send, tree_send, item.the_send, item.the_sync, item.the_field_send, look_send, sendable, owned) depth 40 fits 100000
 
   capture_send : IsSend (Capture.the_row A h a c)
   capture_send = search (database_send, session_send, sendable) depth 40 fits 100000
@@ -78,4 +83,4 @@ captured_send : IsSend Captured.the_row
 captured_send = search (capture_send, send, sync, frees, sendable, crosses) depth 40 fits 100000
 
 pub held_capture_send : IsSend HeldCapture.the_row
-held_capture_send = search (captured_send, send, sync, frees, sendable, crosses) depth 40 fits 100000
+held_capture_send = search (captured_send, sendable, crosses) depth 40 fits 100000

@@ -1,5 +1,6 @@
 //! What C holds of a capture.
 ghost use Rattle.std.specs.Coded.{coded_option};
+ghost use Rattle.std.specs.Global.{Global};
 ghost use Rattle.std.specs.Prelude.{◌≡◌, IsSome, List, None, Option, Some};
 ghost use Rattle.cap_c.specs.Owns.{capture_row};
 ghost use Rattle.cap_changes.specs.Group.{TableChanges};

@@ -1,5 +1,6 @@
 //! What C holds of a snapshot.
 ghost use Rattle.std.specs.Coded.{coded_option};
+ghost use Rattle.std.specs.Global.{Global};
 ghost use Rattle.std.specs.Prelude.{◌≡◌, IsSome, None, Option, Some};
 ghost use Rattle.cap_c.specs.Handle.{OpensOn};
 ghost use Rattle.cap_c.specs.Owns.{snapshot_row};
