@@ -374,6 +374,19 @@ static void *work(void *given){
   return NULL;
 }
 
+/* Commits, one right behind the other, of batches without operations. */
+static void *only_commit(void *given){
+  worker *own = given;
+  changecap_batch batch = CHANGECAP_CLOSED;
+  changecap_fault fault;
+  CHECK(&own->of, changecap_batch_open(&batch) == CHANGECAP_OK);
+  while( own->calls < own->wanted ) CHECK(&own->of, commit(own, &batch, &fault) == CHANGECAP_OK);
+  changecap_batch_close(&batch);
+  changecap_close(&own->client);
+  add_tally(&own->of);
+  return NULL;
+}
+
 /* A thread that ends between two calls and leaves its client as it is. */
 static void *end_early(void *given){
   worker *own = given;
@@ -526,6 +539,32 @@ static void one_history(long calls){
          commits, again, captures, busy);
 }
 
+/* Threads that do nothing but commit meet at the state. Each commit is made once, and has a version of its own. */
+static void counted_commits(long calls){
+  static worker workers[THREADS];
+  tally of = { 0, 0 };
+  changecap_client client = CHANGECAP_CLOSED;
+  changecap_snapshot snapshot = CHANGECAP_CLOSED;
+  pthread_t threads[THREADS];
+  uint64_t version = 0, events = 0, commits = 0;
+  CHECK(&of, changecap_open(&client) == CHANGECAP_OK);
+  for(int i = 0; i < THREADS; i++){
+    workers[i] = (worker){ .number = i, .wanted = calls / THREADS, .state = 362436069u + (uint64_t)i };
+    CHECK(&of, changecap_join(&workers[i].client, &client) == CHANGECAP_OK);
+    CHECK(&of, pthread_create(&threads[i], NULL, only_commit, &workers[i]) == 0);
+  }
+  for(int i = 0; i < THREADS; i++){
+    CHECK(&of, pthread_join(threads[i], NULL) == 0);
+    commits += (uint64_t)workers[i].commits;
+  }
+  CHECK(&of, changecap_front(&client, &events) == CHANGECAP_OK && events == commits);
+  CHECK(&of, changecap_snapshot_open(&client, &snapshot) == CHANGECAP_OK);
+  CHECK(&of, changecap_snapshot_version(&snapshot, &version) == CHANGECAP_OK && version == commits);
+  changecap_snapshot_close(&snapshot);
+  changecap_close(&client);
+  add_tally(&of);
+}
+
 /* ---- Clients and handles ---- */
 
 /* A history has 64 clients and no further one, until one is closed. */
@@ -605,6 +644,7 @@ int main(int words, char **word){
   }
   counted_clients();
   lasting_handles();
+  counted_commits(atol(word[1]) / 10);
   one_history(atol(word[1]));
   printf("%ld passed, %ld failed\n", passed, failed);
   return failed != 0;
