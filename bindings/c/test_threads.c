@@ -5,8 +5,6 @@
  * transactions, and capture by restarting one session. What each sees is checked as it goes, and afterwards that all
  * that was captured, in its order, makes the tables of another history the same. The last line is 'N passed, M failed',
  * before it is what was done.
- *
- * Compiled with WAITING_ALONE, no call is made by its form that does not wait.
  */
 #define _POSIX_C_SOURCE 200809L
 #include "changecap.h"
@@ -145,12 +143,7 @@ static uint64_t random_below(worker *own, uint64_t limit){
 
 /* Whether the next call is made by its form that does not wait. */
 static int is_impatient(worker *own){
-#ifdef WAITING_ALONE
-  (void)own;
-  return 0;
-#else
   return random_below(own, 4) == 0;
-#endif
 }
 
 static uint32_t commit(worker *own, changecap_batch *batch, changecap_fault *fault){
@@ -349,19 +342,47 @@ static void restart(worker *own){
   own->calls += 5;
 }
 
+/* A further client comes and goes. It has seen what the thread's own has, and then all. */
+static void visit(worker *own){
+  changecap_client visitor = CHANGECAP_CLOSED;
+  uint64_t before = 0, after = 0;
+  CHECK(&own->of, changecap_seen(&own->client, &before) == CHANGECAP_OK);
+  CHECK(&own->of, changecap_join(&visitor, &own->client) == CHANGECAP_OK);
+  CHECK(&own->of, changecap_seen(&visitor, &after) == CHANGECAP_OK && after >= before);
+  CHECK(&own->of, changecap_front(&visitor, &after) == CHANGECAP_OK && after >= before);
+  CHECK(&own->of, changecap_meet(&own->client, &visitor) == CHANGECAP_OK);
+  CHECK(&own->of, changecap_seen(&own->client, &before) == CHANGECAP_OK && before == after);
+  changecap_close(&visitor);
+  own->calls += 7;
+}
+
 static void *work(void *given){
   worker *own = given;
   changecap_batch batch = CHANGECAP_CLOSED;
   CHECK(&own->of, changecap_batch_open(&batch) == CHANGECAP_OK);
   while( own->calls < own->wanted ){
-    switch( random_below(own, 8) ){
+    switch( random_below(own, 9) ){
       case 0: case 1: case 2: write_notes(own, &batch); break;
       case 3: case 4: read_snapshot(own); break;
       case 5: case 6: move_money(own); break;
-      default: restart(own);
+      case 7: restart(own); break;
+      default: visit(own);
     }
   }
   changecap_batch_close(&batch);
+  add_tally(&own->of);
+  return NULL;
+}
+
+/* Commits, one right behind the other, of batches without operations. */
+static void *only_commit(void *given){
+  worker *own = given;
+  changecap_batch batch = CHANGECAP_CLOSED;
+  changecap_fault fault;
+  CHECK(&own->of, changecap_batch_open(&batch) == CHANGECAP_OK);
+  while( own->calls < own->wanted ) CHECK(&own->of, commit(own, &batch, &fault) == CHANGECAP_OK);
+  changecap_batch_close(&batch);
+  changecap_close(&own->client);
   add_tally(&own->of);
   return NULL;
 }
@@ -466,8 +487,8 @@ static void makes_a_copy(tally *of, changecap_client *client, list *all){
   captured whole = concatenated(of, all);
   CHECK(of, changecap_open(&copy) == CHANGECAP_OK);
   made_tables(of, &copy);
-  uint32_t status = changecap_apply(&copy, whole.at, whole.n, CHANGECAP_ABORT, CHANGECAP_ABORT, CHANGECAP_ABORT, &report,
-                                    &fault);
+  uint32_t status = changecap_apply(&copy, whole.at, whole.n, CHANGECAP_ABORT, CHANGECAP_ABORT, CHANGECAP_ABORT,
+                                    &report, &fault);
   CHECK(of, status == CHANGECAP_OK);
   CHECK(of, same_rows(of, client, &copy, "accounts") == ACCOUNTS);
   CHECK(of, same_rows(of, client, &copy, "notes") > 0);
@@ -516,6 +537,32 @@ static void one_history(long calls){
   add_tally(&of);
   printf("%ld calls, %ld commits, %ld transactions begun again, %ld captures, %ld calls that were busy\n", made,
          commits, again, captures, busy);
+}
+
+/* Threads that do nothing but commit meet at the state. Each commit is made once, and has a version of its own. */
+static void counted_commits(long calls){
+  static worker workers[THREADS];
+  tally of = { 0, 0 };
+  changecap_client client = CHANGECAP_CLOSED;
+  changecap_snapshot snapshot = CHANGECAP_CLOSED;
+  pthread_t threads[THREADS];
+  uint64_t version = 0, events = 0, commits = 0;
+  CHECK(&of, changecap_open(&client) == CHANGECAP_OK);
+  for(int i = 0; i < THREADS; i++){
+    workers[i] = (worker){ .number = i, .wanted = calls / THREADS, .state = 362436069u + (uint64_t)i };
+    CHECK(&of, changecap_join(&workers[i].client, &client) == CHANGECAP_OK);
+    CHECK(&of, pthread_create(&threads[i], NULL, only_commit, &workers[i]) == 0);
+  }
+  for(int i = 0; i < THREADS; i++){
+    CHECK(&of, pthread_join(threads[i], NULL) == 0);
+    commits += (uint64_t)workers[i].commits;
+  }
+  CHECK(&of, changecap_front(&client, &events) == CHANGECAP_OK && events == commits);
+  CHECK(&of, changecap_snapshot_open(&client, &snapshot) == CHANGECAP_OK);
+  CHECK(&of, changecap_snapshot_version(&snapshot, &version) == CHANGECAP_OK && version == commits);
+  changecap_snapshot_close(&snapshot);
+  changecap_close(&client);
+  add_tally(&of);
 }
 
 /* ---- Clients and handles ---- */
@@ -597,6 +644,7 @@ int main(int words, char **word){
   }
   counted_clients();
   lasting_handles();
+  counted_commits(atol(word[1]) / 10);
   one_history(atol(word[1]));
   printf("%ld passed, %ld failed\n", passed, failed);
   return failed != 0;
