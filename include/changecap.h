@@ -472,6 +472,10 @@ uint32_t changecap_session_capture(changecap_client *client, uint64_t session, c
 uint32_t changecap_session_restart(changecap_client *client, uint64_t session, changecap_capture *capture,
                                    changecap_fault *fault);
 
+/* Sets *version to that of the tables at the moment of the capture: what is committed later has a greater one.
+ *   OK. */
+uint32_t changecap_capture_version(changecap_capture *capture, uint64_t *version);
+
 /* Write a capture, as sqlite3session_changeset and sqlite3session_patchset.
  *   OK (*len), ROOM (*len), MISUSE (no such key_flags), NOMEM.
  * Unless the status is OK, out is as it was. */

@@ -1,9 +1,9 @@
 -- What a handle of a capture has.
-use Rattle.std.specs.Prelude.{List, [], Option, Some, None}
+use Rattle.std.specs.Prelude.{[], Option, Some, None}
 use Rattle.std.specs.Global.{Global}
-use Rattle.cap_changes.specs.Group.{TableChanges}
+use Rattle.cap_core.specs.Capture.{CaptureState}
 
--- the changes of the capture, where there is one
-abbrev pub changes_held : Option (List (TableChanges Global)) → List (TableChanges Global)
-changes_held (Some changes) = changes
-changes_held None = []
+-- the capture, where there is one
+abbrev pub capture_held : Option (CaptureState Global) → CaptureState Global
+capture_held (Some capture) = capture
+capture_held None = record { version = 0; changes = [] }

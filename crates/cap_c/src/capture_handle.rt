@@ -1,9 +1,9 @@
 //! What C holds of a capture.
 ghost use Rattle.std.specs.Coded.{coded_option};
 ghost use Rattle.std.specs.Global.{Global};
-ghost use Rattle.std.specs.Prelude.{◌≡◌, IsSome, List, None, Option, Some};
+ghost use Rattle.std.specs.Prelude.{◌≡◌, IsSome, None, Option, Some};
 ghost use Rattle.cap_c.specs.Owns.{capture_row};
-ghost use Rattle.cap_changes.specs.Group.{TableChanges};
+ghost use Rattle.cap_core.specs.Capture.{CaptureState};
 
 use crate::assert_send::assert_capture_send;
 use crate::held::HeldCapture;
@@ -18,7 +18,7 @@ use std::{mem, ptr};
 pub struct CaptureHandle {
     at: *mut u8,
     alloc: Global,
-    pub ghost value: { Option (List (TableChanges Global)) } by { coded_option capture_row.coded },
+    pub ghost value: { Option (CaptureState Global) } by { coded_option capture_row.coded },
 }
 
 impl Model for CaptureHandle {

@@ -129,6 +129,33 @@ fn tell_capture(
     }
 }
 
+/// Sets `version` to that of the tables at the moment of the capture.
+#[unsafe(no_mangle)]
+pub extern "C" fn changecap_capture_version(
+    alloc: Global,
+    capture: &mut CaptureHandle,
+    version: &mut u64,
+) -> u32
+    requires opened { IsSome capture.old.value }
+    ensures status { result ≡ OK }
+    ensures version { Keeps capture.old.value capture.new.value
+        (λ captured. version.new ≡ captured.version) }
+{
+    let held = capture_handle::take(alloc, capture);
+    *version = version_of(&held);
+    capture_handle::put(capture, held);
+    OK
+}
+
+fn version_of(held: &HeldCapture) -> u64
+    ensures { result ≡ held.now.version }
+{
+    match &held.captured {
+        Some(captured) => captured.version(),
+        None => 0,
+    }
+}
+
 /// Writes a capture as a changeset, as `sqlite3session_changeset`.
 #[unsafe(no_mangle)]
 pub extern "C" fn changecap_capture_changeset(
@@ -141,7 +168,7 @@ pub extern "C" fn changecap_capture_changeset(
     requires opened { IsSome capture.old.value }
     // A number that names no key flags is misuse.
     ensures written { Keeps capture.old.value capture.new.value
-        (λ changes. OutputsMade (option_map (λ flags. captured_bytes Changeset flags changes)
+        (λ captured. OutputsMade (option_map (λ flags. captured_bytes Changeset flags captured)
         (key_flags_of key_flags)) result out.old out.new len.old len.new) }
 {
     let held = capture_handle::take(alloc, capture);
@@ -163,7 +190,7 @@ pub extern "C" fn changecap_capture_patchset(
     requires opened { IsSome capture.old.value }
     // A number that names no key flags is misuse.
     ensures written { Keeps capture.old.value capture.new.value
-        (λ changes. OutputsMade (option_map (λ flags. captured_bytes Patchset flags changes)
+        (λ captured. OutputsMade (option_map (λ flags. captured_bytes Patchset flags captured)
         (key_flags_of key_flags)) result out.old out.new len.old len.new) }
 {
     let held = capture_handle::take(alloc, capture);

@@ -58,12 +58,11 @@ pub struct HeldCapture {
 }
 
 impl Model for HeldCapture {
-    ghost use Rattle.std.specs.Prelude.{List};
     ghost use Rattle.std.specs.Global.{Global};
-    ghost use Rattle.cap_changes.specs.Group.{TableChanges};
-    ghost use Rattle.cap_c.specs.Captured.{changes_held};
+    ghost use Rattle.cap_core.specs.Capture.{CaptureState};
+    ghost use Rattle.cap_c.specs.Captured.{capture_held};
 
-    ghost Value = { List (TableChanges Global) };
+    ghost Value = { CaptureState Global };
 
-    ghost view = { λ h. changes_held h.captured };
+    ghost view = { λ h. capture_held h.captured };
 }
