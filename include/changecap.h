@@ -101,8 +101,7 @@ typedef struct changecap_fault {
 
 /* ---- Bytes ---- */
 
-/* The pointer, or one that is not NULL. SQLite gives NULL for a changeset of no bytes, and every call that takes bytes
- * takes NULL for none. */
+/* The pointer, or one that is not NULL. SQLite gives NULL for a changeset of no bytes, and so may a caller here. */
 static inline const void *changecap_bytes(const void *bytes){
   return bytes ? bytes : "";
 }
@@ -341,8 +340,8 @@ uint32_t changecap_open(changecap_client *client);
  *   OK, CLIENTS, NOMEM. */
 uint32_t changecap_join(changecap_client *client, changecap_client *of);
 
-/* Closes the client. Another client may have its seat then, and goes on where it ended. The history ends with its last
- * client; other handles stay as they are. A closed one stays closed. */
+/* Closes the client. Another one may have its seat then, and goes on where it ended. The history ends with its last
+ * client; other handles stay as they are. A closed one stays closed. It waits as the calls below do, as does a join. */
 void changecap_close(changecap_client *client);
 
 /* Set *events to the number of events of the history that the client sees: all that there are, or those that it has

@@ -77,14 +77,20 @@ static void make_posted(history *of){
   }
 }
 
+#endif
+
 static void enter(history *of){
   pthread_mutex_lock(&of->mutex);
 }
 
 static void leave(history *of){
+#if CHANGECAP_COMBINE
   if( atomic_load_explicit(&of->posted, memory_order_relaxed) ) make_posted(of);
+#endif
   pthread_mutex_unlock(&of->mutex);
 }
+
+#if CHANGECAP_COMBINE
 
 /* Posts a commit, and waits until it is made: by who has the mutex, or here. Who gets the mutex after it was posted
  * finds it posted, or made. */
@@ -105,16 +111,6 @@ static uint32_t posted_commit(history *of, changecap_client *client, changecap_b
   enter(of);
   leave(of);
   return own.status;
-}
-
-#else
-
-static void enter(history *of){
-  pthread_mutex_lock(&of->mutex);
-}
-
-static void leave(history *of){
-  pthread_mutex_unlock(&of->mutex);
 }
 
 #endif
