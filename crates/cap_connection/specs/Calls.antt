@@ -8,9 +8,10 @@ use Rattle.cap_filter.specs.Reading.{filter_of}
 use Rattle.cap_apply.specs.declared.policy.Policy.{Policy}
 use Rattle.cap_core.specs.declared.command.Command.{Command}
 use Rattle.cap_core.specs.declared.command.Command.TheVariants as command
+use Rattle.cap_records.specs.Names.{IsName}
 use Rattle.cap_connection.specs.Connection.{ConnectionState}
 use Rattle.cap_connection.specs.Iter.{IterState}
-use Rattle.cap_connection.specs.Names.{IsName, IsTable, key_columns}
+use Rattle.cap_connection.specs.Columns.{IsTable, key_columns}
 use Rattle.cap_connection.specs.Replies.{applied_in, captured_in, nothing_in, number_in, snapshot_in}
 use Rattle.cap_connection.specs.Runs.{Gives, Means, Reads, Runs, RunsMade}
 use Rattle.cap_connection.specs.declared.fault.ConnectionFault.{ConnectionFault}

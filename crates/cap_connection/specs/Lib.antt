@@ -1,12 +1,12 @@
 pub mod Called
 pub mod Calls
 pub mod Clients
+pub mod Columns
 pub mod Commands
 pub mod Connection
 pub mod Decoder
 pub mod Fields
 pub mod Iter
-pub mod Names
 pub mod OneCommand
 pub mod Positions
 pub mod Replies

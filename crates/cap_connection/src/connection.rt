@@ -14,9 +14,9 @@ ghost use Rattle.cap_connection.specs.Runs.{Runs, RunsMade};
 ghost use Rattle.cap_connection.specs.TextCall.{CallsText, RunsLine};
 
 use crate::captured::Captured;
+use crate::columns::{are_columns, schema_of};
 use crate::fault::{ConnectionFault, fault_of};
 use crate::iter::BlobIter;
-use crate::names::{are_columns, name_text, schema_of};
 use crate::one_command::one_command;
 use crate::printer::Printer;
 use crate::replies::{
@@ -29,6 +29,7 @@ use cap_database::Snapshot;
 use cap_filter::TableFilter;
 use cap_hub::{Client, JoinFault};
 use cap_locked::HookFault;
+use cap_records::name_text;
 use cap_script::Line;
 use cap_txn::Batch;
 use cap_value::{Fault, Name, OutOfMemory};

@@ -3,13 +3,13 @@
 #![tactic(auto)]
 
 mod captured;
+mod columns;
 mod connection;
 mod decoder;
 mod fault;
 mod iter;
 mod iter_fields;
 mod iter_position;
-mod names;
 mod one_command;
 mod printer;
 mod replies;

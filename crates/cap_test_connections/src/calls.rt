@@ -2,10 +2,10 @@
 use crate::captures::{CHANGESET, has_changeset};
 use crate::texts::{MISUSE, accepts};
 use cap_connection::{Connection, ConnectionFault, TextFault};
-use cap_database::{Action, Cause, Op};
-use cap_row::Row;
+use cap_database::Cause;
+use cap_records::{insert_op, put_op};
 use cap_txn::Batch;
-use cap_value::{Fault, Name, OutOfMemory, Refusal, Value};
+use cap_value::{Fault, Refusal};
 use std::alloc::Global;
 use std::test::Fail;
 
@@ -13,24 +13,13 @@ fn refused(at: Option<u64>, why: Refusal) -> Fault<ConnectionFault> {
     Fault::Refused(ConnectionFault::Refused { at, why })
 }
 
-// The row (1,'x').
-fn row_x(alloc: Global, text: Value<Global>) -> Result<Row<Global>, OutOfMemory> {
-    Row::new(vec![in alloc; Value::Int(1), text]?)
-}
+// The record of the row (1,'x').
+const ROW: [u8; 12] = [1, 0, 0, 0, 0, 0, 0, 0, 1, 3, 1, b'x'];
 
-// Inserts it into the table t.
-fn insert_x(alloc: Global) -> Result<Op<Global>, Fault<Refusal>> {
-    Ok(Op {
-        table: Name::new(alloc, "t")?,
-        cause: Cause::Direct,
-        action: Action::Insert(row_x(alloc, Value::text(alloc, "x")?)?),
-    })
-}
-
-// Puts that insertion last in a batch.
+// Puts its insertion into the table t last in a batch.
 fn puts_x(alloc: Global, batch: &mut Batch<Global>) -> bool {
-    match insert_x(alloc) {
-        Ok(op) => batch.push(op) == Ok(()),
+    match insert_op(alloc, b"t", &ROW, Cause::Direct) {
+        Ok(op) => put_op(batch, op).is_ok(),
         Err(_) => false,
     }
 }

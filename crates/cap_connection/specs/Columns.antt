@@ -1,11 +1,6 @@
--- Names, and the columns of tables, as bytes.
-use Rattle.std.specs.Prelude.{◌≤◌, ◌==◌, ℕ, Bool, List, length, map, not, IsTrue, IsUtf8}
-use Rattle.cap_value.specs.Bytes.{is_name}
-
--- 1 to 255 bytes of UTF-8, none of them zero
-pub record IsName (bytes : List ℕ) : Type 0 where
-  pub utf8 : IsUtf8 bytes
-  pub short : IsTrue (is_name bytes)
+-- The columns of tables, as bytes.
+use Rattle.std.specs.Prelude.{◌≤◌, ◌==◌, ℕ, Bool, List, length, map, not}
+use Rattle.cap_records.specs.Names.{IsName}
 
 -- 1 to 2,000 columns
 pub record AreColumns (key : List ℕ) : Type 0 where
