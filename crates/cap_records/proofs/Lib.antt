@@ -1,4 +1,3 @@
 mod AgainLemmas
-pub mod Crossing
 mod FieldLemmas
 mod ListLemmas
