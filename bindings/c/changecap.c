@@ -85,18 +85,26 @@ static void enter(history *of){
 
 static void leave(history *of){
 #if CHANGECAP_COMBINE
-  if( atomic_load_explicit(&of->posted, memory_order_relaxed) ) make_posted(of);
+  enum { TIMES = 8 };
+  for(int times = 0; times < TIMES && atomic_load_explicit(&of->posted, memory_order_relaxed); times++) make_posted(of);
 #endif
   pthread_mutex_unlock(&of->mutex);
 }
 
 #if CHANGECAP_COMBINE
 
+/* Lets the processor know that a thread looks at the same place again and again. */
+static void pause_here(void){
+#ifdef __x86_64__
+  __builtin_ia32_pause();
+#endif
+}
+
 /* Posts a commit, and waits until it is made: by who has the mutex, or here. Who gets the mutex after it was posted
- * finds it posted, or made. */
+ * finds it posted, or made. The looks last for some commits; who has looked in vain sleeps until the mutex is free. */
 static uint32_t posted_commit(history *of, changecap_client *client, changecap_batch *batch, uint64_t *version,
                               changecap_fault *fault){
-  enum { LOOKS = 200, LOOKS_A_TRY = 10 };
+  enum { LOOKS = 2000, LOOKS_A_TRY = 100 };
   post own = { NULL, client, batch, version, fault, CHANGECAP_BUSY, 0 };
   own.next = atomic_load_explicit(&of->posted, memory_order_relaxed);
   while( !atomic_compare_exchange_weak_explicit(&of->posted, &own.next, &own, memory_order_release,
@@ -107,6 +115,7 @@ static uint32_t posted_commit(history *of, changecap_client *client, changecap_b
       return own.status;
     }
     if( atomic_load_explicit(&own.is_made, memory_order_acquire) ) return own.status;
+    pause_here();
   }
   enter(of);
   leave(of);
