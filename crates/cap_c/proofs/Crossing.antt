@@ -1,7 +1,7 @@
 -- What handles have goes from one thread to another.
 use denote.RattleType.{RattleType}
 use denote.Enum.Declared.{shape, variants}
-use denote.Param.Send.{EachSend, EachSync, IsSend, IsSync, Frees, enum_send, enum_sync, sendable}
+use denote.Param.Send.{EachSend, IsSend, IsSync, Frees, enum_send, sendable}
 use Rattle.std.proofs.Crossing.{crosses, frees, send, sync}
 use Rattle.std.proofs.CrossingOver.{crosses as owned}
 use Rattle.std.specs.declared.alloc.Allocator as allocator
@@ -11,10 +11,10 @@ use Rattle.cap_value.proofs.name.Name.TheSendSync as name
 use Rattle.cap_value.proofs.refusal.Refusal.TheSendSync as refusal
 use Rattle.cap_row.proofs.key.Key.TheSendSync as key
 use Rattle.cap_row.proofs.row.Row.TheSendSync as row
-use Rattle.cap_tree.proofs.Crossing.{tree_send, tree_sync}
+use Rattle.cap_tree.proofs.Crossing.{tree_send}
 use Rattle.cap_table.proofs.row_ref.RowRef.TheSendSync as ref
 use Rattle.cap_table.specs.contracts.rows.Rows as Rows
-use Rattle.cap_database.proofs.Crossing.{database_send, database_sync, snapshot_send, snapshot_sync}
+use Rattle.cap_database.proofs.Crossing.{database_send, snapshot_send}
 use Rattle.cap_database.proofs.op.Op.TheSendSync as op
 use Rattle.cap_txn.proofs.Crossing.{batch_send}
 use Rattle.cap_txn.proofs.item.Item.TheSendSync as item
