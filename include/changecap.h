@@ -668,7 +668,8 @@ uint32_t changecap_transaction_delete(changecap_transaction *transaction, const 
                                       const void *key, size_t m, uint64_t id, uint32_t cause,
                                       changecap_fault *fault);
 
-/* Open closed rows, as changecap_get and changecap_scan, of what the transaction reads. */
+/* Open closed rows, as changecap_get and changecap_scan, of what the transaction reads. With NOMEM the transaction may
+ * have looked at them all the same: its commit then compares them. */
 uint32_t changecap_transaction_get(changecap_transaction *transaction, const void *table, size_t n, const void *key,
                                    size_t m, uint64_t id, changecap_rows *rows, changecap_fault *fault);
 uint32_t changecap_transaction_scan(changecap_transaction *transaction, const void *table, size_t n,
