@@ -45,6 +45,14 @@ pub(crate) fn has_changeset(
     }
 }
 
+/// The version of a capture, where there is one.
+pub(crate) fn version_of(captured: &Result<Captured, Fault<ConnectionFault>>) -> Option<u64> {
+    match captured {
+        Ok(captured) => Some(captured.version()),
+        Err(_) => None,
+    }
+}
+
 // Whether there is a capture with this patchset.
 fn has_patchset(
     alloc: Global,

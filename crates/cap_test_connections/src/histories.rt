@@ -1,5 +1,5 @@
 //! Several connections to one history.
-use crate::captures::has_changeset;
+use crate::captures::{has_changeset, version_of};
 use crate::texts::{accepts, answers};
 use cap_connection::Connection;
 use cap_hub::JoinFault;
@@ -71,6 +71,7 @@ fn a_capture_has_what_both_committed(rt: HostRuntime) -> Result<(), Fail> {
     assert!(rt; accepts(&mut first, alloc, &texts));
     assert!(rt; accepts(&mut second, alloc, &["commit insert t (1,'x')"]));
     let captured = second.capture(1);
+    assert!(rt; version_of(&captured) == Some(3));
     assert!(rt; has_changeset(alloc, &captured, &BOTH));
     Ok(())
 }
