@@ -6,6 +6,7 @@ use Rattle.cap_database.specs.Snapshot.{SnapshotState}
 use Rattle.cap_txn.specs.Batch.{BatchState}
 use Rattle.cap_filter.specs.Reading.{filter_of}
 use Rattle.cap_apply.specs.declared.policy.Policy.{Policy}
+use Rattle.cap_core.specs.Capture.{CaptureState}
 use Rattle.cap_core.specs.declared.command.Command.{Command}
 use Rattle.cap_core.specs.declared.command.Command.TheVariants as command
 use Rattle.cap_records.specs.Names.{IsName}
