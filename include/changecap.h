@@ -541,6 +541,15 @@ uint32_t changecap_delete(changecap_batch *batch, const void *table, size_t n, c
  * 11 it is the number of the first item that has changed. Unless the status is OK the batch is as it was. */
 uint32_t changecap_commit(changecap_client *client, changecap_batch *batch, uint64_t *version, changecap_fault *fault);
 
+/* Commits the batch, and opens a closed capture of the session, as changecap_commit and changecap_session_restart do
+ * one after the other; no client's waiting call comes between them. Where each commit under a session is made so, each
+ * capture has the changes of its commit alone.
+ *   OK (*version, and the capture is open), and else what the one that failed answers. Then *version is that of the
+ *   commit where it was made and only the capture failed: the session keeps its records. It is 0 where nothing was
+ *   committed, as for a session that is not there. */
+uint32_t changecap_commit_captured(changecap_client *client, changecap_batch *batch, uint64_t session,
+                                   uint64_t *version, changecap_capture *capture, changecap_fault *fault);
+
 /* An item that a transaction looked at, for its batch. The rest of an item is its table and its key. */
 typedef struct changecap_item {
   uint32_t kind;

@@ -238,6 +238,31 @@ uint32_t changecap_commit(changecap_client *client, changecap_batch *batch, uint
 #endif
 }
 
+/* Commits under the mutex, and captures then. Asking for a flag of the session shows first whether it is there. */
+static uint32_t commit_and_restart(changecap_client *client, changecap_batch *batch, uint64_t session,
+                                   uint64_t *version, changecap_capture *capture, changecap_fault *fault){
+  uint32_t status, flag;
+  WHEN_FREE(status, changecap_try_session_enable(client, session, CHANGECAP_ASK, &flag, fault));
+  if( status != CHANGECAP_OK ) return status;
+  WHEN_FREE(status, changecap_try_commit(client, batch, version, fault));
+  if( status != CHANGECAP_OK ){
+    *version = 0;
+    return status;
+  }
+  WHEN_FREE(status, changecap_try_session_restart(client, session, capture, fault));
+  return status;
+}
+
+uint32_t changecap_commit_captured(changecap_client *client, changecap_batch *batch, uint64_t session,
+                                   uint64_t *version, changecap_capture *capture, changecap_fault *fault){
+  history *of = client->shared;
+  *version = 0;
+  enter(of);
+  uint32_t status = commit_and_restart(client, batch, session, version, capture, fault);
+  leave(of);
+  return status;
+}
+
 uint32_t changecap_snapshot_open(changecap_client *client, changecap_snapshot *snapshot){
   RETURN_LOCKED(client, changecap_try_snapshot_open(client, snapshot));
 }

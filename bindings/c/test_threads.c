@@ -387,6 +387,47 @@ static void *only_commit(void *given){
   return NULL;
 }
 
+/* Whether a capture has one change, the insert of this note. It is closed. */
+static int has_only(changecap_capture *capture, tally *of, const record *note){
+  captured made = bytes_of(of, capture);
+  changecap_iter it = CHANGECAP_CLOSED;
+  changecap_fault fault;
+  changecap_change change;
+  changecap_value thread, number;
+  record key;
+  CHECK(of, changecap_iter_open(made.at, made.n, &it, &fault) == CHANGECAP_OK);
+  int is_one = changecap_iter_next(&it) == CHANGECAP_ROW && changecap_iter_op(&it, &change) == CHANGECAP_OK
+               && change.op == CHANGECAP_INSERT && changecap_iter_new(&it, 0, &thread) == CHANGECAP_OK
+               && changecap_iter_new(&it, 1, &number) == CHANGECAP_OK && changecap_iter_next(&it) == CHANGECAP_DONE;
+  changecap_iter_close(&it);
+  free(made.at);
+  if( !is_one ) return 0;
+  key = of_numbers(thread.number, number.number);
+  return key.n <= note->n && !memcmp(key.at, note->at, key.n);
+}
+
+/* Commits a note at a time, each with the capture that belongs to it. */
+static void *commit_and_capture(void *given){
+  worker *own = given;
+  changecap_batch batch = CHANGECAP_CLOSED;
+  changecap_capture capture = CHANGECAP_CLOSED;
+  changecap_fault fault;
+  uint64_t version, captured_at;
+  CHECK(&own->of, changecap_batch_open(&batch) == CHANGECAP_OK);
+  for(; own->calls < own->wanted; own->calls += 4, own->notes++){
+    record note = of_note(own->number, own->notes, "new");
+    CHECK(&own->of, changecap_insert(&batch, "notes", 5, note.at, note.n, CHANGECAP_DIRECT, &fault) == CHANGECAP_OK);
+    CHECK(&own->of, changecap_commit_captured(&own->client, &batch, own->session, &version, &capture, &fault)
+                    == CHANGECAP_OK);
+    CHECK(&own->of, changecap_capture_version(&capture, &captured_at) == CHANGECAP_OK && captured_at == version);
+    CHECK(&own->of, has_only(&capture, &own->of, &note));
+  }
+  changecap_batch_close(&batch);
+  changecap_close(&own->client);
+  add_tally(&own->of);
+  return NULL;
+}
+
 /* A thread that ends between two calls and leaves its client as it is. */
 static void *end_early(void *given){
   worker *own = given;
@@ -565,6 +606,43 @@ static void counted_commits(long calls){
   add_tally(&of);
 }
 
+/* Threads that commit under one session, each commit with its capture, have each their own changes. */
+static void attributed_commits(long calls){
+  static worker workers[THREADS];
+  tally of = { 0, 0 };
+  changecap_client client = CHANGECAP_CLOSED;
+  pthread_t threads[THREADS];
+  changecap_fault fault;
+  uint64_t version, session = 0;
+  CHECK(&of, changecap_open(&client) == CHANGECAP_OK);
+  made_tables(&of, &client);
+  CHECK(&of, changecap_session_new(&client, &session, &fault) == CHANGECAP_OK);
+  CHECK(&of, changecap_session_attach_all(&client, session, &fault) == CHANGECAP_OK);
+  for(int i = 0; i < THREADS; i++){
+    workers[i] = (worker){ .number = i, .wanted = calls / THREADS, .session = session };
+    CHECK(&of, changecap_join(&workers[i].client, &client) == CHANGECAP_OK);
+    CHECK(&of, pthread_create(&threads[i], NULL, commit_and_capture, &workers[i]) == 0);
+  }
+  for(int i = 0; i < THREADS; i++) CHECK(&of, pthread_join(threads[i], NULL) == 0);
+  changecap_batch batch = CHANGECAP_CLOSED;
+  changecap_capture capture = CHANGECAP_CLOSED;
+  record twice = of_note(0, 0, "twice"), later = of_note(THREADS, 0, "later");
+  CHECK(&of, changecap_batch_open(&batch) == CHANGECAP_OK);
+  CHECK(&of, changecap_insert(&batch, "notes", 5, twice.at, twice.n, CHANGECAP_DIRECT, &fault) == CHANGECAP_OK);
+  CHECK(&of, changecap_commit_captured(&client, &batch, session, &version, &capture, &fault) == CHANGECAP_REFUSED);
+  CHECK(&of, fault.kind == 5 && fault.at == 0 && version == 0 && capture.at == NULL);
+  changecap_batch_clear(&batch);
+  CHECK(&of, changecap_insert(&batch, "notes", 5, later.at, later.n, CHANGECAP_DIRECT, &fault) == CHANGECAP_OK);
+  CHECK(&of, changecap_commit_captured(&client, &batch, session + 1, &version, &capture, &fault)
+             == CHANGECAP_REFUSED);
+  CHECK(&of, fault.kind == 18 && version == 0 && capture.at == NULL);
+  CHECK(&of, changecap_commit_captured(&client, &batch, session, &version, &capture, &fault) == CHANGECAP_OK);
+  CHECK(&of, has_only(&capture, &of, &later));
+  changecap_batch_close(&batch);
+  changecap_close(&client);
+  add_tally(&of);
+}
+
 /* ---- Clients and handles ---- */
 
 /* A history has 64 clients and no further one, until one is closed. */
@@ -645,6 +723,7 @@ int main(int words, char **word){
   counted_clients();
   lasting_handles();
   counted_commits(atol(word[1]) / 10);
+  attributed_commits(atol(word[1]) / 10);
   one_history(atol(word[1]));
   printf("%ld passed, %ld failed\n", passed, failed);
   return failed != 0;

@@ -25,6 +25,7 @@ mod write;
 
 pub use decoder::Decoder;
 pub use fault::{BlobFault, FaultKind};
+pub use field::push_value;
 pub use field_ref::{FieldRef, place_of, take_byte, take_field, take_varint};
 pub use group::{own_name, own_schema};
 pub use header::{HeaderRef, take_header};
@@ -35,6 +36,7 @@ pub use laws::{
 };
 pub use operation::Operation;
 pub use read::{Contents, read_blob, wrong_kind};
+pub use record::own_field;
 pub use source_and_sink::{Sink, Source};
 pub use stream::{ReadFault, WriteFault, read_from, write_changes_to, write_patches_to};
 pub use touched::{is_changed, push_change_between, push_group_header};

@@ -34,9 +34,12 @@ fn blob_value<A: AllocHandle>(alloc: A, bytes: &[u8]) -> Result<Value<A>, Fault<
     }
 }
 
-// An owned copy of the field.
-fn own<A: AllocHandle>(alloc: A, field: FieldRef<'_>) -> Result<Option<Value<A>>, Fault<BlobFault>>
-    requires { IsWithin field }
+/// An owned copy of a field.
+pub fn own_field<A: AllocHandle>(
+    alloc: A,
+    field: FieldRef<'_>,
+) -> Result<Option<Value<A>>, Fault<BlobFault>>
+    requires within { IsWithin field }
     ensures { ShowsUnlessMemory (λ value. value) result (Ok (value_of {A = A} field.entry)) }
 {
     match field {
@@ -75,7 +78,7 @@ pub fn take_record<'a, A: AllocHandle>(
     let mut rest = bytes;
     for key in flags {
         let (field, after) = take_field::<A>(total, record_kind.requirement(*key), rest)?;
-        push_field(&mut fields, own(alloc, field)?)?;
+        push_field(&mut fields, own_field(alloc, field)?)?;
         rest = after;
     }
     Ok((FieldRecord::new(fields), rest))
@@ -98,7 +101,7 @@ pub fn take_new_record<'a, A: AllocHandle>(
     let mut rest = bytes;
     for (column, key) in flags.iter().enumerate() {
         let (field, after) = take_field::<A>(total, requirement_beside(*key, &old[column]), rest)?;
-        push_field(&mut fields, own(alloc, field)?)?;
+        push_field(&mut fields, own_field(alloc, field)?)?;
         rest = after;
     }
     Ok((FieldRecord::new(fields), rest))

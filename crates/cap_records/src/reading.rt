@@ -1,52 +1,14 @@
 //! Reading of records that stand alone.
-ghost use Rattle.std.specs.Prelude.{◌≡◌, ◌≤◌, ◌++◌, ◌∷◌, [], length, IfOk, IsTrue, OnOk};
-ghost use Rattle.cap_value.specs.declared.limits.TheConstants.{VALUE_BYTES_MAX};
+ghost use Rattle.std.specs.Prelude.{◌≡◌, ◌++◌, ◌∷◌, [], IfOk, IsTrue, OnOk};
 ghost use Rattle.cap_value.specs.Memory.{ShowsUnlessMemory};
 ghost use Rattle.cap_codec.specs.Field.{record_bytes};
-ghost use Rattle.cap_codec.specs.FieldReading.{IsWithin, value_of};
 ghost use Rattle.cap_records.specs.Record.{columns_set, defined, has_byte, record_in};
 
 use cap_changes::FieldRequirement;
-use cap_codec::{BlobFault, FieldRef, take_field};
+use cap_codec::{BlobFault, own_field, take_field};
 use cap_database::Assignments;
-use cap_value::{Blob, Fault, OutOfMemory, Text, Value};
+use cap_value::{Fault, OutOfMemory, Value};
 use std::alloc::Global;
-
-fn text_value(alloc: Global, text: &str) -> Result<Value<Global>, Fault<BlobFault>>
-    requires { length text.now ≤ VALUE_BYTES_MAX }
-    ensures { ShowsUnlessMemory (λ value. value) result (Ok (Value.Text text.now)) }
-{
-    match Text::new(alloc, text) {
-        Ok(text) => Ok(Value::Text(text)),
-        Err(Fault::OutOfMemory) => Err(Fault::OutOfMemory),
-        Err(Fault::Refused(_)) => unreachable!(),
-    }
-}
-
-fn blob_value(alloc: Global, bytes: &[u8]) -> Result<Value<Global>, Fault<BlobFault>>
-    requires { length bytes.now ≤ VALUE_BYTES_MAX }
-    ensures { ShowsUnlessMemory (λ value. value) result (Ok (Value.Blob bytes.now)) }
-{
-    match Blob::new(alloc, bytes) {
-        Ok(blob) => Ok(Value::Blob(blob)),
-        Err(Fault::OutOfMemory) => Err(Fault::OutOfMemory),
-        Err(Fault::Refused(_)) => unreachable!(),
-    }
-}
-
-// An owned copy of the field.
-fn own(alloc: Global, field: FieldRef<'_>) -> Result<Option<Value<Global>>, Fault<BlobFault>>
-    requires { IsWithin field }
-    ensures { ShowsUnlessMemory (λ value. value) result (Ok (value_of {A = Global} field.entry)) }
-{
-    match field {
-        FieldRef::Undefined => Ok(None),
-        FieldRef::Null => Ok(Some(Value::Null)),
-        FieldRef::Int(number) => Ok(Some(Value::Int(number))),
-        FieldRef::Text(text) => Ok(Some(text_value(alloc, text)?)),
-        FieldRef::Blob(bytes) => Ok(Some(blob_value(alloc, bytes)?)),
-    }
-}
 
 fn push_field(
     fields: &mut Vec<Option<Value<Global>>, Global>,
@@ -75,7 +37,7 @@ pub(crate) fn take_fields(
     while !rest.is_empty() {
         match take_field::<Global>(bytes.len(), requirement, rest) {
             Ok((field, after)) => {
-                push_field(&mut fields, own(alloc, field)?)?;
+                push_field(&mut fields, own_field(alloc, field)?)?;
                 rest = after;
             }
             Err(fault) => return Err(Fault::Refused(fault)),
