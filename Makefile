@@ -39,8 +39,8 @@ build:
 	@touch -c $(PROGRAM)
 	@echo 'The program is $(PROGRAM).'
 
-# Every proof from nothing, every must-fail edit, every test, and then the examples through the optimised program, and
-# what the pages say. What each crate cost stands before the last line, which counts them all.
+# Every proof from nothing, every must-fail edit, every test, the library for C, and then the examples through the
+# optimised program, and what the pages say. What each crate cost stands before the last line, which counts them all.
 test:
 	@log=$$(mktemp) && trap 'rm -f "$$log"' EXIT && \
 	.ci/gate 2>&1 | tee "$$log" && proofs=$$(tail -n 1 "$$log") && \
@@ -71,7 +71,8 @@ conformance:
 bench:
 	@bench/run $(PROGRAM) $(OUT) $(ROUNDS)
 
-# The library for C, as an archive and as a shared object, over what `make test` proved; cap_c itself is proved here.
+# The library for C, as an archive and as a shared object: that of `make test`, where the sources are the same. Else it is
+# built over what is proved, and cap_c itself is proved here.
 lib:
 	@bindings/library $(OUT)
 

@@ -88,6 +88,9 @@ fn a_capture_is_written_as_often_as_it_is_asked_for(rt: HostRuntime) -> Result<(
         "commit insert t (1,'x')",
     ];
     assert!(rt; accepts(&mut connection, alloc, &texts));
+    let kept = connection.capture(1);
+    assert!(rt; connection.is_empty(1) == Ok(false));
+    assert!(rt; has_changeset(alloc, &kept, &CHANGESET));
     let captured = connection.restart(1);
     assert!(rt; connection.is_empty(1) == Ok(true));
     assert!(rt; has_changeset(alloc, &captured, &CHANGESET));

@@ -1,5 +1,5 @@
 //! Tests of connections to a history, of iterators over blobs and of blobs in pieces, as a library in Rust has
-//! them.
+//! them, and of the records that they take.
 #![tactic(auto)]
 
 #[cfg(test)]
@@ -10,5 +10,9 @@ mod calls;
 mod captures;
 #[cfg(test)]
 mod histories;
+#[cfg(test)]
+mod records;
+#[cfg(test)]
+mod rows;
 #[cfg(test)]
 mod texts;

@@ -1,0 +1,103 @@
+//! Records, and the operations of batches and transactions that are made of them.
+use crate::rows::{KEY, are, tables};
+use crate::texts::{accepts, answers};
+use cap_connection::Connection;
+use cap_database::{Cause, Snapshot};
+use cap_records::{
+    ItemKind, delete_op, get, has_all_ops, insert_op, item_at, item_id, item_key, item_kind,
+    item_table, put_op, record_of_row, row_of, scan, txn_get, txn_op, txn_scan, update_op,
+};
+use cap_txn::{Batch, Txn};
+use std::alloc::Global;
+use std::test::Fail;
+
+// The record of the row (2,'x'), of (5,50), and of new values of which the second column is 7.
+const ROW: [u8; 12] = [1, 0, 0, 0, 0, 0, 0, 0, 2, 3, 1, b'x'];
+
+const FIFTY: [u8; 18] = [1, 0, 0, 0, 0, 0, 0, 0, 5, 1, 0, 0, 0, 0, 0, 0, 0, 50];
+
+const SEVEN: [u8; 10] = [0, 1, 0, 0, 0, 0, 0, 0, 0, 7];
+
+// Makes an operation of each kind in a batch, on a table of the rows 2, 3 and 1 without a key.
+fn puts_three(alloc: Global, batch: &mut Batch<Global>) -> Option<()> {
+    let direct = Cause::Direct;
+    put_op(batch, insert_op(alloc, b"t", &FIFTY, direct).ok()?).ok()?;
+    put_op(batch, update_op(alloc, b"t", &KEY, 0, &SEVEN, direct).ok()?).ok()?;
+    put_op(batch, delete_op(alloc, b"t", b"", 1, direct).ok()?).ok()
+}
+
+// A transaction that sets row 2 and reads it again, and then all rows.
+fn sets_seven(alloc: Global, snapshot: &Snapshot<Global>) -> Option<Batch<Global>> {
+    let mut txn = Txn::begin(alloc, snapshot).ok()?;
+    let set = update_op(alloc, b"t", &KEY, 0, &SEVEN, Cause::Direct).ok()?;
+    txn_op(&mut txn, set).ok()?;
+    let is_read = are(txn_get(alloc, &mut txn, b"t", &KEY, 0), &[(0, 7)]);
+    let are_all = are(txn_scan(alloc, &mut txn, b"t"), &[(0, 7), (1, 30)]);
+    if is_read && are_all {
+        Some(txn.into_batch())
+    } else {
+        None
+    }
+}
+
+// The kind, the table's name and the key's record of an item.
+fn is_item(alloc: Global, batch: &Batch<Global>, at: usize, kind: ItemKind, key: &[u8]) -> bool {
+    let Some(item) = item_at(batch, at) else {
+        return false;
+    };
+    match item_key(alloc, item) {
+        Ok(found) => {
+            item_kind(item) == kind
+                && item_table(item).as_str() == "t"
+                && item_id(item) == 0
+                && found.as_slice() == key
+        }
+        Err(_) => false,
+    }
+}
+
+#[test]
+fn a_row_is_its_record(rt: HostRuntime) -> Result<(), Fail> {
+    let alloc = rt.alloc();
+    let row = row_of(alloc, &ROW).ok().ok_or("a row")?;
+    assert!(rt; row.width() == 2);
+    assert!(rt; record_of_row(alloc, &row)?.as_slice() == ROW.as_slice());
+    let snapshot = tables(alloc, &["create t kv", "commit insert t (2,'x')"]).ok_or("tables")?;
+    let mut rows = get(alloc, &snapshot, b"t", &KEY, 0).ok().ok_or("rows")?;
+    assert!(rt; rows.record(alloc)?.is_none());
+    assert!(rt; rows.step());
+    assert!(rt; rows.record(alloc)?.ok_or("a record")?.as_slice() == ROW.as_slice());
+    Ok(())
+}
+
+#[test]
+fn a_batch_of_each_operation(rt: HostRuntime) -> Result<(), Fail> {
+    let alloc = rt.alloc();
+    let mut connection = Connection::open(alloc)?;
+    let mut batch = Batch::blind(alloc);
+    let texts = ["create t kv", "commit insert t (2,20) ; insert t (null,30)"];
+    assert!(rt; accepts(&mut connection, alloc, &texts));
+    assert!(rt; puts_three(alloc, &mut batch).is_some());
+    assert!(rt; !has_all_ops(&batch));
+    assert!(rt; connection.commit(alloc, &mut batch) == Ok(3));
+    let snapshot = connection.read().ok().ok_or("tables")?;
+    assert!(rt; are(scan(alloc, &snapshot, b"t"), &[(0, 7), (0, 50)]));
+    Ok(())
+}
+
+#[test]
+fn a_transaction_of_records(rt: HostRuntime) -> Result<(), Fail> {
+    let alloc = rt.alloc();
+    let mut connection = Connection::open(alloc)?;
+    let texts = ["create t kv", "commit insert t (2,20) ; insert t (null,30)"];
+    assert!(rt; accepts(&mut connection, alloc, &texts));
+    let snapshot = connection.read().ok().ok_or("tables")?;
+    let mut batch = sets_seven(alloc, &snapshot).ok_or("a transaction")?;
+    assert!(rt; is_item(alloc, &batch, 0, ItemKind::Table, b""));
+    assert!(rt; is_item(alloc, &batch, 1, ItemKind::Row, &KEY));
+    assert!(rt; is_item(alloc, &batch, 2, ItemKind::Scan, b""));
+    assert!(rt; item_at(&batch, 3).is_none());
+    assert!(rt; connection.commit(alloc, &mut batch) == Ok(3));
+    assert!(rt; answers(&mut connection, alloc, "get t key(2)", "row (2,7)"));
+    Ok(())
+}

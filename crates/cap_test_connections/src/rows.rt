@@ -1,0 +1,103 @@
+//! Rows that are read of snapshots.
+use crate::texts::accepts;
+use cap_codec::{BlobFault, FaultKind};
+use cap_connection::Connection;
+use cap_database::Snapshot;
+use cap_records::{RecordFault, RowCursor, get, scan, scan_from};
+use cap_value::{Fault, Refusal, Value};
+use std::alloc::Global;
+use std::test::Fail;
+
+/// The record of the key (2).
+pub(crate) const KEY: [u8; 9] = [1, 0, 0, 0, 0, 0, 0, 0, 2];
+
+// The record of the key (3).
+const ABSENT: [u8; 9] = [1, 0, 0, 0, 0, 0, 0, 0, 3];
+
+const NO_TABLE: Fault<RecordFault> = Fault::Refused(RecordFault::Refused(Refusal::NoTable));
+
+const MISUSE: Fault<RecordFault> = Fault::Refused(RecordFault::Misuse);
+
+/// The tables that these commands leave.
+pub(crate) fn tables(alloc: Global, texts: &[&str]) -> Option<Snapshot<Global>> {
+    let mut connection = Connection::open(alloc).ok()?;
+    if !accepts(&mut connection, alloc, texts) {
+        return None;
+    }
+    connection.read().ok()
+}
+
+// The integer in column 1 of the row at which the cursor stands.
+fn integer(rows: &RowCursor) -> Option<i64> {
+    match rows.value(1) {
+        Some(Value::Int(number)) => Some(*number),
+        _ => None,
+    }
+}
+
+/// Goes to the next row: its id, and the integer in its column 1.
+pub(crate) fn next(rows: &mut RowCursor) -> Option<(u64, i64)> {
+    if !rows.step() {
+        return None;
+    }
+    Some((rows.id()?, integer(rows)?))
+}
+
+/// Whether these are the rows that are read, by their ids and the integers in column 1.
+pub(crate) fn are(read: Result<RowCursor, Fault<RecordFault>>, expected: &[(u64, i64)]) -> bool {
+    let Ok(mut rows) = read else {
+        return false;
+    };
+    for row in expected {
+        if next(&mut rows) != Some(*row) {
+            return false;
+        }
+    }
+    !rows.step() && rows.id().is_none()
+}
+
+/// Why nothing is read.
+pub(crate) fn fault_of(read: Result<RowCursor, Fault<RecordFault>>) -> Option<Fault<RecordFault>> {
+    read.err()
+}
+
+#[test]
+fn rows_in_the_order_of_their_keys(rt: HostRuntime) -> Result<(), Fail> {
+    let alloc = rt.alloc();
+    let texts = [
+        "create t kv",
+        "commit insert t (2,20) ; insert t (null,30) ; insert t (1,10)",
+    ];
+    let snapshot = tables(alloc, &texts).ok_or("tables")?;
+    let mut rows = scan(alloc, &snapshot, b"t").ok().ok_or("rows")?;
+    assert!(rt; rows.columns().is_none());
+    assert!(rt; next(&mut rows) == Some((0, 10)));
+    assert!(rt; rows.columns() == Some(2));
+    assert!(rt; rows.value(2).is_none());
+    assert!(rt; next(&mut rows) == Some((0, 20)));
+    assert!(rt; next(&mut rows) == Some((1, 30)));
+    assert!(rt; !rows.step());
+    assert!(rt; are(scan_from(alloc, &snapshot, b"t", &KEY, 5), &[(0, 20)]));
+    assert!(rt; are(scan_from(alloc, &snapshot, b"t", &KEY, 0), &[]));
+    Ok(())
+}
+
+#[test]
+fn one_row_by_its_key_or_its_id(rt: HostRuntime) -> Result<(), Fail> {
+    let alloc = rt.alloc();
+    let texts = ["create t kv", "commit insert t (2,20) ; insert t (null,30)"];
+    let snapshot = tables(alloc, &texts).ok_or("tables")?;
+    assert!(rt; are(get(alloc, &snapshot, b"t", &KEY, 0), &[(0, 20)]));
+    assert!(rt; are(get(alloc, &snapshot, b"t", b"", 1), &[(1, 30)]));
+    assert!(rt; are(get(alloc, &snapshot, b"t", &ABSENT, 0), &[]));
+    assert!(rt; fault_of(get(alloc, &snapshot, b"t", b"", 0)) == Some(MISUSE));
+    assert!(rt; fault_of(get(alloc, &snapshot, b"t", &KEY, 1)) == Some(MISUSE));
+    assert!(rt; fault_of(scan(alloc, &snapshot, b"u")) == Some(NO_TABLE));
+    let malformed = BlobFault {
+        kind: FaultKind::BadField,
+        at: 0,
+    };
+    let malformed = Fault::Refused(RecordFault::Malformed(malformed));
+    assert!(rt; fault_of(get(alloc, &snapshot, b"t", b"\x09", 0)) == Some(malformed));
+    Ok(())
+}
