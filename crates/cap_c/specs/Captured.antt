@@ -1,9 +1,15 @@
--- What a handle of a capture has.
-use Rattle.std.specs.Prelude.{[], Option, Some, None}
+-- What a handle of a capture has, and the command that makes one.
+use Rattle.std.specs.Prelude.{ℕ, Bool, [], Option, Some, None, if◌then◌else◌}
 use Rattle.std.specs.Global.{Global}
 use Rattle.cap_core.specs.Capture.{CaptureState}
+use Rattle.cap_core.specs.declared.command.Command.{Command}
+use Rattle.cap_core.specs.declared.command.Command.TheVariants.{Capture, Restart}
 
 -- the capture, where there is one
 abbrev pub capture_held : Option (CaptureState Global) → CaptureState Global
 capture_held (Some capture) = capture
 capture_held None = record { version = 0; changes = [] }
+
+-- a capture of a session, which is restarted then or goes on
+abbrev pub capture_command : Bool → ℕ → Command Global
+capture_command restarts session = if restarts then Restart session else Capture session

@@ -6,6 +6,7 @@ ghost use Rattle.cap_connection.specs.Calls.{Captures};
 ghost use Rattle.cap_connection.specs.Replies.{captured_bytes};
 ghost use Rattle.cap_connection.specs.declared.captured.CaptureKind.TheVariants.{Changeset, Patchset};
 ghost use Rattle.cap_c.specs.Answered.{Answers, TellsOpened};
+ghost use Rattle.cap_c.specs.Captured.{capture_command};
 ghost use Rattle.cap_c.specs.Handle.{Keeps, LacksMemory};
 ghost use Rattle.cap_c.specs.Numbers.{key_flags_of};
 ghost use Rattle.cap_c.specs.Outputs.{OutputsMade};
@@ -40,7 +41,7 @@ pub extern "C" fn changecap_try_session_capture(
         × (fault.new ≡ fault.old)) }
 {
     match Box::new(alloc, HeldCapture { captured: None }) {
-        Ok(room) => capture_in(alloc, client, session, room, capture, fault),
+        Ok(room) => capture_in(alloc, client, session, false, room, capture, fault),
         Err(_) => NOMEM,
     }
 }
@@ -62,7 +63,7 @@ pub extern "C" fn changecap_try_session_restart(
         × (fault.new ≡ fault.old)) }
 {
     match Box::new(alloc, HeldCapture { captured: None }) {
-        Ok(room) => restart_in(alloc, client, session, room, capture, fault),
+        Ok(room) => capture_in(alloc, client, session, true, room, capture, fault),
         Err(_) => NOMEM,
     }
 }
@@ -72,36 +73,23 @@ fn capture_in(
     alloc: Global,
     client: &mut ClientHandle,
     session: u64,
+    restarts: bool,
     room: Box<HeldCapture>,
     capture: &mut CaptureHandle,
     fault: &mut PlacedFault,
 ) -> u32
     requires opened { IsSome client.old.value }
     requires closed { capture.old.value ≡ None }
-    ensures captured { Answers client.old.value client.new.value (Captures (command.Capture session))
+    ensures captured { Answers client.old.value client.new.value
+        (Captures (capture_command restarts session))
         (TellsOpened result capture.new.value fault.old fault.new) }
 {
     let mut connection = take(alloc, client);
-    let answer = connection.capture(session);
-    put(client, connection);
-    tell_capture(answer, room, capture, fault)
-}
-
-fn restart_in(
-    alloc: Global,
-    client: &mut ClientHandle,
-    session: u64,
-    room: Box<HeldCapture>,
-    capture: &mut CaptureHandle,
-    fault: &mut PlacedFault,
-) -> u32
-    requires opened { IsSome client.old.value }
-    requires closed { capture.old.value ≡ None }
-    ensures restarted { Answers client.old.value client.new.value (Captures (command.Restart session))
-        (TellsOpened result capture.new.value fault.old fault.new) }
-{
-    let mut connection = take(alloc, client);
-    let answer = connection.restart(session);
+    let answer = if restarts {
+        connection.restart(session)
+    } else {
+        connection.capture(session)
+    };
     put(client, connection);
     tell_capture(answer, room, capture, fault)
 }

@@ -23,7 +23,7 @@ loop-rest-smaller c = shorter c.args.requirement (length c.args.bytes.now) c.loo
 pub loop-rest-preserved : goal.loop-rest-preserved
 loop-rest-preserved c =
     let less = shorter c.args.requirement (length c.args.bytes.now) c.loop-rest.rest.now (value_of c.in-Ok.field, c.in-Ok.after.now) c.requires c.loop-rest.invariant.low c.in-Ok.ensures.reads in record {
-      read = rw (c.in_ok-push_field-in-Ok.ensures) (fields_go_on c.args.requirement (length c.args.bytes.now) c.loop-rest.fields.items c.loop-rest.rest.now c.in-Ok.after.now _ _ (some c.loop-rest.rest.now c.is_empty.result c.is_empty.ensures c.loop-rest-test.true) (cc (c.in-Ok.ensures.reads, c.in_ok-own-in-Ok.ensures)) less c.loop-rest.invariant.read);
+      read = rw (c.in_ok-push_field-in-Ok.ensures) (fields_go_on c.args.requirement (length c.args.bytes.now) c.loop-rest.fields.items c.loop-rest.rest.now c.in-Ok.after.now _ _ (some c.loop-rest.rest.now c.is_empty.result c.is_empty.ensures c.loop-rest-test.true) (cc (c.in-Ok.ensures.reads, c.in_ok-own_field-in-Ok.ensures)) less c.loop-rest.invariant.read);
       low = behind_low c.args.requirement (length c.args.bytes.now) c.loop-rest.rest.now (value_of c.in-Ok.field, c.in-Ok.after.now) c.requires c.loop-rest.invariant.low c.in-Ok.ensures.reads;
     }
 
