@@ -69,13 +69,6 @@ impl<T: ToValue, const N: usize> Params for [T; N] {
     }
 }
 
-impl<T: ToValue> sealed::Params for Vec<T> {}
-impl<T: ToValue> Params for Vec<T> {
-    fn put(&self, record: &mut Vec<u8>) {
-        self[..].put(record);
-    }
-}
-
 impl<P: Params + ?Sized> sealed::Params for &P {}
 impl<P: Params + ?Sized> Params for &P {
     fn put(&self, record: &mut Vec<u8>) {
