@@ -1,4 +1,5 @@
-//! Links libchangecap: that of the folder in CHANGECAP_LIB, else that of `make lib`, else what pkg-config finds.
+//! Links libchangecap: that of the folder in CHANGECAP_LIB, else that of `make lib`, else what pkg-config
+//! finds.
 use std::env;
 use std::path::Path;
 use std::process::Command;

@@ -1,6 +1,7 @@
 //! Loads of the library from Rust, those of bench/changecap_times.c by the same names: `times LOAD ..`
 //!
-//! Each load prints lines `NAME NANOSECONDS`, those of one commit or transaction by the processor time of the thread.
+//! Each load prints lines `NAME NANOSECONDS`, those of one commit or transaction by the processor time of the
+//! thread.
 use changecap::{Batch, Cause, Client, Result, Server, Session};
 
 const COMMITS: i64 = 100_000;

@@ -35,12 +35,12 @@ impl Cause {
     }
 }
 
-/// Operations that are made together or not at all, at most 10,000. A batch is put together without a client, and
-/// any client commits it ([`Client::commit`](crate::Client::commit)). Whether there is such a table, row or column is
-/// looked at then.
+/// Operations that are made together or not at all, at most 10,000. A batch is put together without a client,
+/// and any client commits it ([`Client::commit`](crate::Client::commit)). Whether there is such a table, row
+/// or column is looked at then.
 ///
-/// Where an operation cannot be put in, the whole batch has failed: it is not committed, and the commit answers
-/// [`Error::FailedBatch`], until [`clear`](Batch::clear).
+/// Where an operation cannot be put in, the whole batch has failed: it is not committed, and the commit
+/// answers [`Error::FailedBatch`], until [`clear`](Batch::clear).
 ///
 /// ```
 /// use changecap::{Batch, Cause, Server};
@@ -52,6 +52,7 @@ impl Cause {
 /// assert_eq!(client.commit(&mut batch)?, 2);
 /// # Ok::<(), changecap::Error>(())
 /// ```
+#[derive(Debug)]
 pub struct Batch {
     handle: Owned,
     /// Whether an operation could not be put in it.
@@ -91,8 +92,9 @@ impl Batch {
         put
     }
 
-    /// Puts an operation last that inserts a row. [`Error::Misuse`] where there can be no such table or value,
-    /// refused with [`Refusal::TooMany`](crate::Refusal::TooMany) where the batch has 10,000 operations.
+    /// Puts an operation last that inserts a row. [`Error::Misuse`] where there can be no such table or
+    /// value, refused with [`Refusal::TooMany`](crate::Refusal::TooMany) where the batch has 10,000
+    /// operations.
     pub fn insert(&mut self, table: &str, row: impl Params, cause: Cause) -> Result<()> {
         // SAFETY: the handle is an open batch.
         let put = unsafe { insert(ffi::changecap_insert, &self.handle, table, row, cause) };

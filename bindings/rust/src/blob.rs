@@ -34,13 +34,14 @@ impl KeyFlags {
 
 /// Whether the bytes are a changeset or a patchset: [`Error::Malformed`] where they are none.
 pub fn check(blob: &[u8]) -> Result<()> {
-    // SAFETY: a pointer and a length of one slice, and a place of the caller's. So in each call of this file.
+    // SAFETY: a slice, and a fault that is there.
     done(|fault| unsafe { ffi::changecap_check(blob.as_ptr(), blob.len(), fault) })
 }
 
 /// What a call makes of a changeset.
 fn converted(call: ffi::ConvertCall, blob: &[u8], key_flags: KeyFlags) -> Result<Vec<u8>> {
     // What is made is no longer than the changeset.
+    // SAFETY: a slice, and a buffer and a length that are of the call alone.
     taken(blob.len(), |out, len, fault| unsafe {
         call(blob.as_ptr(), blob.len(), key_flags.number(), out.as_mut_ptr(), out.len(), len, fault)
     })
@@ -48,6 +49,7 @@ fn converted(call: ffi::ConvertCall, blob: &[u8], key_flags: KeyFlags) -> Result
 
 /// Both blobs as one, by `changecap_concat`.
 fn joined(first: &[u8], second: &[u8], key_flags: KeyFlags) -> Result<Vec<u8>> {
+    // SAFETY: two slices, a buffer and a length that are of the call alone, and a place for the number.
     taken(first.len() + second.len(), |out, len, fault| unsafe {
         ffi::changecap_concat(
             first.as_ptr(),
@@ -65,6 +67,7 @@ fn joined(first: &[u8], second: &[u8], key_flags: KeyFlags) -> Result<Vec<u8>> {
 }
 
 fn json_of(blob: &[u8]) -> Result<String> {
+    // SAFETY: a slice, and a buffer and a length that are of the call alone.
     taken(4 * blob.len(), |out, len, fault| unsafe {
         ffi::changecap_json(blob.as_ptr(), blob.len(), out.as_mut_ptr(), out.len(), len, fault)
     })

@@ -3,8 +3,8 @@ use crate::call::taken;
 use crate::handle::Owned;
 use crate::{ffi, Changeset, KeyFlags, Patchset, Result};
 
-/// What a session had captured at one point of the history. It stays as it is, whatever is committed, and becomes bytes
-/// without waiting. Where there is no memory for the bytes they may be asked for again.
+/// What a session had captured at one point of the history. It stays as it is, whatever is committed, and
+/// becomes bytes without waiting. Where there is no memory for the bytes they may be asked for again.
 ///
 /// ```
 /// use changecap::{Batch, Cause, KeyFlags, Server, Session};
@@ -20,6 +20,7 @@ use crate::{ffi, Changeset, KeyFlags, Patchset, Result};
 /// assert_eq!(capture.patchset(KeyFlags::Places)?.as_bytes()[0], b'P');
 /// # Ok::<(), changecap::Error>(())
 /// ```
+#[derive(Debug)]
 pub struct Capture {
     pub(crate) handle: Owned,
 }

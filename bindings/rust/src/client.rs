@@ -9,13 +9,12 @@ use std::sync::Arc;
 /// What an application does at a conflict.
 ///
 /// ```
-/// use changecap::{ConflictAction, Server};
+/// use changecap::{ConflictAction::{Abort, Omit}, Server};
 /// let client = Server::open_in_memory()?.client()?;
 /// let insert = [0x54, 2, 1, 0, b't', 0, 0x12, 0, 1, 0, 0, 0, 0, 0, 0, 0, 1, 3, 1, b'x'];
 /// client.create_table("t", &[true, false])?;
 /// for omitted in [0, 1] {
-///     let report = client.apply(insert, ConflictAction::Abort, ConflictAction::Abort, ConflictAction::Omit)?;
-///     assert_eq!(report.omitted, omitted);
+///     assert_eq!(client.apply(insert, Abort, Abort, Omit)?.omitted, omitted);
 /// }
 /// # Ok::<(), changecap::Error>(())
 /// ```
@@ -66,9 +65,9 @@ pub struct Report {
 /// The refusals of an applied blob that have the number of a change: E15 Aborted and E16 Misuse.
 const OF_A_CHANGE: [u32; 2] = [15, 16];
 
-/// A client of a server, which makes one call at a time. It is lent by the server, and goes back when it is dropped.
-/// It may go to another thread; each thread has one of its own. A call that asks for the state of the server waits
-/// while another client's has it.
+/// A client of a server, which makes one call at a time. It is lent by the server, and goes back when it is
+/// dropped. It may go to another thread; each thread has one of its own. A call that asks for the state of
+/// the server waits while another client's has it.
 ///
 /// ```
 /// use changecap::{Batch, Cause, Server};
@@ -91,6 +90,7 @@ const OF_A_CHANGE: [u32; 2] = [15, 16];
 /// std::thread::scope(|scope| scope.spawn(|| client.snapshot().map(drop)).join().unwrap())?;
 /// # Ok::<(), changecap::Error>(())
 /// ```
+#[derive(Debug)]
 pub struct Client {
     handle: RefCell<ffi::Client>,
     pool: Arc<Pool>,
@@ -112,12 +112,13 @@ impl Client {
         self.with(|client| done(|fault| call(client, fault)))
     }
 
-    /// Carries out one command of the workload language (docs/manual/formats.md, "Workload text"), and answers the text
-    /// of its reply, as `ok version 2`. [`Error::Command`] where the text is not one command.
+    /// Carries out one command of the workload language (docs/manual/formats.md, "Workload text"), and
+    /// answers the text of its reply, as `ok version 2`. [`Error::Command`] where the text is not one
+    /// command.
     pub fn execute(&self, command: &str) -> Result<String> {
         let mut fault = ffi::Fault::default();
-        // SAFETY: the client is open, and no other call has it. What a call reads and writes is of this function alone.
-        // So in each call of this file.
+        // SAFETY: the client is open, and `&mut` says that no other call has it. A slice, a fault, and a
+        // buffer and a length that are of the call alone.
         let (status, reply) = self.with(|client| unsafe {
             let status = ffi::changecap_call(client, command.as_ptr(), command.len(), &mut fault);
             let client: *mut ffi::Client = client;
@@ -135,11 +136,12 @@ impl Client {
         Err(Refused::of_reply(&reply).map_or(Error::Misuse, Error::Refused))
     }
 
-    /// Creates a table with these columns, 1 to 2,000, each of them in the primary key or not, and answers the new
-    /// version.
+    /// Creates a table with these columns, 1 to 2,000, each of them in the primary key or not, and answers
+    /// the new version.
     pub fn create_table(&self, table: &str, key: &[bool]) -> Result<u64> {
         let key: Vec<u8> = key.iter().map(|flag| u8::from(*flag)).collect();
         let mut version = 0;
+        // SAFETY: the client is open, and no other call has it. Two slices, and places of this function.
         self.done(|client, fault| unsafe {
             let (n, columns) = (table.len(), key.len());
             ffi::changecap_create(client, table.as_ptr(), n, key.as_ptr(), columns, &mut version, fault)
@@ -152,11 +154,12 @@ impl Client {
         self.with(snapshot)
     }
 
-    /// Commits a batch, all of its operations or none, and answers the new version. Then the batch is empty, for any
-    /// version. Where it is refused, or with any other error, the batch is as it was.
+    /// Commits a batch, all of its operations or none, and answers the new version. Then the batch is empty,
+    /// for any version. Where it is refused, or with any other error, the batch is as it was.
     pub fn commit(&self, batch: &mut Batch) -> Result<u64> {
         let mut version = 0;
         self.with(|client| {
+            // SAFETY: the client and the batch are open, and no other call has them.
             batch.committed(|batch, fault| unsafe {
                 ffi::changecap_commit(client, batch, &mut version, fault)
             })
@@ -164,8 +167,8 @@ impl Client {
         Ok(version)
     }
 
-    /// Applies a changeset or a patchset: what is done where a row differs, where it is missing, and where its key is in
-    /// use. A blob that is refused changes nothing, and the refusal names the change.
+    /// Applies a changeset or a patchset: what is done where a row differs, where it is missing, and where
+    /// its key is in use. A blob that is refused changes nothing, and the refusal names the change.
     pub fn apply(
         &self,
         blob: impl AsRef<[u8]>,
@@ -175,6 +178,7 @@ impl Client {
     ) -> Result<Report> {
         let (blob, mut report) = (blob.as_ref(), ffi::Report::default());
         let (data, not_found, conflict) = (data.number(), not_found.number(), conflict.number());
+        // SAFETY: the client is open, and no other call has it. A slice, and places of this function.
         let mut apply = |client: &mut ffi::Client, fault: &mut ffi::Fault| unsafe {
             let (at, n) = (blob.as_ptr(), blob.len());
             ffi::changecap_apply(client, at, n, data, not_found, conflict, &mut report, fault)
@@ -185,8 +189,10 @@ impl Client {
         Ok(Report { version, applied, conflicts, omitted, skipped })
     }
 
-    /// Saves the tables under a name, for [`Session::diff`](crate::Session::diff), in place of what was saved under it.
+    /// Saves the tables under a name, for [`Session::diff`](crate::Session::diff), in place of what was saved
+    /// under it.
     pub fn save(&self, database: &str) -> Result<()> {
+        // SAFETY: the client is open, and no other call has it. A slice.
         self.done(|client, fault| unsafe {
             ffi::changecap_save(client, database.as_ptr(), database.len(), fault)
         })

@@ -43,8 +43,8 @@ pub enum Error {
     OtherKind,
     /// A table that had other columns, or another key, before.
     OtherColumns,
-    /// There is no memory for the call, which may be made again. A [`Batch`](crate::Batch) to which it would have
-    /// added fails.
+    /// There is no memory for the call, which may be made again. A [`Batch`](crate::Batch) to which it would
+    /// have added fails.
     OutOfMemory,
     /// An argument that the call has no meaning for: there is no such name, value or number of columns.
     Misuse,
@@ -79,8 +79,8 @@ pub enum Error {
 pub type Result<T> = std::result::Result<T, Error>;
 
 impl Error {
-    /// Why a call that answered this status failed. The refusals of some numbers have the number of an operation or
-    /// of a change.
+    /// Why a call that answered this status failed. The refusals of some numbers have the number of an
+    /// operation or of a change.
     pub(crate) fn of(status: u32, fault: ffi::Fault, has_part: impl Fn(u32) -> bool) -> Error {
         let place = Fault { kind: fault.kind, at: fault.at };
         match status {

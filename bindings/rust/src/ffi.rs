@@ -77,13 +77,14 @@ pub struct Report {
 
 /// A `changecap_client`: `at` is null while it is closed.
 #[repr(C)]
+#[derive(Debug)]
 pub struct Client {
     pub at: *mut u8,
     pub shared: *mut u8,
 }
 
-// SAFETY: a client may go to another thread between two calls that are ordered. What the clients of a history have in
-// common has a lock of its own, so calls of two clients may run at once.
+// SAFETY: a client may go to another thread between two calls that are ordered. What the clients of a history
+// have in common has a lock of its own, so calls of two clients may run at once.
 unsafe impl Send for Client {}
 
 impl Client {

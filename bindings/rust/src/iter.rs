@@ -4,6 +4,7 @@ use crate::fields::Fields;
 use crate::handle::Owned;
 use crate::{ffi, Error, Result, ValueRef};
 use std::io::{ErrorKind, Read};
+use std::iter::FusedIterator;
 
 /// What a change does to its row.
 ///
@@ -87,7 +88,8 @@ impl Change {
     }
 }
 
-/// The changes of a changeset or a patchset, in their order. It owns what it has read, and may go to another thread.
+/// The changes of a changeset or a patchset, in their order. It owns what it has read, and may go to another
+/// thread.
 ///
 /// ```
 /// use changecap::ChangesetIter;
@@ -96,6 +98,7 @@ impl Change {
 /// assert_eq!(ChangesetIter::start_strm(&mut insert)?.count(), 1);
 /// # Ok::<(), changecap::Error>(())
 /// ```
+#[derive(Debug)]
 pub struct ChangesetIter {
     handle: Owned,
     /// What a name or a value is read into.
@@ -135,8 +138,9 @@ impl ChangesetIter {
     /// The change at which the iterator is.
     fn change(&mut self) -> Result<Change> {
         let (iter, mut change) = (self.handle.at(), ffi::Change::default());
-        // SAFETY: the handle is open as long as the iterator is there. So in each call of this file.
+        // SAFETY: the handle is open as long as the iterator is there, and a place of this function.
         done(|_| unsafe { ffi::changecap_iter_op(iter, &mut change) })?;
+        // SAFETY: the iterator is open. A buffer and a length that are of the call alone.
         let len = taken_into(&mut self.bytes, |out, len, _| unsafe {
             ffi::changecap_iter_table(iter, out.as_mut_ptr(), out.len(), len)
         })?;
@@ -156,6 +160,7 @@ impl ChangesetIter {
         };
         for column in 0..change.columns {
             let mut is_key = 0;
+            // SAFETY: the iterator is open, and a place of this function.
             done(|_| unsafe { ffi::changecap_iter_key(iter, column, &mut is_key) })?;
             made.key.push(is_key != 0);
             self.put(&mut made.old, column, ffi::changecap_iter_old, ffi::changecap_iter_old_bytes)?;
@@ -173,8 +178,10 @@ impl ChangesetIter {
         bytes_of: ffi::BytesCall,
     ) -> Result<()> {
         let (iter, mut field) = (self.handle.at(), ffi::Field::default());
+        // SAFETY: the iterator is open, and a place of this function. Both calls are those of an iterator.
         done(|_| unsafe { field_of(iter, column, &mut field) })?;
         if field.kind == ffi::TEXT || field.kind == ffi::BLOB {
+            // SAFETY: the iterator is open. A buffer and a length that are of the call alone.
             taken_into(&mut self.bytes, |out, len, _| unsafe {
                 bytes_of(iter, column, out.as_mut_ptr(), out.len(), len)
             })?;
@@ -199,6 +206,7 @@ impl Iterator for ChangesetIter {
     type Item = Change;
 
     fn next(&mut self) -> Option<Change> {
+        // SAFETY: the handle is open as long as the iterator is there.
         match unsafe { ffi::changecap_iter_next(self.handle.at()) } {
             // The library answers each of these calls with OK, and texts in UTF-8, while it is at a change.
             ffi::ROW => Some(self.change().expect("a change that the library has read")),
@@ -206,6 +214,8 @@ impl Iterator for ChangesetIter {
         }
     }
 }
+
+impl FusedIterator for ChangesetIter {}
 
 /// A decoder that gets a blob in pieces of any lengths. It may go to another thread.
 ///
@@ -219,6 +229,7 @@ impl Iterator for ChangesetIter {
 /// assert_eq!(decoder.finish()?.count(), 1);
 /// # Ok::<(), changecap::Error>(())
 /// ```
+#[derive(Debug)]
 pub struct Decoder {
     handle: Owned,
 }
@@ -226,8 +237,8 @@ pub struct Decoder {
 impl Decoder {
     /// A decoder without bytes.
     pub fn new() -> Result<Decoder> {
-        // SAFETY: the handle is closed.
         let handle = Owned::open(ffi::changecap_decoder_close, |decoder| {
+            // SAFETY: the handle is closed.
             done(|_| unsafe { ffi::changecap_decoder_open(decoder) })
         })?;
         Ok(Decoder { handle })

@@ -1,5 +1,6 @@
-//! A table server in memory that any threads share, and what its sessions capture: changesets and patchsets of
-//! SQLite's session extension, under the names of rusqlite and its session module. The calls are those of `changecap.h`.
+//! A table server in memory that any threads share, and what its sessions capture: changesets and patchsets
+//! of SQLite's session extension, under the names of rusqlite and its session module. The calls are those of
+//! `changecap.h`.
 //!
 //! ```
 //! use changecap::{Cause, ConflictAction::Abort, KeyFlags, Server, Session};
@@ -16,7 +17,7 @@
 //! assert_eq!(copy.snapshot()?.get("t", (1,))?.unwrap().get::<String>(1)?, "x");
 //! # Ok::<(), changecap::Error>(())
 //! ```
-#![warn(missing_docs)]
+#![warn(missing_docs, missing_debug_implementations, clippy::undocumented_unsafe_blocks)]
 
 mod batch;
 mod blob;

@@ -7,8 +7,8 @@ mod sealed {
     pub trait RowName {}
 }
 
-/// The values of a row or of a key, one a column, as rusqlite's `Params`: a tuple of up to twelve, an array or a
-/// slice of what is taken for a value ([`ToValue`]).
+/// The values of a row or of a key, one a column, as rusqlite's `Params`: a tuple of up to twelve, an array
+/// or a slice of what is taken for a value ([`ToValue`]).
 ///
 /// ```
 /// use changecap::{Batch, Cause, Value};
@@ -24,7 +24,8 @@ pub trait Params: sealed::Params {
     fn put(&self, record: &mut Vec<u8>);
 }
 
-/// The name of a row: its key, which is a value for each column in the primary key ([`Params`]), or its [`RowId`].
+/// The name of a row: its key, which is a value for each column in the primary key ([`Params`]), or its
+/// [`RowId`].
 ///
 /// ```
 /// use changecap::{Batch, Cause, RowId};

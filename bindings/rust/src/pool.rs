@@ -7,8 +7,9 @@ use std::sync::{Condvar, Mutex, MutexGuard, PoisonError};
 /// How many clients are lent at most. One more is the pool's own.
 const LENT_MAX: usize = 63;
 
-/// One client that is never lent, by which sessions and transactions make their calls, and those that are. They are
-/// closed with the pool, when none is lent.
+/// One client that is never lent, by which sessions and transactions make their calls, and those that are.
+/// They are closed with the pool, when none is lent.
+#[derive(Debug)]
 pub(crate) struct Pool {
     own: Mutex<ffi::Client>,
     seats: Mutex<Seats>,
@@ -16,6 +17,7 @@ pub(crate) struct Pool {
 }
 
 /// The clients but the pool's own.
+#[derive(Debug)]
 struct Seats {
     /// Those that are not lent.
     idle: Vec<ffi::Client>,
@@ -112,8 +114,8 @@ impl Drop for Pool {
 
 /// A snapshot of the tables as they are, by a client that is open.
 pub(crate) fn snapshot(client: &mut ffi::Client) -> Result<Snapshot> {
-    // SAFETY: the client is open, and `&mut` says that no other call has it. The snapshot is closed.
     let handle = Owned::open(ffi::changecap_snapshot_close, |snapshot| {
+        // SAFETY: the client is open, and `&mut` says that no other call has it. The snapshot is closed.
         done(|_| unsafe { ffi::changecap_snapshot_open(client, snapshot) })
     })?;
     Ok(Snapshot { handle })

@@ -106,7 +106,8 @@ pub struct Refused {
 /// client.apply(insert, Abort, Abort, Abort)?;
 /// let Err(Error::Refused(why)) = client.apply(insert, Abort, Abort, Abort) else { panic!() };
 /// let change = why.change.as_ref().unwrap();
-/// assert_eq!((change.table.as_str(), change.code, &change.key[..]), ("t", Action::Insert, &[Value::Integer(1)][..]));
+/// assert_eq!((change.table.as_str(), change.code), ("t", Action::Insert));
+/// assert_eq!(change.key, [Value::Integer(1)]);
 /// assert_eq!(why.to_string(), "refused at 0: E15 Aborted, insert t key(1)");
 /// # Ok::<(), changecap::Error>(())
 /// ```

@@ -4,6 +4,7 @@ use crate::fields::Fields;
 use crate::handle::Owned;
 use crate::params::name_of;
 use crate::{ffi, record, Error, FromValue, Result, RowId, RowName, ValueRef};
+use std::iter::FusedIterator;
 
 /// A row that was read. It owns its values and lends them.
 ///
@@ -37,8 +38,8 @@ impl Row {
         self.fields.len()
     }
 
-    /// What is made of the value of a column, from 0 on: [`Error::ColumnIndex`] where there is no such column,
-    /// [`Error::ColumnType`] where its value is of another type, or too great.
+    /// What is made of the value of a column, from 0 on: [`Error::ColumnIndex`] where there is no such
+    /// column, [`Error::ColumnType`] where its value is of another type, or too great.
     pub fn get<T: FromValue>(&self, column: usize) -> Result<T> {
         T::from_value(self.get_ref(column)?).ok_or(Error::ColumnType(column))
     }
@@ -54,8 +55,8 @@ impl Row {
     }
 }
 
-/// Rows that were read, in the order of the read. They stay as they are, whatever is committed. The only error is
-/// [`Error::OutOfMemory`], and the row is then passed over.
+/// Rows that were read, in the order of the read. They stay as they are, whatever is committed. The only
+/// error is [`Error::OutOfMemory`], and the row is then passed over.
 ///
 /// ```
 /// use changecap::{Batch, Cause, Result, Server};
@@ -69,6 +70,7 @@ impl Row {
 /// assert_eq!(numbers?, [20, 22]);
 /// # Ok::<(), changecap::Error>(())
 /// ```
+#[derive(Debug)]
 pub struct Rows {
     handle: Owned,
     /// What a row is read into.
@@ -109,6 +111,8 @@ impl Iterator for Rows {
     }
 }
 
+impl FusedIterator for Rows {}
+
 /// The row of this name, by the call of a snapshot or of a transaction.
 ///
 /// # Safety
@@ -123,7 +127,8 @@ pub(crate) unsafe fn get(
     let (key, id) = name_of(row);
     let mut rows = Rows::open(|rows, fault| {
         let (table, n) = (table.as_ptr(), table.len());
-        // SAFETY: of the handle by the caller. The rest is the rows, which are closed, and slices of this function.
+        // SAFETY: of the handle by the caller. The rest is the rows, which are closed, and slices of this
+        // function.
         unsafe { call(from.at(), table, n, key.as_ptr(), key.len(), id, rows, fault) }
     })?;
     rows.next().transpose()

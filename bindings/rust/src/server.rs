@@ -4,8 +4,8 @@ use crate::transaction::retried;
 use crate::{Client, Result, Transaction};
 use std::sync::Arc;
 
-/// A table server in memory, whose history any threads share. It lends clients, which make its calls. A clone is the
-/// same server; it ends with the last of its clones, clients and sessions.
+/// A table server in memory, whose history any threads share. It lends clients, which make its calls. A clone
+/// is the same server; it ends with the last of its clones, clients and sessions.
 ///
 /// ```
 /// use changecap::{Cause, Server};
@@ -20,7 +20,7 @@ use std::sync::Arc;
 /// assert_eq!(server.client()?.snapshot()?.scan("t")?.count(), 4);
 /// # Ok::<(), changecap::Error>(())
 /// ```
-#[derive(Clone)]
+#[derive(Clone, Debug)]
 pub struct Server {
     pub(crate) pool: Arc<Pool>,
 }
@@ -31,17 +31,17 @@ impl Server {
         Ok(Server { pool: Pool::open()?.into() })
     }
 
-    /// Lends a client, which has then seen all that was answered before. As many as 63 are lent at once; where all are,
-    /// it waits until one is dropped, on any thread. A thread that waits here while it holds the others waits for ever.
-    /// No other call waits for a client.
+    /// Lends a client, which has then seen all that was answered before. As many as 63 are lent at once;
+    /// where all are, it waits until one is dropped, on any thread. A thread that waits here while it holds
+    /// the others waits for ever. No other call waits for a client.
     pub fn client(&self) -> Result<Client> {
         Client::lent(Arc::clone(&self.pool))
     }
 
-    /// Makes work in a transaction, commits it, and answers what the work did and the new version. Where something that
-    /// the transaction looked at has changed meanwhile, both are made again on a new snapshot,
-    /// [`TRIES`](crate::TRIES) times at most; the last refusal is answered then. An error of the work rolls the
-    /// transaction back.
+    /// Makes work in a transaction, commits it, and answers what the work did and the new version. Where
+    /// something that the transaction looked at has changed meanwhile, both are made again on a new snapshot,
+    /// [`TRIES`](crate::TRIES) times at most; the last refusal is answered then. An error of the work rolls
+    /// the transaction back.
     ///
     /// No client is held while the work runs.
     pub fn transaction<T>(&self, work: impl FnMut(&mut Transaction) -> Result<T>) -> Result<(T, u64)> {

@@ -6,9 +6,9 @@ use crate::{ffi, Batch, Capture, Error, KeyFlags, Result, Server, Transaction};
 use std::io::Write;
 use std::sync::Arc;
 
-/// A session of a server, which records which rows are touched by whomever. It ends when it is dropped, on any thread,
-/// and keeps its server until then. At most 64 are live at once. Threads may share it; its calls wait for calls, and
-/// never for a client to come back.
+/// A session of a server, which records which rows are touched by whomever. It ends when it is dropped, on
+/// any thread, and keeps its server until then. At most 64 are live at once. Threads may share it; its calls
+/// wait for calls, and never for a client to come back.
 ///
 /// ```
 /// use changecap::{Batch, Cause, KeyFlags, Server, Session};
@@ -24,6 +24,7 @@ use std::sync::Arc;
 /// assert_eq!(changeset.invert(KeyFlags::Places)?.iter()?.count(), 1);
 /// # Ok::<(), changecap::Error>(())
 /// ```
+#[derive(Debug)]
 pub struct Session {
     pool: Arc<Pool>,
     number: u64,
@@ -33,8 +34,7 @@ impl Session {
     /// Makes a session, which is enabled and direct.
     pub fn new(server: &Server) -> Result<Session> {
         let (pool, mut number) = (Arc::clone(&server.pool), 0);
-        // SAFETY: the client is open, and no other call has it. What a call reads and writes is of its function alone.
-        // So in each call of this file.
+        // SAFETY: the client is open, and no other call has it. A place of this function.
         pool.done(|client, fault| unsafe { ffi::changecap_session_new(client, &mut number, fault) })?;
         Ok(Session { pool, number })
     }
@@ -42,9 +42,11 @@ impl Session {
     /// Attaches a table, which need not be there yet, or from now on each table of which a row changes.
     pub fn attach(&self, table: Option<&str>) -> Result<()> {
         self.pool.done(|client, fault| match table {
+            // SAFETY: the client is open, and no other call has it. A slice.
             Some(table) => unsafe {
                 ffi::changecap_session_attach(client, self.number, table.as_ptr(), table.len(), fault)
             },
+            // SAFETY: the client is open, and no other call has it.
             None => unsafe { ffi::changecap_session_attach_all(client, self.number, fault) },
         })
     }
@@ -52,6 +54,7 @@ impl Session {
     /// Attaches from now on each table of which a row changes and whose name the filter accepts, as in
     /// `and(starts 'a',not is 'ab')` (docs/manual/formats.md, "Filter text").
     pub fn table_filter(&self, filter: &str) -> Result<()> {
+        // SAFETY: the client is open, and no other call has it. A slice.
         self.pool.done(|client, fault| unsafe {
             ffi::changecap_session_filter(client, self.number, filter.as_ptr(), filter.len(), fault)
         })
@@ -60,6 +63,7 @@ impl Session {
     /// Records how a table differs from the one of the same name in a database that
     /// [`Client::save`](crate::Client::save) has saved.
     pub fn diff(&self, from: &str, table: &str) -> Result<()> {
+        // SAFETY: the client is open, and no other call has it. Two slices.
         self.pool.done(|client, fault| unsafe {
             let (n, m) = (from.len(), table.len());
             ffi::changecap_session_diff(client, self.number, from.as_ptr(), n, table.as_ptr(), m, fault)
@@ -69,6 +73,7 @@ impl Session {
     /// Whether the session has no records.
     pub fn is_empty(&self) -> Result<bool> {
         let mut flag = 0;
+        // SAFETY: the client is open, and no other call has it. A place of this function.
         self.pool.done(|client, fault| unsafe {
             ffi::changecap_session_isempty(client, self.number, &mut flag, fault)
         })?;
@@ -79,6 +84,7 @@ impl Session {
     fn flag(&self, call: ffi::FlagCall, set: Option<bool>) -> Result<bool> {
         let mut flag = 0;
         let set = set.map_or(ffi::ASK, u32::from);
+        // SAFETY: the client is open, and no other call has it. A place of this function.
         self.pool.done(|client, fault| unsafe { call(client, self.number, set, &mut flag, fault) })?;
         Ok(flag != 0)
     }
@@ -106,6 +112,7 @@ impl Session {
     /// What a call captures.
     fn captured(&self, call: ffi::CaptureCall) -> Result<Capture> {
         let handle = Owned::open(ffi::changecap_capture_close, |capture| {
+            // SAFETY: the client is open, and no other call has it. The capture is closed.
             self.pool.done(|client, fault| unsafe { call(client, self.number, capture, fault) })
         })?;
         Ok(Capture { handle })
@@ -116,8 +123,8 @@ impl Session {
         self.captured(ffi::changecap_session_capture)
     }
 
-    /// What the session has captured. It goes on without its records; its flags and tables stay. Of captures by restart,
-    /// no change is lost between two of them, and none is in both.
+    /// What the session has captured. It goes on without its records; its flags and tables stay. Of captures
+    /// by restart, no change is lost between two of them, and none is in both.
     pub fn restart(&self) -> Result<Capture> {
         self.captured(ffi::changecap_session_restart)
     }
@@ -137,15 +144,16 @@ impl Session {
         Ok(output.write_all(self.capture()?.patchset(KeyFlags::Places)?.as_bytes())?)
     }
 
-    /// Commits a batch, and captures by restart; no other commit comes between them. Where each commit under a session
-    /// is made so, or by [`transaction`](Session::transaction), each capture has the changes of its commit alone. The
-    /// version of the capture is that of the commit.
+    /// Commits a batch, and captures by restart; no other commit comes between them. Where each commit under
+    /// a session is made so, or by [`transaction`](Session::transaction), each capture has the changes of its
+    /// commit alone. The version of the capture is that of the commit.
     ///
-    /// [`Error::NotCaptured`] where the batch was committed and the capture failed. With any other error nothing was
-    /// committed, and the batch is as it was.
+    /// [`Error::NotCaptured`] where the batch was committed and the capture failed. With any other error
+    /// nothing was committed, and the batch is as it was.
     pub fn commit(&self, batch: &mut Batch) -> Result<Capture> {
         let (mut version, capture) = (0, Owned::closed(ffi::changecap_capture_close));
         let made = self.pool.with(|client| {
+            // SAFETY: the client and the batch are open, and no other call has them. The capture is closed.
             batch.committed(|batch, fault| unsafe {
                 let (at, to) = (self.number, capture.at());
                 ffi::changecap_commit_captured(client, batch, at, &mut version, to, fault)
@@ -158,8 +166,8 @@ impl Session {
         }
     }
 
-    /// Makes work in a transaction, as [`Server::transaction`], commits it as [`commit`](Session::commit) does, and
-    /// answers what the work did and what its commit changed.
+    /// Makes work in a transaction, as [`Server::transaction`], commits it as [`commit`](Session::commit)
+    /// does, and answers what the work did and what its commit changed.
     ///
     /// ```
     /// use changecap::{Cause, KeyFlags, Server, Session};
@@ -179,14 +187,17 @@ impl Session {
 
 impl Drop for Session {
     fn drop(&mut self) {
-        let _ended = self
-            .pool
-            .done(|client, fault| unsafe { ffi::changecap_session_drop(client, self.number, fault) });
+        let end = |client: &mut ffi::Client, fault: &mut ffi::Fault| {
+            // SAFETY: the client is open, and no other call has it.
+            unsafe { ffi::changecap_session_drop(client, self.number, fault) }
+        };
+        // Who has ended it by its number has done so for this.
+        let _ended = self.pool.done(end);
     }
 }
 
-/// The captures of a session, each by [`Session::restart`]. It ends where the session has no records, and goes on from
-/// there where it is asked again. After an error the records are there still.
+/// The captures of a session, each by [`Session::restart`]. It ends where the session has no records, and
+/// goes on from there where it is asked again. After an error the records are there still.
 ///
 /// ```
 /// use changecap::{Cause, KeyFlags, Server, Session};
@@ -203,6 +214,7 @@ impl Drop for Session {
 /// assert!(captures.next().is_none());
 /// # Ok::<(), changecap::Error>(())
 /// ```
+#[derive(Debug)]
 pub struct Captures<'a> {
     session: &'a Session,
 }

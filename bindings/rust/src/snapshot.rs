@@ -4,8 +4,8 @@ use crate::params::record_of;
 use crate::row::{get, scan};
 use crate::{ffi, Params, Result, Row, RowName, Rows, Transaction};
 
-/// The tables as they were at one point of the history. A snapshot stays as it is, whatever is committed, outlasts its
-/// server, and is read without waiting. Another thread may have it, one at a time.
+/// The tables as they were at one point of the history. A snapshot stays as it is, whatever is committed,
+/// outlasts its server, and is read without waiting. Another thread may have it, one at a time.
 ///
 /// ```
 /// use changecap::{Batch, Cause, Server};
@@ -21,12 +21,14 @@ use crate::{ffi, Params, Result, Row, RowName, Rows, Transaction};
 /// assert_eq!(now.get("t", (1,))?.unwrap().get::<String>(1)?, "x");
 /// # Ok::<(), changecap::Error>(())
 /// ```
+#[derive(Debug)]
 pub struct Snapshot {
     pub(crate) handle: Owned,
 }
 
 impl Snapshot {
-    /// The version of the tables: how many commands have created a table, committed a batch or applied a blob.
+    /// The version of the tables: how many commands have created a table, committed a batch or applied a
+    /// blob.
     pub fn version(&self) -> u64 {
         let mut version = 0;
         // SAFETY: the handle is open as long as the snapshot is there. The call has one answer, OK.
@@ -49,7 +51,8 @@ impl Snapshot {
     /// The rows with a key that is not below this one, in the order of their keys, at most `limit` of them.
     pub fn scan_from(&self, table: &str, key: impl Params, limit: u64) -> Result<Rows> {
         let (n, key) = (table.len(), record_of(key));
-        // SAFETY: the handle is an open snapshot, the rows are closed, and the rest is slices of this function.
+        // SAFETY: the handle is an open snapshot, the rows are closed, and the rest is slices of this
+        // function.
         Rows::open(|rows, fault| unsafe {
             let (at, table) = (self.handle.at(), table.as_ptr());
             ffi::changecap_scan_from(at, table, n, key.as_ptr(), key.len(), limit, rows, fault)

@@ -9,10 +9,10 @@ use crate::{Batch, Cause, Client, Error, Params, Refusal, Result, Row, RowName, 
 /// How often a transaction is begun before its last refusal is answered.
 pub const TRIES: usize = 1_000;
 
-/// A transaction reads a snapshot as its own operations have left it, without waiting. Its commit is accepted exactly
-/// if all that it looked at is then as it was in the snapshot, and else refused with
-/// [`Refusal::Stale`](crate::Refusal::Stale). [`Server::transaction`](crate::Server::transaction) begins again then. A
-/// transaction that is dropped is rolled back.
+/// A transaction reads a snapshot as its own operations have left it, without waiting. Its commit is accepted
+/// exactly if all that it looked at is then as it was in the snapshot, and else refused with
+/// [`Refusal::Stale`](crate::Refusal::Stale). [`Server::transaction`](crate::Server::transaction) begins
+/// again then. A transaction that is dropped is rolled back.
 ///
 /// A refused operation leaves the rows as they were, and the transaction goes on.
 ///
@@ -27,6 +27,7 @@ pub const TRIES: usize = 1_000;
 /// assert_eq!(transaction.commit(&client)?, 2);
 /// # Ok::<(), changecap::Error>(())
 /// ```
+#[derive(Debug)]
 pub struct Transaction {
     handle: Owned,
 }
@@ -52,8 +53,8 @@ pub struct Savepoint(u64);
 
 impl Transaction {
     pub(crate) fn begin(snapshot: &Snapshot) -> Result<Transaction> {
-        // SAFETY: the snapshot is open, and the transaction closed.
         let handle = Owned::open(ffi::changecap_rollback, |transaction| {
+            // SAFETY: the snapshot is open, and the transaction closed.
             done(|_| unsafe { ffi::changecap_begin(snapshot.handle.at(), transaction) })
         })?;
         Ok(Transaction { handle })
@@ -89,8 +90,8 @@ impl Transaction {
         unsafe { get(ffi::changecap_transaction_get, &self.handle, table, row) }
     }
 
-    /// All rows of a table, in the order of [`Snapshot::scan`]. The commit looks at all of them again, so that any
-    /// change of the table refuses it.
+    /// All rows of a table, in the order of [`Snapshot::scan`]. The commit looks at all of them again, so
+    /// that any change of the table refuses it.
     pub fn scan(&mut self, table: &str) -> Result<Rows> {
         // SAFETY: the handle is an open transaction.
         unsafe { scan(ffi::changecap_transaction_scan, &self.handle, table) }
@@ -104,8 +105,8 @@ impl Transaction {
         Ok(Savepoint(mark))
     }
 
-    /// Undoes all operations since a savepoint of this transaction, and all later savepoints. The savepoint itself
-    /// stays. Refused with [`Refusal::NoMark`] where it was undone.
+    /// Undoes all operations since a savepoint of this transaction, and all later savepoints. The savepoint
+    /// itself stays. Refused with [`Refusal::NoMark`] where it was undone.
     pub fn rollback_to(&mut self, savepoint: Savepoint) -> Result<()> {
         // SAFETY: the handle is an open transaction.
         done(|fault| unsafe { ffi::changecap_rollback_to(self.handle.at(), savepoint.0, fault) })
@@ -114,8 +115,8 @@ impl Transaction {
     /// Ends the transaction, of which nothing is left.
     pub fn rollback(self) {}
 
-    /// Ends the transaction as a batch of its operations, which is judged by what the transaction looked at. Once an
-    /// operation is put into that batch, it may be committed on the version of the snapshot alone.
+    /// Ends the transaction as a batch of its operations, which is judged by what the transaction looked at.
+    /// Once an operation is put into that batch, it may be committed on the version of the snapshot alone.
     pub fn into_batch(self) -> Result<Batch> {
         // SAFETY: the transaction is open, and the batch closed.
         Batch::open(|batch| unsafe { ffi::changecap_end(self.handle.at(), batch) })
@@ -127,8 +128,8 @@ impl Transaction {
     }
 }
 
-/// What work in a transaction answers, and what its commit answers. Where that is refused since something that the
-/// transaction looked at has changed, both are made again.
+/// What work in a transaction answers, and what its commit answers. Where that is refused since something
+/// that the transaction looked at has changed, both are made again.
 pub(crate) fn retried<T, C>(
     pool: &Pool,
     mut work: impl FnMut(&mut Transaction) -> Result<T>,

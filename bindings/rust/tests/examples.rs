@@ -38,7 +38,8 @@ fn applied(client: &Client, changeset: &[u8]) -> Result<Report> {
     use ConflictAction::{Abort, Omit, Replace};
     match client.apply(changeset, Abort, Abort, Abort) {
         Err(Error::Refused(why)) if why.code == Refusal::Aborted => {
-            // A change met a conflict, as in `refused at 0: E15 Aborted, insert t key(1)`, and nothing was changed.
+            // A change met a conflict, as in `refused at 0: E15 Aborted, insert t key(1)`, and nothing was
+            // changed.
             eprintln!("{why}");
             client.apply(changeset, Replace, Omit, Replace)
         }
@@ -128,8 +129,8 @@ fn money_of_two_threads() {
     assert_eq!(balances, [ValueRef::Integer(80), ValueRef::Integer(120)]);
 }
 
-/// Inserts rows from two threads, each commit with the capture that belongs to it, and answers the number of changes of
-/// each.
+/// Inserts rows from two threads, each commit with the capture that belongs to it, and answers the number of
+/// changes of each.
 fn audited(server: &Server, session: &Session) -> Result<Vec<usize>> {
     let commit = |first: i64| -> Result<Vec<usize>> {
         let mut sizes = Vec::new();
