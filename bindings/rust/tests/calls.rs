@@ -111,7 +111,7 @@ fn changes_of_a_blob() {
     assert_eq!(next.code(), Action::Insert);
     assert_eq!(next.new_value(0), Some(ValueRef::Blob(&[0, 255])));
     assert_eq!(next.new_value(1), Some(ValueRef::Null));
-    assert_eq!(next.key().collect::<Vec<_>>(), [ValueRef::Text("a")]);
+    assert_eq!(next.key().collect::<Vec<_>>(), [ValueRef::Blob(&[0, 255])]);
     assert_eq!(next.clone(), next);
     assert!(changes.next().is_none() && changes.next().is_none());
 }
