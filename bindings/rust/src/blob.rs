@@ -6,6 +6,15 @@ use std::io::{Read, Write};
 
 /// What is written at each key column: `01`, as SQLite's documentation says, or the place within the key, as
 /// its code writes and its applier wants.
+///
+/// ```
+/// use changecap::{Changeset, KeyFlags};
+/// let two_keys = [0x54, 2, 1, 1, b't', 0, 0x12, 0, 3, 1, b'x', 3, 1, b'y'];
+/// let changeset = Changeset::from_bytes(&two_keys)?;
+/// assert_eq!(changeset.invert(KeyFlags::Ones)?.as_bytes()[..4], [0x54, 2, 1, 1]);
+/// assert_eq!(changeset.invert(KeyFlags::Places)?.as_bytes()[..4], [0x54, 2, 1, 2]);
+/// # Ok::<(), changecap::Error>(())
+/// ```
 #[derive(Clone, Copy, Debug, PartialEq, Eq)]
 pub enum KeyFlags {
     /// `01` at each.
@@ -23,15 +32,16 @@ impl KeyFlags {
     }
 }
 
-/// Whether the bytes are a changeset or a patchset.
+/// Whether the bytes are a changeset or a patchset: [`Error::Malformed`] where they are none.
 pub fn check(blob: &[u8]) -> Result<()> {
-    // SAFETY: a pointer and a length of one slice, and a place of the caller's. So in each call of this file.
+    // SAFETY: a slice, and a fault that is there.
     done(|fault| unsafe { ffi::changecap_check(blob.as_ptr(), blob.len(), fault) })
 }
 
 /// What a call makes of a changeset.
 fn converted(call: ffi::ConvertCall, blob: &[u8], key_flags: KeyFlags) -> Result<Vec<u8>> {
     // What is made is no longer than the changeset.
+    // SAFETY: a slice, and a buffer and a length that are of the call alone.
     taken(blob.len(), |out, len, fault| unsafe {
         call(blob.as_ptr(), blob.len(), key_flags.number(), out.as_mut_ptr(), out.len(), len, fault)
     })
@@ -39,6 +49,7 @@ fn converted(call: ffi::ConvertCall, blob: &[u8], key_flags: KeyFlags) -> Result
 
 /// Both blobs as one, by `changecap_concat`.
 fn joined(first: &[u8], second: &[u8], key_flags: KeyFlags) -> Result<Vec<u8>> {
+    // SAFETY: two slices, a buffer and a length that are of the call alone, and a place for the number.
     taken(first.len() + second.len(), |out, len, fault| unsafe {
         ffi::changecap_concat(
             first.as_ptr(),
@@ -56,6 +67,7 @@ fn joined(first: &[u8], second: &[u8], key_flags: KeyFlags) -> Result<Vec<u8>> {
 }
 
 fn json_of(blob: &[u8]) -> Result<String> {
+    // SAFETY: a slice, and a buffer and a length that are of the call alone.
     taken(4 * blob.len(), |out, len, fault| unsafe {
         ffi::changecap_json(blob.as_ptr(), blob.len(), out.as_mut_ptr(), out.len(), len, fault)
     })
@@ -63,10 +75,30 @@ fn json_of(blob: &[u8]) -> Result<String> {
 }
 
 /// The bytes of a changeset.
+///
+/// ```
+/// use changecap::{Changeset, KeyFlags};
+/// let insert = [0x54, 2, 1, 0, b't', 0, 0x12, 0, 1, 0, 0, 0, 0, 0, 0, 0, 1, 3, 1, b'x'];
+/// let changeset = Changeset::from_bytes(&insert)?;
+/// let inverse = changeset.invert(KeyFlags::Places)?;
+/// assert!(Changeset::concat(&changeset, &inverse, KeyFlags::Places)?.as_bytes().is_empty());
+/// for change in changeset.iter()? {
+///     assert_eq!(change.table_name(), "t");
+/// }
+/// # Ok::<(), changecap::Error>(())
+/// ```
 #[derive(Clone, Debug, PartialEq, Eq)]
 pub struct Changeset(pub(crate) Vec<u8>);
 
 /// The bytes of a patchset.
+///
+/// ```
+/// use changecap::Patchset;
+/// let delete = [0x50, 2, 1, 0, b't', 0, 0x09, 0, 1, 0, 0, 0, 0, 0, 0, 0, 1];
+/// let patchset = Patchset::from_bytes(&delete)?;
+/// assert!(patchset.json()?.starts_with(r#"[{"table":"t","op":"delete""#));
+/// # Ok::<(), changecap::Error>(())
+/// ```
 #[derive(Clone, Debug, PartialEq, Eq)]
 pub struct Patchset(pub(crate) Vec<u8>);
 
@@ -105,7 +137,7 @@ impl Changeset {
         json_of(&self.0)
     }
 
-    /// An iterator before the first change.
+    /// The changes, in their order.
     pub fn iter(&self) -> Result<ChangesetIter> {
         ChangesetIter::start(&self.0)
     }
@@ -136,9 +168,21 @@ impl Patchset {
         json_of(&self.0)
     }
 
-    /// An iterator before the first change.
+    /// The changes, in their order.
     pub fn iter(&self) -> Result<ChangesetIter> {
         ChangesetIter::start(&self.0)
+    }
+}
+
+impl AsRef<[u8]> for Changeset {
+    fn as_ref(&self) -> &[u8] {
+        &self.0
+    }
+}
+
+impl AsRef<[u8]> for Patchset {
+    fn as_ref(&self) -> &[u8] {
+        &self.0
     }
 }
 

@@ -4,10 +4,18 @@ use crate::{Error, Result};
 
 /// Makes a call that has a fault.
 pub(crate) fn done(call: impl FnOnce(&mut ffi::Fault) -> u32) -> Result<()> {
+    done_at(call, |_| false)
+}
+
+/// The same of a call whose refusals of some numbers have the number of an operation or of a change.
+pub(crate) fn done_at(
+    call: impl FnOnce(&mut ffi::Fault) -> u32,
+    has_part: impl Fn(u32) -> bool,
+) -> Result<()> {
     let mut fault = ffi::Fault::default();
     match call(&mut fault) {
         ffi::OK => Ok(()),
-        status => Err(Error::of(status, fault)),
+        status => Err(Error::of(status, fault, has_part)),
     }
 }
 
@@ -27,7 +35,7 @@ pub(crate) fn taken_into(
         match call(out, &mut len, &mut fault) {
             ffi::OK => return Ok(len),
             ffi::ROOM => out.resize(len, 0),
-            status => return Err(Error::of(status, fault)),
+            status => return Err(Error::of(status, fault, |_| false)),
         }
     }
 }

@@ -1,48 +1,218 @@
-//! A client of a history.
-use crate::call::done;
-use crate::{ffi, Result};
-use std::sync::{Mutex, PoisonError};
+//! Clients of a server.
+use crate::call::{done, done_at, taken, text_of};
+use crate::pool::{snapshot, Pool};
+use crate::refused::{Refused, RefusedChange};
+use crate::{ffi, Batch, ChangesetIter, Error, Result, Snapshot};
+use std::cell::RefCell;
+use std::sync::Arc;
 
-/// An open client, which a connection and its sessions share: one call at a time has it.
-pub(crate) struct Client {
-    handle: Mutex<ffi::Client>,
+/// What an application does at a conflict.
+///
+/// ```
+/// use changecap::{ConflictAction::{Abort, Omit}, Server};
+/// let client = Server::open_in_memory()?.client()?;
+/// let insert = [0x54, 2, 1, 0, b't', 0, 0x12, 0, 1, 0, 0, 0, 0, 0, 0, 0, 1, 3, 1, b'x'];
+/// client.create_table("t", &[true, false])?;
+/// for omitted in [0, 1] {
+///     assert_eq!(client.apply(insert, Abort, Abort, Omit)?.omitted, omitted);
+/// }
+/// # Ok::<(), changecap::Error>(())
+/// ```
+#[derive(Clone, Copy, Debug, PartialEq, Eq)]
+pub enum ConflictAction {
+    /// The change is omitted.
+    Omit,
+    /// It is applied all the same; where there is no row, the blob is refused.
+    Replace,
+    /// The blob is refused.
+    Abort,
 }
 
-// SAFETY: what the handle owns is proved to be `Send`, and the history that it shares is for any thread.
-unsafe impl Send for ffi::Client {}
+impl ConflictAction {
+    fn number(self) -> u32 {
+        match self {
+            ConflictAction::Omit => ffi::OMIT,
+            ConflictAction::Replace => ffi::REPLACE,
+            ConflictAction::Abort => ffi::ABORT,
+        }
+    }
+}
+
+/// What became of the changes of an applied blob.
+///
+/// ```
+/// use changecap::{ConflictAction::Abort, Report, Server};
+/// let client = Server::open_in_memory()?.client()?;
+/// let insert = [0x54, 2, 1, 0, b't', 0, 0x12, 0, 1, 0, 0, 0, 0, 0, 0, 0, 1, 3, 1, b'x'];
+/// let report = client.apply(insert, Abort, Abort, Abort)?;
+/// assert_eq!(report, Report { version: 1, applied: 0, conflicts: 0, omitted: 0, skipped: 1 });
+/// # Ok::<(), changecap::Error>(())
+/// ```
+#[derive(Clone, Copy, Debug, PartialEq, Eq)]
+pub struct Report {
+    /// The new version.
+    pub version: u64,
+    /// Changes that were applied, those that replaced a row among them.
+    pub applied: u64,
+    /// Changes that met a conflict: each that was not omitted replaced a row.
+    pub conflicts: u64,
+    /// Changes that were omitted because of one.
+    pub omitted: u64,
+    /// Groups that were skipped: there is no such table.
+    pub skipped: u64,
+}
+
+/// The refusals of an applied blob that have the number of a change: E15 Aborted and E16 Misuse.
+const OF_A_CHANGE: [u32; 2] = [15, 16];
+
+/// A client of a server, which makes one call at a time. It is lent by the server, and goes back when it is
+/// dropped. It may go to another thread; each thread has one of its own. A call that asks for the state of
+/// the server waits while another client's has it.
+///
+/// ```
+/// use changecap::{Batch, Cause, Server};
+/// let server = Server::open_in_memory()?;
+/// let client = server.client()?;
+/// client.create_table("t", &[true, false])?;
+/// let thread = std::thread::spawn(move || {
+///     let mut batch = Batch::new()?;
+///     batch.insert("t", (1, "x"), Cause::Direct)?;
+///     client.commit(&mut batch)
+/// });
+/// assert_eq!(thread.join().unwrap()?, 2);
+/// # Ok::<(), changecap::Error>(())
+/// ```
+///
+/// Two threads cannot share one:
+///
+/// ```compile_fail,E0277
+/// let client = changecap::Server::open_in_memory()?.client()?;
+/// std::thread::scope(|scope| scope.spawn(|| client.snapshot().map(drop)).join().unwrap())?;
+/// # Ok::<(), changecap::Error>(())
+/// ```
+#[derive(Debug)]
+pub struct Client {
+    handle: RefCell<ffi::Client>,
+    pool: Arc<Pool>,
+}
 
 impl Client {
-    /// The first client of a new history.
-    pub(crate) fn open() -> Result<Client> {
-        let mut handle = ffi::Client::CLOSED;
-        // SAFETY: the handle is closed.
-        done(|_| unsafe { ffi::changecap_open(&mut handle) })?;
-        Ok(Client { handle: handle.into() })
+    /// A client that the pool lends. Where all are lent it waits until one comes back.
+    pub(crate) fn lent(pool: Arc<Pool>) -> Result<Client> {
+        Ok(Client { handle: pool.take()?.into(), pool })
     }
 
-    /// A further client of the same history.
-    pub(crate) fn join(&self) -> Result<Client> {
-        let mut handle = ffi::Client::CLOSED;
-        // SAFETY: the handle is closed, and the other one is open.
-        self.done(|of, _| unsafe { ffi::changecap_join(&mut handle, of) })?;
-        Ok(Client { handle: handle.into() })
-    }
-
-    /// What a function makes of the handle, which is open, while no other call has it.
-    pub(crate) fn with<T>(&self, call: impl FnOnce(*mut ffi::Client) -> T) -> T {
-        let mut handle = self.handle.lock().unwrap_or_else(PoisonError::into_inner);
-        call(&mut *handle)
+    /// What a function makes of the handle, which is open.
+    fn with<T>(&self, call: impl FnOnce(&mut ffi::Client) -> T) -> T {
+        call(&mut self.handle.borrow_mut())
     }
 
     /// Makes a call that has a fault.
-    pub(crate) fn done(&self, call: impl FnOnce(*mut ffi::Client, &mut ffi::Fault) -> u32) -> Result<()> {
+    fn done(&self, call: impl FnOnce(&mut ffi::Client, &mut ffi::Fault) -> u32) -> Result<()> {
         self.with(|client| done(|fault| call(client, fault)))
+    }
+
+    /// Carries out one command of the workload language (docs/manual/formats.md, "Workload text"), and
+    /// answers the text of its reply, as `ok version 2`. [`Error::Command`] where the text is not one
+    /// command.
+    pub fn execute(&self, command: &str) -> Result<String> {
+        let mut fault = ffi::Fault::default();
+        // SAFETY: the client is open, and `&mut` says that no other call has it. A slice, a fault, and a
+        // buffer and a length that are of the call alone.
+        let (status, reply) = self.with(|client| unsafe {
+            let status = ffi::changecap_call(client, command.as_ptr(), command.len(), &mut fault);
+            let client: *mut ffi::Client = client;
+            let reply =
+                taken(64, |out, len, _| ffi::changecap_reply(client, out.as_mut_ptr(), out.len(), len));
+            (status, reply)
+        });
+        if status != ffi::OK && status != ffi::REFUSED {
+            return Err(Error::of(status, fault, |_| false));
+        }
+        let reply = reply.and_then(text_of)?;
+        if status == ffi::OK {
+            return Ok(reply);
+        }
+        Err(Refused::of_reply(&reply).map_or(Error::Misuse, Error::Refused))
+    }
+
+    /// Creates a table with these columns, 1 to 2,000, each of them in the primary key or not, and answers
+    /// the new version.
+    pub fn create_table(&self, table: &str, key: &[bool]) -> Result<u64> {
+        let key: Vec<u8> = key.iter().map(|flag| u8::from(*flag)).collect();
+        let mut version = 0;
+        // SAFETY: the client is open, and no other call has it. Two slices, and places of this function.
+        self.done(|client, fault| unsafe {
+            let (n, columns) = (table.len(), key.len());
+            ffi::changecap_create(client, table.as_ptr(), n, key.as_ptr(), columns, &mut version, fault)
+        })?;
+        Ok(version)
+    }
+
+    /// A snapshot of the tables as they are, from which rows are read and on which transactions begin.
+    pub fn snapshot(&self) -> Result<Snapshot> {
+        self.with(snapshot)
+    }
+
+    /// Commits a batch, all of its operations or none, and answers the new version. Then the batch is empty,
+    /// for any version. Where it is refused, or with any other error, the batch is as it was.
+    pub fn commit(&self, batch: &mut Batch) -> Result<u64> {
+        let mut version = 0;
+        self.with(|client| {
+            // SAFETY: the client and the batch are open, and no other call has them.
+            batch.committed(|batch, fault| unsafe {
+                ffi::changecap_commit(client, batch, &mut version, fault)
+            })
+        })?;
+        Ok(version)
+    }
+
+    /// Applies a changeset or a patchset: what is done where a row differs, where it is missing, and where
+    /// its key is in use. A blob that is refused changes nothing, and the refusal names the change.
+    pub fn apply(
+        &self,
+        blob: impl AsRef<[u8]>,
+        data: ConflictAction,
+        not_found: ConflictAction,
+        conflict: ConflictAction,
+    ) -> Result<Report> {
+        let (blob, mut report) = (blob.as_ref(), ffi::Report::default());
+        let (data, not_found, conflict) = (data.number(), not_found.number(), conflict.number());
+        // SAFETY: the client is open, and no other call has it. A slice, and places of this function.
+        let mut apply = |client: &mut ffi::Client, fault: &mut ffi::Fault| unsafe {
+            let (at, n) = (blob.as_ptr(), blob.len());
+            ffi::changecap_apply(client, at, n, data, not_found, conflict, &mut report, fault)
+        };
+        self.with(|client| done_at(|fault| apply(client, fault), |kind| OF_A_CHANGE.contains(&kind)))
+            .map_err(|error| named(error, blob))?;
+        let ffi::Report { version, applied, conflicts, omitted, skipped } = report;
+        Ok(Report { version, applied, conflicts, omitted, skipped })
+    }
+
+    /// Saves the tables under a name, for [`Session::diff`](crate::Session::diff), in place of what was saved
+    /// under it.
+    pub fn save(&self, database: &str) -> Result<()> {
+        // SAFETY: the client is open, and no other call has it. A slice.
+        self.done(|client, fault| unsafe {
+            ffi::changecap_save(client, database.as_ptr(), database.len(), fault)
+        })
     }
 }
 
 impl Drop for Client {
     fn drop(&mut self) {
-        // SAFETY: the handle is open, and no call has it.
-        self.with(|client| unsafe { ffi::changecap_close(client) })
+        self.pool.put(self.handle.replace(ffi::Client::CLOSED));
+    }
+}
+
+/// The refusal of a blob with the change that is refused.
+fn named(error: Error, blob: &[u8]) -> Error {
+    match error {
+        Error::Refused(Refused { code, at: Some(at), .. }) => {
+            let change = ChangesetIter::start(blob).ok().and_then(|mut changes| changes.nth(at));
+            let change = change.map(|change| RefusedChange::of(&change).into());
+            Error::Refused(Refused { code, at: Some(at), change })
+        }
+        error => error,
     }
 }

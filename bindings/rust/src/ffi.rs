@@ -77,10 +77,15 @@ pub struct Report {
 
 /// A `changecap_client`: `at` is null while it is closed.
 #[repr(C)]
+#[derive(Debug)]
 pub struct Client {
     pub at: *mut u8,
     pub shared: *mut u8,
 }
+
+// SAFETY: a client may go to another thread between two calls that are ordered. What the clients of a history
+// have in common has a lock of its own, so calls of two clients may run at once.
+unsafe impl Send for Client {}
 
 impl Client {
     pub const CLOSED: Client = Client { at: std::ptr::null_mut(), shared: std::ptr::null_mut() };
@@ -104,6 +109,35 @@ pub type ConvertCall =
     unsafe extern "C" fn(*const u8, usize, u32, *mut u8, usize, *mut usize, *mut Fault) -> u32;
 pub type FieldCall = unsafe extern "C" fn(*mut Handle, usize, *mut Field) -> u32;
 pub type BytesCall = unsafe extern "C" fn(*mut Handle, usize, *mut u8, usize, *mut usize) -> u32;
+/// An insert into a batch or a transaction.
+pub type InsertCall =
+    unsafe extern "C" fn(*mut Handle, *const u8, usize, *const u8, usize, u32, *mut Fault) -> u32;
+pub type UpdateCall = unsafe extern "C" fn(
+    *mut Handle,
+    *const u8,
+    usize,
+    *const u8,
+    usize,
+    u64,
+    *const u8,
+    usize,
+    u32,
+    *mut Fault,
+) -> u32;
+pub type DeleteCall =
+    unsafe extern "C" fn(*mut Handle, *const u8, usize, *const u8, usize, u64, u32, *mut Fault) -> u32;
+/// A read of a snapshot or a transaction.
+pub type GetCall = unsafe extern "C" fn(
+    *mut Handle,
+    *const u8,
+    usize,
+    *const u8,
+    usize,
+    u64,
+    *mut Handle,
+    *mut Fault,
+) -> u32;
+pub type ScanCall = unsafe extern "C" fn(*mut Handle, *const u8, usize, *mut Handle, *mut Fault) -> u32;
 
 unsafe extern "C" {
     pub fn changecap_check(blob: *const u8, n: usize, fault: *mut Fault) -> u32;
@@ -178,6 +212,7 @@ unsafe extern "C" {
     pub fn changecap_open(client: *mut Client) -> u32;
     pub fn changecap_join(client: *mut Client, of: *mut Client) -> u32;
     pub fn changecap_close(client: *mut Client);
+    pub fn changecap_front(client: *mut Client, events: *mut u64) -> u32;
     pub fn changecap_call(client: *mut Client, text: *const u8, n: usize, fault: *mut Fault) -> u32;
     pub fn changecap_reply(client: *mut Client, out: *mut u8, room: usize, len: *mut usize) -> u32;
 
@@ -259,6 +294,7 @@ unsafe extern "C" {
         capture: *mut Handle,
         fault: *mut Fault,
     ) -> u32;
+    pub fn changecap_capture_version(capture: *mut Handle, version: *mut u64) -> u32;
     pub fn changecap_capture_changeset(
         capture: *mut Handle,
         key_flags: u32,
@@ -277,6 +313,7 @@ unsafe extern "C" {
 
     pub fn changecap_batch_open(batch: *mut Handle) -> u32;
     pub fn changecap_batch_open_at(batch: *mut Handle, version: u64) -> u32;
+    pub fn changecap_batch_clear(batch: *mut Handle);
     pub fn changecap_batch_close(batch: *mut Handle);
     pub fn changecap_insert(
         batch: *mut Handle,
@@ -316,7 +353,17 @@ unsafe extern "C" {
         fault: *mut Fault,
     ) -> u32;
 
+    pub fn changecap_commit_captured(
+        client: *mut Client,
+        batch: *mut Handle,
+        session: u64,
+        version: *mut u64,
+        capture: *mut Handle,
+        fault: *mut Fault,
+    ) -> u32;
+
     pub fn changecap_snapshot_open(client: *mut Client, snapshot: *mut Handle) -> u32;
+    pub fn changecap_snapshot_version(snapshot: *mut Handle, version: *mut u64) -> u32;
     pub fn changecap_snapshot_close(snapshot: *mut Handle);
     pub fn changecap_get(
         snapshot: *mut Handle,
@@ -335,9 +382,73 @@ unsafe extern "C" {
         rows: *mut Handle,
         fault: *mut Fault,
     ) -> u32;
+    pub fn changecap_scan_from(
+        snapshot: *mut Handle,
+        table: *const u8,
+        n: usize,
+        key: *const u8,
+        m: usize,
+        limit: u64,
+        rows: *mut Handle,
+        fault: *mut Fault,
+    ) -> u32;
 
     pub fn changecap_step(rows: *mut Handle) -> u32;
     pub fn changecap_row_id(rows: *mut Handle, id: *mut u64) -> u32;
     pub fn changecap_row(rows: *mut Handle, out: *mut u8, room: usize, len: *mut usize) -> u32;
     pub fn changecap_rows_close(rows: *mut Handle);
+
+    pub fn changecap_begin(snapshot: *mut Handle, transaction: *mut Handle) -> u32;
+    pub fn changecap_rollback(transaction: *mut Handle);
+    pub fn changecap_transaction_insert(
+        transaction: *mut Handle,
+        table: *const u8,
+        n: usize,
+        row: *const u8,
+        len: usize,
+        cause: u32,
+        fault: *mut Fault,
+    ) -> u32;
+    pub fn changecap_transaction_update(
+        transaction: *mut Handle,
+        table: *const u8,
+        n: usize,
+        key: *const u8,
+        m: usize,
+        id: u64,
+        fields: *const u8,
+        len: usize,
+        cause: u32,
+        fault: *mut Fault,
+    ) -> u32;
+    pub fn changecap_transaction_delete(
+        transaction: *mut Handle,
+        table: *const u8,
+        n: usize,
+        key: *const u8,
+        m: usize,
+        id: u64,
+        cause: u32,
+        fault: *mut Fault,
+    ) -> u32;
+    pub fn changecap_transaction_get(
+        transaction: *mut Handle,
+        table: *const u8,
+        n: usize,
+        key: *const u8,
+        m: usize,
+        id: u64,
+        rows: *mut Handle,
+        fault: *mut Fault,
+    ) -> u32;
+    pub fn changecap_transaction_scan(
+        transaction: *mut Handle,
+        table: *const u8,
+        n: usize,
+        rows: *mut Handle,
+        fault: *mut Fault,
+    ) -> u32;
+    pub fn changecap_savepoint(transaction: *mut Handle, mark: *mut u64, fault: *mut Fault) -> u32;
+    pub fn changecap_rollback_to(transaction: *mut Handle, mark: u64, fault: *mut Fault) -> u32;
+    pub fn changecap_end(transaction: *mut Handle, batch: *mut Handle) -> u32;
 }

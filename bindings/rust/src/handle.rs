@@ -1,29 +1,43 @@
 //! Handles that are closed in the end.
 use crate::{ffi, Result};
 use std::cell::UnsafeCell;
+use std::fmt;
 
-/// An open handle. Each call takes it by `&mut` and puts it back as it was, so it is not `Sync`.
+/// A handle, closed when it is dropped. A call has it by `at` for as long as the call runs. It is not `Sync`,
+/// so no other thread makes a call on it meanwhile, and no call of the library calls back into this crate.
 pub(crate) struct Owned {
     handle: UnsafeCell<ffi::Handle>,
     close: ffi::CloseCall,
 }
 
-// SAFETY: what a handle owns is proved to be `Send`.
+// SAFETY: a handle may go to another thread between two calls that are ordered, and a move to another thread
+// orders those before it and those behind it.
 unsafe impl Send for Owned {}
 
 impl Owned {
-    /// The handle that a call opens, and one that closes handles of its kind.
+    /// A handle that a call may open, and the call that closes handles of its kind.
+    pub(crate) fn closed(close: ffi::CloseCall) -> Owned {
+        Owned { handle: ffi::Handle::CLOSED.into(), close }
+    }
+
+    /// The handle that a call opens.
     pub(crate) fn open(
         close: ffi::CloseCall,
         call: impl FnOnce(*mut ffi::Handle) -> Result<()>,
     ) -> Result<Owned> {
-        let owned = Owned { handle: ffi::Handle::CLOSED.into(), close };
+        let owned = Owned::closed(close);
         call(owned.at())?;
         Ok(owned)
     }
 
     pub(crate) fn at(&self) -> *mut ffi::Handle {
         self.handle.get()
+    }
+}
+
+impl fmt::Debug for Owned {
+    fn fmt(&self, f: &mut fmt::Formatter<'_>) -> fmt::Result {
+        f.write_str("Owned")
     }
 }
 

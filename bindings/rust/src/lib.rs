@@ -1,31 +1,56 @@
-//! Changesets and patchsets of SQLite's session extension, and a table server that captures them: the calls
-//! of `changecap.h` under the names of rusqlite's session module.
+//! A table server in memory that any threads share, and what its sessions capture: changesets and patchsets
+//! of SQLite's session extension, under the names of rusqlite and its session module. The calls are those of
+//! `changecap.h`.
 //!
 //! ```
-//! use changecap::{invert_strm, Changeset, KeyFlags};
-//! let bytes = [0x54, 2, 1, 0, b't', 0, 0x12, 0, 1, 0, 0, 0, 0, 0, 0, 0, 1, 3, 1, b'x'];
-//! let changeset = Changeset::from_bytes(&bytes)?;
-//! assert_eq!(changeset.invert(KeyFlags::Places)?.as_bytes()[6], 0x09);
-//! let mut inverse = Vec::new();
-//! invert_strm(&mut &bytes[..], &mut inverse)?;
+//! use changecap::{Cause, ConflictAction::Abort, KeyFlags, Server, Session};
+//! let server = Server::open_in_memory()?;
+//! server.client()?.create_table("t", &[true, false])?;
+//! let session = Session::new(&server)?;
+//! session.attach(None)?;
+//! let ((), version) = server.transaction(|t| t.insert("t", (1, "x"), Cause::Direct))?;
+//! let changeset = session.capture()?.changeset(KeyFlags::Places)?;
+//!
+//! let copy = Server::open_in_memory()?.client()?;
+//! copy.create_table("t", &[true, false])?;
+//! assert_eq!(copy.apply(&changeset, Abort, Abort, Abort)?.version, version);
+//! assert_eq!(copy.snapshot()?.get("t", (1,))?.unwrap().get::<String>(1)?, "x");
 //! # Ok::<(), changecap::Error>(())
 //! ```
+#![warn(missing_docs, missing_debug_implementations, clippy::undocumented_unsafe_blocks)]
 
+mod batch;
 mod blob;
 mod call;
+mod capture;
 mod client;
 mod error;
 mod ffi;
+mod fields;
 mod handle;
 mod iter;
+mod params;
+mod pool;
 mod record;
-mod rows;
+mod refused;
+mod row;
 mod server;
 mod session;
+mod snapshot;
+mod transaction;
+mod value;
 
+pub use batch::{Batch, Cause};
 pub use blob::{check, invert_strm, Changeset, KeyFlags, Patchset};
+pub use capture::Capture;
+pub use client::{Client, ConflictAction, Report};
 pub use error::{Error, Fault, Result};
-pub use iter::{Action, ChangesetItem, ChangesetIter, Decoder, Operation, Value};
-pub use rows::{Cause, Row, RowRef};
-pub use server::{ConflictAction, Connection, Report};
-pub use session::Session;
+pub use iter::{Action, Change, ChangesetIter, Decoder};
+pub use params::{Params, RowId, RowName};
+pub use refused::{Refusal, Refused, RefusedChange};
+pub use row::{Row, Rows};
+pub use server::Server;
+pub use session::{Captures, Session};
+pub use snapshot::Snapshot;
+pub use transaction::{Savepoint, Transaction, TRIES};
+pub use value::{FromValue, ToValue, Value, ValueRef};

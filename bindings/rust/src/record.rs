@@ -1,6 +1,7 @@
 //! Records: a row, a key and the new values of an update as bytes, the fields one after the other as a
 //! changeset has them (docs/manual/formats.md, "Changeset").
-use crate::{ffi, Value};
+use crate::fields::Fields;
+use crate::{ffi, ToValue, ValueRef};
 
 /// The first column that no table has.
 const NO_COLUMN: usize = 2_000;
@@ -21,71 +22,71 @@ fn put_bytes(record: &mut Vec<u8>, kind: u32, bytes: &[u8]) {
     record.extend_from_slice(bytes);
 }
 
-/// Puts a field behind a record. None is one that is undefined.
-fn put(record: &mut Vec<u8>, field: Option<&Value>) {
-    match field {
-        None => record.push(ffi::UNDEFINED as u8),
-        Some(Value::Integer(number)) => {
+/// Puts a value behind a record.
+pub(crate) fn put(record: &mut Vec<u8>, value: ValueRef<'_>) {
+    match value {
+        ValueRef::Integer(number) => {
             record.push(ffi::INTEGER as u8);
             record.extend_from_slice(&number.to_be_bytes());
         }
-        Some(Value::Text(text)) => put_bytes(record, ffi::TEXT, text.as_bytes()),
-        Some(Value::Blob(blob)) => put_bytes(record, ffi::BLOB, blob),
-        Some(Value::Null) => record.push(ffi::NULL as u8),
+        ValueRef::Text(text) => put_bytes(record, ffi::TEXT, text.as_bytes()),
+        ValueRef::Blob(blob) => put_bytes(record, ffi::BLOB, blob),
+        ValueRef::Null => record.push(ffi::NULL as u8),
     }
-}
-
-/// The record of a row or of a key.
-pub(crate) fn of_values(values: &[Value]) -> Vec<u8> {
-    let mut record = Vec::new();
-    for value in values {
-        put(&mut record, Some(value));
-    }
-    record
 }
 
 /// The record of the new values of an update. One that names a column twice is made one of a column that no
 /// table has, which is refused with the same number, E4.
-pub(crate) fn of_assignments(set: &[(usize, Value)]) -> Vec<u8> {
-    let mut fields: Vec<Option<&Value>> = Vec::new();
+pub(crate) fn of_assignments<V: ToValue>(set: &[(usize, V)]) -> Vec<u8> {
+    let mut fields: Vec<Option<ValueRef<'_>>> = Vec::new();
     for (column, value) in set {
         let is_set = fields.get(*column).is_some_and(Option::is_some);
         let column = if is_set { NO_COLUMN } else { NO_COLUMN.min(*column) };
         fields.resize(fields.len().max(column + 1), None);
-        fields[column] = Some(value);
+        fields[column] = Some(value.to_value());
     }
     let mut record = Vec::new();
     for field in fields {
-        put(&mut record, field);
+        match field {
+            Some(value) => put(&mut record, value),
+            None => record.push(ffi::UNDEFINED as u8),
+        }
     }
     record
 }
 
 /// The values of the record of a row, or none where the bytes are no such record.
-pub(crate) fn values_of(record: &[u8]) -> Option<Vec<Value>> {
-    let (mut values, mut rest) = (Vec::new(), record);
+pub(crate) fn fields_of(record: &[u8]) -> Option<Fields> {
+    let (mut fields, mut rest) = (Fields::default(), record);
     while !rest.is_empty() {
-        let (value, behind) = first_value(rest)?;
-        values.push(value);
-        rest = behind;
+        rest = put_first(&mut fields, rest)?;
     }
-    Some(values)
+    Some(fields)
 }
 
-/// The first value of a record, and what is behind it.
-fn first_value(record: &[u8]) -> Option<(Value, &[u8])> {
+/// Puts the first value of a record behind others, and answers what is behind it.
+fn put_first<'a>(fields: &mut Fields, record: &'a [u8]) -> Option<&'a [u8]> {
     let (kind, rest) = record.split_first()?;
     match u32::from(*kind) {
         ffi::INTEGER => {
             let (number, rest) = rest.split_first_chunk()?;
-            Some((Value::Integer(i64::from_be_bytes(*number)), rest))
+            fields.put(Some(ValueRef::Integer(i64::from_be_bytes(*number))));
+            Some(rest)
         }
         ffi::TEXT => {
             let (text, rest) = first_bytes(rest)?;
-            Some((Value::Text(std::str::from_utf8(text).ok()?.to_owned()), rest))
+            fields.put(Some(ValueRef::Text(std::str::from_utf8(text).ok()?)));
+            Some(rest)
         }
-        ffi::BLOB => first_bytes(rest).map(|(blob, rest)| (Value::Blob(blob.to_vec()), rest)),
-        ffi::NULL => Some((Value::Null, rest)),
+        ffi::BLOB => {
+            let (blob, rest) = first_bytes(rest)?;
+            fields.put(Some(ValueRef::Blob(blob)));
+            Some(rest)
+        }
+        ffi::NULL => {
+            fields.put(Some(ValueRef::Null));
+            Some(rest)
+        }
         _ => None,
     }
 }
@@ -106,6 +107,18 @@ fn first_bytes(record: &[u8]) -> Option<(&[u8], &[u8])> {
 #[cfg(test)]
 mod tests {
     use super::*;
+    use crate::Value;
+
+    fn of_values(values: &[Value]) -> Vec<u8> {
+        let mut record = Vec::new();
+        values.iter().for_each(|value| put(&mut record, value.into()));
+        record
+    }
+
+    fn values_of(record: &[u8]) -> Option<Vec<Value>> {
+        let fields = fields_of(record)?;
+        (0..fields.len()).map(|at| fields.get(at).map(Value::from)).collect()
+    }
 
     #[test]
     fn varints() {
@@ -152,7 +165,7 @@ mod tests {
     #[test]
     fn new_values() {
         let one = || Value::Integer(1);
-        assert_eq!(of_assignments(&[]), []);
+        assert_eq!(of_assignments::<Value>(&[]), []);
         assert_eq!(of_assignments(&[(2, Value::Null), (0, Value::Null)]), [5, 0, 5]);
         for set in [&[(1, one()), (1, one())][..], &[(2_000, one())], &[(usize::MAX, one())]] {
             let record = of_assignments(set);

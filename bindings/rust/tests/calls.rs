@@ -1,6 +1,29 @@
 //! Each call, beside worked values.
 use changecap::*;
 
+/// The values of a row.
+fn values_of(row: &Row) -> Vec<Value> {
+    row.values().map(Value::from).collect()
+}
+
+/// The values of all rows of a table.
+fn rows_of(client: &Client, table: &str) -> Vec<Vec<Value>> {
+    client.snapshot().unwrap().scan(table).unwrap().map(|row| values_of(&row.unwrap())).collect()
+}
+
+/// The row of a name.
+fn row_of(client: &Client, table: &str, row: impl RowName) -> Option<Row> {
+    client.snapshot().unwrap().get(table, row).unwrap()
+}
+
+/// The refusal that a call answers, and the number of its part.
+fn refusal_of<T>(made: Result<T>) -> (Refusal, Option<usize>) {
+    match made.map(drop) {
+        Err(Error::Refused(why)) => (why.code, why.at),
+        other => panic!("{other:?}"),
+    }
+}
+
 fn of_hex(hex: &str) -> Vec<u8> {
     (0..hex.len() / 2).map(|at| u8::from_str_radix(&hex[2 * at..2 * at + 2], 16).unwrap()).collect()
 }
@@ -75,24 +98,22 @@ fn changes_of_a_blob() {
     assert!(ChangesetIter::start(&of_hex("54020100017500170101000000000000000703013000")).is_err());
     let blob = of_hex(TWO_TABLES);
     let mut changes = ChangesetIter::start_strm(&mut &blob[..]).unwrap();
-    {
-        let change = changes.next().unwrap().unwrap();
-        let operation = change.op().unwrap();
-        assert_eq!((operation.table_name(), operation.number_of_columns()), ("u", 2));
-        assert_eq!((operation.code(), operation.indirect()), (Action::Update, true));
-        assert_eq!(change.pk().unwrap(), [true, false]);
-        assert_eq!(change.old_value(0).unwrap(), Some(Value::Integer(7)));
-        assert_eq!(change.new_value(0).unwrap(), None);
-        assert_eq!(change.old_value(1).unwrap(), Some(Value::Text("-".into())));
-        assert_eq!(change.new_value(1).unwrap(), Some(Value::Text("++".into())));
-        assert!(matches!(change.new_value(2), Err(Error::Misuse)));
-    }
-    let change = changes.next().unwrap().unwrap();
-    assert_eq!(change.op().unwrap().code(), Action::Insert);
-    assert_eq!(change.new_value(0).unwrap(), Some(Value::Blob(vec![0, 255])));
-    assert_eq!(change.new_value(1).unwrap(), Some(Value::Null));
-    assert!(changes.next().unwrap().is_none());
-    assert!(changes.next().unwrap().is_none());
+    let change = changes.next().unwrap();
+    let next = changes.next().unwrap();
+    assert_eq!((change.table_name(), change.number_of_columns()), ("u", 2));
+    assert_eq!((change.code(), change.indirect()), (Action::Update, true));
+    assert_eq!(change.pk(), [true, false]);
+    assert_eq!((change.old_value(0), change.new_value(0)), (Some(ValueRef::Integer(7)), None));
+    assert_eq!(change.old_value(1), Some(ValueRef::Text("-")));
+    assert_eq!(change.new_value(1), Some(ValueRef::Text("++")));
+    assert_eq!((change.old_value(2), change.new_value(2)), (None, None));
+    assert_eq!(change.key().collect::<Vec<_>>(), [ValueRef::Integer(7)]);
+    assert_eq!(next.code(), Action::Insert);
+    assert_eq!(next.new_value(0), Some(ValueRef::Blob(&[0, 255])));
+    assert_eq!(next.new_value(1), Some(ValueRef::Null));
+    assert_eq!(next.key().collect::<Vec<_>>(), [ValueRef::Blob(&[0, 255])]);
+    assert_eq!(next.clone(), next);
+    assert!(changes.next().is_none() && changes.next().is_none());
 }
 
 #[test]
@@ -104,9 +125,9 @@ fn pieces_of_a_blob() {
             decoder.feed(piece).unwrap();
         }
         let mut changes = decoder.finish().unwrap();
-        assert_eq!(changes.next().unwrap().unwrap().op().unwrap().code(), Action::Update);
-        assert_eq!(changes.next().unwrap().unwrap().new_value(2).unwrap(), Some(Value::Text("a".into())));
-        assert!(changes.next().unwrap().is_none());
+        assert_eq!(changes.next().unwrap().code(), Action::Update);
+        assert_eq!(changes.next().unwrap().new_value(2), Some(ValueRef::Text("a")));
+        assert!(changes.next().is_none());
     }
     let mut decoder = Decoder::new().unwrap();
     decoder.feed(b"T").unwrap();
@@ -118,43 +139,49 @@ fn pieces_of_a_blob() {
     decoder.feed(b"T").unwrap();
     assert!(matches!(decoder.finish(), Err(Error::Malformed(Fault { kind: 1, at: 1 }))));
     let decoder = Decoder::new().unwrap();
-    assert!(std::thread::spawn(move || decoder.finish().unwrap().next().unwrap().is_none()).join().unwrap());
+    assert!(std::thread::spawn(move || decoder.finish().unwrap().next().is_none()).join().unwrap());
 }
 
 #[test]
 fn an_iterator_goes_to_another_thread() {
     let mut changes = ChangesetIter::start(&of_hex(INSERT)).unwrap();
-    let here = std::thread::spawn(move || changes.next().unwrap().is_some()).join().unwrap();
+    let here = std::thread::spawn(move || changes.next().is_some()).join().unwrap();
     assert!(here);
 }
 
 #[test]
 fn a_server_and_its_sessions() {
-    let source = Connection::open_in_memory().unwrap();
+    let server = Server::open_in_memory().unwrap();
+    let source = server.client().unwrap();
     assert_eq!(source.execute("create t kv").unwrap(), "ok version 1");
-    let mut session = Session::new(&source).unwrap();
+    let session = Session::new(&server).unwrap();
     session.attach(Some("t")).unwrap();
     assert!(session.is_empty().unwrap());
     source.execute("commit insert t (1,'x')").unwrap();
     assert!(!session.is_empty().unwrap());
-    let changeset = session.changeset(KeyFlags::Places).unwrap();
+    let capture = session.capture().unwrap();
+    assert_eq!(capture.version(), 2);
+    let changeset = capture.changeset(KeyFlags::Places).unwrap();
     assert_eq!(changeset.as_bytes(), of_hex(INSERT));
     let mut bytes = Vec::new();
     session.changeset_strm(&mut bytes).unwrap();
     assert_eq!(bytes, of_hex(INSERT));
-    assert_eq!(session.patchset(KeyFlags::Places).unwrap(), changeset.patchset(KeyFlags::Places).unwrap());
+    let patchset = capture.patchset(KeyFlags::Places).unwrap();
+    assert_eq!(patchset, changeset.patchset(KeyFlags::Places).unwrap());
     session.set_indirect(true).unwrap();
     session.set_enabled(false).unwrap();
     drop(session);
-    assert!(
-        matches!(source.execute("isempty 1"), Err(Error::Refused(reply)) if reply == "refused: E18 NoSession")
-    );
+    let ended = source.execute("isempty 1").unwrap_err();
+    assert_eq!(ended.to_string(), "refused: E18 NoSession");
+    assert_eq!(refusal_of(source.execute("commit delete t key(2)")), (Refusal::NoRow, Some(0)));
     assert!(matches!(source.execute("frob"), Err(Error::Command(Fault { kind: 1, at: 0 }))));
-    let target = Connection::open_in_memory().unwrap();
+    let target = Server::open_in_memory().unwrap().client().unwrap();
     target.execute("create t kv").unwrap();
     let policy = (ConflictAction::Omit, ConflictAction::Abort, ConflictAction::Replace);
-    let report = target.apply(changeset.as_bytes(), policy.0, policy.1, policy.2).unwrap();
+    let report = target.apply(&changeset, policy.0, policy.1, policy.2).unwrap();
     assert_eq!(report, Report { version: 2, applied: 1, conflicts: 0, omitted: 0, skipped: 0 });
+    let report = target.apply(&patchset, policy.0, policy.1, policy.2).unwrap();
+    assert_eq!(report, Report { version: 3, applied: 1, conflicts: 1, omitted: 0, skipped: 0 });
     assert_eq!(
         std::thread::spawn(move || target.execute("scan t").unwrap()).join().unwrap(),
         "rows 1\n(1,'x')"
@@ -163,12 +190,13 @@ fn a_server_and_its_sessions() {
 
 #[test]
 fn sessions_by_numbers() {
-    let source = Connection::open_in_memory().unwrap();
+    let server = Server::open_in_memory().unwrap();
+    let source = server.client().unwrap();
     assert_eq!(source.create_table("t", &[true, false]).unwrap(), 1);
-    assert!(matches!(source.create_table("t", &[true]), Err(Error::Refused(why)) if why == "refused: E9"));
+    assert_eq!(refusal_of(source.create_table("t", &[true])), (Refusal::TableExists, None));
     assert!(matches!(source.create_table("", &[true]), Err(Error::Misuse)));
     assert!(matches!(source.create_table("u", &[]), Err(Error::Misuse)));
-    let mut session = Session::new(&source).unwrap();
+    let session = Session::new(&server).unwrap();
     session.attach(Some("t")).unwrap();
     assert!(matches!(session.attach(Some("a\0b")), Err(Error::Misuse)));
     assert!(session.is_enabled().unwrap() && !session.is_indirect().unwrap());
@@ -176,272 +204,355 @@ fn sessions_by_numbers() {
     session.set_enabled(false).unwrap();
     assert!(!session.is_enabled().unwrap());
     source.execute("commit insert t (2,null)").unwrap();
-    assert_eq!(session.changeset(KeyFlags::Ones).unwrap().as_bytes(), of_hex(INSERT));
-    assert_eq!(session.restart(KeyFlags::Places).unwrap().as_bytes(), of_hex(INSERT));
-    assert!(session.is_empty().unwrap());
+    let captured = session.capture().unwrap();
+    assert_eq!(captured.changeset(KeyFlags::Ones).unwrap().as_bytes(), of_hex(INSERT));
+    let restarted = session.restart().unwrap();
+    assert_eq!((captured.version(), restarted.version()), (3, 3));
+    assert!(session.is_empty().unwrap() && session.captures().next().is_none());
+    // A capture stays as it is.
+    source.execute("commit delete t key(2)").unwrap();
+    assert_eq!(restarted.changeset(KeyFlags::Places).unwrap().as_bytes(), of_hex(INSERT));
     session.set_enabled(true).unwrap();
     session.set_indirect(true).unwrap();
     assert!(session.is_indirect().unwrap());
     source.execute("commit delete t key(1)").unwrap();
-    let indirect = session.changeset(KeyFlags::Places).unwrap();
+    let indirect = session.capture().unwrap().changeset(KeyFlags::Places).unwrap();
     assert_eq!(indirect.as_bytes(), of_hex("5402010074000901010000000000000001030178"));
     let mut bytes = Vec::new();
     session.patchset_strm(&mut bytes).unwrap();
     assert_eq!(bytes, indirect.patchset(KeyFlags::Places).unwrap().as_bytes());
+    let (mut captures, mut versions) = (session.captures(), Vec::new());
+    versions.extend(captures.by_ref().map(|it| it.unwrap().version()));
+    source.execute("commit insert t (1,null)").unwrap();
+    versions.extend(captures.map(|it| it.unwrap().version()));
+    assert_eq!(versions, [5, 6]);
 }
 
 /// A server with the table t, whose key is its first column, and the table u, whose key is its last two.
-fn with_tables() -> Connection {
-    let source = Connection::open_in_memory().unwrap();
-    source.create_table("t", &[true, false]).unwrap();
-    source.create_table("u", &[false, true, true]).unwrap();
-    source
+fn with_tables() -> (Server, Client) {
+    let server = Server::open_in_memory().unwrap();
+    let client = server.client().unwrap();
+    client.create_table("t", &[true, false]).unwrap();
+    client.create_table("u", &[false, true, true]).unwrap();
+    (server, client)
 }
 
 #[test]
 fn batches_and_rows() {
-    let source = with_tables();
-    let mut session = Session::new(&source).unwrap();
+    let (server, source) = with_tables();
+    let session = Session::new(&server).unwrap();
     session.attach(None).unwrap();
-    let (one, two, x) = (Value::Integer(1), Value::Integer(2), Value::Text("x".into()));
-    source.begin();
-    source.insert("t", &[one.clone(), x.clone()], Cause::Direct).unwrap();
-    source.insert("t", &[two.clone(), Value::Blob(vec![0, 255])], Cause::Cascade).unwrap();
-    source.insert("u", &[x.clone(), one.clone(), two.clone()], Cause::Direct).unwrap();
-    source.insert("u", &[x.clone(), Value::Null, one.clone()], Cause::Direct).unwrap();
-    assert_eq!(source.commit().unwrap(), 3);
-    let key = [two.clone()];
-    let row = source.get("t", RowRef::Key(&key)).unwrap().unwrap();
-    assert_eq!(row, Row { id: None, values: vec![two.clone(), Value::Blob(vec![0, 255])] });
-    let both = [one.clone(), two.clone()];
-    source.update("u", RowRef::Key(&both), &[(0, Value::Null)], Cause::Direct).unwrap();
-    source.update("u", RowRef::Id(1), &[(1, one.clone()), (0, two.clone())], Cause::Direct).unwrap();
-    source.delete("t", RowRef::Key(&key), Cause::Direct).unwrap();
-    assert_eq!(source.commit().unwrap(), 4);
-    let rows: Vec<_> = source.scan("u").unwrap().into_iter().map(|row| row.values).collect();
-    assert_eq!(rows, [vec![two.clone(), one.clone(), one.clone()], vec![Value::Null, one, two]]);
-    assert_eq!(source.get("t", RowRef::Key(&key)).unwrap(), None);
+    let mut batch = Batch::new().unwrap();
+    batch.insert("t", (1, "x"), Cause::Direct).unwrap();
+    batch.insert("t", (2, [0u8, 255]), Cause::Cascade).unwrap();
+    batch.insert("u", ("x", 1, 2), Cause::Direct).unwrap();
+    batch.insert("u", (Some("x"), None::<i64>, 1), Cause::Direct).unwrap();
+    assert_eq!(source.commit(&mut batch).unwrap(), 3);
+    let row = row_of(&source, "t", (2,)).unwrap();
+    assert_eq!((row.id(), values_of(&row)), (None, vec![2.into(), Value::Blob(vec![0, 255])]));
+    let loose = row_of(&source, "u", RowId(1)).unwrap();
+    assert_eq!((loose.id(), loose.len()), (Some(RowId(1)), 3));
+    // The batch is empty again.
+    batch.update("u", (1, 2), &[(0, None::<i64>)], Cause::Direct).unwrap();
+    batch.update("u", RowId(1), &[(1, 1), (0, 2)], Cause::Direct).unwrap();
+    batch.delete("t", [2], Cause::Direct).unwrap();
+    assert_eq!(source.commit(&mut batch).unwrap(), 4);
+    let rows = rows_of(&source, "u");
+    assert_eq!(rows, [vec![2.into(), 1.into(), 1.into()], vec![Value::Null, 1.into(), 2.into()]]);
+    assert_eq!(row_of(&source, "t", (2,)), None);
     assert!(source.execute("changeset 1").unwrap().starts_with("changeset 54020100"));
 }
 
 #[test]
-fn refused_batches_and_rows() {
-    let source = with_tables();
-    let (one, key) = (Value::Integer(1), [Value::Integer(2)]);
-    assert!(matches!(source.scan("v"), Err(Error::Refused(why)) if why == "refused: E8"));
-    assert!(matches!(source.get("t", RowRef::Key(&[])), Err(Error::Misuse)));
-    assert!(matches!(source.get("t", RowRef::Id(0)), Err(Error::Misuse)));
-    assert!(matches!(source.delete("t", RowRef::Key(&[Value::Null]), Cause::Direct), Err(Error::Misuse)));
-    assert!(matches!(source.insert("", &key, Cause::Direct), Err(Error::Misuse)));
-    source.begin();
-    source.insert("u", &[Value::Null, Value::Null, one.clone()], Cause::Direct).unwrap();
-    source.delete("t", RowRef::Key(&key), Cause::Direct).unwrap();
-    assert!(matches!(source.commit(), Err(Error::Refused(why)) if why == "refused at 1: E6"));
-    source.begin_at(1);
-    source.delete("t", RowRef::Key(&[one]), Cause::Direct).unwrap();
-    assert!(matches!(source.commit(), Err(Error::Refused(why)) if why == "refused: E11"));
-    assert_eq!(source.commit().unwrap(), 3);
+fn values_of_a_row() {
+    let (_, source) = with_tables();
+    source.execute("commit insert u ('x',7,x'00ff')").unwrap();
+    let row = source.snapshot().unwrap().scan("u").unwrap().next().unwrap().unwrap();
+    assert_eq!((row.get::<String>(0).unwrap(), row.get::<u8>(1).unwrap()), ("x".to_string(), 7));
+    assert_eq!(row.get::<Vec<u8>>(2).unwrap(), [0, 255]);
+    assert_eq!(row.get::<Option<i64>>(1).unwrap(), Some(7));
+    assert!(matches!(row.get::<i64>(0), Err(Error::ColumnType(0))));
+    assert!(matches!(row.get::<i64>(3), Err(Error::ColumnIndex(3))));
+    assert!(matches!(row.get_ref(usize::MAX), Err(Error::ColumnIndex(usize::MAX))));
+    let texts: Vec<_> = row.values().map(|value| value.to_string()).collect();
+    assert_eq!(texts, ["'x'", "7", "x'00ff'"]);
 }
 
 #[test]
+fn refused_batches_and_rows() {
+    let (_, source) = with_tables();
+    let snapshot = source.snapshot().unwrap();
+    assert_eq!(refusal_of(snapshot.scan("v")), (Refusal::NoTable, None));
+    assert!(matches!(snapshot.get("t", [0; 0]), Err(Error::Misuse)));
+    assert!(matches!(snapshot.get("t", RowId(0)), Err(Error::Misuse)));
+    let mut batch = Batch::new().unwrap();
+    assert!(matches!(batch.delete("t", (None::<i64>,), Cause::Direct), Err(Error::Misuse)));
+    assert!(matches!(batch.insert("", (2,), Cause::Direct), Err(Error::Misuse)));
+    batch.clear();
+    batch.insert("u", (None::<i64>, None::<i64>, 1), Cause::Direct).unwrap();
+    batch.delete("t", (2,), Cause::Direct).unwrap();
+    assert_eq!(refusal_of(source.commit(&mut batch)), (Refusal::NoRow, Some(1)));
+    // A refused batch is as it was.
+    assert_eq!(source.commit(&mut batch).unwrap_err().to_string(), "refused at 1: E6 NoRow");
+    let mut batch = Batch::new_at(1).unwrap();
+    batch.delete("t", (1,), Cause::Direct).unwrap();
+    assert_eq!(refusal_of(source.commit(&mut batch)), (Refusal::Stale, None));
+    batch.clear();
+    assert_eq!(source.commit(&mut batch).unwrap(), 3);
+}
+
+#[test]
+fn snapshots_stay() {
+    let (_, source) = with_tables();
+    for number in 0..10 {
+        source.execute(&format!("commit insert t ({number},'x')")).unwrap();
+    }
+    let snapshot = source.snapshot().unwrap();
+    let mut rows = snapshot.scan("t").unwrap();
+    source.execute("commit delete t key(3)").unwrap();
+    assert_eq!((snapshot.version(), source.snapshot().unwrap().version()), (12, 13));
+    drop(source);
+    assert_eq!(snapshot.scan("t").unwrap().count(), 10);
+    let keys = |rows: Rows| rows.map(|row| row.unwrap().get(0).unwrap()).collect::<Vec<i64>>();
+    assert_eq!(keys(snapshot.scan_from("t", (3,), 4).unwrap()), [3, 4, 5, 6]);
+    assert_eq!(keys(snapshot.scan_from("t", (9,), u64::MAX).unwrap()), [9]);
+    assert_eq!(keys(snapshot.scan_from("t", (10,), 4).unwrap()), []);
+    drop(snapshot);
+    assert_eq!(rows.by_ref().count(), 10);
+    assert!(rows.next().is_none());
+}
+
+/// An operation that cannot be put in a batch.
+type Failing<'a> = &'a dyn Fn(&mut Batch) -> Result<()>;
+
+#[test]
 fn batches_of_which_an_operation_fails() {
-    let source = with_tables();
-    let row = |number| [Value::Integer(number), Value::Null];
-    let insert = |number| source.insert("t", &row(number), Cause::Direct);
-    let fails: [&dyn Fn() -> Result<()>; 4] = [
-        &|| source.insert("", &row(2), Cause::Direct),
-        &|| source.insert("t\0", &row(2), Cause::Cascade),
-        &|| source.update("t", RowRef::Key(&[Value::Null]), &[(1, Value::Integer(3))], Cause::Direct),
-        &|| source.delete("t", RowRef::Id(0), Cause::Direct),
+    let (_, source) = with_tables();
+    let row = |number| (number, None::<i64>);
+    let fails: [Failing; 4] = [
+        &|batch| batch.insert("", row(2), Cause::Direct),
+        &|batch| batch.insert("t\0", row(2), Cause::Cascade),
+        &|batch| batch.update("t", (None::<i64>,), &[(1, 3)], Cause::Direct),
+        &|batch| batch.delete("t", RowId(0), Cause::Direct),
     ];
     for fail in fails {
-        insert(1).unwrap();
-        assert!(matches!(fail(), Err(Error::Misuse)));
-        insert(3).unwrap();
-        // None of it is made, neither what was put in before nor what was put in after.
-        assert!(matches!(source.commit(), Err(Error::FailedBatch)));
-        assert_eq!(source.scan("t").unwrap(), []);
-        // The next batch has nothing of it.
-        insert(4).unwrap();
-        source.delete("t", RowRef::Key(&row(4)[..1]), Cause::Direct).unwrap();
-        source.commit().unwrap();
-        // Nor has one that `begin` or `begin_at` begins in its place.
-        insert(1).unwrap();
-        fail().unwrap_err();
-        source.begin();
-        source.commit().unwrap();
-        insert(1).unwrap();
-        fail().unwrap_err();
-        source.begin_at(1);
-        assert!(matches!(source.commit(), Err(Error::Refused(why)) if why == "refused: E11"));
-        source.commit().unwrap();
-        assert_eq!(source.scan("t").unwrap(), []);
+        let mut batch = Batch::new().unwrap();
+        batch.insert("t", row(1), Cause::Direct).unwrap();
+        assert!(matches!(fail(&mut batch), Err(Error::Misuse)));
+        batch.insert("t", row(3), Cause::Direct).unwrap();
+        // None of it is made, neither what was put in before nor what was put in after, however often.
+        assert!(matches!(source.commit(&mut batch), Err(Error::FailedBatch)));
+        assert!(matches!(source.commit(&mut batch), Err(Error::FailedBatch)));
+        assert_eq!(rows_of(&source, "t").len(), 0);
+        // Once it is cleared it has nothing of it.
+        batch.clear();
+        batch.insert("t", row(4), Cause::Direct).unwrap();
+        batch.delete("t", (4,), Cause::Direct).unwrap();
+        source.commit(&mut batch).unwrap();
+        // Nor has one for a version alone, which is for any version then.
+        let mut batch = Batch::new_at(1).unwrap();
+        batch.insert("t", row(1), Cause::Direct).unwrap();
+        fail(&mut batch).unwrap_err();
+        assert!(matches!(source.commit(&mut batch), Err(Error::FailedBatch)));
+        batch.clear();
+        source.commit(&mut batch).unwrap();
+        assert_eq!(rows_of(&source, "t").len(), 0);
     }
-    // What is read is no part of it.
-    insert(5).unwrap();
-    assert!(matches!(source.get("t", RowRef::Key(&[Value::Null])), Err(Error::Misuse)));
-    assert!(source.scan("v").is_err() && source.get("t", RowRef::Key(&row(5)[..1])).unwrap().is_none());
-    source.commit().unwrap();
-    assert_eq!(source.scan("t").unwrap(), [Row { id: None, values: row(5).into() }]);
 }
 
 #[test]
 fn a_batch_with_an_operation_too_many() {
-    let source = with_tables();
-    let insert = |number| source.insert("t", &[Value::Integer(number), Value::Null], Cause::Direct);
+    let (_, source) = with_tables();
+    let mut batch = Batch::new().unwrap();
     for number in 0..10_000 {
-        insert(number).unwrap();
+        batch.insert("t", (number, None::<i64>), Cause::Direct).unwrap();
     }
-    assert!(matches!(insert(10_000), Err(Error::Refused(why)) if why == "refused: E10"));
-    assert!(matches!(source.commit(), Err(Error::FailedBatch)));
-    assert_eq!(source.scan("t").unwrap(), []);
+    let more = batch.insert("t", (10_000, None::<i64>), Cause::Direct);
+    assert_eq!(refusal_of(more), (Refusal::TooMany, None));
+    assert!(matches!(source.commit(&mut batch), Err(Error::FailedBatch)));
+    assert_eq!(rows_of(&source, "t").len(), 0);
 }
 
 #[test]
 fn values_of_many_lengths() {
-    let source = with_tables();
+    let (_, source) = with_tables();
+    let mut batch = Batch::new().unwrap();
     let lengths = [0, 1, 127, 128, 300, 16_383, 16_384, 2_097_152];
     for (number, length) in (0..).zip(lengths) {
         for value in [Value::Text("x".repeat(length)), Value::Blob(vec![0xff; length])] {
-            let row = vec![Value::Integer(number), value.clone()];
-            source.insert("t", &row, Cause::Direct).unwrap();
+            let row = [Value::Integer(number), value.clone()];
+            batch.insert("t", &row, Cause::Direct).unwrap();
             let key = [value, Value::Integer(number)];
-            source.insert("u", &[vec![Value::Null], key.to_vec()].concat(), Cause::Direct).unwrap();
-            source.commit().unwrap();
-            assert_eq!(source.get("t", RowRef::Key(&row[..1])).unwrap().unwrap().values, row);
-            assert_eq!(source.get("u", RowRef::Key(&key)).unwrap().unwrap().values[1..], key);
-            source.delete("t", RowRef::Key(&row[..1]), Cause::Direct).unwrap();
-            source.update("u", RowRef::Key(&key), &[(0, key[0].clone())], Cause::Direct).unwrap();
-            source.commit().unwrap();
-            assert_eq!(source.get("u", RowRef::Key(&key)).unwrap().unwrap().values[0], key[0]);
+            batch.insert("u", (None::<i64>, &key[0], &key[1]), Cause::Direct).unwrap();
+            source.commit(&mut batch).unwrap();
+            assert_eq!(values_of(&row_of(&source, "t", &row[..1]).unwrap()), row);
+            assert_eq!(values_of(&row_of(&source, "u", &key).unwrap())[1..], key);
+            batch.delete("t", &row[..1], Cause::Direct).unwrap();
+            batch.update("u", &key, &[(0, &key[0])], Cause::Direct).unwrap();
+            source.commit(&mut batch).unwrap();
+            assert_eq!(values_of(&row_of(&source, "u", &key).unwrap())[0], key[0]);
         }
     }
-    assert_eq!(source.scan("t").unwrap(), []);
-    assert_eq!(source.scan("u").unwrap().len(), 2 * lengths.len());
-    let numbers = [i64::MIN, -1, 0, i64::MAX].map(Value::Integer);
-    for number in &numbers {
-        source.insert("t", &[number.clone(), number.clone()], Cause::Direct).unwrap();
+    assert_eq!((rows_of(&source, "t").len(), rows_of(&source, "u").len()), (0, 2 * lengths.len()));
+    let numbers = [i64::MIN, -1, 0, i64::MAX];
+    for number in numbers {
+        batch.insert("t", [number, number], Cause::Direct).unwrap();
     }
-    source.commit().unwrap();
-    let rows: Vec<_> = source.scan("t").unwrap().into_iter().map(|row| row.values[1].clone()).collect();
-    assert_eq!(rows, numbers);
+    source.commit(&mut batch).unwrap();
+    let rows = source.snapshot().unwrap().scan("t").unwrap();
+    assert_eq!(rows.map(|row| row.unwrap().get(1).unwrap()).collect::<Vec<i64>>(), numbers);
 }
 
 #[test]
 fn new_values_of_columns_that_are_not_there_or_twice() {
-    let source = with_tables();
-    let (one, two) = ([Value::Integer(1)], [Value::Integer(2)]);
-    source.insert("t", &[one.clone(), two.clone()].concat(), Cause::Direct).unwrap();
-    source.commit().unwrap();
-    let update = |row, set: &[(usize, Value)]| {
-        source.update("t", RowRef::Key(row), set, Cause::Direct).unwrap();
-        source.commit()
+    let (_, source) = with_tables();
+    source.execute("commit insert t (1,2)").unwrap();
+    let update = |key: i64, set: &[(usize, Option<i64>)]| {
+        let mut batch = Batch::new().unwrap();
+        batch.update("t", (key,), set, Cause::Direct).unwrap();
+        source.commit(&mut batch)
     };
-    let twice = [(1, Value::Null), (0, Value::Integer(1)), (1, Value::Null)];
-    for set in [&[(2, Value::Null)][..], &[(2_000, Value::Null)], &[(usize::MAX, Value::Null)], &twice] {
-        assert!(matches!(update(&one, set), Err(Error::Refused(why)) if why == "refused at 0: E4"));
+    let twice = [(1, None), (0, Some(1)), (1, None)];
+    for set in [&[(2, None)][..], &[(2_000, None)], &[(usize::MAX, None)], &twice] {
+        assert_eq!(refusal_of(update(1, set)), (Refusal::BadColumn, Some(0)));
     }
-    assert!(matches!(update(&two, &[]), Err(Error::Refused(why)) if why == "refused at 0: E6"));
-    update(&one, &[]).unwrap();
-    assert_eq!(source.scan("t").unwrap(), [Row { id: None, values: [one, two].concat() }]);
+    assert_eq!(refusal_of(update(2, &[])), (Refusal::NoRow, Some(0)));
+    update(1, &[]).unwrap();
+    assert_eq!(rows_of(&source, "t"), [[Value::Integer(1), Value::Integer(2)]]);
 }
 
 #[test]
-fn clients_of_one_server() {
-    let first = with_tables();
-    let second = first.join().unwrap();
-    let mut session = Session::new(&first).unwrap();
-    session.attach(Some("t")).unwrap();
-    // Each has a batch of its own.
-    let row = [Value::Integer(1), Value::Text("x".into())];
-    first.insert("t", &[Value::Integer(2), Value::Null], Cause::Direct).unwrap();
-    second.insert("t", &row, Cause::Direct).unwrap();
-    assert_eq!(second.commit().unwrap(), 3);
-    first.begin();
-    assert_eq!(first.scan("t").unwrap(), [Row { id: None, values: row.to_vec() }]);
-    assert_eq!(session.changeset(KeyFlags::Places).unwrap().as_bytes(), of_hex(INSERT));
-    // A batch for a version that another client has left behind.
-    first.begin_at(3);
-    second.execute("commit delete t key(1)").unwrap();
-    assert!(matches!(first.commit(), Err(Error::Refused(why)) if why == "refused: E11"));
-    // The session keeps its server, and so does the second client.
-    drop(first);
-    assert!(session.restart(KeyFlags::Places).unwrap().as_bytes().is_empty());
-    drop(session);
-    assert!(second.execute("isempty 1").is_err());
-    assert_eq!(second.scan("t").unwrap(), []);
-    let others: Vec<_> = (0..63).map(|_| second.join().unwrap()).collect();
-    assert!(matches!(second.join(), Err(Error::TooManyClients)));
-    drop(others);
-    let third = second.join().unwrap();
-    drop(second);
-    assert_eq!(third.execute("commit insert t (1,'x')").unwrap(), "ok version 5");
-}
-
-#[test]
-fn clients_of_several_threads() {
-    let source = with_tables();
-    let mut session = Session::new(&source).unwrap();
-    session.attach(None).unwrap();
-    let threads: Vec<_> = (0..4)
-        .map(|first| {
-            let client = source.join().unwrap();
-            std::thread::spawn(move || {
-                for number in 0..100 {
-                    let row = [Value::Integer(1000 * first + number), Value::Null];
-                    client.insert("t", &row, Cause::Direct).unwrap();
-                    client.commit().unwrap();
-                    assert_eq!(client.get("t", RowRef::Key(&row[..1])).unwrap().unwrap().values, row);
-                }
-            })
+fn transactions() {
+    let (server, source) = with_tables();
+    let (text, version) = server
+        .transaction(|t| {
+            t.insert("t", (1, "x"), Cause::Direct)?;
+            // A refused operation leaves the rows as they were.
+            assert_eq!(refusal_of(t.insert("t", (1, "y"), Cause::Direct)), (Refusal::Duplicate, None));
+            assert!(matches!(t.delete("t", (None::<i64>,), Cause::Direct), Err(Error::Misuse)));
+            let savepoint = t.savepoint()?;
+            t.update("t", (1,), &[(1, "z")], Cause::Direct)?;
+            let later = t.savepoint()?;
+            t.delete("t", (1,), Cause::Direct)?;
+            assert_eq!(t.scan("t")?.count(), 0);
+            t.rollback_to(savepoint)?;
+            assert_eq!(refusal_of(t.rollback_to(later)), (Refusal::NoMark, None));
+            t.get("t", (1,))?.unwrap().get::<String>(1)
         })
-        .collect();
-    // Meanwhile a session of the first client captures what they commit, each row once.
-    let taken = std::thread::spawn(move || {
-        let mut rows = 0;
-        while rows < 400 {
-            let mut changes = session.restart(KeyFlags::Places).unwrap().iter().unwrap();
-            while changes.next().unwrap().is_some() {
-                rows += 1;
-            }
-        }
-        (rows, session.is_empty().unwrap())
+        .unwrap();
+    assert_eq!((text.as_str(), version), ("x", 3));
+    // An error of the work rolls back, and so does a drop, also that of a panic.
+    let failed = server.transaction(|t| {
+        t.delete("t", (1,), Cause::Direct)?;
+        t.delete("t", (2,), Cause::Direct)
     });
-    threads.into_iter().for_each(|thread| thread.join().unwrap());
-    assert_eq!(taken.join().unwrap(), (400, true));
-    assert_eq!(source.scan("t").unwrap().len(), 400);
-    assert_eq!(source.execute("create v kv").unwrap(), "ok version 403");
+    assert_eq!(refusal_of(failed), (Refusal::NoRow, None));
+    let mut transaction = source.snapshot().unwrap().transaction().unwrap();
+    transaction.delete("t", (1,), Cause::Direct).unwrap();
+    transaction.rollback();
+    let panicked = std::panic::catch_unwind(std::panic::AssertUnwindSafe(|| {
+        server.transaction(|_| -> Result<()> { std::panic::resume_unwind(Box::new(())) })
+    }));
+    assert!(panicked.is_err());
+    assert_eq!(rows_of(&source, "t").len(), 1);
+    // One that is begun by hand is refused, and begins again by hand.
+    let mut transaction = source.snapshot().unwrap().transaction().unwrap();
+    transaction.get("t", (1,)).unwrap();
+    source.execute("commit update t key(1) set 1 = 'y'").unwrap();
+    assert_eq!(refusal_of(transaction.commit(&source)), (Refusal::Stale, None));
+    let mut transaction = source.snapshot().unwrap().transaction().unwrap();
+    transaction.update("t", (1,), &[(1, "z")], Cause::Cascade).unwrap();
+    assert_eq!(transaction.into_batch().and_then(|mut it| source.commit(&mut it)).unwrap(), 5);
+}
+
+#[test]
+fn a_transaction_that_is_never_accepted() {
+    let (server, source) = with_tables();
+    let mut tries = 0;
+    let made = server.transaction(|t| {
+        tries += 1;
+        source.execute(&format!("commit insert t ({tries},'x')"))?;
+        t.scan("t").map(Iterator::count)
+    });
+    assert_eq!((refusal_of(made), tries), ((Refusal::Stale, None), TRIES));
+    let mut tries = 0;
+    let (rows, version) = server
+        .transaction(|t| {
+            tries += 1;
+            if tries < 10 {
+                source.execute(&format!("commit delete t key({tries})"))?;
+            }
+            t.scan("t").map(Iterator::count)
+        })
+        .unwrap();
+    assert_eq!((rows, tries, version as usize), (TRIES - 9, 10, 2 + TRIES + 9 + 1));
+}
+
+#[test]
+fn commits_with_their_captures() {
+    let (server, source) = with_tables();
+    let session = Session::new(&server).unwrap();
+    session.attach(None).unwrap();
+    let mut batch = Batch::new().unwrap();
+    batch.insert("t", (1, "x"), Cause::Direct).unwrap();
+    let capture = session.commit(&mut batch).unwrap();
+    assert_eq!((capture.version(), session.is_empty().unwrap()), (3, true));
+    assert_eq!(capture.changeset(KeyFlags::Places).unwrap().as_bytes(), of_hex(INSERT));
+    let (count, capture) = session
+        .transaction(|t| {
+            t.delete("t", (1,), Cause::Direct)?;
+            t.scan("t").map(Iterator::count)
+        })
+        .unwrap();
+    assert_eq!((count, capture.version()), (0, 4));
+    assert_eq!(capture.changeset(KeyFlags::Places).unwrap().as_bytes(), of_hex(DELETE));
+    batch.delete("t", (1,), Cause::Direct).unwrap();
+    assert_eq!(refusal_of(session.commit(&mut batch)), (Refusal::NoRow, Some(0)));
+    batch.clear();
+    assert!(batch.insert("", (1, "x"), Cause::Direct).is_err());
+    assert!(matches!(session.commit(&mut batch), Err(Error::FailedBatch)));
+    // A session that somebody else has ended commits nothing.
+    batch.clear();
+    batch.insert("t", (2, "y"), Cause::Direct).unwrap();
+    source.execute("drop 1").unwrap();
+    assert_eq!(refusal_of(session.commit(&mut batch)), (Refusal::NoSession, None));
+    assert_eq!(rows_of(&source, "t").len(), 0);
+    source.commit(&mut batch).unwrap();
+    assert_eq!(rows_of(&source, "t").len(), 1);
 }
 
 #[test]
 fn applications() {
-    let target = Connection::open_in_memory().unwrap();
+    let target = Server::open_in_memory().unwrap().client().unwrap();
     target.create_table("t", &[true, false]).unwrap();
     target.execute("commit insert t (1,'y')").unwrap();
-    let insert = of_hex(INSERT);
-    let by = |conflict| target.apply(&insert, ConflictAction::Abort, ConflictAction::Abort, conflict);
-    let omitted = Report { version: 3, applied: 0, conflicts: 1, omitted: 1, skipped: 0 };
-    assert_eq!(by(ConflictAction::Omit).unwrap(), omitted);
-    assert!(matches!(by(ConflictAction::Abort), Err(Error::Refused(why)) if why == "refused at 0: E15"));
-    let replaced = Report { version: 4, applied: 1, conflicts: 1, omitted: 0, skipped: 0 };
-    assert_eq!(by(ConflictAction::Replace).unwrap(), replaced);
-    assert_eq!(target.execute("scan t").unwrap(), "rows 1\n(1,'x')");
-    let other = of_hex(OTHER_TABLE);
-    let skipped =
-        target.apply(&other, ConflictAction::Omit, ConflictAction::Omit, ConflictAction::Omit).unwrap();
-    assert_eq!(skipped, Report { version: 5, applied: 0, conflicts: 0, omitted: 0, skipped: 1 });
     let (omit, replace, abort) = (ConflictAction::Omit, ConflictAction::Replace, ConflictAction::Abort);
+    let insert = of_hex(INSERT);
+    let by = |conflict| target.apply(&insert, abort, abort, conflict);
+    let omitted = Report { version: 3, applied: 0, conflicts: 1, omitted: 1, skipped: 0 };
+    assert_eq!(by(omit).unwrap(), omitted);
+    assert_eq!(refusal_of(by(abort)), (Refusal::Aborted, Some(0)));
+    let replaced = Report { version: 4, applied: 1, conflicts: 1, omitted: 0, skipped: 0 };
+    assert_eq!(by(replace).unwrap(), replaced);
+    assert_eq!(target.execute("scan t").unwrap(), "rows 1\n(1,'x')");
+    let skipped = target.apply(of_hex(OTHER_TABLE), omit, omit, omit).unwrap();
+    assert_eq!(skipped, Report { version: 5, applied: 0, conflicts: 0, omitted: 0, skipped: 1 });
     // The second change is an insert of the row that is there, and then a delete of one that is missing.
     let two = of_hex("5402010074001200010000000000000002030179120001000000000000000103017a");
-    assert!(matches!(
-        target.apply(&two, omit, omit, abort),
-        Err(Error::Refused(why)) if why == "refused at 1: E15"
-    ));
+    let refused = target.apply(two, omit, omit, abort).unwrap_err();
+    assert_eq!(refused.to_string(), "refused at 1: E15 Aborted, insert t key(1)");
+    let source = std::error::Error::source(&refused).unwrap();
+    let change = source.downcast_ref::<Refused>().unwrap().change.as_ref().unwrap();
+    assert_eq!((&change.table[..], change.code, &change.key[..]), ("t", Action::Insert, &[1.into()][..]));
     let two = of_hex("5402010074001200010000000000000002030179090001000000000000000303017a");
-    assert!(matches!(
-        target.apply(&two, omit, replace, omit),
-        Err(Error::Refused(why)) if why == "refused at 1: E16"
-    ));
+    let refused = target.apply(two, omit, replace, omit).unwrap_err();
+    assert_eq!(refused.to_string(), "refused at 1: E16 Misuse, delete t key(3)");
+    let update = of_hex("540201007400170001000000000000000303017800030179");
+    let refused = target.apply(&update, abort, abort, abort).unwrap_err();
+    assert_eq!(refused.to_string(), "refused at 0: E15 Aborted, update t key(3)");
+    let patchset = Changeset::from_bytes(&update).unwrap().patchset(KeyFlags::Places).unwrap();
+    let refused = target.apply(&patchset, abort, abort, abort).unwrap_err();
+    assert_eq!(refused.to_string(), "refused at 0: E15 Aborted, update t key(3)");
     assert_eq!(target.execute("scan t").unwrap(), "rows 1\n(1,'x')");
     assert!(matches!(
         target.apply(b"T\x80", omit, omit, omit),
@@ -451,21 +562,22 @@ fn applications() {
 
 #[test]
 fn filters_and_differences() {
-    let source = Connection::open_in_memory().unwrap();
+    let server = Server::open_in_memory().unwrap();
+    let source = server.client().unwrap();
     for table in ["a", "b"] {
         source.create_table(table, &[true, false]).unwrap();
     }
-    let mut session = Session::new(&source).unwrap();
+    let session = Session::new(&server).unwrap();
     session.table_filter("not is a").unwrap();
     assert!(matches!(session.table_filter("not is"), Err(Error::Filter(Fault { kind: 12, at: 6 }))));
     source.save("before").unwrap();
     source.execute("commit insert a (1,'x') ; insert b (2,'y')").unwrap();
-    let changeset = session.restart(KeyFlags::Places).unwrap();
+    let changeset = session.restart().unwrap().changeset(KeyFlags::Places).unwrap();
     assert_eq!(changeset.as_bytes(), of_hex("5402010062001200010000000000000002030179"));
     session.diff("before", "a").unwrap();
-    let changeset = session.changeset(KeyFlags::Places).unwrap();
+    let changeset = session.capture().unwrap().changeset(KeyFlags::Places).unwrap();
     assert_eq!(changeset.as_bytes(), of_hex("5402010061001200010000000000000001030178"));
-    assert!(matches!(session.diff("after", "a"), Err(Error::Refused(why)) if why == "refused: E19"));
+    assert_eq!(refusal_of(session.diff("after", "a")), (Refusal::NoDatabase, None));
     assert!(matches!(session.diff("", "a"), Err(Error::Misuse)));
     assert!(matches!(source.save("\0"), Err(Error::Misuse)));
 }
