@@ -74,6 +74,21 @@ class Package(unittest.TestCase):
             for wrong in WRONG:
                 self.assertEqual(checked(f"import changecap\n{wrong}\n").returncode, 1, wrong)
 
+    def test_a_wheel(self):
+        folder = os.path.dirname(os.path.dirname(os.path.dirname(os.path.abspath(changecap.__file__))))
+        has_pip = subprocess.run([sys.executable, "-m", "pip", "--version"], capture_output=True, check=False)
+        if has_pip.returncode or not os.path.exists(f"{folder}/libchangecap.a"):
+            self.skipTest("no pip, or no libchangecap.a beside the package")
+        with tempfile.TemporaryDirectory() as to:
+            words = "install", "--quiet", "--no-index", "--no-deps", "--target", to, f"{ROOT}/bindings/python"
+            subprocess.run([sys.executable, "-m", "pip", *words], check=True, capture_output=True,
+                           env={**os.environ, "CHANGECAP_LIB": folder})
+            ran = subprocess.run([sys.executable, "-c", "import changecap; print(changecap.Server().call('create t k'))"],
+                                 capture_output=True, text=True, check=False, cwd=to,
+                                 env={**os.environ, "PYTHONPATH": to})
+            self.assertEqual((ran.stdout, ran.stderr), ("ok version 1\n", ""))
+            self.assertEqual(sorted(it for it in os.listdir(f"{to}/changecap") if it.startswith("py")), ["py.typed"])
+
     def test_a_package_that_is_not_built(self):
         with tempfile.TemporaryDirectory() as folder:
             shutil.copytree(f"{HERE}/src/changecap", f"{folder}/changecap", ignore=shutil.ignore_patterns("*.so"))

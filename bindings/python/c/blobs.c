@@ -321,8 +321,7 @@ static PyObject *changes_close(changes *self, PyObject *Py_UNUSED(none)){
 }
 
 static void changes_dealloc(changes *self){
-  CLOSE(self, changecap_iter_close);
-  owner_free(self);
+  CLOSE_LAST(self, changecap_iter_close);
 }
 
 static PyMethodDef changes_methods[] = {
@@ -380,8 +379,7 @@ static PyObject *decoder_finish(decoder *self, PyObject *Py_UNUSED(none)){
 }
 
 static void decoder_dealloc(decoder *self){
-  CLOSE(self, changecap_decoder_close);
-  owner_free(self);
+  CLOSE_LAST(self, changecap_decoder_close);
 }
 
 static PyMethodDef decoder_methods[] = {

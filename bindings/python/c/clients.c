@@ -35,8 +35,7 @@ static PyObject *client_close(client *self, PyObject *Py_UNUSED(none)){
 
 static void client_dealloc(client *self){
   if( self->own.weak ) PyObject_ClearWeakRefs((PyObject *)self);
-  CLOSE(self, changecap_close);
-  owner_free(self);
+  CLOSE_LAST(self, changecap_close);
 }
 
 /* ---- Commands ---- */

@@ -52,12 +52,17 @@ static inline void leave(void *object, PyThreadState *saved){
     leave(self, saved_state); \
   }while( 0 )
 
-/* Closes the handle of an object: by its method, and when nobody refers to it any more. */
+/* Closes the handle of an object: by its method; and where nobody refers to it any more, and it may be open still. */
 #define CLOSE(self, call) \
   do{ \
     PyThreadState *saved_state = enter(self); \
     call(&(self)->handle); \
     leave(self, saved_state); \
+  }while( 0 )
+#define CLOSE_LAST(self, call) \
+  do{ \
+    if( (self)->handle.at ) CLOSE(self, call); \
+    owner_free(self); \
   }while( 0 )
 
 typedef struct capture { owner own; changecap_capture handle; } capture;

@@ -98,8 +98,7 @@ static PyObject *snapshot_close(snapshot *self, PyObject *Py_UNUSED(none)){
 }
 
 static void snapshot_dealloc(snapshot *self){
-  CLOSE(self, changecap_snapshot_close);
-  owner_free(self);
+  CLOSE_LAST(self, changecap_snapshot_close);
 }
 
 static PyMethodDef snapshot_methods[] = {
@@ -198,8 +197,7 @@ static PyObject *transaction_rollback(transaction *self, PyObject *Py_UNUSED(non
 }
 
 static void transaction_dealloc(transaction *self){
-  CLOSE(self, changecap_rollback);
-  owner_free(self);
+  CLOSE_LAST(self, changecap_rollback);
 }
 
 static PyMethodDef transaction_methods[] = {
@@ -270,8 +268,7 @@ static PyObject *capture_close(capture *self, PyObject *Py_UNUSED(none)){
 }
 
 static void capture_dealloc(capture *self){
-  CLOSE(self, changecap_capture_close);
-  owner_free(self);
+  CLOSE_LAST(self, changecap_capture_close);
 }
 
 static PyMethodDef capture_methods[] = {
