@@ -48,7 +48,8 @@ def of_sqlite3():
 
     def many():
         for first in range(COMMITS, 2 * COMMITS, MANY):
-            connection.executemany("INSERT INTO t VALUES(?, ?)", [(number, "x") for number in range(first, first + MANY)])
+            rows = [(number, "x") for number in range(first, first + MANY)]
+            connection.executemany("INSERT INTO t VALUES(?, ?)", rows)
             connection.commit()
 
     yield "beside_commit", nanoseconds(COMMITS, commits)

@@ -49,7 +49,8 @@ def build_wheel(wheel_directory, config_settings=None, metadata_directory=None):
         files = dict(built(folder))
     files[f"{info}/METADATA"] = (f"Metadata-Version: 2.1\nName: changecap\nVersion: {version()}\n"
                                  "Requires-Python: >=3.10\n").encode()
-    files[f"{info}/WHEEL"] = f"Wheel-Version: 1.0\nGenerator: changecap\nRoot-Is-Purelib: false\nTag: {tag()}\n".encode()
+    files[f"{info}/WHEEL"] = (f"Wheel-Version: 1.0\nGenerator: changecap\nRoot-Is-Purelib: false\n"
+                              f"Tag: {tag()}\n").encode()
     record = f"{info}/RECORD"
     lines = [f"{path},sha256={digest(it)},{len(it)}\n" for path, it in files.items()]
     files[record] = "".join([*lines, f"{record},,\n"]).encode()

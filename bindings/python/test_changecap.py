@@ -93,8 +93,9 @@ class Servers(unittest.TestCase):
                           ("delete", "t", (2,)), base=3)
             self.assertEqual([it.values for it in server.scan("u")], [(2, 1, 1), (None, 1, 2)])
             self.assertEqual(server.scan("t"), [changecap.Row(None, (1, "x"))])
-            for call, wanted in ((lambda: server.scan("v"), "refused: E8 NoTable"), (lambda: server.get("t", ()), MISUSE),
-                                 (lambda: server.get("t", (None,)), MISUSE), (lambda: server.scan(""), MISUSE),
+            for call, wanted in ((lambda: server.scan("v"), "refused: E8 NoTable"),
+                                 (lambda: server.get("t", ()), MISUSE), (lambda: server.scan(""), MISUSE),
+                                 (lambda: server.get("t", (None,)), MISUSE),
                                  (lambda: server.commit(("delete", "t", changecap.RowId(0))), MISUSE),
                                  (lambda: server.commit(("insert", "t", (1,), 2)), MISUSE),
                                  (lambda: server.commit(("delete", "t", (1,)), base=3), "refused: E11 Stale")):

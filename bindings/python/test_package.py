@@ -2,6 +2,7 @@
 import doctest
 import importlib
 import os
+import re
 import shutil
 import subprocess
 import sys
@@ -52,11 +53,12 @@ class Package(unittest.TestCase):
             self.assertEqual(found.failed, 0, name)
 
     def test_names(self):
-        self.assertEqual(sorted(set(changecap.__all__)), sorted(changecap.__all__, key=str))
+        self.assertEqual(len(set(changecap.__all__)), len(changecap.__all__))
         for name in changecap.__all__:
             self.assertTrue(hasattr(changecap, name), name)
         with open(os.path.join(ROOT, "include", "changecap.h"), encoding="utf-8") as file:
-            self.assertIn(f'#define CHANGECAP_VERSION "{changecap.__version__}"', file.read())
+            version = re.search(r"^#define CHANGECAP_VERSION \"(.*)\"", file.read(), re.M)[1]
+        self.assertEqual(changecap.__version__, version)
 
     def test_types(self):
         if not shutil.which("mypy"):
@@ -83,8 +85,8 @@ class Package(unittest.TestCase):
             words = "install", "--quiet", "--no-index", "--no-deps", "--target", to, f"{ROOT}/bindings/python"
             subprocess.run([sys.executable, "-m", "pip", *words], check=True, capture_output=True,
                            env={**os.environ, "CHANGECAP_LIB": folder})
-            ran = subprocess.run([sys.executable, "-c", "import changecap; print(changecap.Server().call('create t k'))"],
-                                 capture_output=True, text=True, check=False, cwd=to,
+            words = "import changecap; print(changecap.Server().call('create t k'))"
+            ran = subprocess.run([sys.executable, "-c", words], capture_output=True, text=True, check=False, cwd=to,
                                  env={**os.environ, "PYTHONPATH": to})
             self.assertEqual((ran.stdout, ran.stderr), ("ok version 1\n", ""))
             self.assertEqual(sorted(it for it in os.listdir(f"{to}/changecap") if it.startswith("py")), ["py.typed"])

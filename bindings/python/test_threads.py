@@ -186,7 +186,8 @@ class Closing(unittest.TestCase):
             for end in ends:
                 end()
             self.assertEqual((capture.changeset(), rows[0].values), (INSERT, (1, "x")))
-            for call in (lambda: server.scan("t"), session.changeset, lambda: snapshot.scan("t"), transaction.savepoint):
+            for call in (lambda: server.scan("t"), session.changeset, transaction.savepoint,
+                         lambda snapshot=snapshot: snapshot.scan("t")):
                 self.assertRaisesRegex(ValueError, "closed", call)
 
     def test_what_outlasts_a_server(self):

@@ -114,8 +114,8 @@ PyMethodDef blob_calls[] = {
 
 typedef struct changes { owner own; changecap_iter handle; } changes;
 
-/* A change, before the name of its table, a byte for each column whether it is in the key, and the records of the values
- * before it and after it. */
+/* A change. Behind it are the name of its table, a byte for each column whether it is in the key, and the records of
+ * the values before it and after it. */
 typedef struct change_head {
   changecap_change info;
   size_t table, old, new;

@@ -19,7 +19,8 @@ Key = Union[Sequence[Given], RowId]
 """How a row is named: by its key, or by its id where it has none."""
 Operation = Union[
     tuple[Literal["insert"], str, Sequence[Given]], tuple[Literal["insert"], str, Sequence[Given], int],
-    tuple[Literal["update"], str, Key, Mapping[int, Given]], tuple[Literal["update"], str, Key, Mapping[int, Given], int],
+    tuple[Literal["update"], str, Key, Mapping[int, Given]],
+    tuple[Literal["update"], str, Key, Mapping[int, Given], int],
     tuple[Literal["delete"], str, Key], tuple[Literal["delete"], str, Key, int],
 ]
 """An operation of `Server.commit`."""
