@@ -15,7 +15,7 @@ OUT = bindings/out
 PREFIX = /usr/local
 DESTDIR =
 
-.PHONY: run check build test docs format clean conformance bench lib shared install uninstall test-bindings
+.PHONY: run check build test docs format clean conformance bench lib shared python install uninstall test-bindings
 
 # The replies to the first example, by the optimised program where `make build` or `make test` left one. Else by the
 # program without proofs, which is built here unless `make check` left it.
@@ -79,6 +79,10 @@ lib:
 # The shared object alone, of the archive that is there.
 shared:
 	@bindings/shared $(OUT)
+
+# The package for Python, with the archive that is there in it.
+python:
+	@bindings/package $(OUT)
 
 # The program and the library where others find them.
 install:

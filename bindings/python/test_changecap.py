@@ -1,301 +1,14 @@
-"""Each call, beside worked values, the table of blobs that CHANGECAP_BLOBS names, and SQLite where it is there."""
-import array
-import collections
-import ctypes
+"""Servers, sessions, snapshots and transactions on one thread, beside worked values and SQLite where it is there."""
 import gc
-import json
-import os
 import random
-import re
-import shutil
-import subprocess
-import sys
-import tempfile
 import threading
 import unittest
 import unittest.mock
 
-sys.dont_write_bytecode = True
-HERE = os.path.dirname(os.path.abspath(__file__))
-ROOT = os.path.dirname(os.path.dirname(HERE))
-sys.path[:0] = [HERE, os.path.join(ROOT, "conformance")]
-import changecap  # noqa: E402
-
-try:
-    import sqlite
-    sqlite.library()
-except Exception:  # noqa: BLE001 - no SQLite with the session extension, whatever the reason
-    sqlite = None
-
-INSERT = bytes.fromhex("5402010074001200010000000000000001030178")
-DELETE = bytes.fromhex("5402010074000900010000000000000001030178")
-TWO_KEYS = bytes.fromhex("540300010174001200030178010000000000000002010000000000000001")
-TWO_TABLES = bytes.fromhex("540201007500170101000000000000000703012d0003022b2b540301000062001200040200ff05030161")
+from test_support import DELETE, INSERT, OTHERS, changecap, changes_of, sqlite
 
 
-class Index:
-    """What is no int, but may stand for one as an index."""
-
-    def __index__(self):
-        return 5
-
-
-# What is no blob.
-OTHERS = [[1, 2], Index(), array.array("i", [1]), memoryview(array.array("i", [1])), 5, 1.5, "T", None, (84,)]
-
-
-class Counted:
-    """The library, and how often each call of it was made."""
-
-    def __init__(self, library):
-        self.library, self.counts = library, collections.Counter()
-
-    def __getattr__(self, name):
-        def counted(*words):
-            self.counts[name] += 1
-            return getattr(self.library, name)(*words)
-
-        return counted
-
-
-def by_fields(blob):
-    """The changes of a blob, each value by a call of its own."""
-    calls, at, fault = changecap._library, changecap._Handle(), changecap._Fault()
-    at_it, info, flag = ctypes.byref(at), changecap._Change(), ctypes.c_uint32()
-    changecap._check(calls.iter_open(blob, len(blob), at_it, ctypes.byref(fault)), fault)
-    made = []
-    while calls.iter_next(at_it) == changecap.ROW:
-        changecap._check(calls.iter_op(at_it, ctypes.byref(info)))
-        key = []
-        for column in range(info.columns):
-            changecap._check(calls.iter_key(at_it, column, ctypes.byref(flag)))
-            key.append(bool(flag.value))
-        made.append(changecap.Change(
-            table=changecap._taken(lambda *out: calls.iter_table(at_it, *out)).decode(),
-            key=key, operation=changecap.OPERATIONS[info.op], indirect=bool(info.indirect),
-            patchset=bool(info.patchset),
-            old=fields(at_it, info.columns, calls.iter_old, calls.iter_old_bytes),
-            new=fields(at_it, info.columns, calls.iter_new, calls.iter_new_bytes)))
-    calls.iter_close(at_it)
-    return made
-
-
-def fields(at, columns, field_of, bytes_of):
-    """The values that are defined, by their columns."""
-    made, field = {}, changecap._Field()
-    for column in range(columns):
-        changecap._check(field_of(at, column, ctypes.byref(field)))
-        if field.kind in (changecap.TEXT, changecap.BLOB):
-            content = changecap._taken(lambda *out: bytes_of(at, column, *out), field.len)  # noqa: B023
-            made[column] = content.decode() if field.kind == changecap.TEXT else content
-        elif field.kind != changecap.UNDEFINED:
-            made[column] = field.number if field.kind == changecap.INTEGER else None
-    return made
-
-
-class Blobs(unittest.TestCase):
-    def test_whole_blobs(self):
-        self.assertEqual(changecap.invert(INSERT), DELETE)
-        self.assertEqual(changecap.patchset(INSERT), b"P" + INSERT[1:])
-        self.assertEqual(changecap.invert(b""), b"")
-        self.assertEqual(changecap.patchset(TWO_KEYS, changecap.KEYS_ONES), b"P" + TWO_KEYS[1:])
-        self.assertEqual(changecap.invert(TWO_KEYS)[:6].hex(), "540300010274")
-        for call in changecap.invert, changecap.patchset:
-            with self.assertRaises(changecap.Error) as raised:
-                call(b"P" + INSERT[1:])
-            self.assertEqual(raised.exception.status, changecap.PATCHSET)
-            with self.assertRaises(changecap.Error) as raised:
-                call(INSERT, 7)
-            self.assertEqual(raised.exception.status, changecap.MISUSE)
-        with self.assertRaises(changecap.Malformed) as raised:
-            changecap.check(b"T\x80")
-        self.assertEqual((raised.exception.kind, raised.exception.at), (3, 1))
-
-    def test_concatenations(self):
-        update = bytes.fromhex("540201007400170001000000000000000103017800030179")
-        both = bytes.fromhex("5402010074001200010000000000000001030179")
-        self.assertEqual(changecap.concat(INSERT, update), both)
-        self.assertEqual(changecap.concat(INSERT, DELETE), b"")
-        self.assertEqual(changecap.concat(*map(changecap.patchset, (INSERT, update))), changecap.patchset(both))
-        self.assertEqual(changecap.concat(b"", TWO_KEYS, changecap.KEYS_ONES), TWO_KEYS)
-        self.assertEqual(changecap.concat(TWO_KEYS, b"")[:6].hex(), "540300010274")
-        for first, second, status, blob in ((INSERT, b"P" + INSERT[1:], changecap.KIND, 1),
-                                            (INSERT, TWO_KEYS, changecap.COLUMNS, 1),
-                                            (b"T\x80", INSERT, changecap.MALFORMED, 0),
-                                            (INSERT, b"T\x80", changecap.MALFORMED, 1)):
-            with self.assertRaises(changecap.Error) as raised:
-                changecap.concat(first, second)
-            self.assertEqual((raised.exception.status, raised.exception.blob), (status, blob))
-        with self.assertRaises(changecap.Error) as raised:
-            changecap.concat(INSERT, DELETE, 7)
-        self.assertEqual(raised.exception.status, changecap.MISUSE)
-
-    def test_json(self):
-        text = '[{"table":"t","op":"insert","indirect":false,"key":["c0"],"new":{"c0":1,"c1":"x"}}]\n'
-        self.assertEqual(changecap.json(INSERT), text)
-        self.assertEqual(changecap.json(b"P" + INSERT[1:]), text)
-        self.assertEqual(changecap.json(b""), "[]\n")
-        self.assertEqual(json.loads(changecap.json(TWO_TABLES)), [
-            {"table": "u", "op": "update", "indirect": True, "key": ["c0"],
-             "old": {"c0": 7, "c1": "-"}, "new": {"c1": "++"}},
-            {"table": "b", "op": "insert", "indirect": False, "key": ["c0"],
-             "new": {"c0": {"blob": "00ff"}, "c1": None, "c2": "a"}},
-        ])
-        with self.assertRaises(changecap.Malformed):
-            changecap.json(b"T")
-
-    def test_changes(self):
-        update, insert = changecap.iterate(TWO_TABLES)
-        self.assertEqual((update.table, update.key), ("u", [True, False]))
-        self.assertEqual((update.operation, update.indirect), ("update", True))
-        self.assertEqual((update.old, update.new), ({0: 7, 1: "-"}, {1: "++"}))
-        self.assertEqual((insert.operation, insert.new), ("insert", {0: b"\0\xff", 1: None, 2: "a"}))
-        self.assertEqual(list(changecap.iterate(b"")), [])
-        with self.assertRaises(changecap.Malformed):
-            next(changecap.iterate(b"T"))
-
-    def test_changes_value_by_value(self):
-        changesets = b"", INSERT, DELETE, TWO_KEYS, TWO_TABLES
-        for blob in (*changesets, *map(changecap.patchset, changesets),
-                     changecap.patchset(changecap.invert(TWO_KEYS))):
-            self.assertEqual(list(changecap.iterate(blob)), by_fields(blob))
-        path = os.environ.get("CHANGECAP_BLOBS")
-        if path:
-            with open(path, encoding="ascii") as file:
-                for digits, kind, _ in (line.split(" ") for line in file):
-                    if kind == "0":
-                        blob = bytes.fromhex(digits)
-                        self.assertEqual(list(changecap.iterate(blob)), by_fields(blob), digits)
-
-    def test_values_of_changes(self):
-        values = ["", "c0", "blob", '"\\/\b\0\x1f\x7f\u2028\ud7ff\uffff\U0010ffff', 2**63 - 1, -2**63, 2**53 + 1, b"",
-                  bytes(range(256)), None]
-        with changecap.Server() as server:
-            server.create_table("\u00e4\"", [True] + [False] * len(values))
-            session = server.session()
-            session.attach()
-            server.commit(("insert", "\u00e4\"", (1, *values)))
-            inserted = session.restart()
-            server.commit(("update", "\u00e4\"", (1,), {len(values): 2}))
-            server.commit(("update", "\u00e4\"", (1,), dict(enumerate(values[::-1], 1))))
-            for blob in inserted, changecap.invert(inserted), session.changeset(), session.patchset():
-                self.assertEqual(list(changecap.iterate(blob)), by_fields(blob))
-        change, = changecap.iterate(inserted)
-        self.assertEqual(list(change.new.values()), [1, *values])
-
-    def test_calls_of_an_iteration(self):
-        with changecap.Server() as server:
-            server.create_table("t", [True] + [False] * 19)
-            session = server.session()
-            session.attach()
-            server.commit(*(("insert", "t", (it, *"abcdefghijklmnopqrs")) for it in range(100)))
-            blob = session.restart()
-            server.commit(*(("update", "t", (it,), {5: it}) for it in range(100)))
-            for blob in blob, session.changeset(), session.patchset():
-                with unittest.mock.patch.object(changecap, "_library", Counted(changecap._library)) as calls:
-                    self.assertEqual(len(list(changecap.iterate(blob))), 100)
-                # Two for each change, and a few for the whole blob.
-                self.assertLessEqual(sum(calls.counts.values()), 2 * 100 + 10, calls.counts)
-
-    def test_what_is_no_blob(self):
-        for other in OTHERS:
-            for call in (changecap.check, changecap.invert, changecap.patchset, changecap.json,
-                         lambda it: changecap.concat(it, INSERT), lambda it: changecap.concat(INSERT, it),
-                         lambda it: list(changecap.iterate(it)), lambda it: list(changecap.iterate_pieces([it]))):
-                self.assertRaises(TypeError, call, other)
-        # The pieces of bytes are ints.
-        self.assertRaises(TypeError, list, changecap.iterate_pieces(INSERT))
-        for blob in bytearray(INSERT), memoryview(INSERT), memoryview(INSERT * 2)[:len(INSERT)]:
-            self.assertEqual(changecap.invert(blob), DELETE)
-            self.assertEqual(list(changecap.iterate_pieces([blob])), list(changecap.iterate(INSERT)))
-        for call in changecap.invert, changecap.patchset, lambda it, flags: changecap.concat(it, it, flags):
-            self.assertRaises(TypeError, call, INSERT, "places")
-            self.assertRaises(ValueError, call, INSERT, 2**32)
-
-    def test_pieces(self):
-        for length in 1, 3, 100:
-            pieces = [TWO_TABLES[at:at + length] for at in range(0, len(TWO_TABLES), length)]
-            self.assertEqual(list(changecap.iterate_pieces(pieces)), list(changecap.iterate(TWO_TABLES)))
-        self.assertEqual(list(changecap.iterate_pieces([])), [])
-        for pieces, wanted in (([b"T", b"\x80", b"\0"], (3, 1)), ([b"T"], (1, 1))):
-            with self.assertRaises(changecap.Malformed) as raised:
-                list(changecap.iterate_pieces(pieces))
-            self.assertEqual((raised.exception.kind, raised.exception.at), wanted)
-
-    def test_known_faults(self):
-        path = os.environ.get("CHANGECAP_BLOBS")
-        if not path:
-            self.skipTest("no CHANGECAP_BLOBS")
-        with open(path, encoding="ascii") as file:
-            for line in file:
-                digits, kind, at = line.rstrip("\n").split(" ")
-                try:
-                    changecap.check(bytes.fromhex(digits))
-                    found = (0, 0)
-                except changecap.Malformed as fault:
-                    found = (fault.kind, fault.at)
-                self.assertEqual(found, (int(kind), int(at)), line)
-
-    def test_beside_sqlite(self):
-        if not sqlite:
-            self.skipTest("no SQLite with the session extension")
-        for number in range(60):
-            (changeset, patchset), later = captured(random.Random(number))
-            for first, second in zip((changeset, patchset), later):
-                ours, theirs = changecap.concat(first, second), sqlite.concat(first, second)
-                self.assertEqual(changes_of(ours), changes_of(theirs))
-                self.assertEqual(len(json.loads(changecap.json(ours))), len(changes_of(ours)))
-            self.assertEqual(changecap.invert(changeset), sqlite.invert(changeset))
-            self.assertEqual(changecap.patchset(changeset), patchset)
-            for blob in changeset, patchset:
-                ours, theirs = list(changecap.iterate(blob)), list(sqlite.iterate(blob))
-                self.assertEqual(len(ours), len(theirs))
-                self.assertEqual(ours, by_fields(blob))
-                for our, their in zip(ours, theirs):
-                    self.assertEqual((our.table, our.operation, our.old, our.new),
-                                     (their.table, their.operation, their.old, their.new))
-                    self.assertEqual((our.key, our.indirect), ([bool(it) for it in their.key], bool(their.indirect)))
-
-
-def changes_of(blob):
-    """The changes of a blob in an order of their own: SQLite has those of a concatenation in that of a hash table."""
-    return sorted(map(repr, changecap.iterate(blob)))
-
-
-def captured(chance):
-    """Two changesets of SQLite, each with its patchset, of some random statements that come one after the other."""
-    connection = sqlite.Connection()
-    connection.execute("CREATE TABLE t(a, b, c, PRIMARY KEY(a, b))")
-    connection.execute("CREATE TABLE u(a PRIMARY KEY, b)")
-    values = [None, 0, 1, -5, 2**62, "", "x", "it's", b"", b"\0\xff", "y" * 300]
-
-    def change():
-        """One statement for each table."""
-        a, b, c = chance.choice(values[1:]), chance.choice(values[1:]), chance.choice(values)
-        word = chance.choice(("insert", "update", "delete"))
-        if word == "insert":
-            connection.execute("INSERT OR REPLACE INTO t VALUES(?, ?, ?)", (a, b, c))
-            connection.execute("INSERT OR REPLACE INTO u VALUES(?, ?)", (a, c))
-        elif word == "update":
-            connection.execute("UPDATE t SET c = ? WHERE a = ?", (c, a))
-            connection.execute("UPDATE u SET b = ? WHERE a > ?", (c, a))
-        else:
-            connection.execute("DELETE FROM t WHERE b = ?", (b,))
-            connection.execute("DELETE FROM u WHERE a = ?", (a,))
-
-    for _ in range(20):
-        change()
-    made = []
-    for _ in range(2):
-        session = connection.session()
-        session.attach()
-        for _ in range(20):
-            session.indirect(chance.randrange(2))
-            change()
-        made.append((session.changeset(), session.patchset()))
-        session.delete()
-    connection.close()
-    return made
+MISUSE = "an argument without a meaning"
 
 
 class Servers(unittest.TestCase):
@@ -355,8 +68,9 @@ class Servers(unittest.TestCase):
             self.assertEqual(server.apply(INSERT, conflict=changecap.REPLACE), changecap.Report(4, 1, 1, 0, 0))
             self.assertEqual(server.apply(bytes.fromhex("540201007500120001000000000000000205")),
                              changecap.Report(5, 0, 0, 0, 1))
-            for blob, words, wanted in ((INSERT, {}, "refused: E15"), (DELETE[:-1] + b"z", {}, "refused: E15"),
-                                        (b"T\x80", {}, "fault D3 at 1"), (INSERT, {"data": 3}, "misuse")):
+            for blob, words, wanted in ((INSERT, {}, "refused at 0: E15 Aborted: insert of t (1,)"),
+                                        (DELETE[:-1] + b"z", {}, "refused at 0: E15 Aborted: delete of t (1,)"),
+                                        (b"T\x80", {}, "fault D3 at 1"), (INSERT, {"data": 3}, MISUSE)):
                 with self.assertRaises(changecap.Error) as raised:
                     server.apply(blob, **words)
                 self.assertEqual(str(raised.exception), wanted)
@@ -379,17 +93,18 @@ class Servers(unittest.TestCase):
                           ("delete", "t", (2,)), base=3)
             self.assertEqual([it.values for it in server.scan("u")], [(2, 1, 1), (None, 1, 2)])
             self.assertEqual(server.scan("t"), [changecap.Row(None, (1, "x"))])
-            for call, wanted in ((lambda: server.scan("v"), "refused: E8"), (lambda: server.get("t", ()), "misuse"),
-                                 (lambda: server.get("t", (None,)), "misuse"), (lambda: server.scan(""), "misuse"),
-                                 (lambda: server.commit(("delete", "t", changecap.RowId(0))), "misuse"),
-                                 (lambda: server.commit(("insert", "t", (1,), 2)), "misuse"),
-                                 (lambda: server.commit(("delete", "t", (1,)), base=3), "refused: E11")):
+            for call, wanted in ((lambda: server.scan("v"), "refused: E8 NoTable"),
+                                 (lambda: server.get("t", ()), MISUSE), (lambda: server.scan(""), MISUSE),
+                                 (lambda: server.get("t", (None,)), MISUSE),
+                                 (lambda: server.commit(("delete", "t", changecap.RowId(0))), MISUSE),
+                                 (lambda: server.commit(("insert", "t", (1,), 2)), MISUSE),
+                                 (lambda: server.commit(("delete", "t", (1,)), base=3), "refused: E11 Stale")):
                 with self.assertRaises(changecap.Error) as raised:
                     call()
                 self.assertEqual(str(raised.exception), wanted)
             with self.assertRaises(changecap.Refused) as raised:
                 server.commit(("delete", "t", (1,)), ("insert", "t", (5,)))
-            self.assertEqual((str(raised.exception), raised.exception.at), ("refused: E3", 1))
+            self.assertEqual((str(raised.exception), raised.exception.at), ("refused at 1: E3 WrongWidth", 1))
             self.assertEqual(len(server.scan("t")), 1)
 
     def test_failed_commits_leave_nothing(self):
@@ -587,8 +302,8 @@ class Servers(unittest.TestCase):
             session.diff("before", "a")
             self.assertEqual(session.changeset().hex(), "5402010061001200010000000000000001030178")
             for call, words, wanted in ((session.filter, ("not is",), "no filter: E12 at 6"),
-                                        (session.diff, ("after", "a"), "refused: E19"),
-                                        (session.diff, ("before", ""), "misuse"), (server.save, ("",), "misuse")):
+                                        (session.diff, ("after", "a"), "refused: E19 NoDatabase"),
+                                        (session.diff, ("before", ""), MISUSE), (server.save, ("",), MISUSE)):
                 with self.assertRaises(changecap.Error) as raised:
                     call(*words)
                 self.assertEqual(str(raised.exception), wanted)
@@ -636,7 +351,8 @@ class Servers(unittest.TestCase):
             self.assertEqual((report.conflicts, report.omitted), (len(applied.conflicts), applied.omitted))
             self.assertEqual(applied.code, sqlite.OK)
         except changecap.Refused as refused:
-            self.assertEqual((str(refused), applied.code), ("refused: E15", sqlite.ABORT))
+            self.assertEqual((refused.kind, applied.code), (15, sqlite.ABORT))
+            self.assertEqual(refused.change, list(changecap.iterate(blob))[refused.at])
         self.assertEqual([it.values for it in target.scan("t")], other.execute("SELECT * FROM t ORDER BY a, b"))
         for it in source, target, other:
             it.close()
@@ -678,20 +394,224 @@ class Servers(unittest.TestCase):
             theirs.delete()
         connection.close()
 
-    def test_threads_wait_for_each_other(self):
+    def test_captures_of_which_no_record_is_lost(self):
         with changecap.Server() as server:
-            server.call("create t kv")
+            server.create_table("t", [True, False])
+            session = server.session()
+            session.attach()
+            server.commit(("insert", "t", (1, "x")))
+            with self.assertRaises(changecap.Error) as raised:
+                session.restart(7)
+            self.assertEqual((raised.exception.status, session.changeset()), (changecap.MISUSE, INSERT))
+            with unittest.mock.patch.object(changecap.Capture, "changeset", side_effect=MemoryError):
+                self.assertRaises(MemoryError, session.changeset)
+                self.assertRaises(MemoryError, session.restart)
+                self.assertRaises(MemoryError, session.restart)
+            server.commit(("insert", "t", (2, "y")))
+            # The next restart answers what the one before it has captured.
+            self.assertEqual(session.restart(), INSERT)
+            self.assertEqual([it.new for it in changecap.iterate(session.restart())], [{0: 2, 1: "y"}])
 
-            def commit(first):
-                for number in range(first, first + 200):
-                    server.call(f"commit insert t ({number},'x')")
+    def test_captures_one_after_the_other(self):
+        with changecap.Server() as server, server.session() as session:
+            server.create_table("t", [True, False])
+            session.attach()
+            self.assertEqual(list(session.captures()), [])
+            server.commit(("insert", "t", (1, "x")))
+            capture, = session.captures()
+            server.commit(("delete", "t", (1,)))
+            other, = session.captures()
+            self.assertEqual([(it.version, it.changeset()) for it in (capture, other)], [(2, INSERT), (3, DELETE)])
+            self.assertEqual((capture.patchset(), list(session.captures())), (changecap.patchset(INSERT), []))
+            # What a restart has kept comes first.
+            server.commit(("insert", "t", (1, "x")))
+            with unittest.mock.patch.object(changecap.Capture, "changeset", side_effect=MemoryError):
+                self.assertRaises(MemoryError, session.restart)
+            self.assertEqual([it.changeset() for it in session.captures()], [INSERT])
 
-            threads = [threading.Thread(target=commit, args=(1000 * it,)) for it in range(4)]
-            for thread in threads:
-                thread.start()
-            for thread in threads:
-                thread.join()
-            self.assertEqual(server.call("scan t").split("\n")[0], "rows 800")
+    def test_commits_with_their_capture(self):
+        with changecap.Server() as server, server.session() as session:
+            server.create_table("t", [True, False])
+            session.attach()
+            capture = server.commit_captured(session, ("insert", "t", (1, "x")))
+            self.assertEqual((capture.version, capture.changeset(), session.is_empty()), (2, INSERT, True))
+            for operation, base, wanted in ((("insert", "t", (1, "x")), None, (5, 0)),
+                                            (("insert", "t", (2, "x")), 1, (11, None))):
+                with self.assertRaises(changecap.Refused) as raised:
+                    server.commit_captured(session, operation, base=base)
+                self.assertEqual((raised.exception.kind, raised.exception.at), wanted)
+            dropped = server.session()
+            dropped.drop()
+            with self.assertRaises(changecap.Refused) as raised:
+                server.commit_captured(dropped, ("delete", "t", (1,)))
+            self.assertEqual((raised.exception.kind, raised.exception.at), (18, None))
+            # Nothing was committed.
+            self.assertEqual((server.snapshot().version, session.is_empty()), (2, True))
+
+    def test_many_rows(self):
+        with changecap.Server() as server:
+            server.create_table("t", [True, False])
+            self.assertEqual(server.commit_many("t", ((it, "x") for it in range(10000))), 2)
+            self.assertEqual(server.commit_many("t", []), 3)
+            with self.assertRaises(changecap.Refused) as raised:
+                server.commit_many("t", [(10000, "x"), (5, "x")])
+            self.assertEqual((raised.exception.kind, raised.exception.at), (5, 1))
+            with self.assertRaises(changecap.Refused) as raised:
+                server.commit_many("t", ((it, "x") for it in range(20000, 30001)))
+            self.assertEqual((raised.exception.kind, raised.exception.at), (10, None))
+
+            def fails():
+                yield 20000, "x"
+                raise KeyError("row")
+
+            for rows, error in ((5, TypeError), ([5], TypeError), (["ab"], TypeError), (fails(), KeyError),
+                                ([(20000, 2**63)], OverflowError), ([(20000, 1.5)], TypeError)):
+                self.assertRaises(error, server.commit_many, "t", rows)
+            with self.assertRaises(changecap.Conflict):
+                server.commit_many("t", [(20000, "x")], base=2)
+            self.assertEqual([it.values for it in server.scan("t")], [(it, "x") for it in range(10000)])
+
+    def test_snapshots(self):
+        with changecap.Server() as server:
+            server.create_table("t", [True, False])
+            server.commit_many("t", ((it, str(it)) for it in range(5)))
+            server.commit(("insert", "t", (None, "loose")))
+            with server.snapshot() as snapshot:
+                server.commit(("delete", "t", (3,)))
+                self.assertEqual((snapshot.version, server.snapshot().version), (3, 4))
+                self.assertEqual(snapshot.get("t", (3,)).values, (3, "3"))
+                self.assertEqual([it.values[1] for it in snapshot.scan("t")], [*"01234", "loose"])
+                self.assertEqual([it.values[0] for it in snapshot.scan_from("t", (2,), 2)], [2, 3])
+                self.assertEqual([it.values[0] for it in snapshot.scan_from("t", (3,))], [3, 4])
+                self.assertEqual(snapshot.scan_from("t", (3,), 0), [])
+                for words in (("t", (1,), -1), ("t", (1,), 2**64)):
+                    self.assertRaises(ValueError, snapshot.scan_from, *words)
+                self.assertRaises(TypeError, snapshot.scan_from, "t", changecap.RowId(1))
+                self.assertRaises(changecap.Refused, snapshot.scan, "u")
+            self.assertRaises(ValueError, snapshot.scan, "t")
+
+
+class Transactions(unittest.TestCase):
+    def setUp(self):
+        self.server = changecap.Server()
+        self.server.create_table("t", [True, False])
+        self.server.commit_many("t", [(1, "x"), (2, "y")])
+
+    def tearDown(self):
+        self.server.close()
+
+    def rows(self):
+        return [it.values for it in self.server.scan("t")]
+
+    def test_operations(self):
+        with self.server.transaction() as transaction:
+            transaction.insert("t", (3, "z"))
+            transaction.update("t", (1,), {1: "w"})
+            transaction.delete("t", (2,))
+            transaction.insert_many("t", [(None, "loose"), (4, None)])
+            transaction.delete("t", changecap.RowId(1))
+            self.assertEqual([it.values for it in transaction.scan("t")], [(1, "w"), (3, "z"), (4, None)])
+            self.assertEqual((transaction.get("t", (1,)).values, transaction.get("t", (2,))), ((1, "w"), None))
+            self.assertEqual(self.rows(), [(1, "x"), (2, "y")])
+        self.assertEqual((transaction.version, transaction.capture), (3, None))
+        self.assertEqual(self.rows(), [(1, "w"), (3, "z"), (4, None)])
+        for call in transaction.savepoint, transaction.commit, lambda: transaction.get("t", (1,)):
+            self.assertRaises(ValueError, call)
+
+    def test_rollbacks(self):
+        with self.assertRaises(KeyError), self.server.transaction() as transaction:
+            transaction.delete("t", (1,))
+            raise KeyError
+        with self.server.transaction() as transaction:
+            transaction.delete("t", (1,))
+            transaction.rollback()
+        self.assertEqual((self.rows(), self.server.snapshot().version), ([(1, "x"), (2, "y")], 2))
+        with self.server.transaction() as transaction:
+            first = transaction.savepoint()
+            transaction.delete("t", (1,))
+            second = transaction.savepoint()
+            transaction.delete("t", (2,))
+            transaction.rollback_to(second)
+            self.assertEqual([it.values for it in transaction.scan("t")], [(2, "y")])
+            transaction.rollback_to(first)
+            with self.assertRaises(changecap.Refused) as raised:
+                transaction.rollback_to(second)
+            self.assertEqual((raised.exception.kind, raised.exception.name), (20, "NoMark"))
+            transaction.delete("t", (2,))
+        self.assertEqual(self.rows(), [(1, "x")])
+
+    def test_refusals(self):
+        with self.server.transaction() as transaction:
+            for call, wanted in ((lambda: transaction.insert("t", (1, "x")), (5, None)),
+                                 (lambda: transaction.update("t", (3,), {1: 2}), (6, None)),
+                                 (lambda: transaction.delete("u", (1,)), (8, None)),
+                                 (lambda: transaction.insert_many("t", [(3, "z"), (1, "x")]), (5, 1)),
+                                 (lambda: transaction.get("u", (1,)), (8, None))):
+                with self.assertRaises(changecap.Refused) as raised:
+                    call()
+                self.assertEqual((raised.exception.kind, raised.exception.at), wanted)
+            for call, error in ((lambda: transaction.insert("t", (3, 1.5)), TypeError),
+                                (lambda: transaction.update("t", (1,), {1: 2**63}), OverflowError),
+                                (lambda: transaction.delete("t", 1), TypeError),
+                                (lambda: transaction.insert("t", (4, 1), 2), changecap.Error)):
+                self.assertRaises(error, call)
+        # The rows up to the one that was refused are there.
+        self.assertEqual(self.rows(), [(1, "x"), (2, "y"), (3, "z")])
+
+    def test_conflicts(self):
+        loose = ("insert", "t", (None, "loose"))
+        self.server.commit(loose)
+        for read, other, wanted in (
+                (lambda it: it.get("t", (1,)), ("update", "t", (1,), {1: "w"}), ("t", (1,))),
+                (lambda it: it.get("t", (5,)), ("insert", "t", (5, "new")), ("t", (5,))),
+                (lambda it: it.scan("t"), ("delete", "t", (5,)), ("t", None)),
+                (lambda it: it.get("t", changecap.RowId(1)), ("delete", "t", changecap.RowId(1)), ("t", 1)),
+                (lambda it: it.insert("t", (None, "more")), loose, ("t", None))):
+            with self.assertRaises(changecap.Conflict) as raised, self.server.transaction() as transaction:
+                read(transaction)
+                self.server.commit(other)
+            conflict = raised.exception
+            self.assertEqual((conflict.kind, conflict.name, conflict.at), (11, "Stale", None))
+            self.assertEqual((conflict.table, conflict.row), wanted)
+            self.assertRaises(ValueError, transaction.commit)
+        # What nobody looked at does not count.
+        with self.server.transaction() as transaction:
+            transaction.get("t", (1,))
+            self.server.commit(("update", "t", (2,), {1: "w"}))
+
+    def test_runs(self):
+        calls = []
+
+        def work(transaction):
+            calls.append(transaction.get("t", (1,)).values[1])
+            if len(calls) < 3:
+                self.server.commit(("update", "t", (1,), {1: len(calls)}))
+            transaction.update("t", (1,), {1: "last"})
+            return transaction
+
+        self.assertEqual(self.server.run(work).version, 5)
+        self.assertEqual((calls, self.rows()[0]), (["x", 1, 2], (1, "last")))
+        for tries in 2, 1:
+            calls.clear()
+            self.assertRaises(changecap.Conflict, self.server.run, work, tries=tries)
+            self.assertEqual(len(calls), tries)
+        self.assertRaises(KeyError, self.server.run, {}.__getitem__)
+        self.assertIsNone(self.server.run(changecap.Transaction.rollback))
+
+    def test_transactions_with_their_capture(self):
+        with self.server.session() as session:
+            session.attach()
+            with self.server.transaction(session) as transaction:
+                transaction.update("t", (1,), {1: "w"})
+            change, = changecap.iterate(transaction.capture.changeset())
+            self.assertEqual((transaction.version, transaction.capture.version), (3, 3))
+            self.assertEqual((change.old, change.new), ({0: 1, 1: "x"}, {1: "w"}))
+            made = self.server.run(lambda it: it.delete("t", (1,)) or it, session=session)
+            self.assertEqual([it.operation for it in changecap.iterate(made.capture.changeset())], ["delete"])
+            session.drop()
+            with self.assertRaises(changecap.Refused) as raised, self.server.transaction(session) as transaction:
+                transaction.delete("t", (2,))
+            self.assertEqual((raised.exception.kind, raised.exception.at), (18, None))
 
 
 class Examples(unittest.TestCase):
@@ -725,7 +645,7 @@ class Examples(unittest.TestCase):
         for change in changecap.iterate(INSERT):
             if change.operation == "insert":
                 inserted.append((change.table, change.key, change.new))
-        self.assertEqual(inserted, [("t", [True, False], {0: 1, 1: "x"})])
+        self.assertEqual(inserted, [("t", (True, False), {0: 1, 1: "x"})])
 
     def test_rows(self):
         with changecap.Server() as server:
@@ -736,56 +656,53 @@ class Examples(unittest.TestCase):
         self.assertEqual(rows, [(1, "z")])
 
     def test_threads(self):
-        with changecap.Server() as server:
+        def add(transaction):
+            balance = transaction.get("t", (1,)).values[1]
+            transaction.update("t", (1,), {1: balance + 1})
+
+        with changecap.Server() as server, server.session() as session:
             server.create_table("t", [True, False])
-
-            def commit(first):
-                for number in range(first, first + 100):
-                    server.commit(("insert", "t", (number, None)))
-
-            threads = [threading.Thread(target=commit, args=(first,)) for first in (0, 100)]
+            session.attach("t")
+            server.commit(("insert", "t", (1, 0)))
+            threads = [threading.Thread(target=server.run, args=(add,)) for _ in range(4)]
             for thread in threads:
                 thread.start()
             for thread in threads:
                 thread.join()
-            self.assertEqual([row.values[0] for row in server.scan("t")], list(range(200)))
+            changeset = session.changeset()
+        self.assertEqual([change.new for change in changecap.iterate(changeset)], [{0: 1, 1: 4}])
 
-    def test_clients(self):
-        with changecap.Server() as server:
+    def test_a_transaction(self):
+        with changecap.Server() as server, server.session() as session:
             server.create_table("t", [True, False])
+            server.commit(("insert", "t", (1, 10)))
+            session.attach()
+            try:
+                with server.transaction(session) as transaction:
+                    balance = transaction.get("t", (1,)).values[1]
+                    transaction.update("t", (1,), {1: balance - 5})
+                    transaction.insert_many("t", [(2, 5), (3, 0)])
+                changeset = transaction.capture.changeset()
+            except changecap.Conflict as conflict:
+                # Another thread has changed the row, and nothing was committed: begin again.
+                print(conflict.table, conflict.row)
+        self.assertEqual([change.row for change in changecap.iterate(changeset)], [(1,), (2,), (3,)])
 
-            def commit(first):
-                with server.join() as client:
-                    for number in range(first, first + 100):
-                        client.commit(("insert", "t", (number, None)))
-
-            threads = [threading.Thread(target=commit, args=(first,)) for first in (0, 100)]
-            for thread in threads:
-                thread.start()
-            for thread in threads:
-                thread.join()
-            self.assertEqual([row.values[0] for row in server.scan("t")], list(range(200)))
-
-
-class Libraries(unittest.TestCase):
-    def test_a_missing_library(self):
-        archive = os.path.join(os.path.dirname(os.environ.get("CHANGECAP_LIBRARY", "")), "libchangecap.a")
-        if not (os.path.exists(archive) and shutil.which("make") and shutil.which("cc")):
-            self.skipTest("no libchangecap.a beside the shared object, no make or no cc")
-        words = "import ctypes.util; ctypes.util.find_library = lambda name: None; import changecap"
-        environment = {name: it for name, it in os.environ.items() if name != "CHANGECAP_LIBRARY"}
-        with tempfile.TemporaryDirectory() as folder:
-            os.makedirs(f"{folder}/python")
-            shutil.copy(os.path.join(HERE, "changecap.py"), f"{folder}/python")
-            run, where = [sys.executable, "-B", "-c", words], {"cwd": f"{folder}/python", "env": environment}
-            ran = subprocess.run(run, capture_output=True, text=True, check=False, **where)
-            self.assertIn("ImportError: libchangecap.so is not there", ran.stderr)
-            # The command that the message names makes it, where the module looks for it.
-            command = re.search(r"`(make \w+)`", ran.stderr)[1].split()
-            os.makedirs(f"{folder}/out")
-            os.symlink(os.path.abspath(archive), f"{folder}/out/libchangecap.a")
-            subprocess.run([*command, f"OUT={folder}/out"], cwd=ROOT, capture_output=True, check=True)
-            subprocess.run(run, check=True, **where)
+    def test_captures(self):
+        log = []
+        with changecap.Server() as server, server.session() as session:
+            server.create_table("t", [True, False])
+            session.attach()
+            for number in range(3):
+                server.commit_many("t", [(2 * number, None), (2 * number + 1, None)])
+                for capture in session.captures():
+                    log.append((capture.version, capture.changeset()))
+            rows = server.scan("t")
+        with changecap.Server() as copy:
+            copy.create_table("t", [True, False])
+            for version, changeset in log:
+                copy.apply(changeset)
+            self.assertEqual((copy.scan("t"), len(log)), (rows, 3))
 
 
 if __name__ == "__main__":

@@ -114,6 +114,8 @@ class Sources:
             self.variables |= set(re.findall(r"^([A-Z]+) =", text, re.M))
         elif ending in SCRIPT_ENDINGS:
             self.read_script(text)
+            if path.startswith("bindings/python/src/"):
+                self.read_classes(text)
 
     def read_script(self, text):
         """Notes the options, functions and classes of a script."""
@@ -123,6 +125,15 @@ class Sources:
         self.words |= set(WORD.findall(text))
         for name in re.findall(r"^ *(?:def|class) (\w+)|^([A-Z][A-Z_]*)\b.* = ", text, re.M):
             self.add("".join(name), "")
+
+    def read_classes(self, text):
+        """Notes the methods of the classes of the package for Python."""
+        within = None
+        for indent, kind, name in re.findall(r"^( {4})?(def|class) (\w+)", text, re.M):
+            if not indent:
+                within = name if kind == "class" else None
+            elif within:
+                self.add_member(within, name, "")
 
     def read_code(self, text, crate):
         """Notes the items of a file, the members of its types, its clauses, tests and constants."""

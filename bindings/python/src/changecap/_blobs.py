@@ -1,0 +1,138 @@
+"""Blobs, their changes, and rows."""
+from __future__ import annotations
+
+from collections.abc import Iterable, Iterator, Mapping, Sequence
+from typing import NamedTuple, Union
+
+from . import _changecap, _errors
+from ._numbers import KEYS_PLACES
+
+Value = Union[None, int, str, bytes]
+"""A value that is read."""
+Given = Union[None, int, str, bytes, bytearray, memoryview]
+"""A value that is written."""
+Blob = Union[bytes, bytearray, memoryview]
+"""A changeset or a patchset."""
+
+EXAMPLE = bytes.fromhex("5402010074001200010000000000000001030178")
+"""A changeset with one change, the insert of the row (1, 'x') into the table t, for trying the functions."""
+
+
+class RowId(int):
+    """The id of a row that has no key, from 1 on.
+
+    >>> RowId(1)
+    RowId(1)
+    """
+
+    def __repr__(self) -> str:
+        return f"RowId({int(self)})"
+
+
+class Row(NamedTuple):
+    """A row, with its `RowId` where it has no key."""
+
+    id: RowId | None
+    values: tuple[Value, ...]
+
+
+class Change(NamedTuple):
+    """A change of a blob.
+
+    >>> import changecap
+    >>> change, = changecap.iterate(changecap.EXAMPLE)
+    >>> change.operation, change.table, change.row
+    ('insert', 't', (1,))
+    >>> change.key, change.old, change.new
+    ((True, False), {}, {0: 1, 1: 'x'})
+    """
+
+    table: str
+    key: tuple[bool, ...]
+    """For each column whether it is in the primary key."""
+    operation: str
+    """insert, update or delete."""
+    indirect: bool
+    patchset: bool
+    old: dict[int, Value]
+    """The values before the change, by column. A column that is undefined has none."""
+    new: dict[int, Value]
+    """The values after it."""
+
+    @property
+    def row(self) -> tuple[Value, ...]:
+        """The key of the row that is changed, as `Server.get` takes it."""
+        values = self.new if self.operation == "insert" else self.old
+        return tuple(values[column] for column, is_key in enumerate(self.key) if is_key)
+
+
+def check(blob: Blob) -> None:
+    """Raises Malformed unless the bytes are a changeset or a patchset."""
+    _changecap.check(blob)
+
+
+def invert(changeset: Blob, key_flags: int = KEYS_PLACES) -> bytes:
+    """The inverse of a changeset.
+
+    >>> change, = iterate(invert(EXAMPLE))
+    >>> change.operation, change.old
+    ('delete', {0: 1, 1: 'x'})
+    """
+    return _changecap.invert(changeset, key_flags)
+
+
+def patchset(changeset: Blob, key_flags: int = KEYS_PLACES) -> bytes:
+    """The patchset of a changeset.
+
+    >>> patchset(EXAMPLE)[:1]
+    b'P'
+    """
+    return _changecap.patchset(changeset, key_flags)
+
+
+def concat(first: Blob, second: Blob, key_flags: int = KEYS_PLACES) -> bytes:
+    """The concatenation of two changesets or of two patchsets. Of an error, `blob` is 0 or 1: the one that is
+    refused.
+
+    >>> concat(EXAMPLE, invert(EXAMPLE))
+    b''
+    """
+    return _changecap.concat(first, second, key_flags)
+
+
+def json(blob: Blob) -> str:
+    """A changeset or a patchset as JSON: an array with an object for each change, and a line feed.
+
+    >>> print(json(EXAMPLE), end="")
+    [{"table":"t","op":"insert","indirect":false,"key":["c0"],"new":{"c0":1,"c1":"x"}}]
+    """
+    return _changecap.json(blob)
+
+
+def _each(changes: _changecap.Changes) -> Iterator[Change]:
+    while some := changes.some():
+        yield from some
+
+
+def iterate(blob: Blob) -> Iterator[Change]:
+    """Each change of a changeset or a patchset, in order.
+
+    >>> [change.new for change in iterate(EXAMPLE)]
+    [{0: 1, 1: 'x'}]
+    """
+    yield from _each(_changecap.Changes(blob))
+
+
+def iterate_pieces(pieces: Iterable[Blob]) -> Iterator[Change]:
+    """The same of a blob in pieces of any lengths. A fault is raised with the piece that shows it.
+
+    >>> [change.row for change in iterate_pieces([EXAMPLE[:5], EXAMPLE[5:]])]
+    [(1,)]
+    """
+    decoder = _changecap.Decoder()
+    for piece in pieces:
+        decoder.feed(piece)
+    yield from _each(decoder.finish())
+
+
+_changecap.set_up(_errors.error_of, Row, RowId, Change, Sequence, Mapping)
