@@ -10,7 +10,7 @@ returns-in_err-field-clause-gives g c =
 
 pub loop-column-preserved : goal.loop-column-preserved
 loop-column-preserved g c = record {
-  read = rw (c.in_ok-push_field.ensures) (field_goes_on c.loop-column.fields.items c.args.total c.requirement_beside.result _ _ c.loop-column.rest.now c.in_ok-field.after.now _ _ (new_requirements-cons c.args.flags.now c.args.old.now c.loop-column.column c.requirement_beside.result c.index-old-column.result c.loop-column-test.true (omega arith) c.index-old-column.is c.requirement_beside.ensures) (cc (c.in_ok-field.ensures.reads, c.in_ok-own.ensures)) c.loop-column.invariant.read);
+  read = rw (c.in_ok-push_field.ensures) (field_goes_on c.loop-column.fields.items c.args.total c.requirement_beside.result _ _ c.loop-column.rest.now c.in_ok-field.after.now _ _ (new_requirements-cons c.args.flags.now c.args.old.now c.loop-column.column c.requirement_beside.result c.index-old-column.result c.loop-column-test.true (omega arith) c.index-old-column.is c.requirement_beside.ensures) (cc (c.in_ok-field.ensures.reads, c.in_ok-own_field.ensures)) c.loop-column.invariant.read);
   behind = omega (arith, c.in_ok-field.ensures.behind);
 }
 

@@ -10,7 +10,7 @@ returns-in_err-field-clause-gives g c =
 
 pub loop-key-preserved : goal.loop-key-preserved
 loop-key-preserved g c = record {
-  read = rw (c.in_ok-push_field.ensures) (field_goes_on c.loop-key.fields.items c.args.total c.requirement.result _ _ c.loop-key.rest.now c.in_ok-field.after.now _ _ (requirements-cons c.args.record_kind c.args.flags.now c.loop-key.key-index c.requirement.result c.loop-key-test.true c.requirement.ensures) (cc (c.in_ok-field.ensures.reads, c.in_ok-own.ensures)) c.loop-key.invariant.read);
+  read = rw (c.in_ok-push_field.ensures) (field_goes_on c.loop-key.fields.items c.args.total c.requirement.result _ _ c.loop-key.rest.now c.in_ok-field.after.now _ _ (requirements-cons c.args.record_kind c.args.flags.now c.loop-key.key-index c.requirement.result c.loop-key-test.true c.requirement.ensures) (cc (c.in_ok-field.ensures.reads, c.in_ok-own_field.ensures)) c.loop-key.invariant.read);
   behind = omega (arith, c.in_ok-field.ensures.behind);
 }
 
