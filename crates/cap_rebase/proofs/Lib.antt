@@ -1,0 +1,2 @@
+pub mod RebaseLemmas
+pub mod PushLemmas

@@ -1,0 +1,3 @@
+pub mod Flag
+pub mod Rebase
+pub mod Rebaser

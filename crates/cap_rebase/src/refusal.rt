@@ -1,0 +1,13 @@
+//! Why a buffer or a changeset is refused.
+use thiserror::Error;
+
+/// Why a buffer or a changeset is refused by a rebaser. SQLite's code is `SQLITE_SCHEMA`.
+#[derive(Clone, Copy, Debug, PartialEq, Eq, Drop, Error)]
+pub enum RebaseRefusal {
+    /// A group whose table has other columns, or another key, in a buffer before it.
+    #[error("other columns in group {group}")]
+    OtherColumns {
+        /// The number of the group, from 0.
+        group: usize,
+    },
+}
