@@ -1,2 +1,3 @@
 pub mod RebaseLemmas
 pub mod PushLemmas
+pub mod OneRowLemmas

@@ -1,3 +1,5 @@
 pub mod Flag
 pub mod Rebase
+pub mod Buffer
 pub mod Rebaser
+pub mod OneRow

@@ -2,13 +2,17 @@
 //! changesets").
 #![tactic(auto)]
 
+mod buffer;
 mod change;
+mod laws;
 mod push;
 mod rebaser;
 mod record;
 mod refusal;
 mod rows;
 
+pub use buffer::buffer_of;
 pub use change::rebase_change;
+pub use laws::rebased_from_the_hub_to_the_client;
 pub use rebaser::Rebaser;
 pub use refusal::RebaseRefusal;

@@ -1,0 +1,269 @@
+-- A change over a remote one of its row, from one base, leads from the hub's row to the client's.
+use Rattle.std.proofs.Common.{◌≡◌, ℕ, suc, List, [], ◌∷◌, length, Bool, true, false, not, ◌&&◌, ◌||◌, Option, Some, None, is_some, Ok, Err, cond, refl, ap, sym, subst, ◌∙◌}
+use Rattle.std.specs.Prelude.{fold}
+use Rattle.std.specs.List.{list_any}
+use Rattle.std.specs.Option.{ForSome, option_map, unwrap_or}
+use Rattle.cap_value.specs.declared.value.Value.{Value}
+use Rattle.cap_value.specs.Value.{value_eq, value_eq_decides}
+use Rattle.cap_row.specs.Fields.{Fields}
+use Rattle.cap_row.specs.Key.{fields_eq, fields_eq_decides, is_key, key_fields, key_of}
+use Rattle.cap_changes.specs.Change.{IsKeyedRow, change_of, full_record, is_modified, new_field, old_field}
+use Rattle.cap_changes.specs.Column.{by_column}
+use Rattle.cap_changes.specs.FieldRecord.{RecordFields}
+use Rattle.cap_changes.specs.Invert.{inverse_of}
+use Rattle.cap_changes.specs.Patch.{patch_of, update_record}
+use Rattle.cap_changes.specs.declared.row_change.RowChange.{RowChange}
+use Rattle.cap_changes.specs.declared.row_change.RowChange.TheVariants.{Insert, Update, Delete}
+use Rattle.cap_changes.proofs.ChangeLemmas.{change_of-other, change_of-same, update_modifies}
+use Rattle.cap_group.specs.Combined.{combined}
+use Rattle.cap_group.specs.KeyedChanges.{change_after}
+use Rattle.cap_group.specs.Rows.{Follow, IsRowUnder, is_indirect, together}
+use Rattle.cap_group.proofs.JoinLemmas.{followed}
+use Rattle.cap_apply.specs.Difference.{Difference, IsDifference, IsUnder, turned}
+use Rattle.cap_apply.specs.Policy.{made_anyway}
+use Rattle.cap_apply.specs.Requested.{old_record, requested_by_change}
+use Rattle.cap_apply.specs.Row.{conflict_of, missed, row_after, set_fields}
+use Rattle.cap_apply.specs.declared.conflict.ConflictKind.{ConflictKind}
+use Rattle.cap_apply.specs.declared.conflict.ConflictKind.TheVariants.{Data, NotFound, Conflict}
+use Rattle.cap_apply.specs.declared.policy.Answer.{Answer}
+use Rattle.cap_apply.specs.declared.policy.Answer.TheVariants.{Omit, Replace, Abort}
+use Rattle.cap_apply.proofs.CaptureLemmas.{asks_by_change, turned_difference}
+use Rattle.cap_rebase.specs.Buffer.{answered}
+use Rattle.cap_rebase.specs.Flag.{flagged}
+use Rattle.cap_rebase.specs.OneRow.{HaveOneBase, client_after, conflict_at}
+use Rattle.cap_rebase.specs.Rebase.{field_left, new_left, old_left, over_omitted, over_replaced, rebased, update_left}
+
+met_none : {kind : ConflictKind} (met : Option ConflictKind) → met ≡ Some NotFound → met ≡ Some kind → NotFound ≡ kind
+met_none met e e' = cc
+
+made_is : {made : Bool} (number : ℕ) (kind : ConflictKind) → made_anyway number kind Replace ≡ Ok made → (true ≡ made) × (NotFound ≡ kind → ⊥)
+made_is number Data e = (cc e, λ is. absurd (cc is))
+made_is number NotFound e = absurd (cc e)
+made_is number Conflict e = (cc e, λ is. absurd (cc is))
+
+module _ {A : Type 0} where
+  -- ---- flags
+
+  flag_of : (flag : Bool) (change : RowChange A) → is_indirect (flagged flag change) ≡ flag
+  flag_of flag (Insert indirect new) = refl
+  flag_of flag (Update indirect old new) = refl
+  flag_of flag (Delete indirect old) = refl
+
+  own_flag : (change : RowChange A) → flagged (is_indirect change) change ≡ change
+  own_flag (Insert indirect new) = refl
+  own_flag (Update indirect old new) = refl
+  own_flag (Delete indirect old) = refl
+
+  -- the change between two rows with another flag
+  reflagged_between : (flags : List Bool) (flag other : Bool) (before after : Option (Fields A)) → option_map (flagged flag) (change_of flags other before after) ≡ change_of flags flag before after
+  reflagged_between flags flag other None None = refl
+  reflagged_between flags flag other None (Some now) = refl
+  reflagged_between flags flag other (Some image) None = refl
+  reflagged_between flags flag other (Some image) (Some now) =
+      elim (fields_eq image now) as (λ b.
+      option_map (flagged flag) (cond b None (Some (Update other (by_column old_field flags image now) (by_column new_field flags image now))))
+      ≡ cond b None (Some (Update flag (by_column old_field flags image now) (by_column new_field flags image now)))) [
+        | true ↦ refl
+        | false ↦ refl
+      ]
+
+  -- ---- rows under a key
+
+  its_values : (b : Bool) (values key : Fields A) → cond b (Some values) None ≡ Some key → values ≡ key
+  its_values true values key e = cc
+  its_values false values key e = cc
+
+  key_is : (flags : List Bool) (row key : Fields A) → key_of flags row ≡ Some key → key_fields flags row ≡ key
+  key_is flags row key e = its_values (is_key (key_fields flags row)) (key_fields flags row) key e
+
+  row_under : (flags : List Bool) (key : Fields A) (row : Option (Fields A)) → IsUnder flags key row → ForSome row (IsRowUnder flags key)
+  row_under flags key None u = λ row is. absurd (cc is)
+  row_under flags key (Some found) u = λ row is.
+      let same : found ≡ row = cc is in
+      subst (λ (r : Fields A). IsRowUnder flags key r) same (record { wide = u.0; under = key_is flags found key u.1 })
+
+  -- ---- OMIT: from the hub's row to the base, and from there to the client's
+
+  omitted : (flags : List Bool) (key : Fields A) (base client hub : Option (Fields A)) (local buffered : RowChange A) →
+      IsUnder flags key base → IsUnder flags key client → IsUnder flags key hub →
+      change_of flags (is_indirect local) base client ≡ Some local → change_of flags (is_indirect buffered) base hub ≡ Some buffered →
+      over_omitted flags buffered local ≡ change_of flags (is_indirect local) hub client
+  omitted flags key base client hub local buffered b c m made made' =
+      let back = turned_difference flags (record { key = key; before = base; after = hub; change = buffered }) (record { before = b; after = m; change = (is_indirect buffered, made') }) in
+      let inverse = inverse_of flags buffered in
+      let undone : change_of flags (is_indirect inverse) hub base ≡ Some inverse =
+      sym (reflagged_between flags (is_indirect inverse) back.change.0 hub base) ∙ ap (option_map (flagged (is_indirect inverse))) back.change.1 ∙ ap Some (own_flag inverse) in
+      let follow : Follow flags key hub (inverse ∷ local ∷ []) client =
+      (base, row_under flags key base b, undone, (client, row_under flags key client c, made, refl)) in
+      let both = followed flags key hub (inverse ∷ local ∷ []) client (row_under flags key hub m) follow in
+      ap (option_map (flagged (is_indirect local))) both.1 ∙ reflagged_between flags (is_indirect local) both.0 hub client
+
+  -- ---- REPLACE: the columns that the remote change does not modify
+
+  -- the client's row after the remote update, all the same
+  abbrev after_update : List Bool → Fields A → Fields A → Fields A → Fields A
+  after_update flags base client hub =
+      set_fields (update_record flags (by_column old_field flags base hub) (by_column new_field flags base hub)) client
+
+  value_same : (a b : Value A) → a ≡ b → value_eq a b ≡ true
+  value_same a b e = (value_eq_decides a b).1 e
+
+  -- one column outside the key, with its values of the base, the client and the hub, and the client's then
+  abbrev then_value : Bool → Value A → Value A → Value A
+  then_value same client hub = unwrap_or (cond (not same) (Some hub) None) client
+
+  module _ (b c m : Value A) where
+    new_column : (y : Bool) → value_eq b m ≡ y → field_left (cond (not (value_eq b c)) (Some c) None) (cond (not y) (Some m) None) ≡ new_field false m (then_value y c m)
+    new_column true q = ap (λ (v : Value A). cond (not (value_eq v c)) (Some c) None) ((value_eq_decides b m).0 q)
+    new_column false q = rw (value_same m m refl)
+
+    kept_old : (x : Bool) → value_eq b c ≡ x → b ≡ m → cond (is_some (cond (not x) (Some c) None)) (cond (not x) (Some b) None) None ≡ cond (not (value_eq m c)) (Some m) None
+    kept_old true p e = rw (sym (ap (λ (v : Value A). value_eq v c) e) ∙ p)
+    kept_old false p e = rw (sym (ap (λ (v : Value A). value_eq v c) e) ∙ p) (ap Some e)
+
+    old_column : (y : Bool) → value_eq b m ≡ y → old_left false (cond (not (value_eq b c)) (Some b) None) (field_left (cond (not (value_eq b c)) (Some c) None) (cond (not y) (Some m) None)) ≡ old_field false m (then_value y c m)
+    old_column true q = kept_old (value_eq b c) refl ((value_eq_decides b m).0 q)
+    old_column false q = rw (value_same m m refl)
+
+  same_first : {a b : Value A} {xs ys : Fields A} → (a ∷ xs) ≡ (b ∷ ys) → (a ≡ b) × (xs ≡ ys)
+  same_first e = (cc, cc)
+
+  -- what is left of the local update, and the client's row then
+  record Leaves (flags : List Bool) (base client hub : Fields A) : Type 0 where
+    new_is : new_left (by_column new_field flags base client) (by_column new_field flags base hub) ≡ by_column new_field flags hub (after_update flags base client hub)
+    old_is : by_column old_left flags (by_column old_field flags base client) (new_left (by_column new_field flags base client) (by_column new_field flags base hub)) ≡ by_column old_field flags hub (after_update flags base client hub)
+    wide : length (after_update flags base client hub) ≡ length flags
+    key_kept : key_fields flags (after_update flags base client hub) ≡ key_fields flags base
+
+  leaves : (flags : List Bool) (base client hub : Fields A) → length base ≡ length flags → length client ≡ length flags → length hub ≡ length flags →
+      key_fields flags base ≡ key_fields flags hub → Leaves flags base client hub
+  leaves [] [] [] [] w w' w'' keys = record { new_is = refl; old_is = refl; wide = refl; key_kept = refl }
+  leaves [] [] [] (m ∷ hub) w w' w'' keys = cc
+  leaves [] [] (c ∷ client) hub w w' w'' keys = cc
+  leaves [] (b ∷ base) client hub w w' w'' keys = cc
+  leaves (key ∷ flags) [] client hub w w' w'' keys = cc
+  leaves (key ∷ flags) (b ∷ base) [] hub w w' w'' keys = cc
+  leaves (key ∷ flags) (b ∷ base) (c ∷ client) [] w w' w'' keys = cc
+  leaves (true ∷ flags) (b ∷ base) (c ∷ client) (m ∷ hub) w w' w'' keys =
+      let firsts : (b ≡ m) × (key_fields flags base ≡ key_fields flags hub) = same_first keys in
+      let more = leaves flags base client hub (cc) (cc) (cc) firsts.1 in record {
+        new_is = ap (λ (r : RecordFields A). None ∷ r) more.new_is;
+        old_is = λ i. Some (firsts.0 i) ∷ more.old_is i;
+        wide = ap suc more.wide;
+        key_kept = ap (λ (k : Fields A). b ∷ k) more.key_kept;
+      }
+  leaves (false ∷ flags) (b ∷ base) (c ∷ client) (m ∷ hub) w w' w'' keys =
+      let more = leaves flags base client hub (cc) (cc) (cc) keys in record {
+        new_is = λ i. new_column b c m (value_eq b m) refl i ∷ more.new_is i;
+        old_is = λ i. old_column b c m (value_eq b m) refl i ∷ more.old_is i;
+        wide = ap suc more.wide;
+        key_kept = more.key_kept;
+      }
+
+  -- ---- an UPDATE with the modified fields is the change of the rows
+
+  no_fields : (flags : List Bool) (row : Fields A) → list_any is_some (by_column new_field flags row row) ≡ false
+  no_fields [] row = refl
+  no_fields (key ∷ flags) [] = refl
+  no_fields (true ∷ flags) (a ∷ row) = no_fields flags row
+  no_fields (false ∷ flags) (a ∷ row) = rw (value_same a a refl) (no_fields flags row)
+
+  between_rows : (flags : List Bool) (indirect : Bool) (key hub then : Fields A) → length hub ≡ length flags → length then ≡ length flags →
+      key_of flags hub ≡ Some key → key_of flags then ≡ Some key → (same : Bool) → fields_eq hub then ≡ same →
+      cond (list_any is_some (by_column new_field flags hub then)) (Some (Update indirect (by_column old_field flags hub then) (by_column new_field flags hub then))) None
+      ≡ change_of flags indirect (Some hub) (Some then)
+  between_rows flags indirect key hub then w w' k k' true e =
+      let same : hub ≡ then = (fields_eq_decides hub then).0 e in
+      let none : list_any is_some (by_column new_field flags hub then) ≡ false = ap (λ (row : Fields A). list_any is_some (by_column new_field flags hub row)) (sym same) ∙ no_fields flags hub in
+      ap (λ b. cond b (Some (Update indirect (by_column old_field flags hub then) (by_column new_field flags hub then))) None) none
+      ∙ sym (change_of-same flags indirect hub then same)
+  between_rows flags indirect key hub then w w' k k' false e =
+      let other : hub ≡ then → ⊥ = λ same. absurd (cc (e, (fields_eq_decides hub then).1 same)) in
+      let some : list_any is_some (by_column new_field flags hub then) ≡ true =
+      update_modifies flags hub then (record { wide = w; keyed = rw k refl }) (record { wide = w'; keyed = rw k' refl }) (k ∙ sym k') other in
+      ap (λ b. cond b (Some (Update indirect (by_column old_field flags hub then) (by_column new_field flags hub then))) None) some
+      ∙ sym (change_of-other flags indirect hub then other)
+
+  -- ---- the cases of the rows
+
+  module _ (flags : List Bool) (key : Fields A) where
+    abbrev made_anyhow : Bool → RowChange A → RowChange A → Option (Fields A) → Option (Fields A) → Type 0
+    made_anyhow indirect local remote client hub =
+        over_replaced flags (flagged true remote) local ≡ change_of flags indirect hub (row_after (length flags) (patch_of flags remote) client)
+
+    inserted : (indirect flag : Bool) (local : RowChange A) (client : Option (Fields A)) (hub : Fields A) → IsUnder flags key (Some hub) → made_anyhow indirect local (Insert flag (full_record hub)) client (Some hub)
+    inserted indirect flag local client hub m =
+        let asks = asks_by_change flags flag key None (Some hub) (Insert flag (full_record hub)) tt m refl in
+        sym (ap (change_of flags indirect (Some hub)) asks.leaves ∙ change_of-same flags indirect hub hub refl)
+
+    updated : (indirect flag : Bool) (base client hub : Fields A) → IsUnder flags key (Some base) → IsUnder flags key (Some client) → IsUnder flags key (Some hub) →
+        made_anyhow indirect (Update indirect (by_column old_field flags base client) (by_column new_field flags base client))
+        (Update flag (by_column old_field flags base hub) (by_column new_field flags base hub)) (Some client) (Some hub)
+    updated indirect flag base client hub b c m =
+        let then = after_update flags base client hub in
+        let left = leaves flags base client hub b.0 c.0 m.0 (key_is flags base key b.1 ∙ sym (key_is flags hub key m.1)) in
+        let then_key : key_of flags then ≡ Some key = ap (λ (k : Fields A). cond (is_key k) (Some k) None) left.key_kept ∙ b.1 in
+        (λ i. cond (list_any is_some (left.new_is i)) (Some (Update indirect (left.old_is i) (left.new_is i))) None)
+        ∙ between_rows flags indirect key hub then m.0 left.wide m.1 then_key (fields_eq hub then) refl
+
+    replaced : (indirect flag : Bool) (base client hub : Option (Fields A)) (local remote : RowChange A) (kind : ConflictKind) →
+        IsUnder flags key base → IsUnder flags key client → IsUnder flags key hub →
+        change_of flags indirect base client ≡ Some local → change_of flags flag base hub ≡ Some remote →
+        conflict_at flags remote client ≡ Some kind → (NotFound ≡ kind → ⊥) → made_anyhow indirect local remote client hub
+    replaced indirect flag None None hub local remote kind b c m made made' met there = absurd (cc made)
+    replaced indirect flag None (Some now) None local remote kind b c m made made' met there = absurd (cc made')
+    replaced indirect flag None (Some now) (Some then) local remote kind b c m made made' met there =
+        let same : Insert flag (full_record then) ≡ remote = cc made' in
+        subst (λ (r : RowChange A). made_anyhow indirect local r (Some now) (Some then)) same (inserted indirect flag local (Some now) then m)
+    replaced indirect flag (Some image) None None local remote kind b c m made made' met there =
+        let same : Delete flag (full_record image) ≡ remote = cc made' in
+        absurd (there (met_none (conflict_at flags remote None) (ap (λ (r : RowChange A). conflict_at flags r None) (sym same)) met))
+    replaced indirect flag (Some image) None (Some then) local remote kind b c m made made' met there = differ (fields_eq image then) made'
+      where
+        differ : (x : Bool) → cond x None (Some (Update flag (by_column old_field flags image then) (by_column new_field flags image then))) ≡ Some remote → made_anyhow indirect local remote None (Some then)
+        differ true e = absurd (cc e)
+        differ false e =
+            let same : Update flag (by_column old_field flags image then) (by_column new_field flags image then) ≡ remote = cc e in
+            absurd (there (met_none (conflict_at flags remote None) (ap (λ (r : RowChange A). conflict_at flags r None) (sym same)) met))
+    replaced indirect flag (Some image) (Some now) None local remote kind b c m made made' met there =
+        let same : Delete flag (full_record image) ≡ remote = cc made' in
+        subst (λ (r : RowChange A). made_anyhow indirect local r (Some now) None) same refl
+    replaced indirect flag (Some image) (Some now) (Some then) local remote kind b c m made made' met there = differ (fields_eq image now) (fields_eq image then) made made'
+      where
+        differ : (x y : Bool) → cond x None (Some (Update indirect (by_column old_field flags image now) (by_column new_field flags image now))) ≡ Some local →
+            cond y None (Some (Update flag (by_column old_field flags image then) (by_column new_field flags image then))) ≡ Some remote → made_anyhow indirect local remote (Some now) (Some then)
+        differ true y e e' = absurd (cc e)
+        differ false true e e' = absurd (cc e')
+        differ false false e e' =
+            let local_is : Update indirect (by_column old_field flags image now) (by_column new_field flags image now) ≡ local = cc e in
+            let remote_is : Update flag (by_column old_field flags image then) (by_column new_field flags image then) ≡ remote = cc e' in
+            subst (λ (l : RowChange A). made_anyhow indirect l remote (Some now) (Some then)) local_is
+            (subst (λ (r : RowChange A). made_anyhow indirect (Update indirect (by_column old_field flags image now) (by_column new_field flags image now)) r (Some now) (Some then)) remote_is
+            (updated indirect flag image now then b c m))
+
+  -- ---- by the answer
+
+  by_flag : (flags : List Bool) (flag : Bool) (remote local : RowChange A) → is_indirect remote ≡ flag → rebased flags remote local ≡ cond flag (over_replaced flags remote local) (over_omitted flags remote local)
+  by_flag flags flag remote local e = ap (λ b. cond b (over_replaced flags remote local) (over_omitted flags remote local)) e
+
+  pub over_one_remote : (flags : List Bool) (key : Fields A) (base client hub : Option (Fields A)) (local remote buffered : RowChange A) (number : ℕ) (kind : ConflictKind) (answer : Answer) (made : Bool) →
+      HaveOneBase flags key base client hub local remote → conflict_at flags remote client ≡ Some kind → made_anyway number kind answer ≡ Ok made → answered answer remote ≡ Some buffered →
+      rebased flags buffered local ≡ change_of flags (is_indirect local) hub (client_after flags made remote client)
+  over_one_remote flags key base client hub local remote buffered number kind Omit made h met is has =
+      let not_made : false ≡ made = cc is in
+      let same : flagged false remote ≡ buffered = cc has in
+      let flag = flag_of false remote in
+      let made' : change_of flags (is_indirect (flagged false remote)) base hub ≡ Some (flagged false remote) =
+      ap (λ i. change_of flags i base hub) flag ∙ sym (reflagged_between flags false (is_indirect remote) base hub) ∙ ap (option_map (flagged false)) h.remote_is in
+      subst (λ (r : RowChange A). rebased flags r local ≡ change_of flags (is_indirect local) hub (client_after flags made remote client)) same
+      (by_flag flags false (flagged false remote) local flag
+      ∙ omitted flags key base client hub local (flagged false remote) h.base_under h.client_under h.hub_under h.local_is made'
+      ∙ ap (λ b. change_of flags (is_indirect local) hub (client_after flags b remote client)) not_made)
+  over_one_remote flags key base client hub local remote buffered number kind Replace made h met is has =
+      let made_so = made_is number kind is in
+      let same : flagged true remote ≡ buffered = cc has in
+      subst (λ (r : RowChange A). rebased flags r local ≡ change_of flags (is_indirect local) hub (client_after flags made remote client)) same
+      (by_flag flags true (flagged true remote) local (flag_of true remote)
+      ∙ replaced flags key (is_indirect local) (is_indirect remote) base client hub local remote kind h.base_under h.client_under h.hub_under h.local_is h.remote_is met made_so.1
+      ∙ ap (λ b. change_of flags (is_indirect local) hub (client_after flags b remote client)) made_so.0)
+  over_one_remote flags key base client hub local remote buffered number kind Abort made h met is has = absurd (cc has)

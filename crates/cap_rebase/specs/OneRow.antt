@@ -1,0 +1,30 @@
+-- One row of a base, of a client that has made a local change of it, and of a hub that has made a remote one.
+use Rattle.std.specs.Prelude.{◌≡◌, Bool, List, Option, Some, None, length, if◌then◌else◌}
+use Rattle.cap_row.specs.Fields.{Fields}
+use Rattle.cap_changes.specs.Change.{change_of}
+use Rattle.cap_changes.specs.Patch.{patch_of}
+use Rattle.cap_changes.specs.declared.row_change.RowChange.{RowChange}
+use Rattle.cap_group.specs.Rows.{is_indirect}
+use Rattle.cap_apply.specs.Difference.{IsUnder}
+use Rattle.cap_apply.specs.Requested.{old_record}
+use Rattle.cap_apply.specs.Row.{conflict_of, row_after}
+use Rattle.cap_apply.specs.declared.conflict.ConflictKind.{ConflictKind}
+
+module _ {A : Type 0} where
+  -- The rows are under one key, or there is none. Each change is the one that a capture has of its side.
+  pub record HaveOneBase (flags : List Bool) (key : Fields A) (base client hub : Option (Fields A))
+      (local remote : RowChange A) : Type 0 where
+    pub base_under : IsUnder flags key base
+    pub client_under : IsUnder flags key client
+    pub hub_under : IsUnder flags key hub
+    pub local_is : change_of flags (is_indirect local) base client ≡ Some local
+    pub remote_is : change_of flags (is_indirect remote) base hub ≡ Some remote
+
+  -- the conflict that the remote change meets at the client
+  abbrev pub conflict_at : List Bool → RowChange A → Option (Fields A) → Option ConflictKind
+  conflict_at flags remote client = conflict_of flags (old_record remote) (patch_of flags remote) client
+
+  -- the client's row after the remote change, by whether it is made
+  abbrev pub client_after : List Bool → Bool → RowChange A → Option (Fields A) → Option (Fields A)
+  client_after flags made remote client =
+      if made then row_after (length flags) (patch_of flags remote) client else client
