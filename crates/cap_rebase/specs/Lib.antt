@@ -3,3 +3,4 @@ pub mod Rebase
 pub mod Buffer
 pub mod Rebaser
 pub mod OneRow
+pub mod Bytes

@@ -3,6 +3,7 @@
 #![tactic(auto)]
 
 mod buffer;
+mod bytes;
 mod change;
 mod laws;
 mod push;
@@ -12,7 +13,8 @@ mod refusal;
 mod rows;
 
 pub use buffer::buffer_of;
+pub use bytes::buffer_bytes;
 pub use change::rebase_change;
 pub use laws::rebased_from_the_hub_to_the_client;
 pub use rebaser::Rebaser;
-pub use refusal::RebaseRefusal;
+pub use refusal::{BlobRefusal, RebaseRefusal};

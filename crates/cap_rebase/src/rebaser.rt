@@ -1,13 +1,23 @@
 //! Rebasers.
-ghost use Rattle.std.specs.Prelude.{◌≡◌, ◌++◌, ◌∷◌, [], IfOk, OnErr, OnOk};
+ghost use Rattle.std.specs.Prelude.{◌≡◌, ◌++◌, ◌∷◌, [], List, Ok, IfOk, OnErr, OnOk};
 ghost use Rattle.std.specs.List.{list_any};
+ghost use Rattle.std.specs.Option.{option_map};
 ghost use Rattle.cap_value.specs.Memory.{LeavesUnlessMemory, RefusesFirst, ShowsUnlessMemory};
+ghost use Rattle.cap_changes.specs.Group.{TableChanges};
+ghost use Rattle.cap_codec.specs.Changeset.{list_bytes_with};
+ghost use Rattle.cap_codec.specs.FirstByte.{first_fault};
+ghost use Rattle.cap_codec.specs.Spelling.{Spells};
+ghost use Rattle.cap_codec.specs.declared.read.Contents.TheVariants.{Changes};
+ghost use Rattle.cap_rebase.specs.Bytes.{configured_at, rebased_at};
 ghost use Rattle.cap_rebase.specs.Rebaser as rebaser;
+ghost use Rattle.cap_rebase.specs.declared.refusal.BlobRefusal.TheVariants.{Malformed};
 
-use crate::RebaseRefusal;
+use crate::bytes::read_changes;
 use crate::push::push_group;
 use crate::rows::rebased_group;
+use crate::{BlobRefusal, RebaseRefusal};
 use cap_changes::{ChangeList, Group};
+use cap_codec::{KeyFlags, write_changes_with};
 use cap_value::{AllocHandle, Fault, OutOfMemory};
 use std::marker::Model;
 
@@ -86,6 +96,55 @@ impl<A: AllocHandle> Rebaser<A> {
             return Err(Fault::Refused(why));
         }
         Ok(rebased_list(self.alloc, &self.buffers, list.groups())?)
+    }
+
+    /// Adds the buffer with these bytes, as `configure` does.
+    ///
+    /// Refused with `Malformed` where the bytes are no blob, with `Patchset` where they are a patchset, and with
+    /// `Columns` where `configure` refuses the buffer. On an error the rebaser is as before.
+    pub fn configure_bytes(&mut self, bytes: &[u8]) -> Result<(), Fault<BlobRefusal>>
+        // The buffer that the bytes spell is added.
+        ensures spelled { OnOk result ((buffer : List (TableChanges A)) × Spells (Changes buffer) bytes.now
+            × (rebaser.configured self.old buffer ≡ Ok self.new)) }
+        // What is left, or which refusal.
+        ensures content { LeavesUnlessMemory result (configured_at self.old bytes.now) self.new }
+        ensures kept { OnErr result (self.new ≡ self.old) }
+        // A first byte that begins no group is refused without memory.
+        ensures first { RefusesFirst (option_map Malformed (first_fault bytes.now)) result }
+    {
+        let buffer = read_changes(self.alloc, bytes)?;
+        match self.configure(buffer) {
+            Ok(()) => Ok(()),
+            Err(Fault::Refused(why)) => Err(Fault::Refused(BlobRefusal::Columns(why))),
+            Err(Fault::OutOfMemory) => Err(Fault::OutOfMemory),
+        }
+    }
+
+    /// The bytes of the changeset with these bytes over the buffers, as `rebase` makes it.
+    ///
+    /// Refused with `Malformed` where the bytes are no blob, with `Patchset` where they are a patchset, and with
+    /// `Columns` where `rebase` refuses the changeset.
+    pub fn rebase_bytes(
+        &self,
+        key_flags: KeyFlags,
+        bytes: &[u8],
+    ) -> Result<Vec<u8, A>, Fault<BlobRefusal>>
+        // The changeset that the bytes spell is rebased and written.
+        ensures rebased { IfOk result (λ out. (list made : List (TableChanges A))
+            × Spells (Changes list) bytes.now × (rebaser.rebase self.now list ≡ Ok made)
+            × (out.items ≡ list_bytes_with key_flags made)) }
+        // Which bytes, or which refusal.
+        ensures answers { ShowsUnlessMemory (λ out. out.items) result
+            (rebased_at key_flags self.now bytes.now) }
+        // A first byte that begins no group is refused without memory.
+        ensures first { RefusesFirst (option_map Malformed (first_fault bytes.now)) result }
+    {
+        let list = read_changes(self.alloc, bytes)?;
+        match self.rebase(&list) {
+            Ok(made) => Ok(write_changes_with(self.alloc, key_flags, &made)?),
+            Err(Fault::Refused(why)) => Err(Fault::Refused(BlobRefusal::Columns(why))),
+            Err(Fault::OutOfMemory) => Err(Fault::OutOfMemory),
+        }
     }
 }
 
