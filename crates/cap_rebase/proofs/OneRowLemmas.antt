@@ -1,4 +1,5 @@
 -- A change over a remote one of its row, from one base, leads from the hub's row to the client's.
+use Rattle.std.proofs.lemmas.Bool.{and_parts}
 use Rattle.std.proofs.Common.{◌≡◌, ℕ, suc, List, [], ◌∷◌, length, Bool, true, false, not, ◌&&◌, ◌||◌, Option, Some, None, is_some, Ok, Err, cond, refl, ap, sym, subst, ◌∙◌}
 use Rattle.std.specs.Prelude.{fold}
 use Rattle.std.specs.List.{list_any}
@@ -22,7 +23,7 @@ use Rattle.cap_group.proofs.JoinLemmas.{followed}
 use Rattle.cap_apply.specs.Difference.{Difference, IsDifference, IsUnder, turned}
 use Rattle.cap_apply.specs.Policy.{made_anyway}
 use Rattle.cap_apply.specs.Requested.{old_record, requested_by_change}
-use Rattle.cap_apply.specs.Row.{conflict_of, missed, row_after, set_fields}
+use Rattle.cap_apply.specs.Row.{conflict_of, has_old_value, has_old_values, missed, row_after, set_fields}
 use Rattle.cap_apply.specs.declared.conflict.ConflictKind.{ConflictKind}
 use Rattle.cap_apply.specs.declared.conflict.ConflictKind.TheVariants.{Data, NotFound, Conflict}
 use Rattle.cap_apply.specs.declared.policy.Answer.{Answer}
@@ -30,8 +31,15 @@ use Rattle.cap_apply.specs.declared.policy.Answer.TheVariants.{Omit, Replace, Ab
 use Rattle.cap_apply.proofs.CaptureLemmas.{asks_by_change, turned_difference}
 use Rattle.cap_rebase.specs.Buffer.{answered}
 use Rattle.cap_rebase.specs.Flag.{flagged}
-use Rattle.cap_rebase.specs.OneRow.{HaveOneBase, client_after, conflict_at}
+use Rattle.cap_rebase.specs.OneRow.{HaveOneBase, Leads, client_after, conflict_at}
 use Rattle.cap_rebase.specs.Rebase.{field_left, new_left, old_left, over_omitted, over_replaced, rebased, update_left}
+
+no_conflict : {kind : ConflictKind} (met : Option ConflictKind) → met ≡ Some kind → met ≡ None → ⊥
+no_conflict met e e' = absurd (cc (e, e'))
+
+none_met : (b : Bool) → cond b None (Some Data) ≡ None → b ≡ true
+none_met true e = refl
+none_met false e = cc e
 
 met_none : {kind : ConflictKind} (met : Option ConflictKind) → met ≡ Some NotFound → met ≡ Some kind → NotFound ≡ kind
 met_none met e e' = cc
@@ -241,6 +249,153 @@ module _ {A : Type 0} where
             (subst (λ (r : RowChange A). made_anyhow indirect (Update indirect (by_column old_field flags image now) (by_column new_field flags image now)) r (Some now) (Some then)) remote_is
             (updated indirect flag image now then b c m))
 
+  -- ---- no conflict
+
+  -- the row that a DELETE finds as it was
+  agrees_whole : (flags : List Bool) (base client : Fields A) → length base ≡ length flags → length client ≡ length flags → key_fields flags base ≡ key_fields flags client →
+      has_old_values flags (full_record base) client ≡ true → base ≡ client
+  agrees_whole [] [] [] w w' keys h = refl
+  agrees_whole [] [] (c ∷ client) w w' keys h = cc
+  agrees_whole [] (b ∷ base) client w w' keys h = cc
+  agrees_whole (key ∷ flags) [] client w w' keys h = cc
+  agrees_whole (key ∷ flags) (b ∷ base) [] w w' keys h = cc
+  agrees_whole (true ∷ flags) (b ∷ base) (c ∷ client) w w' keys h =
+      let firsts : (b ≡ c) × (key_fields flags base ≡ key_fields flags client) = same_first keys in
+      λ i. firsts.0 i ∷ agrees_whole flags base client (cc) (cc) firsts.1 h i
+  agrees_whole (false ∷ flags) (b ∷ base) (c ∷ client) w w' keys h =
+      let parts = and_parts (value_eq b c) (has_old_values flags (full_record base) client) h in
+      λ i. (value_eq_decides b c).0 parts.0 i ∷ agrees_whole flags base client (cc) (cc) keys parts.1 i
+
+  module _ (b c m : Value A) where
+    new_stays : (y : Bool) → value_eq b m ≡ y → has_old_value false (cond (not y) (Some b) None) c ≡ true → new_field false m (then_value y c m) ≡ new_field false b c
+    new_stays true q h = ap (λ (v : Value A). cond (not (value_eq v c)) (Some c) None) (sym ((value_eq_decides b m).0 q))
+    new_stays false q h = rw (value_same m m refl, h) refl
+
+    old_stays : (y : Bool) → value_eq b m ≡ y → has_old_value false (cond (not y) (Some b) None) c ≡ true → old_field false m (then_value y c m) ≡ old_field false b c
+    old_stays true q h = ap (λ (v : Value A). cond (not (value_eq v c)) (Some v) None) (sym ((value_eq_decides b m).0 q))
+    old_stays false q h = rw (value_same m m refl, h) refl
+
+  record Stays (flags : List Bool) (base client hub : Fields A) : Type 0 where
+    new_is : by_column new_field flags hub (after_update flags base client hub) ≡ by_column new_field flags base client
+    old_is : by_column old_field flags hub (after_update flags base client hub) ≡ by_column old_field flags base client
+
+  stays : (flags : List Bool) (base client hub : Fields A) → length base ≡ length flags → length client ≡ length flags → length hub ≡ length flags →
+      key_fields flags base ≡ key_fields flags hub → has_old_values flags (by_column old_field flags base hub) client ≡ true → Stays flags base client hub
+  stays [] [] [] [] w w' w'' keys h = record { new_is = refl; old_is = refl }
+  stays [] [] [] (m ∷ hub) w w' w'' keys h = cc
+  stays [] [] (c ∷ client) hub w w' w'' keys h = cc
+  stays [] (b ∷ base) client hub w w' w'' keys h = cc
+  stays (key ∷ flags) [] client hub w w' w'' keys h = cc
+  stays (key ∷ flags) (b ∷ base) [] hub w w' w'' keys h = cc
+  stays (key ∷ flags) (b ∷ base) (c ∷ client) [] w w' w'' keys h = cc
+  stays (true ∷ flags) (b ∷ base) (c ∷ client) (m ∷ hub) w w' w'' keys h =
+      let firsts : (b ≡ m) × (key_fields flags base ≡ key_fields flags hub) = same_first keys in
+      let more = stays flags base client hub (cc) (cc) (cc) firsts.1 h in
+      record { new_is = ap (λ (r : RecordFields A). None ∷ r) more.new_is; old_is = λ i. Some (sym firsts.0 i) ∷ more.old_is i }
+  stays (false ∷ flags) (b ∷ base) (c ∷ client) (m ∷ hub) w w' w'' keys h =
+      let parts = and_parts (has_old_value false (old_field false b m) c) (has_old_values flags (by_column old_field flags base hub) client) h in
+      let more = stays flags base client hub (cc) (cc) (cc) keys parts.1 in record {
+        new_is = λ i. new_stays b c m (value_eq b m) refl parts.0 i ∷ more.new_is i;
+        old_is = λ i. old_stays b c m (value_eq b m) refl parts.0 i ∷ more.old_is i;
+      }
+
+  module _ (flags : List Bool) (key : Fields A) where
+    updated_on : (indirect flag : Bool) (base client hub : Fields A) → IsUnder flags key (Some base) → IsUnder flags key (Some client) → IsUnder flags key (Some hub) →
+        (base ≡ client → ⊥) → has_old_values flags (by_column old_field flags base hub) client ≡ true →
+        change_of flags indirect (Some hub) (Some (after_update flags base client hub)) ≡ Some (Update indirect (by_column old_field flags base client) (by_column new_field flags base client))
+    updated_on indirect flag base client hub b c m other agrees =
+        let then = after_update flags base client hub in
+        let keys = key_is flags base key b.1 ∙ sym (key_is flags hub key m.1) in
+        let left = leaves flags base client hub b.0 c.0 m.0 keys in
+        let stay = stays flags base client hub b.0 c.0 m.0 keys agrees in
+        let then_key : key_of flags then ≡ Some key = ap (λ (k : Fields A). cond (is_key k) (Some k) None) left.key_kept ∙ b.1 in
+        let some : list_any is_some (by_column new_field flags base client) ≡ true =
+        update_modifies flags base client (record { wide = b.0; keyed = rw b.1 refl }) (record { wide = c.0; keyed = rw c.1 refl }) (b.1 ∙ sym c.1) other in
+        sym (between_rows flags indirect key hub then m.0 left.wide m.1 then_key (fields_eq hub then) refl)
+        ∙ (λ i. cond (list_any is_some (stay.new_is i)) (Some (Update indirect (stay.old_is i) (stay.new_is i))) None)
+        ∙ ap (λ b. cond b (Some (Update indirect (by_column old_field flags base client) (by_column new_field flags base client))) None) some
+
+    unmet : (indirect flag : Bool) (base client hub : Option (Fields A)) (local remote : RowChange A) →
+        IsUnder flags key base → IsUnder flags key client → IsUnder flags key hub →
+        change_of flags indirect base client ≡ Some local → change_of flags flag base hub ≡ Some remote → conflict_at flags remote client ≡ None →
+        change_of flags indirect hub (row_after (length flags) (patch_of flags remote) client) ≡ Some local
+    unmet indirect flag None None hub local remote b c m made made' met = absurd (cc made)
+    unmet indirect flag None (Some now) None local remote b c m made made' met = absurd (cc made')
+    unmet indirect flag None (Some now) (Some then) local remote b c m made made' met =
+        let same : Insert flag (full_record then) ≡ remote = cc made' in
+        absurd (no_conflict (conflict_at flags remote (Some now)) (ap (λ (r : RowChange A). conflict_at flags r (Some now)) (sym same)) met)
+    unmet indirect flag (Some image) None None local remote b c m made made' met =
+        let same : Delete flag (full_record image) ≡ remote = cc made' in
+        absurd (no_conflict (conflict_at flags remote None) (ap (λ (r : RowChange A). conflict_at flags r None) (sym same)) met)
+    unmet indirect flag (Some image) None (Some then) local remote b c m made made' met = differ (fields_eq image then) made'
+      where
+        differ : (x : Bool) → cond x None (Some (Update flag (by_column old_field flags image then) (by_column new_field flags image then))) ≡ Some remote →
+            change_of flags indirect (Some then) (row_after (length flags) (patch_of flags remote) None) ≡ Some local
+        differ true e = absurd (cc e)
+        differ false e =
+            let same : Update flag (by_column old_field flags image then) (by_column new_field flags image then) ≡ remote = cc e in
+            absurd (no_conflict (conflict_at flags remote None) (ap (λ (r : RowChange A). conflict_at flags r None) (sym same)) met)
+    unmet indirect flag (Some image) (Some now) None local remote b c m made made' met =
+        let same : Delete flag (full_record image) ≡ remote = cc made' in
+        let agrees = none_met (has_old_values flags (full_record image) now) (ap (λ (r : RowChange A). conflict_at flags r (Some now)) same ∙ met) in
+        let rows : image ≡ now = agrees_whole flags image now b.0 c.0 (key_is flags image key b.1 ∙ sym (key_is flags now key c.1)) agrees in
+        absurd (cc (made, change_of-same flags indirect image now rows))
+    unmet indirect flag (Some image) (Some now) (Some then) local remote b c m made made' met = differ (fields_eq image now) (fields_eq image then) refl made made'
+      where
+        differ : (x y : Bool) → fields_eq image now ≡ x → cond x None (Some (Update indirect (by_column old_field flags image now) (by_column new_field flags image now))) ≡ Some local →
+            cond y None (Some (Update flag (by_column old_field flags image then) (by_column new_field flags image then))) ≡ Some remote →
+            change_of flags indirect (Some then) (row_after (length flags) (patch_of flags remote) (Some now)) ≡ Some local
+        differ true y is e e' = absurd (cc e)
+        differ false true is e e' = absurd (cc e')
+        differ false false is e e' =
+            let remote_is : Update flag (by_column old_field flags image then) (by_column new_field flags image then) ≡ remote = cc e' in
+            let other : image ≡ now → ⊥ = λ same. absurd (cc (is, (fields_eq_decides image now).1 same)) in
+            let agrees = none_met (has_old_values flags (by_column old_field flags image then) now) (ap (λ (r : RowChange A). conflict_at flags r (Some now)) remote_is ∙ met) in
+            subst (λ (r : RowChange A). change_of flags indirect (Some then) (row_after (length flags) (patch_of flags r) (Some now)) ≡ Some local) remote_is
+            (updated_on indirect flag image now then b c m other agrees ∙ e)
+
+    -- ---- the client's row then
+
+    after_under : (flag : Bool) (base client hub : Option (Fields A)) (remote : RowChange A) → IsUnder flags key base → IsUnder flags key client → IsUnder flags key hub →
+        change_of flags flag base hub ≡ Some remote → IsUnder flags key (row_after (length flags) (patch_of flags remote) client)
+    after_under flag None client None remote b c m made = absurd (cc made)
+    after_under flag None client (Some then) remote b c m made =
+        let same : Insert flag (full_record then) ≡ remote = cc made in
+        let asks = asks_by_change flags flag key None (Some then) (Insert flag (full_record then)) tt m refl in
+        subst (λ (r : RowChange A). IsUnder flags key (row_after (length flags) (patch_of flags r) client)) same (subst (IsUnder flags key) (sym asks.leaves) m)
+    after_under flag (Some image) client None remote b c m made =
+        let same : Delete flag (full_record image) ≡ remote = cc made in
+        subst (λ (r : RowChange A). IsUnder flags key (row_after (length flags) (patch_of flags r) client)) same tt
+    after_under flag (Some image) client (Some then) remote b c m made = differ (fields_eq image then) made
+      where
+        updated_under : (row : Option (Fields A)) → IsUnder flags key row → IsUnder flags key (row_after (length flags) (patch_of flags (Update flag (by_column old_field flags image then) (by_column new_field flags image then))) row)
+        updated_under None u = tt
+        updated_under (Some now) u =
+            let left = leaves flags image now then b.0 u.0 m.0 (key_is flags image key b.1 ∙ sym (key_is flags then key m.1)) in
+            (left.wide, ap (λ (k : Fields A). cond (is_key k) (Some k) None) left.key_kept ∙ b.1)
+
+        differ : (x : Bool) → cond x None (Some (Update flag (by_column old_field flags image then) (by_column new_field flags image then))) ≡ Some remote →
+            IsUnder flags key (row_after (length flags) (patch_of flags remote) client)
+        differ true e = absurd (cc e)
+        differ false e =
+            let same : Update flag (by_column old_field flags image then) (by_column new_field flags image then) ≡ remote = cc e in
+            subst (λ (r : RowChange A). IsUnder flags key (row_after (length flags) (patch_of flags r) client)) same (updated_under client c)
+
+    -- the change between two rows leads from the one to the other
+    leads : (indirect : Bool) (before after : Option (Fields A)) (o : Option (RowChange A)) → IsUnder flags key before → IsUnder flags key after →
+        o ≡ change_of flags indirect before after → Leads flags before o after
+    leads indirect before after (Some change) p q e =
+        let asks = asks_by_change flags indirect key before after change p q (sym e) in
+        (asks.met, asks.leaves)
+    leads indirect None None None p q e = refl
+    leads indirect None (Some now) None p q e = cc e
+    leads indirect (Some image) None None p q e = cc e
+    leads indirect (Some image) (Some now) None p q e = differ (fields_eq image now) refl e
+      where
+        differ : (x : Bool) → fields_eq image now ≡ x → None ≡ cond x None (Some (Update indirect (by_column old_field flags image now) (by_column new_field flags image now))) → Some image ≡ Some now
+        differ true is e = ap Some ((fields_eq_decides image now).0 is)
+        differ false is e = cc e
+
   -- ---- by the answer
 
   by_flag : (flags : List Bool) (flag : Bool) (remote local : RowChange A) → is_indirect remote ≡ flag → rebased flags remote local ≡ cond flag (over_replaced flags remote local) (over_omitted flags remote local)
@@ -267,3 +422,20 @@ module _ {A : Type 0} where
       ∙ replaced flags key (is_indirect local) (is_indirect remote) base client hub local remote kind h.base_under h.client_under h.hub_under h.local_is h.remote_is met made_so.1
       ∙ ap (λ b. change_of flags (is_indirect local) hub (client_after flags b remote client)) made_so.0)
   over_one_remote flags key base client hub local remote buffered number kind Abort made h met is has = absurd (cc has)
+
+  pub over_no_conflict : (flags : List Bool) (key : Fields A) (base client hub : Option (Fields A)) (local remote : RowChange A) →
+      HaveOneBase flags key base client hub local remote → conflict_at flags remote client ≡ None → change_of flags (is_indirect local) hub (client_after flags true remote client) ≡ Some local
+  over_no_conflict flags key base client hub local remote h met =
+      unmet flags key (is_indirect local) (is_indirect remote) base client hub local remote h.base_under h.client_under h.hub_under h.local_is h.remote_is met
+
+  after_made : (flags : List Bool) (key : Fields A) (base client hub : Option (Fields A)) (local remote : RowChange A) (made : Bool) →
+      HaveOneBase flags key base client hub local remote → IsUnder flags key (client_after flags made remote client)
+  after_made flags key base client hub local remote true h = after_under flags key (is_indirect remote) base client hub remote h.base_under h.client_under h.hub_under h.remote_is
+  after_made flags key base client hub local remote false h = h.client_under
+
+  pub leads_on_the_hub : (flags : List Bool) (key : Fields A) (base client hub : Option (Fields A)) (local remote buffered : RowChange A) (number : ℕ) (kind : ConflictKind) (answer : Answer) (made : Bool) →
+      HaveOneBase flags key base client hub local remote → conflict_at flags remote client ≡ Some kind → made_anyway number kind answer ≡ Ok made → answered answer remote ≡ Some buffered →
+      Leads flags hub (rebased flags buffered local) (client_after flags made remote client)
+  leads_on_the_hub flags key base client hub local remote buffered number kind answer made h met is has =
+      leads flags key (is_indirect local) hub (client_after flags made remote client) (rebased flags buffered local) h.hub_under (after_made flags key base client hub local remote made h)
+      (over_one_remote flags key base client hub local remote buffered number kind answer made h met is has)

@@ -1,5 +1,5 @@
 -- One row of a base, of a client that has made a local change of it, and of a hub that has made a remote one.
-use Rattle.std.specs.Prelude.{◌≡◌, Bool, List, Option, Some, None, length, if◌then◌else◌}
+use Rattle.std.specs.Prelude.{◌≡◌, Bool, true, List, Option, Some, None, length, if◌then◌else◌}
 use Rattle.cap_row.specs.Fields.{Fields}
 use Rattle.cap_changes.specs.Change.{change_of}
 use Rattle.cap_changes.specs.Patch.{patch_of}
@@ -28,3 +28,10 @@ module _ {A : Type 0} where
   abbrev pub client_after : List Bool → Bool → RowChange A → Option (Fields A) → Option (Fields A)
   client_after flags made remote client =
       if made then row_after (length flags) (patch_of flags remote) client else client
+
+  -- The change, or none, leads from a row to another one: it meets no conflict there, so no answer of a policy is
+  -- asked for, and leaves the other row.
+  abbrev pub Leads : List Bool → Option (Fields A) → Option (RowChange A) → Option (Fields A) → Type 0
+  Leads flags before None after = before ≡ after
+  Leads flags before (Some change) after =
+      (conflict_at flags change before ≡ None) × (client_after flags true change before ≡ after)

@@ -1,6 +1,6 @@
 //! Laws of rebasing, over the definitions alone. The functions do nothing at run time.
 
-ghost use Rattle.std.specs.Prelude.{◌≡◌, ℕ, Bool, List, Option, Some, None, Ok};
+ghost use Rattle.std.specs.Prelude.{◌≡◌, ℕ, Bool, true, List, Option, Some, None, Ok};
 ghost use Rattle.cap_row.specs.Fields.{Fields};
 ghost use Rattle.cap_changes.specs.Change.{change_of};
 ghost use Rattle.cap_changes.specs.declared.row_change.RowChange.{RowChange};
@@ -9,15 +9,15 @@ ghost use Rattle.cap_apply.specs.Policy.{made_anyway};
 ghost use Rattle.cap_apply.specs.declared.conflict.ConflictKind.{ConflictKind};
 ghost use Rattle.cap_apply.specs.declared.policy.Answer.{Answer};
 ghost use Rattle.cap_rebase.specs.Buffer.{answered};
-ghost use Rattle.cap_rebase.specs.OneRow.{HaveOneBase, client_after, conflict_at};
+ghost use Rattle.cap_rebase.specs.OneRow.{HaveOneBase, Leads, client_after, conflict_at};
 ghost use Rattle.cap_rebase.specs.Rebase.{rebased};
 
 use cap_value::AllocHandle;
 
 /// A client and a hub have changed one row of their base. The hub's change is applied to the client's row, with
-/// success. Where it meets a conflict, the client's change over it is exactly the change from the hub's row to
-/// the row that the client then has. Where it meets none, the client's change as it stands is.
+/// success. The client's change over it is then the change from the hub's row to the row that the client has.
 pub fn rebased_from_the_hub_to_the_client<A: AllocHandle>()
+    // The hub's change meets a conflict.
     ensures conflict { (flags : List Bool) (key : Fields A) (base client hub : Option (Fields A))
         (local remote buffered : RowChange A) (number : ℕ) (kind : ConflictKind) (answer : Answer)
         (made : Bool) → HaveOneBase flags key base client hub local remote →
@@ -25,4 +25,16 @@ pub fn rebased_from_the_hub_to_the_client<A: AllocHandle>()
         answered answer remote ≡ Some buffered →
         rebased flags buffered local
         ≡ change_of flags (is_indirect local) hub (client_after flags made remote client) }
+    // So on the hub it meets none, and leaves the client's row.
+    ensures hub { (flags : List Bool) (key : Fields A) (base client hub : Option (Fields A))
+        (local remote buffered : RowChange A) (number : ℕ) (kind : ConflictKind) (answer : Answer)
+        (made : Bool) → HaveOneBase flags key base client hub local remote →
+        conflict_at flags remote client ≡ Some kind → made_anyway number kind answer ≡ Ok made →
+        answered answer remote ≡ Some buffered →
+        Leads flags hub (rebased flags buffered local) (client_after flags made remote client) }
+    // The hub's change meets no conflict, and is not in the buffer: the client's change as it stands.
+    ensures none { (flags : List Bool) (key : Fields A) (base client hub : Option (Fields A))
+        (local remote : RowChange A) → HaveOneBase flags key base client hub local remote →
+        conflict_at flags remote client ≡ None →
+        change_of flags (is_indirect local) hub (client_after flags true remote client) ≡ Some local }
 {}
