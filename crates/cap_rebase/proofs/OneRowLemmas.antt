@@ -1,14 +1,13 @@
 -- A change over a remote one of its row, from one base, leads from the hub's row to the client's.
 use Rattle.std.proofs.lemmas.Bool.{and_parts}
-use Rattle.std.proofs.Common.{◌≡◌, ℕ, suc, List, [], ◌∷◌, length, Bool, true, false, not, ◌&&◌, ◌||◌, Option, Some, None, is_some, Ok, Err, cond, refl, ap, sym, subst, ◌∙◌}
-use Rattle.std.specs.Prelude.{fold}
+use Rattle.std.proofs.Common.{◌≡◌, ℕ, suc, List, [], ◌∷◌, length, Bool, true, false, not, Option, Some, None, is_some, Ok, cond, refl, ap, sym, subst, ◌∙◌}
 use Rattle.std.specs.List.{list_any}
 use Rattle.std.specs.Option.{ForSome, option_map, unwrap_or}
 use Rattle.cap_value.specs.declared.value.Value.{Value}
 use Rattle.cap_value.specs.Value.{value_eq, value_eq_decides}
 use Rattle.cap_row.specs.Fields.{Fields}
 use Rattle.cap_row.specs.Key.{fields_eq, fields_eq_decides, is_key, key_fields, key_of}
-use Rattle.cap_changes.specs.Change.{IsKeyedRow, change_of, full_record, is_modified, new_field, old_field}
+use Rattle.cap_changes.specs.Change.{change_of, full_record, new_field, old_field}
 use Rattle.cap_changes.specs.Column.{by_column}
 use Rattle.cap_changes.specs.FieldRecord.{RecordFields}
 use Rattle.cap_changes.specs.Invert.{inverse_of}
@@ -16,14 +15,11 @@ use Rattle.cap_changes.specs.Patch.{patch_of, update_record}
 use Rattle.cap_changes.specs.declared.row_change.RowChange.{RowChange}
 use Rattle.cap_changes.specs.declared.row_change.RowChange.TheVariants.{Insert, Update, Delete}
 use Rattle.cap_changes.proofs.ChangeLemmas.{change_of-other, change_of-same, update_modifies}
-use Rattle.cap_group.specs.Combined.{combined}
-use Rattle.cap_group.specs.KeyedChanges.{change_after}
-use Rattle.cap_group.specs.Rows.{Follow, IsRowUnder, is_indirect, together}
+use Rattle.cap_group.specs.Rows.{Follow, IsRowUnder, is_indirect}
 use Rattle.cap_group.proofs.JoinLemmas.{followed}
-use Rattle.cap_apply.specs.Difference.{Difference, IsDifference, IsUnder, turned}
+use Rattle.cap_apply.specs.Difference.{IsUnder}
 use Rattle.cap_apply.specs.Policy.{made_anyway}
-use Rattle.cap_apply.specs.Requested.{old_record, requested_by_change}
-use Rattle.cap_apply.specs.Row.{conflict_of, has_old_value, has_old_values, missed, row_after, set_fields}
+use Rattle.cap_apply.specs.Row.{has_old_value, has_old_values, row_after, set_fields}
 use Rattle.cap_apply.specs.declared.conflict.ConflictKind.{ConflictKind}
 use Rattle.cap_apply.specs.declared.conflict.ConflictKind.TheVariants.{Data, NotFound, Conflict}
 use Rattle.cap_apply.specs.declared.policy.Answer.{Answer}
@@ -32,7 +28,7 @@ use Rattle.cap_apply.proofs.CaptureLemmas.{asks_by_change, turned_difference}
 use Rattle.cap_rebase.specs.Buffer.{answered}
 use Rattle.cap_rebase.specs.Flag.{flagged}
 use Rattle.cap_rebase.specs.OneRow.{HaveOneBase, Leads, client_after, conflict_at}
-use Rattle.cap_rebase.specs.Rebase.{field_left, new_left, old_left, over_omitted, over_replaced, rebased, update_left}
+use Rattle.cap_rebase.specs.Rebase.{field_left, new_left, old_left, over_omitted, over_replaced, rebased}
 
 no_conflict : {kind : ConflictKind} (met : Option ConflictKind) → met ≡ Some kind → met ≡ None → ⊥
 no_conflict met e e' = absurd (cc (e, e'))

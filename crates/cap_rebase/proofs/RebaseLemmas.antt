@@ -1,5 +1,5 @@
 -- What becomes of one change over one remote change of its row: its flag, and that it fits its table.
-use Rattle.std.proofs.Common.{◌≡◌, List, [], ◌∷◌, ◌++◌, Bool, true, false, ◌&&◌, Option, Some, None, is_some, is_none, cond, refl, ap, sym, subst, ◌∙◌}
+use Rattle.std.proofs.Common.{◌≡◌, List, [], ◌∷◌, Bool, true, false, Option, Some, None, is_some, is_none, cond, refl, sym, subst}
 use Rattle.std.specs.Prelude.{IfOk, IfSome, IsTrue, Result, Ok, Err}
 use Rattle.std.specs.Option.{option_map}
 use Rattle.std.specs.List.{list_any}
@@ -20,7 +20,7 @@ use Rattle.cap_group.specs.Record.{differ, old_field, new_field, update_between}
 use Rattle.cap_group.specs.Rows.{is_indirect}
 use Rattle.cap_group.proofs.FitLemmas.{combined-fits}
 use Rattle.cap_rebase.specs.Flag.{flagged}
-use Rattle.cap_rebase.specs.Rebase.{field_left, new_left, old_left, over_omitted, over_replaced, update_left}
+use Rattle.cap_rebase.specs.Rebase.{field_left, new_left, old_left, over_omitted, over_replaced}
 
 if_some : {X : Type 0} (b : Bool) (x : X) (fits : X → Bool) → fits x ≡ true → IfSome (cond b (Some x) None) (λ one. IsTrue (fits one))
 if_some true x fits h = h

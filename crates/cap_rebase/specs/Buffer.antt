@@ -2,7 +2,6 @@
 -- Session Extension, "sqlite3changeset_apply_v2").
 use Rattle.std.specs.Prelude.{ℕ, ◌+◌, ◌-◌, nat_lt, List, [], ◌∷◌, Option, Some, None, true, false}
 use Rattle.std.specs.Prelude.{length, filter, filter_map, slice_get, if◌then◌else◌}
-use Rattle.cap_changes.specs.Entries.{TableEntries}
 use Rattle.cap_changes.specs.Group.{TableChanges}
 use Rattle.cap_changes.specs.declared.row_change.RowChange.{RowChange}
 use Rattle.cap_codec.specs.Writable.{has_some}

@@ -5,7 +5,6 @@ use Rattle.std.specs.Prelude.{filter, filter_map, flat_map, ◌&&◌, if◌then�
 use Rattle.std.specs.List.{list_any}
 use Rattle.cap_value.specs.Bytes.{bytes_eq}
 use Rattle.cap_row.specs.Schema.{flags_eq}
-use Rattle.cap_changes.specs.Entries.{TableEntries}
 use Rattle.cap_changes.specs.Group.{TableChanges}
 use Rattle.cap_changes.specs.declared.row_change.RowChange.{RowChange}
 use Rattle.cap_codec.specs.Writable.{has_some}

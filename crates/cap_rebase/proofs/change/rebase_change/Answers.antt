@@ -1,5 +1,3 @@
-use Rattle.std.proofs.Common.{◌≡◌, true, false, sym, ◌∙◌}
-use Rattle.cap_group.specs.Rows.{is_indirect}
 use Rattle.cap_rebase.specs.Rebase.{over_omitted, over_replaced}
 use Rattle.cap_rebase.proofs.RebaseLemmas.{made-fits, omitted-fits, replaced-fits}
 use Rattle.cap_rebase.proofs.change.rebase_change.Goals as goal

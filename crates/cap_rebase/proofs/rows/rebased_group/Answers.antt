@@ -1,4 +1,4 @@
-use Rattle.std.proofs.Common.{arith, ap, ◌∙◌, ◌++◌, drop, ◌+◌}
+use Rattle.std.proofs.Common.{ap, ◌∙◌, ◌++◌, drop, ◌+◌}
 use Rattle.std.specs.Prelude.{filter_map}
 use Rattle.cap_changes.specs.Group.{TableChanges}
 use Rattle.cap_rebase.specs.Rebaser.{rebased_in}

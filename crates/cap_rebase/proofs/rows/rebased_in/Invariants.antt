@@ -1,4 +1,4 @@
-use Rattle.std.proofs.Common.{◌≡◌, Some, drop}
+use Rattle.std.proofs.Common.{◌≡◌, drop}
 use Rattle.std.specs.Prelude.{IfSome, IsTrue}
 use Rattle.cap_changes.specs.Fits.{change_fits}
 use Rattle.cap_rebase.specs.Rebase.{rebased_over}
