@@ -1,0 +1,7 @@
+//! Tests of rebasing, through its public calls.
+#![tactic(auto)]
+
+#[cfg(test)]
+mod buffers;
+#[cfg(test)]
+mod changesets;
