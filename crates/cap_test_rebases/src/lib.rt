@@ -2,6 +2,8 @@
 #![tactic(auto)]
 
 #[cfg(test)]
+mod blobs;
+#[cfg(test)]
 mod buffers;
 #[cfg(test)]
 mod changesets;
