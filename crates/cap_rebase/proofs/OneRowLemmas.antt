@@ -1,7 +1,7 @@
 -- A change over a remote one of its row, from one base, leads from the hub's row to the client's.
 use Rattle.std.proofs.lemmas.Bool.{and_parts}
 use Rattle.std.proofs.Common.{◌≡◌, ℕ, suc, List, [], ◌∷◌, length, Bool, true, false, not, Option, Some, None, is_some, Ok, cond, refl, ap, sym, subst, ◌∙◌}
-use Rattle.std.specs.List.{list_any}
+use Rattle.std.specs.List.{cons_option, list_any}
 use Rattle.std.specs.Option.{ForSome, option_map, unwrap_or}
 use Rattle.cap_value.specs.declared.value.Value.{Value}
 use Rattle.cap_value.specs.Value.{value_eq, value_eq_decides}
@@ -27,8 +27,8 @@ use Rattle.cap_apply.specs.declared.policy.Answer.TheVariants.{Omit, Replace, Ab
 use Rattle.cap_apply.proofs.CaptureLemmas.{asks_by_change, turned_difference}
 use Rattle.cap_rebase.specs.Buffer.{answered}
 use Rattle.cap_rebase.specs.Flag.{flagged}
-use Rattle.cap_rebase.specs.OneRow.{HaveOneBase, Leads, client_after, conflict_at}
-use Rattle.cap_rebase.specs.Rebase.{field_left, new_left, old_left, over_omitted, over_replaced, rebased}
+use Rattle.cap_rebase.specs.OneRow.{AreApplied, HaveOneBase, IsApplied, Leads, Remote, all_buffered, client_after, conflict_at}
+use Rattle.cap_rebase.specs.Rebase.{field_left, new_left, old_left, over_omitted, over_replaced, rebased, rebased_next, rebased_over}
 
 no_conflict : {kind : ConflictKind} (met : Option ConflictKind) → met ≡ Some kind → met ≡ None → ⊥
 no_conflict met e e' = absurd (cc (e, e'))
@@ -435,3 +435,78 @@ module _ {A : Type 0} where
   leads_on_the_hub flags key base client hub local remote buffered number kind answer made h met is has =
       leads flags key (is_indirect local) hub (client_after flags made remote client) (rebased flags buffered local) h.hub_under (after_made flags key base client hub local remote made h)
       (over_one_remote flags key base client hub local remote buffered number kind answer made h met is has)
+
+  -- ---- several remote changes, one after the other
+
+  flag_is : (flags : List Bool) (indirect : Bool) (before after : Option (Fields A)) (change : RowChange A) → change_of flags indirect before after ≡ Some change → is_indirect change ≡ indirect
+  flag_is flags indirect before after change e =
+      let twice : Some (flagged indirect change) ≡ Some change = ap (option_map (flagged indirect)) (sym e) ∙ reflagged_between flags indirect indirect before after ∙ e in
+      let same : flagged indirect change ≡ change = cc twice in
+      ap is_indirect (sym same) ∙ flag_of indirect change
+
+  not_none : (remote : RowChange A) (number : ℕ) (kind : ConflictKind) (answer : Answer) (made : Bool) → made_anyway number kind answer ≡ Ok made → None ≡ answered answer remote → ⊥
+  not_none remote number kind Omit made is has = absurd (cc has)
+  not_none remote number kind Replace made is has = absurd (cc has)
+  not_none remote number kind Abort made is has = absurd (cc is)
+
+  unchanged : (flags : List Bool) (indirect : Bool) (row : Option (Fields A)) → None ≡ change_of flags indirect row row
+  unchanged flags indirect None = refl
+  unchanged flags indirect (Some row) = sym (change_of-same flags indirect row row refl)
+
+  -- over what a buffer has of one more remote change
+  abbrev stepped : List Bool → Option (RowChange A) → Option (RowChange A) → Option (RowChange A)
+  stepped flags local None = local
+  stepped flags local (Some remote) = rebased_next flags local remote
+
+  over_more : (flags : List Bool) (local buffered : Option (RowChange A)) (remotes : List (RowChange A)) → rebased_over flags local (cons_option buffered remotes) ≡ rebased_over flags (stepped flags local buffered) remotes
+  over_more flags local None remotes = refl
+  over_more flags local (Some remote) remotes = refl
+
+  module _ (flags : List Bool) (key : Fields A) (indirect : Bool) (base client : Option (Fields A)) (remote : Remote A) (b : IsUnder flags key base) (c : IsUnder flags key client) (m : IsUnder flags key remote.hub)
+      (is : change_of flags (is_indirect remote.change) base remote.hub ≡ Some remote.change) where
+    abbrev Steps : Option (RowChange A) → Bool → Type 0
+    Steps local made = stepped flags local remote.buffered ≡ change_of flags indirect remote.hub (client_after flags made remote.change client)
+
+    some_unmet : (local : RowChange A) → change_of flags indirect base client ≡ Some local → conflict_at flags remote.change client ≡ None → remote.buffered ≡ None → Steps (Some local) true
+    some_unmet local e met nothing =
+        ap (stepped flags (Some local)) nothing ∙ sym (unmet flags key indirect (is_indirect remote.change) base client remote.hub local remote.change b c m e is met)
+
+    some_met : (local : RowChange A) (kind : ConflictKind) (number : ℕ) (answer : Answer) (made : Bool) → change_of flags indirect base client ≡ Some local → conflict_at flags remote.change client ≡ Some kind →
+        made_anyway number kind answer ≡ Ok made → (o : Option (RowChange A)) → o ≡ answered answer remote.change →
+        stepped flags (Some local) o ≡ change_of flags indirect remote.hub (client_after flags made remote.change client)
+    some_met local kind number answer made e met so None has = absurd (not_none remote.change number kind answer made so has)
+    some_met local kind number answer made e met so (Some one) has =
+        let flag = flag_is flags indirect base client local e in
+        let local_is : change_of flags (is_indirect local) base client ≡ Some local = ap (λ i. change_of flags i base client) flag ∙ e in
+        over_one_remote flags key base client remote.hub local remote.change one number kind answer made
+        (record { base_under = b; client_under = c; hub_under = m; local_is = local_is; remote_is = is }) met so (sym has)
+        ∙ ap (λ i. change_of flags i remote.hub (client_after flags made remote.change client)) flag
+
+    -- nothing is left where the client has the hub's row
+    none_left : None ≡ change_of flags indirect base client → (conflict_at flags remote.change client ≡ None) × (client_after flags true remote.change client ≡ remote.hub)
+    none_left e =
+        let rows : base ≡ client = leads flags key indirect base client None b c e in
+        let asks = asks_by_change flags (is_indirect remote.change) key base remote.hub remote.change b m is in
+        (ap (conflict_at flags remote.change) (sym rows) ∙ asks.met, ap (client_after flags true remote.change) (sym rows) ∙ asks.leaves)
+
+    one_step : (local : Option (RowChange A)) → local ≡ change_of flags indirect base client → (met : Option ConflictKind) → conflict_at flags remote.change client ≡ met → (made : Bool) → IsApplied met remote made → Steps local made
+    one_step (Some local) e None met made (nothing, so) = subst (Steps (Some local)) (sym so) (some_unmet local (sym e) met nothing)
+    one_step (Some local) e (Some kind) met made (number, answer, so, has) = some_met local kind number answer made (sym e) met so remote.buffered has
+    one_step None e None met made (nothing, so) =
+        subst (Steps None) (sym so) (ap (stepped flags None) nothing ∙ unchanged flags indirect remote.hub ∙ ap (change_of flags indirect remote.hub) (sym (none_left e).1))
+    one_step None e (Some kind) met made applied = absurd (no_conflict (conflict_at flags remote.change client) met (none_left e).0)
+
+    under_after : (made : Bool) → IsUnder flags key (client_after flags made remote.change client)
+    under_after true = after_under flags key (is_indirect remote.change) base client remote.hub remote.change b c m is
+    under_after false = c
+
+  pub over_each : (flags : List Bool) (key : Fields A) (indirect : Bool) (base client : Option (Fields A)) (remotes : List (Remote A)) (last_client last_hub : Option (Fields A)) →
+      IsUnder flags key base → IsUnder flags key client → AreApplied flags key client base remotes last_client last_hub →
+      rebased_over flags (change_of flags indirect base client) (all_buffered remotes) ≡ change_of flags indirect last_hub last_client
+  over_each flags key indirect base client [] last_client last_hub b c h = λ i. change_of flags indirect (h.1 i) (h.0 i)
+  over_each flags key indirect base client (remote ∷ remotes) last_client last_hub b c (m, is, (made, applied, more)) =
+      over_more flags (change_of flags indirect base client) remote.buffered (all_buffered remotes)
+      ∙ ap (λ (o : Option (RowChange A)). rebased_over flags o (all_buffered remotes))
+      (one_step flags key indirect base client remote b c m is (change_of flags indirect base client) refl (conflict_at flags remote.change client) refl made applied)
+      ∙ over_each flags key indirect remote.hub (client_after flags made remote.change client) remotes last_client last_hub m
+      (under_after flags key indirect base client remote b c m is made) more
