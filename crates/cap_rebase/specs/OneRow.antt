@@ -39,8 +39,8 @@ module _ {A : Type 0} where
   client_after flags made remote client =
       if made then row_after (length flags) (patch_of flags remote) client else client
 
-  -- The change, or none, leads from a row to another one: it meets no conflict there, so no answer of a policy is
-  -- asked for, and leaves the other row.
+  -- The change, or none, leads from a row to another one: it meets no conflict there, so that no answer of a
+  -- policy is asked for, and leaves the other row.
   abbrev pub Leads : List Bool → Option (Fields A) → Option (RowChange A) → Option (Fields A) → Type 0
   Leads flags before None after = before ≡ after
   Leads flags before (Some change) after =

@@ -1,7 +1,7 @@
 -- A rebaser: the buffers with which it is configured, one after the other, and a changeset over them (The
 -- Session Extension, "Rebasing changesets").
-use Rattle.std.specs.Prelude.{ℕ, ◌+◌, Bool, List, [], ◌∷◌, ◌++◌, Option, Some, None, Result, Ok, Err, map, not}
-use Rattle.std.specs.Prelude.{filter, filter_map, flat_map, ◌&&◌, if◌then◌else◌}
+use Rattle.std.specs.Prelude.{ℕ, ◌+◌, Bool, List, [], ◌∷◌, ◌++◌, Option, Some, None, Result, Ok, Err, not}
+use Rattle.std.specs.Prelude.{map, filter, filter_map, flat_map, ◌&&◌, if◌then◌else◌}
 use Rattle.std.specs.List.{list_any}
 use Rattle.cap_value.specs.Bytes.{bytes_eq}
 use Rattle.cap_row.specs.Schema.{flags_eq}

@@ -1,5 +1,5 @@
 //! The buffer of an application.
-ghost use Rattle.std.specs.Prelude.{◌≡◌, ◌<◌, ◌^◌, ◌+◌, filter_map, IfOk, IfSome, IsTrue, length};
+ghost use Rattle.std.specs.Prelude.{◌≡◌, IfOk, IfSome, IsTrue};
 ghost use Rattle.cap_changes.specs.Fits.{change_fits};
 ghost use Rattle.cap_rebase.specs.Buffer as buffer;
 

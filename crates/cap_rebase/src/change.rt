@@ -3,7 +3,6 @@ ghost use Rattle.std.specs.Prelude.{◌≡◌, Bool, List, IfOk, IfSome, IsTrue}
 ghost use Rattle.std.specs.Option.{option_map};
 ghost use Rattle.cap_changes.specs.FieldRecord.{RecordFields};
 ghost use Rattle.cap_changes.specs.Fits.{change_fits};
-ghost use Rattle.cap_changes.specs.Invert.{inverse_of};
 ghost use Rattle.cap_changes.specs.declared.row_change.RowChange.TheVariants.{Insert, Update, Delete};
 ghost use Rattle.cap_group.specs.Combined.{combined};
 ghost use Rattle.cap_group.specs.Rows.{is_indirect};
@@ -64,7 +63,8 @@ fn after_deleted<A: AllocHandle>(
     old: &FieldRecord<A>,
     local: &RowChange<A>,
 ) -> Result<Option<RowChange<A>>, OutOfMemory>
-    ensures { (answer : Bool) → IfOk result (λ change. change ≡ option_map (flag.flagged (is_indirect local.now))
+    ensures { (answer : Bool) → IfOk result (λ change. change
+        ≡ option_map (flag.flagged (is_indirect local.now))
         (combined schema.now (Delete answer old.now) local.now)) }
 {
     match local {
@@ -90,7 +90,8 @@ fn after_updated<A: AllocHandle>(
     new: FieldRecord<A>,
     local: &RowChange<A>,
 ) -> Result<Option<RowChange<A>>, OutOfMemory>
-    ensures { (answer : Bool) → IfOk result (λ change. change ≡ option_map (flag.flagged (is_indirect local.now))
+    ensures { (answer : Bool) → IfOk result (λ change. change
+        ≡ option_map (flag.flagged (is_indirect local.now))
         (combined schema.now (Update answer old new) local.now)) }
 {
     match local {
@@ -125,7 +126,8 @@ fn after_inserted<A: AllocHandle>(
     local: &RowChange<A>,
 ) -> Result<Option<RowChange<A>>, OutOfMemory>
     ensures { (answer : Bool) (flags : List Bool) → IfOk result (λ change. change
-        ≡ option_map (flag.flagged (is_indirect local.now)) (combined flags (Insert answer new.now) local.now)) }
+        ≡ option_map (flag.flagged (is_indirect local.now))
+        (combined flags (Insert answer new.now) local.now)) }
 {
     match local {
         RowChange::Insert { indirect, .. } => Ok(Some(RowChange::Insert {

@@ -26,8 +26,9 @@ pub fn one_row_has_one_key<A: AllocHandle>()
         IsTrue (are_of_one_row flags a b) ↔ (change_key flags a ≡ change_key flags b) }
 {}
 
-/// A client and a hub have changed one row of their base. The hub's change is applied to the client's row, with
-/// success. The client's change over it is then the change from the hub's row to the row that the client has.
+/// A client and a hub have changed one row of their base. The hub's change is applied to the client's row,
+/// with success. The client's change over it is then the change from the hub's row to the row that the client
+/// has.
 pub fn rebased_from_the_hub_to_the_client<A: AllocHandle>()
     // The hub's change meets a conflict.
     ensures conflict { (flags : List Bool) (key : Fields A) (base client hub : Option (Fields A))
@@ -51,9 +52,10 @@ pub fn rebased_from_the_hub_to_the_client<A: AllocHandle>()
         change_of flags (is_indirect local) hub (client_after flags true remote client) ≡ Some local }
 {}
 
-/// A client has changed one row of a base, or has not. The hub has changed it too, several times, and each of its
-/// changes is applied to the client's row with success. The client's change over what the buffers have of them is
-/// then the change from the hub's row to the row that the client has, or there is none and the rows are the same.
+/// A client has changed one row of a base, or has not. The hub has changed it too, several times, and each of
+/// its changes is applied to the client's row with success. The client's change over what the buffers have of
+/// them is then the change from the hub's row to the row that the client has, or there is none and the rows
+/// are the same.
 pub fn rebased_over_each_in_turn<A: AllocHandle>()
     ensures { (flags : List Bool) (key : Fields A) (indirect : Bool) (base client : Option (Fields A))
         (remotes : List (Remote A)) (last_client last_hub : Option (Fields A)) →

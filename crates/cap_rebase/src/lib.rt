@@ -1,5 +1,5 @@
-//! Rebasing: a changeset over the remote changes that met a conflict with it (The Session Extension, "Rebasing
-//! changesets").
+//! Rebasing: a changeset over the remote changes that met a conflict with it (The Session Extension,
+//! "Rebasing changesets").
 #![tactic(auto)]
 
 mod buffer;

@@ -61,8 +61,8 @@ impl<A: AllocHandle> Rebaser<A> {
 
     /// Adds the buffer of the next application (The Session Extension, "sqlite3rebaser_configure").
     ///
-    /// Refused with `OtherColumns` at the first group whose table has other columns or another key in a buffer
-    /// before it. On an error the rebaser is as before.
+    /// Refused with `OtherColumns` at the first group whose table has other columns or another key in a
+    /// buffer before it. On an error the rebaser is as before.
     pub fn configure(&mut self, buffer: ChangeList<A>) -> Result<(), Fault<RebaseRefusal>>
         ensures content { LeavesUnlessMemory result (rebaser.configured self.old buffer) self.new }
         ensures kept { OnErr result (self.new ≡ self.old) }
@@ -100,8 +100,8 @@ impl<A: AllocHandle> Rebaser<A> {
 
     /// Adds the buffer with these bytes, as `configure` does.
     ///
-    /// Refused with `Malformed` where the bytes are no blob, with `Patchset` where they are a patchset, and with
-    /// `Columns` where `configure` refuses the buffer. On an error the rebaser is as before.
+    /// Refused with `Malformed` where the bytes are no blob, with `Patchset` where they are a patchset, and
+    /// with `Columns` where `configure` refuses the buffer. On an error the rebaser is as before.
     pub fn configure_bytes(&mut self, bytes: &[u8]) -> Result<(), Fault<BlobRefusal>>
         // The buffer that the bytes spell is added.
         ensures spelled { OnOk result ((buffer : List (TableChanges A)) × Spells (Changes buffer) bytes.now
@@ -122,8 +122,8 @@ impl<A: AllocHandle> Rebaser<A> {
 
     /// The bytes of the changeset with these bytes over the buffers, as `rebase` makes it.
     ///
-    /// Refused with `Malformed` where the bytes are no blob, with `Patchset` where they are a patchset, and with
-    /// `Columns` where `rebase` refuses the changeset.
+    /// Refused with `Malformed` where the bytes are no blob, with `Patchset` where they are a patchset, and
+    /// with `Columns` where `rebase` refuses the changeset.
     pub fn rebase_bytes(
         &self,
         key_flags: KeyFlags,

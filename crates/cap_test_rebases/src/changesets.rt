@@ -1,5 +1,5 @@
-//! Changesets over buffers. The values are counted by hand from rows of three columns, of which the first is the
-//! key: what a base had, what a client made of it, and what a hub did.
+//! Changesets over buffers. The values are counted by hand from rows of three columns, of which the first is
+//! the key: what a base had, what a client made of it, and what a hub did.
 use cap_changes::ChangeList;
 use cap_codec::{Contents, KeyFlags, read_blob, write_changes_with};
 use cap_rebase::{RebaseRefusal, Rebaser};
@@ -166,9 +166,11 @@ const SEVERAL: &[Case] = &[
     },
     // An indirect change stays one. The row under 2 and the table u, of other columns, are not in the buffer.
     Case {
-        local: "54030100007400120101000000000000000103016e030171120001000000000000000203017003017154010175001200010000000000000001",
+        local: "54030100007400120101000000000000000103016e0301711200010000000000000002030170030171\
+            54010175001200010000000000000001",
         buffers: &["54030100007400120001000000000000000103016d030171"],
-        rebased: "54030100007400170101000000000000000103016d000003016e00120001000000000000000203017003017154010175001200010000000000000001",
+        rebased: "54030100007400170101000000000000000103016d000003016e0012000100000000000000020301700301\
+            7154010175001200010000000000000001",
     },
 ];
 
