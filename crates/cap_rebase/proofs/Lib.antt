@@ -1,0 +1,4 @@
+pub mod RebaseLemmas
+pub mod PushLemmas
+pub mod OneRowLemmas
+pub mod SameKeyLemmas

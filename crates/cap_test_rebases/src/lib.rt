@@ -1,0 +1,9 @@
+//! Tests of rebasing, through its public calls.
+#![tactic(auto)]
+
+#[cfg(test)]
+mod blobs;
+#[cfg(test)]
+mod buffers;
+#[cfg(test)]
+mod changesets;
