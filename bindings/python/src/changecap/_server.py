@@ -261,7 +261,10 @@ class Server:
         with self._lock:
             self._is_closed = True
             for client in list(self._clients):
-                client.close()
+                if client is not self._first:
+                    client.close()
+            # The first one ends the sessions that nobody refers to, as long as there is another.
+            self._first.close()
 
     def __enter__(self) -> Server:
         return self
