@@ -51,7 +51,13 @@ def _key_flags(number: int) -> int:
 @dataclass
 class Report:
     """What became of an applied blob: the new version, the changes that were applied, those that replaced a row among
-    them, that met a conflict and that were omitted because of one, and the groups that were skipped."""
+    them, that met a conflict and that were omitted because of one, and the groups that were skipped.
+
+    >>> import changecap
+    >>> with Server() as server:
+    ...     server.apply(changecap.EXAMPLE)
+    Report(version=1, applied=0, conflicts=0, omitted=0, skipped=1)
+    """
 
     version: int
     applied: int
