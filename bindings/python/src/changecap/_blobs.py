@@ -30,7 +30,17 @@ class RowId(int):
 
 
 class Row(NamedTuple):
-    """A row, with its `RowId` where it has no key."""
+    """A row, with its `RowId` where it has no key.
+
+    >>> import changecap
+    >>> with changecap.Server() as server:
+    ...     server.create_table("t", [True, False])
+    ...     server.commit(("insert", "t", (1, "x")), ("insert", "t", (None, "y")))
+    ...     server.scan("t")
+    1
+    2
+    [Row(id=None, values=(1, 'x')), Row(id=RowId(1), values=(None, 'y'))]
+    """
 
     id: RowId | None
     values: tuple[Value, ...]

@@ -56,7 +56,16 @@ class Malformed(Error):
 
 
 class NotOneCommand(Error):
-    """A text that is not one command: the number of the fault, as in G1, or 0, and its offset."""
+    """A text that is not one command: the number of the fault, as in G1, or 0, and its offset.
+
+    >>> import changecap
+    >>> with changecap.Server() as server:
+    ...     try:
+    ...         server.call("attach 1 ;")
+    ...     except changecap.NotOneCommand as fault:
+    ...         fault.kind, fault.at
+    (1, 9)
+    """
 
     def __init__(self, kind: int, at: int) -> None:
         super().__init__(COMMAND, f"not one command: G{kind} at {at}")
@@ -64,7 +73,16 @@ class NotOneCommand(Error):
 
 
 class NoFilter(Error):
-    """A text that is no filter: the number of the refusal, 12 or 13, and where the first token does not fit."""
+    """A text that is no filter: the number of the refusal, 12 or 13, and where the first token does not fit.
+
+    >>> import changecap
+    >>> with changecap.Server() as server, server.session() as session:
+    ...     try:
+    ...         session.filter("not is")
+    ...     except changecap.NoFilter as fault:
+    ...         fault.kind, fault.at
+    (12, 6)
+    """
 
     def __init__(self, kind: int, at: int) -> None:
         super().__init__(FILTER, f"no filter: E{kind} at {at}")
@@ -99,7 +117,20 @@ class Refused(Error):
 class Conflict(Refused):
     """A commit on another version than its base, or of a transaction of which something that it looked at has changed.
     Begin again. `table` is the name of a transaction's table that has changed, and `row` the key or the id of its row,
-    or None where it is the table or all of its rows."""
+    or None where it is the table or all of its rows.
+
+    >>> import changecap
+    >>> with changecap.Server() as server:
+    ...     server.create_table("t", [True, False])
+    ...     try:
+    ...         with server.transaction() as transaction:
+    ...             seen = transaction.get("t", (1,))
+    ...             version = server.commit(("insert", "t", (1, "by another")))
+    ...     except changecap.Conflict as conflict:
+    ...         conflict.table, conflict.row
+    1
+    ('t', (1,))
+    """
 
     table: str | None
     row: tuple[Value, ...] | RowId | None
@@ -111,7 +142,13 @@ class Conflict(Refused):
 
 
 class Uncaptured(Error):
-    """A commit that was made, as `version`, and whose capture failed. The session keeps its records."""
+    """A commit that was made, as `version`, and whose capture failed, as where memory is out. The session keeps its
+    records: capture them later, and do not commit again.
+
+    >>> import changecap
+    >>> changecap.Uncaptured(changecap.NOMEM, 2)
+    Uncaptured('committed as version 2, and not captured: out of memory')
+    """
 
     def __init__(self, status: int, version: int) -> None:
         super().__init__(status, f"committed as version {version}, and not captured: {_changecap.errstr(status)}")

@@ -51,7 +51,13 @@ def _key_flags(number: int) -> int:
 @dataclass
 class Report:
     """What became of an applied blob: the new version, the changes that were applied, those that replaced a row among
-    them, that met a conflict and that were omitted because of one, and the groups that were skipped."""
+    them, that met a conflict and that were omitted because of one, and the groups that were skipped.
+
+    >>> import changecap
+    >>> with Server() as server:
+    ...     server.apply(changecap.EXAMPLE)
+    Report(version=1, applied=0, conflicts=0, omitted=0, skipped=1)
+    """
 
     version: int
     applied: int
@@ -261,7 +267,10 @@ class Server:
         with self._lock:
             self._is_closed = True
             for client in list(self._clients):
-                client.close()
+                if client is not self._first:
+                    client.close()
+            # The first one ends the sessions that nobody refers to, as long as there is another.
+            self._first.close()
 
     def __enter__(self) -> Server:
         return self
