@@ -455,7 +455,12 @@ fn transactions() {
     }));
     assert!(panicked.is_err());
     assert_eq!(rows_of(&source, "t").len(), 1);
-    // One that is begun by hand is refused, and begins again by hand.
+}
+
+#[test]
+fn a_transaction_that_begins_again_by_hand() {
+    let (_, source) = with_tables();
+    source.execute("commit insert t (1,'x')").unwrap();
     let mut transaction = source.snapshot().unwrap().transaction().unwrap();
     transaction.get("t", (1,)).unwrap();
     source.execute("commit update t key(1) set 1 = 'y'").unwrap();

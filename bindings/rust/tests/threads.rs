@@ -235,8 +235,10 @@ fn money_that_four_threads_move() {
                 })
             })
             .collect();
-        movers.into_iter().for_each(|mover| mover.join().unwrap());
+        // The others end whatever becomes of these.
+        let moved: Vec<_> = movers.into_iter().map(|mover| mover.join()).collect();
         is_done.store(true, Ordering::Release);
+        moved.into_iter().for_each(|moved| moved.unwrap());
         reader.join().unwrap();
         auditor.join().unwrap()
     });
