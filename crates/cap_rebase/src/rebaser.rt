@@ -177,23 +177,15 @@ fn refused<A: AllocHandle>(buffers: &[ChangeList<A>], groups: &[Group<A>]) -> Op
 fn has_other_columns<A: AllocHandle>(buffers: &[ChangeList<A>], group: &Group<A>) -> bool
     ensures { result ≡ rebaser.has_other_columns buffers.now group.now }
 {
-    for buffer in buffers {
-        if one_differs(group, buffer.groups()) {
-            return true;
-        }
-    }
-    false
+    buffers
+        .iter()
+        .any(|buffer| one_differs(group, buffer.groups()))
 }
 
 fn one_differs<A: AllocHandle>(group: &Group<A>, others: &[Group<A>]) -> bool
     ensures { result ≡ list_any (rebaser.differ_in_columns group.now) others.now }
 {
-    for other in others {
-        if differ_in_columns(group, other) {
-            return true;
-        }
-    }
-    false
+    others.iter().any(|other| differ_in_columns(group, other))
 }
 
 fn differ_in_columns<A: AllocHandle>(group: &Group<A>, other: &Group<A>) -> bool

@@ -7,3 +7,5 @@ mod blobs;
 mod buffers;
 #[cfg(test)]
 mod changesets;
+#[cfg(test)]
+mod synchronised;
