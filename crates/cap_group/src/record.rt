@@ -6,8 +6,8 @@ ghost use Rattle.cap_group.specs.Record as together;
 use cap_changes::{FieldRecord, RowChange};
 use cap_value::{AllocHandle, OutOfMemory, Value};
 
-// The same record, which shares its values.
-pub(crate) fn copy_record<A: AllocHandle>(
+/// The same record, which shares its values.
+pub fn copy_record<A: AllocHandle>(
     alloc: A,
     record: &FieldRecord<A>,
 ) -> Result<FieldRecord<A>, OutOfMemory>
@@ -20,8 +20,8 @@ pub(crate) fn copy_record<A: AllocHandle>(
     Ok(FieldRecord::new(copies))
 }
 
-// The fields of `above`, and those of `below` where they are undefined.
-pub(crate) fn record_over<A: AllocHandle>(
+/// The fields of `above`, and those of `below` where they are undefined.
+pub fn record_over<A: AllocHandle>(
     alloc: A,
     below: &FieldRecord<A>,
     above: &FieldRecord<A>,
@@ -47,8 +47,8 @@ fn field_over<'a, A: AllocHandle>(
     }
 }
 
-// The update from one record to another, none where no field outside the key differs.
-pub(crate) fn update_between<A: AllocHandle>(
+/// The update from one record to another, none where no field outside the key differs.
+pub fn update_between<A: AllocHandle>(
     alloc: A,
     flags: &[bool],
     indirect: bool,
@@ -121,7 +121,8 @@ fn is_modified<A: AllocHandle>(
     !key && !is_same_field(before, after)
 }
 
-fn is_same_field<A: AllocHandle>(before: &Option<Value<A>>, after: &Option<Value<A>>) -> bool
+/// Whether two fields are the same.
+pub fn is_same_field<A: AllocHandle>(before: &Option<Value<A>>, after: &Option<Value<A>>) -> bool
     ensures { result ≡ together.field_eq before.now after.now }
 {
     match (before, after) {
@@ -131,7 +132,8 @@ fn is_same_field<A: AllocHandle>(before: &Option<Value<A>>, after: &Option<Value
     }
 }
 
-fn copy_if<A: AllocHandle>(
+/// The field where it is wanted, and an undefined one else.
+pub fn copy_if<A: AllocHandle>(
     wanted: bool,
     field: &Option<Value<A>>,
 ) -> Result<Option<Value<A>>, OutOfMemory>
@@ -140,7 +142,8 @@ fn copy_if<A: AllocHandle>(
     if wanted { copy_field(field) } else { Ok(None) }
 }
 
-fn copy_field<A: AllocHandle>(field: &Option<Value<A>>) -> Result<Option<Value<A>>, OutOfMemory>
+/// The same field, which shares its value.
+pub fn copy_field<A: AllocHandle>(field: &Option<Value<A>>) -> Result<Option<Value<A>>, OutOfMemory>
     ensures { IfOk result (λ copy. copy ≡ field.now) }
 {
     match field {

@@ -9,10 +9,9 @@ ghost use Rattle.cap_group.specs.Rows.{is_indirect};
 ghost use Rattle.cap_rebase.specs.Flag as flag;
 ghost use Rattle.cap_rebase.specs.Rebase as rebase;
 
-use crate::record::{
-    copy_record, have_one_key, record_over, update_between, update_left, update_record,
-};
+use crate::record::{have_one_key, update_left, update_record};
 use cap_changes::{FieldRecord, RowChange};
+use cap_group::{copy_record, record_over, update_between};
 use cap_row::Schema;
 use cap_value::{AllocHandle, OutOfMemory};
 
