@@ -188,10 +188,11 @@ def check(suite, workload, replies):
     check_workloads(suite, ["shell"], workload, replies)
     line_by_line(suite, workload, replies)
     at_a_terminal(suite)
-    for word, printed in (("show", SHOWN), ("invert", INVERTED), ("patchset", PATCHED), ("concat", BLOB + b"\n")):
+    for word, printed in (("show", SHOWN), ("invert", INVERTED), ("patchset", PATCHED), ("concat", BLOB + b"\n"),
+                          ("rebase", BLOB + b"\n")):
         check_blob(suite, word, printed)
     for words in (["--help"], ["--version"], ["run", "--help"], ["shell", "--help"], ["invert", "--help"],
-                  ["concat", "--help"]):
+                  ["concat", "--help"], ["rebase", "--help"]):
         full_output(suite, words, b"", " ".join(words))
         closed_output(suite, words, b"", " ".join(words))
     full_error(suite, ["frob"], b"", "frob")

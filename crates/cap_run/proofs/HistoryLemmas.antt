@@ -22,7 +22,7 @@ use Rattle.cap_run.specs.Code.Calls.{AreSeats, EachSawIn, FirstHasMet, HasCalled
 use Rattle.cap_run.specs.Workload.{AreCalls, AreOfOneHistory, EachBlock, EndsBlock, IsDivided, ReportsEvents, WritesAll, WritesSome, WritesUnclosed, WritesWorkload, calls_of}
 use Rattle.cap_run.specs.RunFault.{RunsNothing}
 use Rattle.cap_run.specs.declared.fault.RunFault.{RunFault}
-use Rattle.cap_run.specs.declared.fault.RunFault.TheVariants.{Concat, Blob, Call, Close, NotHex, NotUtf8, OutOfMemory, Patchset, Read, Script, Write}
+use Rattle.cap_run.specs.declared.fault.RunFault.TheVariants.{BlobList, Blob, Call, Close, NotHex, NotUtf8, OutOfMemory, Patchset, Read, Script, Write}
 use Rattle.cap_script.specs.declared.line.Line.{Line}
 use Rattle.cap_locked.specs.declared.fault.CallFault.TheVariants as call
 use Rattle.cap_server.specs.Close.{FirstHasSeen, HasAll, IsClosed, IsMissing, StandsAt}
@@ -374,7 +374,7 @@ module _ {A : Type 0} where
   writes_closed threads input lines (Err NotHex) seats events core a b some spelled runs closed = absurd runs
   writes_closed threads input lines (Err (Blob fault)) seats events core a b some spelled runs closed = absurd runs
   writes_closed threads input lines (Err Patchset) seats events core a b some spelled runs closed = absurd runs
-  writes_closed threads input lines (Err (Concat fault)) seats events core a b some spelled runs closed = absurd runs
+  writes_closed threads input lines (Err (BlobList fault)) seats events core a b some spelled runs closed = absurd runs
   writes_closed threads input lines (Err Read) seats events core a b some spelled runs closed = absurd runs
   writes_closed threads input lines (Err OutOfMemory) seats events core a b some spelled runs closed = absurd runs
 
@@ -396,7 +396,7 @@ module _ {A : Type 0} where
   writes_unclosed threads input lines (Err NotHex) seats left least front a b some spelled runs first = absurd runs
   writes_unclosed threads input lines (Err (Blob fault)) seats left least front a b some spelled runs first = absurd runs
   writes_unclosed threads input lines (Err Patchset) seats left least front a b some spelled runs first = absurd runs
-  writes_unclosed threads input lines (Err (Concat fault)) seats left least front a b some spelled runs first = absurd runs
+  writes_unclosed threads input lines (Err (BlobList fault)) seats left least front a b some spelled runs first = absurd runs
   writes_unclosed threads input lines (Err Read) seats left least front a b some spelled runs first = absurd runs
   writes_unclosed threads input lines (Err OutOfMemory) seats left least front a b some spelled runs first = absurd runs
 
@@ -418,7 +418,7 @@ module _ {A : Type 0} where
   runs-called threads lines (Err NotHex) a b k l runs = absurd runs
   runs-called threads lines (Err (Blob fault)) a b k l runs = absurd runs
   runs-called threads lines (Err Patchset) a b k l runs = absurd runs
-  runs-called threads lines (Err (Concat fault)) a b k l runs = absurd runs
+  runs-called threads lines (Err (BlobList fault)) a b k l runs = absurd runs
   runs-called threads lines (Err Read) a b k l runs = absurd runs
   runs-called threads lines (Err OutOfMemory) a b k l runs = absurd runs
 
@@ -450,7 +450,7 @@ begins_nothing A threads input NotUtf8 a early = Keeps-refl a
 begins_nothing A threads input NotHex a early = Keeps-refl a
 begins_nothing A threads input (Blob fault) a early = Keeps-refl a
 begins_nothing A threads input Patchset a early = Keeps-refl a
-begins_nothing A threads input (Concat fault) a early = Keeps-refl a
+begins_nothing A threads input (BlobList fault) a early = Keeps-refl a
 begins_nothing A threads input (Call fault) a early = absurd early
 begins_nothing A threads input Read a early = Keeps-refl a
 begins_nothing A threads input Write a early = absurd early

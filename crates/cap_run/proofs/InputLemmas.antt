@@ -6,7 +6,7 @@ use Rattle.cap_codec.specs.StreamCalls.{AllWent, Calls}
 use Rattle.cap_run.specs.Reads.{EndsAtFault, EndsReads}
 use Rattle.cap_run.specs.RunFault.{exit_status, is_read, is_script, IsNoWorkload, IsOfText, IsUnread, IsUnspelled, RunsNothing}
 use Rattle.cap_run.specs.declared.fault.RunFault.{RunFault}
-use Rattle.cap_run.specs.declared.fault.RunFault.TheVariants.{Concat, Blob, Call, Close, NotHex, NotUtf8, OutOfMemory, Patchset, Read, Script, Write}
+use Rattle.cap_run.specs.declared.fault.RunFault.TheVariants.{BlobList, Blob, Call, Close, NotHex, NotUtf8, OutOfMemory, Patchset, Read, Script, Write}
 use Rattle.cap_script.specs.FirstRefused.{SpellsWithin}
 use Rattle.cap_script.specs.RefusedLines.{NoLines}
 use Rattle.cap_script.specs.Script.{SpellsScript}
@@ -59,7 +59,7 @@ no_script_later NotUtf8 later = refl
 no_script_later NotHex later = refl
 no_script_later (Blob fault) later = refl
 no_script_later Patchset later = refl
-no_script_later (Concat fault) later = refl
+no_script_later (BlobList fault) later = refl
 no_script_later (Call fault) later = refl
 no_script_later Read later = refl
 no_script_later Write later = refl
@@ -72,7 +72,7 @@ of_no_text A NotUtf8 text none = tt
 of_no_text A NotHex text none = tt
 of_no_text A (Blob fault) text none = tt
 of_no_text A Patchset text none = tt
-of_no_text A (Concat fault) text none = tt
+of_no_text A (BlobList fault) text none = tt
 of_no_text A (Call fault) text none = tt
 of_no_text A Read text none = tt
 of_no_text A Write text none = tt
@@ -95,7 +95,7 @@ unspelled_no_workload NotUtf8 unspelled = absurd unspelled
 unspelled_no_workload NotHex unspelled = absurd unspelled
 unspelled_no_workload (Blob fault) unspelled = absurd unspelled
 unspelled_no_workload Patchset unspelled = absurd unspelled
-unspelled_no_workload (Concat fault) unspelled = absurd unspelled
+unspelled_no_workload (BlobList fault) unspelled = absurd unspelled
 unspelled_no_workload (Call fault) unspelled = absurd unspelled
 unspelled_no_workload Read unspelled = absurd unspelled
 unspelled_no_workload Write unspelled = absurd unspelled
@@ -108,7 +108,7 @@ unspelled_early NotUtf8 unspelled = tt
 unspelled_early NotHex unspelled = tt
 unspelled_early (Blob fault) unspelled = tt
 unspelled_early Patchset unspelled = tt
-unspelled_early (Concat fault) unspelled = tt
+unspelled_early (BlobList fault) unspelled = tt
 unspelled_early Read unspelled = tt
 unspelled_early (Call fault) unspelled = absurd unspelled
 unspelled_early Write unspelled = absurd unspelled
@@ -147,7 +147,7 @@ module _ {R : Type 0} (gave failed : R → R → Type 0) where
   reads_before NotHex old new later went = went
   reads_before (Blob fault) old new later went = went
   reads_before Patchset old new later went = went
-  reads_before (Concat fault) old new later went = went
+  reads_before (BlobList fault) old new later went = went
   reads_before (Call fault) old new later went = went
   reads_before Read old new later went = absurd (cc later)
   reads_before Write old new later went = went
@@ -170,7 +170,7 @@ module _ {R : Type 0} (gave failed : R → R → Type 0) where
   reads_unspelled NotHex old new early went = absurd early
   reads_unspelled (Blob fault) old new early went = absurd early
   reads_unspelled Patchset old new early went = absurd early
-  reads_unspelled (Concat fault) old new early went = absurd early
+  reads_unspelled (BlobList fault) old new early went = absurd early
   reads_unspelled (Call fault) old new early went = absurd early
   reads_unspelled Read old new early went = absurd early
   reads_unspelled Write old new early went = absurd early

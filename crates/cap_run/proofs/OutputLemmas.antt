@@ -8,7 +8,7 @@ use Rattle.cap_run.specs.Code.Calls.{unclosed_outcome}
 use Rattle.cap_run.specs.RunFault.{RunsNothing}
 use Rattle.cap_run.specs.Writes.{EndsAtWriteFault, EndsWrites, ReportsWrite, WriteLimitReached}
 use Rattle.cap_run.specs.declared.fault.RunFault.{RunFault}
-use Rattle.cap_run.specs.declared.fault.RunFault.TheVariants.{Concat, Blob, Call, Close, NotHex, NotUtf8, OutOfMemory, Patchset, Read, Script, Write}
+use Rattle.cap_run.specs.declared.fault.RunFault.TheVariants.{BlobList, Blob, Call, Close, NotHex, NotUtf8, OutOfMemory, Patchset, Read, Script, Write}
 
 -- all of the bytes was written before the flush failed
 pub flush_failed : {X : Type 0} (result : Result X RunFault) (a b c : Option (List ℕ)) (bytes : List ℕ) → IfErr result (λ fault. fault ≡ Write) → Appends a b bytes → Keeps b c
@@ -54,7 +54,7 @@ module _ {W : Type 0} (went failed : W → W → Type 0) where
   fault_later NotHex a b c some so = went_on a b c some so
   fault_later (Blob fault) a b c some so = went_on a b c some so
   fault_later Patchset a b c some so = went_on a b c some so
-  fault_later (Concat fault) a b c some so = went_on a b c some so
+  fault_later (BlobList fault) a b c some so = went_on a b c some so
   fault_later (Call fault) a b c some so = went_on a b c some so
   fault_later Read a b c some so = went_on a b c some so
   fault_later Write a b c some (inl last) = inl (failed_later a b c some last)
@@ -87,7 +87,7 @@ module _ {W : Type 0} (went failed : W → W → Type 0) where
   none_reported NotHex a early = (0, refl)
   none_reported (Blob fault) a early = (0, refl)
   none_reported Patchset a early = (0, refl)
-  none_reported (Concat fault) a early = (0, refl)
+  none_reported (BlobList fault) a early = (0, refl)
   none_reported (Call fault) a early = absurd early
   none_reported Read a early = (0, refl)
   none_reported Write a early = absurd early

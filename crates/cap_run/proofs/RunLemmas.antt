@@ -16,7 +16,7 @@ use Rattle.cap_core.specs.Transition.{next}
 use Rattle.cap_script.specs.declared.line.Line.{Line}
 use Rattle.cap_script.specs.Script.{SpellsScript, TakesFirst}
 use Rattle.cap_run.specs.declared.fault.RunFault.{RunFault}
-use Rattle.cap_run.specs.declared.fault.RunFault.TheVariants.{Concat, Script, NotUtf8, NotHex, Blob, Patchset, Call, Read, Write, OutOfMemory, Close}
+use Rattle.cap_run.specs.declared.fault.RunFault.TheVariants.{BlobList, Script, NotUtf8, NotHex, Blob, Patchset, Call, Read, Write, OutOfMemory, Close}
 use Rattle.cap_script.specs.ReplyText.{reply_text}
 use Rattle.cap_run.specs.Run.{AppendsFront, BeginsRun, Ended, EndsAt, IsRun, IsSpelled, Writes, WritesInput, WritesRun, commands_of, ending, events_max, on_a_line, reply_lines, run_outcome}
 use Rattle.cap_run.specs.RunFault.{RunsNothing}
@@ -73,7 +73,7 @@ writes_nothing A input NotUtf8 a early = Keeps-refl a
 writes_nothing A input NotHex a early = Keeps-refl a
 writes_nothing A input (Blob fault) a early = Keeps-refl a
 writes_nothing A input Patchset a early = Keeps-refl a
-writes_nothing A input (Concat fault) a early = Keeps-refl a
+writes_nothing A input (BlobList fault) a early = Keeps-refl a
 writes_nothing A input (Call fault) a early = absurd early
 writes_nothing A input Read a early = Keeps-refl a
 writes_nothing A input Write a early = absurd early
@@ -212,7 +212,7 @@ module _ {A : Type 0} where
   writes_input input lines (Err NotHex) a b spelled wrote = wrote
   writes_input input lines (Err (Blob fault)) a b spelled wrote = wrote
   writes_input input lines (Err Patchset) a b spelled wrote = wrote
-  writes_input input lines (Err (Concat fault)) a b spelled wrote = wrote
+  writes_input input lines (Err (BlobList fault)) a b spelled wrote = wrote
   writes_input input lines (Err (Call fault)) a b spelled wrote = (lines, spelled, wrote)
   writes_input input lines (Err Read) a b spelled wrote = wrote
   writes_input input lines (Err Write) a b spelled wrote = (lines, spelled, wrote)

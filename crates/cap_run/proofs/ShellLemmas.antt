@@ -20,7 +20,7 @@ use Rattle.cap_run.specs.Run.{AppendsFront, Ended, ending, on_a_line}
 use Rattle.cap_run.specs.Shell.{AreReadAs, EndsBefore, HasRun, Ignored, IsReadAs, NoText, Outputs, Prints, PrintsPart, ReadLine, Refused, Spelled, WritesShell, after_line, after_lines, fault_of, faults_of, outputs, replies_to, reply_to}
 use Rattle.cap_run.specs.Writes.{EndsAtWriteFault, EndsBoth, EndsWrites}
 use Rattle.cap_run.specs.declared.fault.RunFault.{RunFault}
-use Rattle.cap_run.specs.declared.fault.RunFault.TheVariants.{Blob, Call, Close, Concat, NotHex, NotUtf8, OutOfMemory, Patchset, Read, Script, Write}
+use Rattle.cap_run.specs.declared.fault.RunFault.TheVariants.{Blob, Call, Close, BlobList, NotHex, NotUtf8, OutOfMemory, Patchset, Read, Script, Write}
 use Rattle.cap_run.proofs.OutputLemmas.{fault_later, went_on, writes_later}
 use Rattle.cap_run.proofs.RunLemmas.{IsLegal-none, IsLegal-push, events-state, fits-none, fits-push}
 use Rattle.cap_run.proofs.UnreadLemmas.{lines_cut, lines_end, lines_kept, lines_known, lines_one}
@@ -257,7 +257,7 @@ module _ {A : Type 0} where
   at_fault input left known core number a b after fault (Err NotHex) so may some fails wrote = absurd wrote
   at_fault input left known core number a b after fault (Err (Blob f)) so may some fails wrote = absurd wrote
   at_fault input left known core number a b after fault (Err Patchset) so may some fails wrote = absurd wrote
-  at_fault input left known core number a b after fault (Err (Concat f)) so may some fails wrote = absurd wrote
+  at_fault input left known core number a b after fault (Err (BlobList f)) so may some fails wrote = absurd wrote
   at_fault input left known core number a b after fault (Err (Call f)) so may (others, has, some) fails (same, wrote) =
       let P : CallFault → Type 0 = λ g. WritesShell A input known (Err (Call g)) a (outputs after b.faults) in
       subst P (sym same) (

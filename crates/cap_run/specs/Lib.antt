@@ -1,6 +1,6 @@
 pub mod BlobList
 pub mod Code
-pub mod Concatenation
+pub mod Combination
 pub mod Conversion
 pub mod Encoding
 pub mod Hex

@@ -1,7 +1,7 @@
 -- The options, and the exit status where there are none.
 use Rattle.std.specs.Prelude.{ℕ, ◌≤◌}
 use Rattle.cap_run.specs.declared.program_options.Options.{Options}
-use Rattle.cap_run.specs.declared.program_options.Options.TheVariants.{Concat, Convert, Run, Shell, Show}
+use Rattle.cap_run.specs.declared.program_options.Options.TheVariants.{Combine, Convert, Run, Shell, Show}
 use Rattle.cap_run.specs.declared.program_options.OptionsFault.{OptionsFault}
 use Rattle.cap_run.specs.declared.program_options.OptionsFault.TheVariants.{Refused, Help, OutOfMemory}
 
@@ -21,4 +21,4 @@ IsInRange (Run threads pace) = IsThreadCount threads
 IsInRange Shell = Unit {0}
 IsInRange (Show form encoding) = Unit {0}
 IsInRange (Convert conversion) = Unit {0}
-IsInRange (Concat concatenation) = Unit {0}
+IsInRange (Combine combination) = Unit {0}

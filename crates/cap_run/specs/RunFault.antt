@@ -4,7 +4,7 @@ use Rattle.cap_value.specs.declared.memory.Fault.{Fault}
 use Rattle.cap_value.specs.declared.memory.Fault.TheVariants as memory
 use Rattle.cap_run.specs.declared.fault.RunFault.{RunFault}
 use Rattle.cap_run.specs.declared.fault.RunFault.TheVariants.{Script, NotUtf8, NotHex, Blob, Call, Read}
-use Rattle.cap_run.specs.declared.fault.RunFault.TheVariants.{Write, OutOfMemory, Close, Patchset, Concat}
+use Rattle.cap_run.specs.declared.fault.RunFault.TheVariants.{Write, OutOfMemory, Close, Patchset, BlobList}
 use Rattle.cap_script.specs.FirstRefused.{IsFirstRefused}
 
 -- the exit status: 1 where the input is refused, and 3 where a call, a read, a write or the closing of the
@@ -15,7 +15,7 @@ exit_status NotUtf8 = 1
 exit_status NotHex = 1
 exit_status (Blob fault) = 1
 exit_status Patchset = 1
-exit_status (Concat fault) = 1
+exit_status (BlobList fault) = 1
 exit_status (Call fault) = 3
 exit_status Read = 3
 exit_status Write = 3

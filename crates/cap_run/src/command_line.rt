@@ -2,7 +2,10 @@
 ghost use Rattle.std.specs.Prelude.{IfOk};
 ghost use Rattle.cap_run.specs.Options.{IsInRange};
 
-use crate::{Concatenation, Conversion, Encoding, Form, Options, OptionsFault, Pace, THREADS_MAX};
+use crate::{
+    Combination, CombinationKind, Conversion, Encoding, Form, Options, OptionsFault, Pace,
+    THREADS_MAX,
+};
 use cap_blob::Target;
 use cap_codec::KeyFlags;
 use clap::builder::ValueParser;
@@ -32,8 +35,8 @@ as a changeset:
 
 `changecap run --help` has every command. `changecap show` prints what is in those digits, `changecap
 invert` prints the changeset that undoes them, and `changecap patchset` their patchset. `changecap concat`
-makes one changeset of several. Nothing runs before the end of the input, except in `changecap shell`,
-which runs each line as it is read.
+makes one changeset of several, and `changecap rebase` one that fits rows that were changed elsewhere.
+Nothing runs before the end of the input, except in `changecap shell`, which runs each line as it is read.
 
 What is refused has a code. G1 Syntax, G2 (a limit, with its E) and G3 (a blob, with its D) are of a line
 of a workload, and have its number. D1 Truncated, D2 BadHeader, D3 BadVarint, D4 BadName, D5 BadOp, D6
@@ -57,6 +60,9 @@ const PATCHSET_ABOUT: &str = "Print the patchset of the changeset on standard in
 
 const CONCAT_ABOUT: &str =
     "Print the concatenation of the changesets or patchsets on standard input, one a line";
+
+const REBASE_ABOUT: &str =
+    "Print the changeset on the first line of standard input over the buffers on the other lines";
 
 const SQL_HELP: &str = "Print a SQL statement for each change, on columns c0, c1 and so on";
 
@@ -106,6 +112,7 @@ Changes:
                       rows that differ, are missing, or are there already:
                       apply x'5402..' omit omit replace
   .. D N C report     print each conflict too, each omitted change and each skipped group
+  .. D N C buffer     print its buffer too, which `changecap rebase` reads
 
 OP is insert T (V,..), update T REF set I = V , .. or delete T REF; cascade before it marks it as
 indirect. REF is key(V,..), or loose N for the row without a key that has the number N. V is null, 1,
@@ -166,6 +173,17 @@ which inserts the row as the second changeset leaves it. A changeset beside a pa
 are two tables of one name with different columns. With --binary each blob of the input stands behind its
 length as eight bytes, the most significant first.";
 
+const REBASE_EXAMPLE: &str =
+    "The first line is a changeset of local changes, and each other line the buffer of an application of remote
+changes, which `apply .. buffer` of a workload prints, in digits of either case. For example
+    printf '%s\\n' 5402010074001200010000000000000001030178 \\
+        5402010074001200010000000000000001030179 | changecap rebase
+prints
+    540201007400170001000000000000000103017900030178
+which updates the row that was inserted remotely to what the local changeset inserts. A patchset is
+refused, and so are two tables of one name with different columns. With --binary each blob of the input
+stands behind its length as eight bytes, the most significant first.";
+
 // The command line.
 fn command_line<'a>(alloc: Global) -> Result<Command<'a>, AllocError> {
     Command::new(alloc, "changecap")
@@ -181,7 +199,8 @@ fn command_line<'a>(alloc: Global) -> Result<Command<'a>, AllocError> {
         .subcommand(show_command(alloc)?)?
         .subcommand(convert_command(alloc, "invert", INVERT_ABOUT, INVERT_EXAMPLE)?)?
         .subcommand(convert_command(alloc, "patchset", PATCHSET_ABOUT, PATCHSET_EXAMPLE)?)?
-        .subcommand(convert_command(alloc, "concat", CONCAT_ABOUT, CONCAT_EXAMPLE)?)
+        .subcommand(convert_command(alloc, "concat", CONCAT_ABOUT, CONCAT_EXAMPLE)?)?
+        .subcommand(convert_command(alloc, "rebase", REBASE_ABOUT, REBASE_EXAMPLE)?)
 }
 
 fn run_command<'a>(alloc: Global) -> Result<Command<'a>, AllocError> {
@@ -252,11 +271,11 @@ fn flag<'a>(alloc: Global, word: &'a str, help: &'a str) -> Arg<'a> {
 ///
 /// `run` runs a workload, on N threads with `--threads N`, N from 1 to 63, and otherwise on one; with
 /// `--in-turn` its lines are called one after the other. `shell` runs each line as it is read. `show` shows a
-/// blob as text, with `--sql` as SQL, or with `--json` as JSON. `invert` and `patchset` convert one, and
-/// `concat` concatenates several, with key flags by places, or by ones with `--key-flags ones`. A blob is
-/// given and written as hex digits, or with `--binary` as its bytes. `-v` or `--verbose` among the words
-/// changes nothing of that. Other words are refused with a message. `--help` and `--version` give their text
-/// as a fault of status 0.
+/// blob as text, with `--sql` as SQL, or with `--json` as JSON. `invert` and `patchset` convert one,
+/// `concat` concatenates several, and `rebase` rebases one over others, with key flags by places, or by ones
+/// with `--key-flags ones`. A blob is given and written as hex digits, or with `--binary` as its bytes. `-v`
+/// or `--verbose` among the words changes nothing of that. Other words are refused with a message. `--help`
+/// and `--version` give their text as a fault of status 0.
 pub fn options(alloc: Global, words: &[String]) -> Result<Options, OptionsFault>
     // The number of threads is in range.
     ensures range { IfOk result IsInRange }
@@ -284,10 +303,10 @@ fn asked_for(matches: &ArgMatches) -> Options
         Some(("shell", _)) => Options::Shell,
         Some(("invert", invert)) => Options::Convert(conversion(Target::Inverse, invert)),
         Some(("patchset", patchset)) => Options::Convert(conversion(Target::Patchset, patchset)),
-        Some(("concat", concat)) => Options::Concat(Concatenation {
-            key_flags: key_flags(concat),
-            encoding: encoding(concat),
-        }),
+        Some(("concat", concat)) => {
+            Options::Combine(combination(CombinationKind::Concatenation, concat))
+        }
+        Some(("rebase", rebase)) => Options::Combine(combination(CombinationKind::Rebase, rebase)),
         Some((_, show)) => Options::Show {
             form: form(show),
             encoding: encoding(show),
@@ -311,6 +330,14 @@ fn pace(matches: &ArgMatches) -> Pace {
 fn conversion(target: Target, matches: &ArgMatches) -> Conversion {
     Conversion {
         target,
+        key_flags: key_flags(matches),
+        encoding: encoding(matches),
+    }
+}
+
+fn combination(kind: CombinationKind, matches: &ArgMatches) -> Combination {
+    Combination {
+        kind,
         key_flags: key_flags(matches),
         encoding: encoding(matches),
     }

@@ -13,9 +13,20 @@ pub struct Conversion {
     pub encoding: Encoding,
 }
 
-/// How the concatenation of blobs is read and written.
+/// What several blobs make together.
 #[derive(Clone, Copy, Debug, PartialEq, Eq, Drop)]
-pub struct Concatenation {
+pub enum CombinationKind {
+    /// The concatenation of changesets, or of patchsets.
+    Concatenation,
+    /// The first blob, a local changeset, rebased over the others, the buffers of applications in their
+    /// order.
+    Rebase,
+}
+
+/// What several blobs make together, and how they are read and it is written.
+#[derive(Clone, Copy, Debug, PartialEq, Eq, Drop)]
+pub struct Combination {
+    pub kind: CombinationKind,
     /// The key flags that are written. Either are read.
     pub key_flags: KeyFlags,
     /// The encoding of the blobs and of the output. Blobs in hex are lines. Blobs as bytes are each behind

@@ -3,11 +3,12 @@
 use cap_codec::BlobFault;
 use cap_group::GroupRefusal;
 use cap_locked::CallFault;
+use cap_rebase::RebaseRefusal;
 use cap_script::ScriptFault;
 use cap_value::Fault;
 use thiserror::Error;
 
-/// Why a blob is not added to those before it.
+/// Why one of several blobs is refused.
 #[derive(Clone, Copy, Debug, PartialEq, Eq, Drop, Error)]
 pub enum ListedFault {
     /// The line is not hex.
@@ -19,14 +20,20 @@ pub enum ListedFault {
     /// The bytes are neither a changeset nor a patchset.
     #[error("fault {0}")]
     Malformed(BlobFault),
-    /// The blob does not go with those before it.
+    /// The blob is not concatenated with those before it.
     #[error("{0}")]
     Group(GroupRefusal),
+    /// The bytes are a patchset, which is neither rebased nor a buffer.
+    #[error("patchset")]
+    Patchset,
+    /// The buffer does not go with those before it, or the changeset with the buffers.
+    #[error("{0}")]
+    Columns(RebaseRefusal),
 }
 
-/// Why blobs have no concatenation: the first of them that is refused. Lines and blobs are counted from 1.
+/// Which of several blobs is refused, and why. Lines and blobs are counted from 1.
 #[derive(Clone, Copy, Debug, PartialEq, Eq, Drop, Error)]
-pub enum ConcatFault {
+pub enum BlobListFault {
     /// A blob in hex.
     #[error("line {line}: {why}")]
     Line {
@@ -43,7 +50,7 @@ pub enum ConcatFault {
     },
 }
 
-/// Why a run or a shell failed, or why blobs were not shown, converted or concatenated.
+/// Why a run or a shell failed, or why blobs were not shown, converted, concatenated or rebased.
 #[derive(Clone, Copy, Debug, PartialEq, Eq, Drop, Error)]
 pub enum RunFault {
     /// The text is refused. Nothing was run.
@@ -61,9 +68,9 @@ pub enum RunFault {
     /// The bytes are a patchset, which has neither an inverse nor a patchset. Nothing was converted.
     #[error("patchset")]
     Patchset,
-    /// A blob of several is refused. Nothing was concatenated.
+    /// A blob of several is refused. Nothing was concatenated or rebased.
     #[error(transparent)]
-    Concat(ConcatFault),
+    BlobList(BlobListFault),
     /// A command has no reply. The replies before it were printed, and then this fault.
     #[error(transparent)]
     Call(CallFault),
@@ -74,8 +81,8 @@ pub enum RunFault {
     /// A write failed. A prefix of the output was written.
     #[error("a write failed")]
     Write,
-    /// Out of memory for the input, for a new server, or for the whole of what is shown, converted or
-    /// concatenated. Nothing was run or printed.
+    /// Out of memory for the input, for a new server, or for the whole of what is printed of blobs. Nothing
+    /// was run or printed.
     #[error("out of memory")]
     OutOfMemory,
     /// The server could not be closed. All lines were run and their replies printed.
@@ -97,7 +104,7 @@ impl RunFault {
             | RunFault::NotHex
             | RunFault::Blob(_)
             | RunFault::Patchset
-            | RunFault::Concat(_) => 1,
+            | RunFault::BlobList(_) => 1,
             RunFault::Call(_)
             | RunFault::Read
             | RunFault::Write

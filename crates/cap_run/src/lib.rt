@@ -1,12 +1,12 @@
 //! Runs a workload: reads its text, calls a server with its commands, and prints the replies. Also runs a
-//! shell, shows a changeset or patchset, makes the inverse or the patchset of a changeset, and concatenates
-//! blobs.
+//! shell, shows a changeset or patchset, makes the inverse or the patchset of a changeset, concatenates blobs, and
+//! rebases a changeset.
 #![tactic(auto)]
 
 mod blob_list;
 mod block;
+mod combine;
 mod command_line;
-mod concat;
 mod conversion;
 mod convert;
 mod encoding;
@@ -27,12 +27,12 @@ mod unread;
 mod worker;
 mod workload;
 
+pub use combine::combine_blobs;
 pub use command_line::options;
-pub use concat::concat_blobs;
-pub use conversion::{Concatenation, Conversion};
+pub use conversion::{Combination, CombinationKind, Conversion};
 pub use convert::convert_blob;
 pub use encoding::Encoding;
-pub use fault::{ConcatFault, ListedFault, RunFault};
+pub use fault::{BlobListFault, ListedFault, RunFault};
 pub use gate::{Gate, NoGate};
 pub use limits::THREADS_MAX;
 pub use pace::Pace;

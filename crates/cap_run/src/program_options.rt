@@ -2,7 +2,7 @@
 ghost use Rattle.std.specs.Prelude.{◌≡◌};
 ghost use Rattle.cap_run.specs.Options.{options_status};
 
-use crate::{Concatenation, Conversion, Encoding, Form, Pace};
+use crate::{Combination, Conversion, Encoding, Form, Pace};
 use thiserror::Error;
 
 /// What the program does.
@@ -26,8 +26,8 @@ pub enum Options {
     },
     /// Convert the changeset on standard input.
     Convert(Conversion),
-    /// Concatenate the blobs on standard input.
-    Concat(Concatenation),
+    /// Concatenate the blobs on standard input, or rebase the first of them over the others.
+    Combine(Combination),
 }
 
 /// Why the program ends without a run.

@@ -19,15 +19,17 @@ use Rattle.cap_codec.specs.declared.fault.BlobFault.{BlobFault}
 use Rattle.cap_codec.specs.BlobReading.{blob_at}
 use Rattle.cap_row.specs.Schema.{is_schema}
 use Rattle.cap_script.specs.Forms.{NotSpelled, Sign, Without}
-use Rattle.cap_script.specs.LineFaults.{FaultIs, line, line_fault, beyond_if, commands, contents_read, is_key_letter, on_contents, contents, on_schema, more_operations, on_operation, on_value, operation, row, row_words, value, values, verbs}
+use Rattle.cap_script.specs.LineFaults.{FaultIs, line, line_fault, beyond_if, commands, contents_read, is_key_letter, on_contents, contents, on_schema, more_operations, on_operation, on_value, operation, report_words, row, row_words, value, values, verbs}
 use Rattle.cap_script.specs.Reading.{Fails, Outcome, Reading, Reads, Verdict, goes_on, unfit, exceeds, no_blob, fits_if, within_if, judged, unexpected, on_word, scanned, any_of, behind, keyword, natural, one_of, at_most, ◌>>=◌, ◌⋙◌}
 use Rattle.cap_script.specs.Refused.{blob_fault, limit_fault}
 use Rattle.cap_script.specs.Scanning.{Scanned, token_at}
 use Rattle.cap_script.specs.Starts.{start_at, start_of}
 use Rattle.cap_script.specs.Tokens.{Begins, Next, NextInteger, Token, behind_blanks, blob, integer, is_letter, sign, signed, text, word}
-use Rattle.cap_script.specs.Words.{answer_word, flag_word, head_word, key_letter, letters, session_word, verb_word}
+use Rattle.cap_script.specs.Words.{answer_word, flag_word, head_word, key_letter, letters, report_word, session_word, verb_word}
 use Rattle.cap_script.specs.declared.fault.LineFault.{LineFault}
 use Rattle.cap_script.specs.declared.fault.LineFault.TheVariants.{BadBlob, Limit, OutOfMemory, Syntax}
+use Rattle.cap_script.specs.declared.line.Show.{Show}
+use Rattle.cap_script.specs.declared.line.Show.TheVariants.{Plain, Get, Scan, Changeset, Patchset, Report, Buffer}
 use Rattle.cap_script.specs.declared.token.Start.{Start}
 use Rattle.cap_script.specs.declared.token.Start.TheVariants.{Quote, Digit, X, Other}
 use Rattle.cap_script.specs.declared.words.Head.{Head}
@@ -295,6 +297,15 @@ pub answer_fits : (here rest : List ℕ) (a : Answer) → judged here rest (any_
 answer_fits here rest answers.Omit = refl
 answer_fits here rest answers.Replace = refl
 answer_fits here rest answers.Abort = refl
+
+pub report_fits : {A : Type 0} (here rest w : List ℕ) (show : Show A) → report_word show ≡ Some w → judged here rest (any_of report_words w) ≡ Ok rest
+report_fits here rest w Report is = let same : codes "report" ≡ w = cc in subst (λ (v : List ℕ). judged here rest (any_of report_words v) ≡ Ok rest) same refl
+report_fits here rest w Buffer is = let same : codes "buffer" ≡ w = cc in subst (λ (v : List ℕ). judged here rest (any_of report_words v) ≡ Ok rest) same refl
+report_fits here rest w Plain is = absurd cc
+report_fits here rest w (Get table row) is = absurd cc
+report_fits here rest w (Scan table) is = absurd cc
+report_fits here rest w (Changeset flags) is = absurd cc
+report_fits here rest w (Patchset flags) is = absurd cc
 
 pub flag_fits : (here rest : List ℕ) (flag : Option Bool) → judged here rest (any_of (codes "on" ∷ codes "off" ∷ codes "ask" ∷ []) (flag_word flag)) ≡ Ok rest
 flag_fits here rest (Some true) = refl

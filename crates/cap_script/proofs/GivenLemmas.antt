@@ -37,18 +37,18 @@ use Rattle.cap_core.specs.declared.command.Command.{Command}
 use Rattle.cap_script.specs.Commands.{SpelledBlob, SpelledCommand, SpelledFilter, SpelledKeyFlags, SpelledPolicy, SpelledReport}
 use Rattle.cap_script.specs.Forms.{Form, ◌▸◌, More, Natural, Sign, Without, Word}
 use Rattle.cap_script.specs.Limits.{ActionWithin, NameWithin, OpWithin, OpsWithin, RowWithin, ValueWithin}
-use Rattle.cap_script.specs.LineFaults.{answer, command, commands, contents, field, fields, filter, filter_read, flag, is_key_letter, contents_read, line_fault, more_operations, name, on_contents, on_operation, on_schema, on_value, on_worker, operation, operations, policy, row, row_words, schema, short, value, verbs, worker}
+use Rattle.cap_script.specs.LineFaults.{answer, command, commands, contents, field, fields, filter, filter_read, flag, is_key_letter, contents_read, line_fault, more_operations, name, on_contents, on_operation, on_schema, on_value, on_worker, operation, operations, policy, report, report_words, row, row_words, schema, short, value, verbs, worker}
 use Rattle.cap_script.specs.LineFaults.{line as whole_line, values as row_values}
 use Rattle.cap_script.specs.LineLimits.{CommandWithin, LineWithin, SchemaWithin, ShowWithin}
 use Rattle.cap_script.specs.Operations.{MoreOperations, MoreValues, SpelledAction, SpelledField, SpelledFields, SpelledOperation, SpelledOperations, SpelledRow, SpelledValue, SpelledValues}
-use Rattle.cap_script.specs.Reading.{Outcome, Reading, Verdict, goes_on, unfit, exceeds, scanned, by_sign, fits, fits_if, within_if, judged, unexpected, a_sign, a_word, any_of, at_end, at_most, behind, each, keyword, keyword_or_end, natural, on_natural, on_word, one_of, right_here, space_here, unless_end, ◌>>=◌, ◌⋙◌}
+use Rattle.cap_script.specs.Reading.{Outcome, Reading, Verdict, goes_on, unfit, exceeds, scanned, by_sign, fits, fits_if, within_if, judged, unexpected, a_sign, a_word, any_of, at_end, at_most, behind, each, keyword, keyword_or_end, natural, on_natural, on_word, one_of, right_here, space_here, unless_end, word_or_end, ◌>>=◌, ◌⋙◌}
 use Rattle.cap_script.specs.Scanning.{Scanned, token_at}
 use Rattle.cap_script.specs.Script.{SpelledWorker, SpellsLine}
 use Rattle.cap_script.specs.Tokens.{Begins, Next, is_blank, sign, signed, begins, behind_blanks, blob, integer, text, word}
 use Rattle.cap_script.specs.Words.{answer_word, flag_word, head_word, letters}
 use Rattle.cap_script.specs.declared.line.Line.{Line}
 use Rattle.cap_script.specs.declared.line.Show.{Show}
-use Rattle.cap_script.specs.declared.line.Show.TheVariants.{Plain, Report}
+use Rattle.cap_script.specs.declared.line.Show.TheVariants.{Plain, Report, Buffer}
 use Rattle.cap_script.specs.declared.words.Head.{Head}
 use Rattle.cap_script.specs.declared.words.Head.TheVariants as head
 use Rattle.cap_script.specs.declared.words.SessionWord.TheVariants as session
@@ -369,28 +369,31 @@ flag_given line rest e =
     let given : (asked : Option Bool) → so.w ≡ flag_word asked → so.mid ≡ rest → (b : Option Bool) × ⊤ × Word (flag_word b) line rest = λ asked is same. (asked, tt, moved_rest (Word (flag_word asked)) line so.mid rest same (said_as so.w (flag_word asked) line so.mid is so.said)) in
     any_found (codes "on" ∷ codes "off" ∷ codes "ask" ∷ []) (behind_blanks line) so.mid rest so.w (given (Some true), (given (Some false), (given None, tt))) so.goes
 
-last_given : (w line rest : List ℕ) → keyword_or_end w line ≡ Ok rest → ((behind_blanks line ≡ []) × (rest ≡ [])) ⊎ Word w line rest
-last_given w line rest = by (behind_blanks line) refl
+last_given : (judge : List ℕ → Verdict) (line rest : List ℕ) → word_or_end judge line ≡ Ok rest → ((behind_blanks line ≡ []) × (rest ≡ [])) ⊎ (a_word judge line ≡ Ok rest)
+last_given judge line rest = by (behind_blanks line) refl
   where
-    by : (here : List ℕ) → behind_blanks line ≡ here → unless_end (keyword w) here ≡ Ok rest → ((behind_blanks line ≡ []) × (rest ≡ [])) ⊎ Word w line rest
+    by : (here : List ℕ) → behind_blanks line ≡ here → unless_end (a_word judge) here ≡ Ok rest → ((behind_blanks line ≡ []) × (rest ≡ [])) ⊎ (a_word judge line ≡ Ok rest)
     by [] is e = inl (is, sym (same_rest [] rest e))
-    by (byte ∷ here) is e =
-        let (u, v, h) = keyword_given w (byte ∷ here) rest e in
-        inr (subst (λ (l : List ℕ). Begins (word w) l rest) (ap behind_blanks (sym is) ∙ blanks_twice line) h)
+    by (byte ∷ here) is e = inr (ap (right_here (on_word judge)) (sym (blanks_twice line) ∙ ap behind_blanks is) ∙ e)
 
 key_flags_given : Gives (keyword_or_end (codes "places")) Always SpelledKeyFlags
-key_flags_given line rest e = by (last_given (codes "places") line rest e)
+key_flags_given line rest e = by (last_given (λ found. fits_if (bytes_eq found (codes "places"))) line rest e)
   where
-    by : ((behind_blanks line ≡ []) × (rest ≡ [])) ⊎ Word (codes "places") line rest → (flags : KeyFlags) × ⊤ × SpelledKeyFlags flags line rest
+    by : ((behind_blanks line ≡ []) × (rest ≡ [])) ⊎ (keyword (codes "places") line ≡ Ok rest) → (flags : KeyFlags) × ⊤ × SpelledKeyFlags flags line rest
     by (inl none) = (Ones, tt, none)
-    by (inr h) = (Places, tt, h)
+    by (inr f) = let (u, v, h) = keyword_given (codes "places") line rest f in (Places, tt, h)
 
-report_given : (A : Type 0) → Gives {X = Show A} (keyword_or_end (codes "report")) (λ show. ShowWithin show) SpelledReport
-report_given A line rest e = by (last_given (codes "report") line rest e)
+report_given : (A : Type 0) → Gives {X = Show A} report (λ show. ShowWithin show) SpelledReport
+report_given A line rest e = by (last_given (any_of report_words) line rest e)
   where
-    by : ((behind_blanks line ≡ []) × (rest ≡ [])) ⊎ Word (codes "report") line rest → (show : Show A) × ShowWithin show × SpelledReport show line rest
+    by : ((behind_blanks line ≡ []) × (rest ≡ [])) ⊎ (a_word (any_of report_words) line ≡ Ok rest) → (show : Show A) × ShowWithin show × SpelledReport show line rest
     by (inl none) = (Plain, tt, none)
-    by (inr h) = (Report, tt, h)
+    by (inr f) =
+        let so = word_said (any_of report_words) line rest f in
+        let said : (w : List ℕ) → so.w ≡ w → so.mid ≡ rest → Word w line rest = λ w is same. moved_rest (Word w) line so.mid rest same (said_as so.w w line so.mid is so.said) in
+        let with_report : so.w ≡ codes "report" → so.mid ≡ rest → (show : Show A) × ShowWithin show × SpelledReport show line rest = λ is same. (Report, tt, said (codes "report") is same) in
+        let with_buffer : so.w ≡ codes "buffer" → so.mid ≡ rest → (show : Show A) × ShowWithin show × SpelledReport show line rest = λ is same. (Buffer, tt, said (codes "buffer") is same) in
+        any_found report_words (behind_blanks line) so.mid rest so.w (with_report, (with_buffer, tt)) so.goes
 
 -- ---- workers
 
@@ -478,8 +481,8 @@ module _ {A : Type 0} (filters : FiltersSpelled) (blobs : BlobsSpelled A) where
   said_given head.Commit mid rest e = let (ops, within, h) = operations_given {A = A} mid rest e in (ops, (within, tt), h)
   said_given head.CommitAt mid rest e = let (p, (u, within), h) = session_given operations OpsWithin (SpelledOperations {A = A}) operations_given mid rest e in (p, (within, tt), h)
   said_given head.Apply mid rest e =
-      let (p, (u, (v, shown)), h) = both_give (contents A) (policy ⋙ keyword_or_end (codes "report")) Always (λ (q : Policy × Show A). ⊤ × ShowWithin q.1) SpelledBlob (λ q. SpelledPolicy q.0 ▸ SpelledReport q.1) contents_given
-      (both_give policy (keyword_or_end (codes "report")) Always (λ (s : Show A). ShowWithin s) SpelledPolicy SpelledReport policy_given (report_given A)) mid rest e in
+      let (p, (u, (v, shown)), h) = both_give (contents A) (policy ⋙ report) Always (λ (q : Policy × Show A). ⊤ × ShowWithin q.1) SpelledBlob (λ q. SpelledPolicy q.0 ▸ SpelledReport q.1) contents_given
+      (both_give policy report Always (λ (s : Show A). ShowWithin s) SpelledPolicy SpelledReport policy_given (report_given A)) mid rest e in
       ((p.0, p.1.0, p.1.1), (tt, shown), h)
   said_given head.Get mid rest e = let (p, within, h) = both_give name row NameWithin (RowWithin {A = A}) Word SpelledRow name_given row_given mid rest e in (p, (tt, within), h)
   said_given head.Scan mid rest e = let (table, within, h) = name_given mid rest e in (table, (tt, within), h)

@@ -1,5 +1,5 @@
 -- Commands that a line does not begin with.
-use Rattle.std.proofs.Common.{◌≡◌, ℕ, Bool, true, List, [], ◌∷◌, ◌++◌, ◌≤◌, ◌⊎◌, inl, inr, Option, Some, None, Result, Ok, Err, IfErr, OnErr, MatchOption, IsTrue, length, append_assoc, append-nil, sym, subst, ◌∙◌, codes}
+use Rattle.std.proofs.Common.{◌≡◌, ℕ, Bool, true, List, [], ◌∷◌, ◌++◌, ◌≤◌, ◌⊎◌, inl, inr, Option, Some, None, Result, Ok, Err, IfErr, IfOk, OnErr, MatchOption, IsTrue, length, append_assoc, append-nil, sym, subst, ◌∙◌, codes}
 use Rattle.std.specs.Option.{ok_or}
 use Rattle.std.specs.Prelude.{⊤}
 use Rattle.cap_value.specs.Memory.{AnswersUnlessMemory}
@@ -29,11 +29,11 @@ use Rattle.cap_script.specs.Operations.{SpelledOperations, SpelledRow}
 use Rattle.cap_script.specs.Refused.{Leaves, NoName, NoOperations, NoRow, blob_fault, limit_fault}
 use Rattle.cap_script.specs.RefusedLines.{NoBlob, NoCommand, NoFilter, NoSchema}
 use Rattle.cap_script.specs.Tokens.{Next, behind_blanks, blob}
-use Rattle.cap_script.specs.Words.{answer_word, flag_word, head_word, letters}
+use Rattle.cap_script.specs.Words.{answer_word, flag_word, head_word, letters, report_word}
 use Rattle.cap_script.specs.declared.fault.LineFault.{LineFault}
 use Rattle.cap_script.specs.declared.fault.LineFault.TheVariants.{Limit, OutOfMemory}
 use Rattle.cap_script.specs.declared.line.Show.{Show}
-use Rattle.cap_script.specs.declared.line.Show.TheVariants.{Plain, Get, Scan, Changeset, Patchset, Report}
+use Rattle.cap_script.specs.declared.line.Show.TheVariants.{Plain, Get, Scan, Changeset, Patchset, Report, Buffer}
 use Rattle.cap_script.specs.declared.words.Head.{Head}
 use Rattle.cap_script.specs.declared.words.Head.TheVariants as head
 use Rattle.cap_script.specs.declared.words.SessionWord.{SessionWord}
@@ -171,19 +171,44 @@ pub or_err : {T E : Type 0} (o : Option T) (e : E) (r : Result T E) (N : Type 0)
 or_err (Some x) e r N S P is found f = rw is tt
 or_err None e r N S P is found f = rw is (f found)
 
+-- what an option that is some says of the value in its place
+pub or_ok : {T E : Type 0} (o : Option T) (e : E) (r : Result T E) (N : Type 0) (S P : T → Type 0) → r ≡ ok_or o e → MatchOption o N S → ((x : T) → S x → P x) → IfOk r P
+or_ok (Some x) e r N S P is found f = rw is (f x found)
+or_ok None e r N S P is found f = rw is tt
+
 -- ---- key flags and policies
 
 pub no_key_flags : (line : List ℕ) → (behind_blanks line ≡ [] → ⊥) → NotSpelled (Word (codes "places")) line → (flags : KeyFlags) → NotSpelled (SpelledKeyFlags flags) line
 no_key_flags line ended none Ones rest p = ended p.0
 no_key_flags line ended none Places rest p = none rest p
 
-pub no_report_word : {A : Type 0} (line : List ℕ) → (behind_blanks line ≡ [] → ⊥) → NotSpelled (Word (codes "report")) line → (show : Show A) → NotSpelled (SpelledReport show) line
-no_report_word line ended none Plain rest p = ended p.0
-no_report_word line ended none Report rest p = none rest p
-no_report_word line ended none (Get table row) rest p = p
-no_report_word line ended none (Scan table) rest p = p
-no_report_word line ended none (Changeset flags) rest p = p
-no_report_word line ended none (Patchset flags) rest p = p
+pub no_report_word : {A : Type 0} (line : List ℕ) → (behind_blanks line ≡ [] → ⊥) → NotSpelled (Word (codes "report")) line → NotSpelled (Word (codes "buffer")) line → (show : Show A) → NotSpelled (SpelledReport show) line
+no_report_word line ended none neither Plain rest p = ended p.0
+no_report_word line ended none neither Report rest p = none rest p
+no_report_word line ended none neither Buffer rest p = neither rest p
+no_report_word line ended none neither (Get table row) rest p = p
+no_report_word line ended none neither (Scan table) rest p = p
+no_report_word line ended none neither (Changeset flags) rest p = p
+no_report_word line ended none neither (Patchset flags) rest p = p
+
+-- what a word says that is printed of an apply
+pub report_said : {A : Type 0} (show : Show A) (w line rest : List ℕ) → report_word show ≡ Some w → Word w line rest → SpelledReport show line rest
+report_said Report w line rest is h = let same : codes "report" ≡ w = cc in subst (λ (v : List ℕ). Word v line rest) (sym same) h
+report_said Buffer w line rest is h = let same : codes "buffer" ≡ w = cc in subst (λ (v : List ℕ). Word v line rest) (sym same) h
+report_said Plain w line rest is h = absurd cc
+report_said (Get table row) w line rest is h = absurd cc
+report_said (Scan table) w line rest is h = absurd cc
+report_said (Changeset flags) w line rest is h = absurd cc
+report_said (Patchset flags) w line rest is h = absurd cc
+
+pub report_within : {A : Type 0} (show : Show A) (w : List ℕ) → report_word show ≡ Some w → ShowWithin show
+report_within Report w is = tt
+report_within Buffer w is = tt
+report_within Plain w is = tt
+report_within (Get table row) w is = absurd cc
+report_within (Scan table) w is = absurd cc
+report_within (Changeset flags) w is = tt
+report_within (Patchset flags) w is = tt
 
 pub no_first_answer : (line : List ℕ) → ((answer : Answer) → NotSpelled (Word (answer_word answer)) line) → (policy : Policy) → NotSpelled (SpelledPolicy policy) line
 no_first_answer line none policy rest p = none policy.on_data p.0 p.1

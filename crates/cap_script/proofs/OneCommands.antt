@@ -23,7 +23,7 @@ use Rattle.cap_script.specs.Tokens.{Begins, behind_blanks, begins, integer, is_l
 use Rattle.cap_script.specs.Words.{answer_word, flag_word, head_word, letters}
 use Rattle.cap_script.specs.declared.line.Line.{Line}
 use Rattle.cap_script.specs.declared.line.Show.{Show}
-use Rattle.cap_script.specs.declared.line.Show.TheVariants.{Plain, Get, Scan, Changeset, Patchset, Report}
+use Rattle.cap_script.specs.declared.line.Show.TheVariants.{Plain, Get, Scan, Changeset, Patchset, Report, Buffer}
 use Rattle.cap_script.specs.declared.words.Head.{Head}
 use Rattle.cap_script.specs.declared.words.Head.TheVariants as head
 use Rattle.cap_script.specs.declared.words.SessionWord.TheVariants as session
@@ -177,8 +177,13 @@ same_key_flags Places Ones line a b p q = absurd (no_word (codes "places") line 
 same_report : {A : Type 0} (x y : Show A) (line a b : List ℕ) → SpelledReport x line a → SpelledReport y line b → (x ≡ y) × (a ≡ b)
 same_report Plain Plain line a b p q = (refl, p.1 ∙ sym q.1)
 same_report Report Report line a b p q = (refl, (same_word (codes "report") (codes "report") line a b p q).1)
+same_report Buffer Buffer line a b p q = (refl, (same_word (codes "buffer") (codes "buffer") line a b p q).1)
+same_report Report Buffer line a b p q = absurd (differ (codes "report") (codes "buffer") refl (same_word (codes "report") (codes "buffer") line a b p q).0)
+same_report Buffer Report line a b p q = absurd (differ (codes "buffer") (codes "report") refl (same_word (codes "buffer") (codes "report") line a b p q).0)
 same_report Plain Report line a b p q = absurd (no_word (codes "report") line b p.0 q)
+same_report Plain Buffer line a b p q = absurd (no_word (codes "buffer") line b p.0 q)
 same_report Report Plain line a b p q = absurd (no_word (codes "report") line a q.0 p)
+same_report Buffer Plain line a b p q = absurd (no_word (codes "buffer") line a q.0 p)
 same_report Plain (Get table row) line a b p q = absurd q
 same_report Plain (Scan table) line a b p q = absurd q
 same_report Plain (Changeset flags) line a b p q = absurd q
@@ -187,6 +192,10 @@ same_report Report (Get table row) line a b p q = absurd q
 same_report Report (Scan table) line a b p q = absurd q
 same_report Report (Changeset flags) line a b p q = absurd q
 same_report Report (Patchset flags) line a b p q = absurd q
+same_report Buffer (Get table row) line a b p q = absurd q
+same_report Buffer (Scan table) line a b p q = absurd q
+same_report Buffer (Changeset flags) line a b p q = absurd q
+same_report Buffer (Patchset flags) line a b p q = absurd q
 same_report (Get table row) y line a b p q = absurd p
 same_report (Scan table) y line a b p q = absurd p
 same_report (Changeset flags) y line a b p q = absurd p

@@ -8,7 +8,7 @@ use Rattle.cap_value.specs.Bytes.{bytes_eq, is_name}
 use Rattle.cap_value.specs.declared.refusal.Refusal.{Refusal}
 use Rattle.cap_value.specs.declared.refusal.Refusal.TheVariants.{BadName, BadSchema, TooLong}
 use Rattle.cap_filter.specs.Tokens.{is_word, is_word_byte}
-use Rattle.cap_script.specs.LineFaults.{answer, beyond_if, field, fields, flag, is_key_letter, more_operations, name, on_operation, on_schema, on_value, operation, operations, policy, row, row_words, schema, value, values, verbs}
+use Rattle.cap_script.specs.LineFaults.{answer, beyond_if, field, fields, flag, is_key_letter, more_operations, name, on_operation, on_schema, on_value, operation, operations, policy, report_words, row, row_words, schema, value, values, verbs}
 use Rattle.cap_script.specs.Reading.{Reading, Verdict, goes_on, unfit, exceeds, no_blob, fits, fits_if, within_if, judged, scanned, right_here, next, on_word, a_word, any_of, one_of, natural, on_natural, keyword, a_sign, each, ◌⋙◌}
 use Rattle.cap_script.specs.Scanning.{token_at}
 use Rattle.cap_script.specs.Tokens.{Token, behind_blanks, blob, integer, is_blank, is_letter, sign, text, word}
@@ -252,8 +252,10 @@ session_sample judge is = sample_fits judge 115 (101 ∷ 115 ∷ 115 ∷ 105 ∷
 pub form_places : Form (keyword (codes "places"))
 form_places = form_keyword 112 (108 ∷ 97 ∷ 99 ∷ 101 ∷ 115 ∷ []) (plain 112 (108 ∷ 97 ∷ 99 ∷ 101 ∷ 115 ∷ []) refl refl refl refl refl) refl
 
-pub form_report : Form (keyword (codes "report"))
-form_report = form_keyword 114 (101 ∷ 112 ∷ 111 ∷ 114 ∷ 116 ∷ []) (plain 114 (101 ∷ 112 ∷ 111 ∷ 114 ∷ 116 ∷ []) refl refl refl refl refl) refl
+pub form_report : Form (a_word (any_of report_words))
+form_report =
+    form_word (any_of report_words) (local_any_of report_words) (open_any_of Tail report_words)
+    (sample_fits (on_word (any_of report_words)) 114 (101 ∷ 112 ∷ 111 ∷ 114 ∷ 116 ∷ []) (plain 114 (101 ∷ 112 ∷ 111 ∷ 114 ∷ 116 ∷ []) refl refl refl refl refl) refl)
 
 pub form_filter_word : Form (keyword (codes "filter"))
 form_filter_word = form_keyword 102 (105 ∷ 108 ∷ 116 ∷ 101 ∷ 114 ∷ []) (plain 102 (105 ∷ 108 ∷ 116 ∷ 101 ∷ 114 ∷ []) refl refl refl refl refl) refl

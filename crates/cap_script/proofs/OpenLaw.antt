@@ -9,15 +9,15 @@ use Rattle.cap_codec.specs.declared.fault.BlobFault.{BlobFault}
 use Rattle.hex.specs.Hex.{decode_of, decode_pairs}
 use Rattle.cap_filter.specs.Printed.{quote}
 use Rattle.cap_script.specs.FaultPlace.{BeginsLine, HasSyntaxFault}
-use Rattle.cap_script.specs.LineFaults.{contents, contents_read, flag, line, line_fault, name, on_contents, on_worker, operations, policy, row, schema, worker}
-use Rattle.cap_script.specs.Reading.{Outcome, Reading, Verdict, exceeds, fits, fits_if, judged, scanned, unexpected, at_end, by_sign, keyword, keyword_or_end, natural, next, on_natural, on_word, one_of, right_here, space_here, unless_end, ◌>>=◌, ◌⋙◌}
+use Rattle.cap_script.specs.LineFaults.{contents, contents_read, flag, line, line_fault, name, on_contents, on_worker, operations, policy, report, report_words, row, schema, worker}
+use Rattle.cap_script.specs.Reading.{Outcome, Reading, Verdict, exceeds, fits, fits_if, judged, scanned, unexpected, a_word, any_of, at_end, by_sign, keyword, keyword_or_end, natural, next, on_natural, on_word, one_of, right_here, space_here, unless_end, ◌>>=◌, ◌⋙◌}
 use Rattle.cap_script.specs.Scanning.{Scanned, token_at}
 use Rattle.cap_script.specs.Tokens.{Token, begins, behind_blanks, blob, integer, is_blank, sign, text, word}
 use Rattle.cap_script.specs.declared.fault.LineFault.TheVariants.{Limit, Syntax}
 use Rattle.cap_script.proofs.LocalLemmas.{blanks_of, found_some, longer_end, same_end}
 use Rattle.cap_script.proofs.OpenForms.{goes_64, form_flag, form_name, form_natural, form_operations, form_places, form_policy, form_report, form_row, form_schema, open_on_word, open_one_of, session_sample}
 use Rattle.cap_script.proofs.OpenLemmas.{Ends, Finish, Form, Here, Nothing, Open, OpenVerdict, Reached, Sample, Skips, Tail, blanks_at, ends_at, form_both, form_next, found_tail, goes_with, never_idle, nothing_tail, only_blanks, open_both, open_next, open_ok, open_skip, reached, reached_at, sample_both, tail_sign, weaker}
-use Rattle.cap_script.proofs.PlaceLaw.{line_agrees, local_at_end, local_keyword_or_end, local_on_contents, local_on_natural, local_on_others, local_on_word, local_other_command, local_other_line, local_worker, never, no_filter_in, of_err, other_command, other_line, others, SetsFilter}
+use Rattle.cap_script.proofs.PlaceLaw.{line_agrees, local_at_end, local_keyword_or_end, local_on_contents, local_on_natural, local_on_others, local_on_word, local_other_command, local_other_line, local_report, local_worker, never, no_filter_in, of_err, other_command, other_line, others, SetsFilter}
 use Rattle.cap_script.proofs.PlaceLemmas.{Local, LocalVerdict, local_end_here, local_here, local_unexpected, local_ok, local_sign, local_test, local_both, none_before, read_to, same_left, same_rest, some_front}
 use Rattle.cap_script.proofs.ScanLemmas.{blob_is}
 use Rattle.cap_script.proofs.TokenLemmas.{blanks_twice}
@@ -58,8 +58,8 @@ end_skips next line = ap (unless_end next) (sym (blanks_twice line))
 end_sample : (next : Reading) → Sample Nothing (λ line. unless_end next (behind_blanks line))
 end_sample next = record { text = []; tail = end_tail; reads = λ line e. subst (λ (l : List ℕ). Reached (unless_end next (behind_blanks (32 ∷ l))) l) (sym e) ([], refl, refl) }
 
-open_word_or_end : (w : List ℕ) → Form (keyword w) → Open Nothing (keyword_or_end w)
-open_word_or_end w form = open_skip Nothing (unless_end (keyword w)) (local_end_here (keyword w) form.local) (word_here (keyword w) form)
+open_or_end : (next : Reading) → Form next → Open Nothing (λ line. unless_end next (behind_blanks line))
+open_or_end next form = open_skip Nothing (unless_end next) (local_end_here next form.local) (word_here next form)
 
 -- ---- workers
 
@@ -234,7 +234,7 @@ open_places : Open Nothing (natural ⋙ keyword_or_end (codes "places"))
 open_places =
     let first = form_natural in
     let last = form_places in
-    open_both Nothing natural (keyword_or_end (codes "places")) first.local (local_keyword_or_end (codes "places")) first.inner (open_word_or_end (codes "places") last) (end_skips (keyword (codes "places"))) (end_sample (keyword (codes "places"))) nothing_tail
+    open_both Nothing natural (keyword_or_end (codes "places")) first.local (local_keyword_or_end (codes "places")) first.inner (open_or_end (keyword (codes "places")) last) (end_skips (keyword (codes "places"))) (end_sample (keyword (codes "places"))) nothing_tail
 
 module _ (A : Type 0) where
   contents_verdict : {Y : Type 0} (read : Result Y BlobFault) → OpenVerdict Tail (contents_read read)
@@ -266,18 +266,17 @@ module _ (A : Type 0) where
     reads = λ line tail. reached_at (contents A (32 ∷ (120 ∷ (quote ∷ (quote ∷ line))))) (Ok line) line (ap (scanned (on_contents A) (120 ∷ (quote ∷ (quote ∷ line)))) (blob_first line) ∙ ap (judged (120 ∷ (quote ∷ (quote ∷ line))) line) empty_blob) (reached line);
   })
 
-  open_apply : Open Nothing (contents A ⋙ policy ⋙ keyword_or_end (codes "report"))
+  open_apply : Open Nothing (contents A ⋙ policy ⋙ report)
   open_apply =
       let first = form_contents in
       let second = form_policy in
       let last = form_report in
-      let end = open_word_or_end (codes "report") last in
-      let local_end = local_keyword_or_end (codes "report") in
-      let skips = end_skips (keyword (codes "report")) in
-      let sample = end_sample (keyword (codes "report")) in
-      open_both Nothing (contents A) (policy ⋙ keyword_or_end (codes "report")) first.local (local_both policy (keyword_or_end (codes "report")) second.local local_end) first.inner
-      (open_both Nothing policy (keyword_or_end (codes "report")) second.local local_end second.inner end skips sample nothing_tail) (λ line. ap (λ (o : Outcome). o >>= keyword_or_end (codes "report")) (second.skips line))
-      (sample_both Nothing policy (keyword_or_end (codes "report")) second.local local_end second.inner end skips sample second.sample) nothing_tail
+      let end = open_or_end (a_word (any_of report_words)) last in
+      let skips = end_skips (a_word (any_of report_words)) in
+      let sample = end_sample (a_word (any_of report_words)) in
+      open_both Nothing (contents A) (policy ⋙ report) first.local (local_both policy report second.local local_report) first.inner
+      (open_both Nothing policy report second.local local_report second.inner end skips sample nothing_tail) (λ line. ap (λ (o : Outcome). o >>= report) (second.skips line))
+      (sample_both Nothing policy report second.local local_report second.inner end skips sample second.sample) nothing_tail
 
   abbrev on_command : Token → Verdict
   on_command = on_word (one_of (others A))

@@ -9,8 +9,8 @@ use Rattle.cap_codec.specs.BlobReading.{blob_at}
 use Rattle.cap_codec.specs.declared.fault.BlobFault.{BlobFault}
 use Rattle.cap_row.specs.Schema.{is_schema}
 use Rattle.cap_script.specs.FaultPlace.{HasSyntaxFault, KeepsSyntaxFault}
-use Rattle.cap_script.specs.LineFaults.{answer, beyond_if, command, commands, contents, contents_read, field, fields, filter, flag, is_key_letter, line, line_fault, more_operations, name, on_contents, on_operation, on_schema, on_value, on_worker, operation, operations, policy, row, row_words, schema, value, values, verbs, worker}
-use Rattle.cap_script.specs.Reading.{Outcome, Reading, Verdict, fits_if, judged, scanned, ◌>>=◌, within_if, goes_on, unfit, exceeds, no_blob, a_sign, a_word, at_end, each, keyword, keyword_or_end, unexpected, natural, on_natural, on_word, one_of, right_here, space_here, ◌⋙◌}
+use Rattle.cap_script.specs.LineFaults.{answer, beyond_if, command, commands, contents, contents_read, field, fields, filter, flag, is_key_letter, line, line_fault, more_operations, name, on_contents, on_operation, on_schema, on_value, on_worker, operation, operations, policy, report, report_words, row, row_words, schema, value, values, verbs, worker}
+use Rattle.cap_script.specs.Reading.{Outcome, Reading, Verdict, fits_if, judged, scanned, ◌>>=◌, within_if, goes_on, unfit, exceeds, no_blob, a_sign, a_word, any_of, at_end, each, keyword, keyword_or_end, unexpected, natural, on_natural, on_word, one_of, right_here, space_here, ◌⋙◌}
 use Rattle.cap_script.specs.Scanning.{Scanned, token_at}
 use Rattle.cap_script.specs.Tokens.{Token, behind_blanks, blob, integer, is_blank, sign, text, word}
 use Rattle.cap_script.specs.declared.fault.LineFault.{LineFault}
@@ -122,6 +122,9 @@ local_operations = local_both (operation false) (more_operations 9999) (local_op
 pub local_answer : Local answer
 local_answer = local_word _ (local_any_of (codes "omit" ∷ codes "replace" ∷ codes "abort" ∷ []))
 
+pub local_report : Local report
+local_report = local_unless_end (a_word (any_of report_words)) (local_word _ (local_any_of report_words))
+
 pub local_policy : Local policy
 local_policy = local_both answer (answer ⋙ answer) local_answer (local_both answer answer local_answer local_answer)
 
@@ -174,8 +177,8 @@ module _ (A : Type 0) where
   pub local_contents : Local (contents A)
   local_contents = local_next (on_contents A) local_on_contents
 
-  local_apply : Local (contents A ⋙ policy ⋙ keyword_or_end (codes "report"))
-  local_apply = local_both (contents A) (policy ⋙ keyword_or_end (codes "report")) local_contents (local_both policy (keyword_or_end (codes "report")) local_policy (local_keyword_or_end (codes "report")))
+  local_apply : Local (contents A ⋙ policy ⋙ report)
+  local_apply = local_both (contents A) (policy ⋙ report) local_contents (local_both policy report local_policy local_report)
 
   pub with_session : (read : Reading) → Local read → Local (natural ⋙ read)
   with_session read local = local_both natural read local_natural local
@@ -185,7 +188,7 @@ module _ (A : Type 0) where
       (codes "create", name ⋙ schema)
       ∷ (codes "commit", operations)
       ∷ (codes "commitat", natural ⋙ operations)
-      ∷ (codes "apply", contents A ⋙ policy ⋙ keyword_or_end (codes "report"))
+      ∷ (codes "apply", contents A ⋙ policy ⋙ report)
       ∷ (codes "get", name ⋙ row)
       ∷ (codes "scan", name)
       ∷ (codes "save", name)

@@ -3,7 +3,7 @@ use Rattle.std.proofs.Common.{◌≡◌, ℕ, true, false, eqb, List, [], ◌∷
 use Rattle.cap_script.specs.Forms.{NotSpelled, Sign, Without, Word}
 use Rattle.cap_script.specs.declared.fault.LineFault.{LineFault}
 use Rattle.cap_script.specs.declared.fault.LineFault.TheVariants.{BadBlob, Limit, OutOfMemory, Syntax}
-use Rattle.cap_script.specs.Reading.{Fails, Outcome, Reading, Reads, ◌>>=◌, Verdict, unfit, judged, unexpected, scanned, right_here, on_word, a_word, on_natural, by_sign}
+use Rattle.cap_script.specs.Reading.{Fails, Outcome, Reading, Reads, ◌>>=◌, Verdict, unfit, judged, unexpected, scanned, right_here, on_word, a_word, on_natural, by_sign, unless_end}
 use Rattle.cap_script.specs.Scanning.{Scanned, token_at}
 use Rattle.cap_script.specs.Tokens.{Begins, Token, begins, behind_blanks, blob, integer, sign, text, word}
 use Rattle.cap_script.proofs.OneTokens.{eqb_itself}
@@ -59,6 +59,14 @@ memory_at r rest fault read is e = reads_err r rest fault read is (subst (λ (f 
 pub unexpected_or_memory : {X : Type 0} (r : Result X LineFault) (rest : List ℕ) (fault place : LineFault) (read : Outcome) (NoneHere : Type 0) → IsErrAnd r (λ e. e ≡ fault) → (fault ≡ OutOfMemory) ⊎ NoneHere → Fails fault (Err place) → (NoneHere → read ≡ Err place) → Reads r rest read
 unexpected_or_memory r rest fault place read NoneHere is (inl memory) at e = reads_err r rest fault read is (subst (λ (f : LineFault). Fails f read) (sym memory) tt)
 unexpected_or_memory r rest fault place read NoneHere is (inr none) at e = reads_err r rest fault read is (subst (λ (o : Outcome). Fails fault o) (sym (e none)) at)
+
+-- the line goes on
+pub goes_further : (next : Reading) (line between : List ℕ) → between ≡ behind_blanks line → (behind_blanks line ≡ [] → ⊥) → unless_end next (behind_blanks line) ≡ next between
+goes_further next line between at more = by (behind_blanks line) more ∙ ap next (sym at)
+  where
+    by : (here : List ℕ) → (here ≡ [] → ⊥) → unless_end next here ≡ next here
+    by [] more = absurd (more refl)
+    by (byte ∷ here) more = refl
 
 -- no token is here that fits
 pub other_token : (judge : Token → Verdict) (here : List ℕ) → ((token : Token) (rest : List ℕ) → Begins token here rest → judge token ≡ unfit) → right_here judge here ≡ Err (unexpected here)

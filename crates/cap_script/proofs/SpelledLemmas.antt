@@ -33,17 +33,17 @@ use Rattle.cap_core.specs.declared.command.Command.{Command}
 use Rattle.cap_script.specs.Commands.{SpelledBlob, SpelledCommand, SpelledFilter, SpelledKeyFlags, SpelledPolicy, SpelledReport}
 use Rattle.cap_script.specs.Forms.{Form, ◌▸◌, More, Natural, Sign, Without, Word}
 use Rattle.cap_script.specs.Limits.{ActionWithin, NameWithin, OpWithin, OpsWithin, RowWithin, ValueWithin}
-use Rattle.cap_script.specs.LineFaults.{answer, command, commands, contents, field, fields, filter, filter_read, flag, line_fault, more_operations, name, on_operation, on_schema, on_value, on_worker, operation, operations, policy, row, row_words, schema, short, value, verbs, worker}
+use Rattle.cap_script.specs.LineFaults.{answer, command, commands, contents, field, fields, filter, filter_read, flag, line_fault, more_operations, name, on_operation, on_schema, on_value, on_worker, operation, operations, policy, report, report_words, row, row_words, schema, short, value, verbs, worker}
 use Rattle.cap_script.specs.LineFaults.{values as row_values}
 use Rattle.cap_script.specs.LineLimits.{CommandWithin, LineWithin, SchemaWithin, ShowWithin}
 use Rattle.cap_script.specs.Operations.{MoreOperations, MoreValues, SpelledAction, SpelledCause, SpelledField, SpelledFields, SpelledOperation, SpelledOperations, SpelledRow, SpelledValue, SpelledValues}
-use Rattle.cap_script.specs.Reading.{Outcome, Reading, Verdict, goes_on, fits, fits_if, within_if, judged, unexpected, a_sign, a_word, any_of, at_end, at_most, behind, each, keyword, keyword_or_end, natural, on_natural, on_word, one_of, right_here, space_here, unless_end, ◌>>=◌, ◌⋙◌}
+use Rattle.cap_script.specs.Reading.{Outcome, Reading, Verdict, goes_on, fits, fits_if, within_if, judged, unexpected, a_sign, a_word, any_of, at_end, at_most, behind, each, keyword, keyword_or_end, natural, on_natural, on_word, one_of, right_here, space_here, unless_end, word_or_end, ◌>>=◌, ◌⋙◌}
 use Rattle.cap_script.specs.Script.{SpelledWorker, SpellsLine}
 use Rattle.cap_script.specs.Tokens.{begins, behind_blanks, blob, integer, is_letter, text, word}
 use Rattle.cap_script.specs.Words.{answer_word, flag_word, head_word, letters}
 use Rattle.cap_script.specs.declared.line.Line.{Line}
 use Rattle.cap_script.specs.declared.line.Show.{Show}
-use Rattle.cap_script.specs.declared.line.Show.TheVariants.{Plain, Get, Scan, Changeset, Patchset, Report}
+use Rattle.cap_script.specs.declared.line.Show.TheVariants.{Plain, Get, Scan, Changeset, Patchset, Report, Buffer}
 use Rattle.cap_script.specs.declared.words.Head.{Head}
 use Rattle.cap_script.specs.declared.words.Head.TheVariants as head
 use Rattle.cap_script.specs.declared.words.SessionWord.TheVariants as session
@@ -209,24 +209,24 @@ flag_read (Some true) = word_read (any_of (codes "on" ∷ codes "off" ∷ codes 
 flag_read (Some false) = word_read (any_of (codes "on" ∷ codes "off" ∷ codes "ask" ∷ [])) (codes "off") refl
 flag_read None = word_read (any_of (codes "on" ∷ codes "off" ∷ codes "ask" ∷ [])) (codes "ask") refl
 
-end_read : (w line rest : List ℕ) → behind_blanks line ≡ [] → rest ≡ [] → keyword_or_end w line ≡ Ok rest
-end_read w line rest none is = ap (unless_end (keyword w)) none ∙ ap (λ (l : List ℕ). Ok l) (sym is)
+end_read : (judge : List ℕ → Verdict) (line rest : List ℕ) → behind_blanks line ≡ [] → rest ≡ [] → word_or_end judge line ≡ Ok rest
+end_read judge line rest none is = ap (unless_end (a_word judge)) none ∙ ap (λ (l : List ℕ). Ok l) (sym is)
 
 no_end : (next : Reading) (here : List ℕ) → begins is_letter here ≡ true → unless_end next here ≡ next here
 no_end next [] e = absurd cc
 no_end next (byte ∷ here) e = refl
 
-last_word_read : (w line rest : List ℕ) → bytes_eq w w ≡ true → Word w line rest → keyword_or_end w line ≡ Ok rest
-last_word_read w line rest same h =
-    no_end (keyword w) (behind_blanks line) h.1 ∙ ap (right_here (on_word (λ found. fits_if (bytes_eq found w)))) (blanks_twice line) ∙ word_read (λ found. fits_if (bytes_eq found w)) w (ap fits_if same) line rest h
+last_word_read : (judge : List ℕ → Verdict) (w line rest : List ℕ) → judge w ≡ fits → Word w line rest → word_or_end judge line ≡ Ok rest
+last_word_read judge w line rest fit h = no_end (a_word judge) (behind_blanks line) h.1 ∙ ap (right_here (on_word judge)) (blanks_twice line) ∙ word_read judge w fit line rest h
 
 key_flags_read : (flags : KeyFlags) → IsReadBy (keyword_or_end (codes "places")) (SpelledKeyFlags flags)
-key_flags_read Ones line rest (none, is) = end_read (codes "places") line rest none is
-key_flags_read Places line rest h = last_word_read (codes "places") line rest refl h
+key_flags_read Ones line rest (none, is) = end_read (λ found. fits_if (bytes_eq found (codes "places"))) line rest none is
+key_flags_read Places line rest h = last_word_read (λ found. fits_if (bytes_eq found (codes "places"))) (codes "places") line rest refl h
 
-report_read : {A : Type 0} (show : Show A) → IsReadBy (keyword_or_end (codes "report")) (SpelledReport show)
-report_read Plain line rest (none, is) = end_read (codes "report") line rest none is
-report_read Report line rest h = last_word_read (codes "report") line rest refl h
+report_read : {A : Type 0} (show : Show A) → IsReadBy report (SpelledReport show)
+report_read Plain line rest (none, is) = end_read (any_of report_words) line rest none is
+report_read Report line rest h = last_word_read (any_of report_words) (codes "report") line rest refl h
+report_read Buffer line rest h = last_word_read (any_of report_words) (codes "buffer") line rest refl h
 report_read (Get table r) line rest h = absurd h
 report_read (Scan table) line rest h = absurd h
 report_read (Changeset flags) line rest h = absurd h
@@ -267,8 +267,8 @@ module _ {A : Type 0} (filters : FiltersRead) (blobs : BlobsRead A) where
   said_read head.Commit ops within shown = operations_read ops within
   said_read head.CommitAt (base, ops) within shown = session_read base operations (SpelledOperations ops) (operations_read ops within)
   said_read head.Apply (made, p, show) within shown =
-      both_read (contents A) (policy ⋙ keyword_or_end (codes "report")) (SpelledBlob made) (SpelledPolicy p ▸ SpelledReport show) (contents_read_by made)
-      (both_read policy (keyword_or_end (codes "report")) (SpelledPolicy p) (SpelledReport show) (policy_read p) (report_read show))
+      both_read (contents A) (policy ⋙ report) (SpelledBlob made) (SpelledPolicy p ▸ SpelledReport show) (contents_read_by made)
+      (both_read policy report (SpelledPolicy p) (SpelledReport show) (policy_read p) (report_read show))
   said_read head.Get (table, r) within (named, shown) = both_read name row (Word table) (SpelledRow r) (name_read table named) (row_read r shown)
   said_read head.Scan table within shown = name_read table shown
   said_read head.Save database within shown = name_read database within

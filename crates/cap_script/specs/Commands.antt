@@ -16,7 +16,7 @@ use Rattle.cap_script.specs.Operations.{SpelledOperations, SpelledRow}
 use Rattle.cap_script.specs.Tokens.{Next, blob}
 use Rattle.cap_script.specs.Words.{answer_word, flag_word, letters}
 use Rattle.cap_script.specs.declared.line.Show.{Show}
-use Rattle.cap_script.specs.declared.line.Show.TheVariants.{Plain, Get, Scan, Changeset, Patchset, Report}
+use Rattle.cap_script.specs.declared.line.Show.TheVariants.{Plain, Get, Scan, Changeset, Patchset, Report, Buffer}
 
 -- the answers to DATA, NOTFOUND and CONFLICT
 abbrev pub SpelledPolicy : Policy → Form
@@ -40,10 +40,12 @@ module _ {A : Type 0} where
       (bytes : List ℕ) × Next (blob bytes) line rest × SpellsBlob contents bytes
       × (length bytes ≤ 1000000000)
 
-  -- how the outcome of an apply is printed: nothing for its counts, or a word for its conflicts too
+  -- how the outcome of an apply is printed: nothing for its counts, or a word for its conflicts or its buffer
+  -- too
   abbrev pub SpelledReport : Show A → Form
   SpelledReport Plain = AtEnd
   SpelledReport Report = Word (codes "report")
+  SpelledReport Buffer = Word (codes "buffer")
   SpelledReport _ = Never
 
   -- without or with a base version; a transaction's batch is not spelled

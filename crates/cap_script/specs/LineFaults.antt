@@ -17,7 +17,7 @@ use Rattle.cap_script.specs.Reading.{Outcome, Reading, Verdict, goes_on, unfit, 
 use Rattle.cap_script.specs.Reading.{fits_if}
 use Rattle.cap_script.specs.Reading.{within_if, ◌⋙◌, next, right_here, a_word, any_of, keyword, one_of}
 use Rattle.cap_script.specs.Reading.{natural, on_natural, a_sign, where_sign, each, at_end, keyword_or_end}
-use Rattle.cap_script.specs.Reading.{space_here}
+use Rattle.cap_script.specs.Reading.{space_here, word_or_end}
 use Rattle.cap_script.specs.Tokens.{Token, word, integer, text, blob, sign}
 use Rattle.cap_script.specs.declared.fault.LineFault.{LineFault}
 use Rattle.cap_script.specs.declared.fault.LineFault.TheVariants.{Limit, OutOfMemory, Syntax}
@@ -107,6 +107,13 @@ answer = a_word (any_of (codes "omit" ∷ codes "replace" ∷ codes "abort" ∷ 
 abbrev pub policy : Reading
 policy = answer ⋙ answer ⋙ answer
 
+abbrev pub report_words : List (List ℕ)
+report_words = codes "report" ∷ codes "buffer" ∷ []
+
+-- what is printed of an apply beside its counts, or nothing
+abbrev pub report : Reading
+report = word_or_end (any_of report_words)
+
 -- a flag's new value, or a query for it
 abbrev pub flag : Reading
 flag = a_word (any_of (codes "on" ∷ codes "off" ∷ codes "ask" ∷ []))
@@ -146,7 +153,7 @@ module _ (A : Type 0) where
       (codes "create", name ⋙ schema)
       ∷ (codes "commit", operations)
       ∷ (codes "commitat", natural ⋙ operations)
-      ∷ (codes "apply", contents ⋙ policy ⋙ keyword_or_end (codes "report"))
+      ∷ (codes "apply", contents ⋙ policy ⋙ report)
       ∷ (codes "get", name ⋙ row)
       ∷ (codes "scan", name)
       ∷ (codes "save", name)

@@ -131,9 +131,13 @@ unless_end next (byte ∷ rest) = next (byte ∷ rest)
 abbrev pub at_end : Reading
 at_end line = unless_end (λ here. Err (unexpected here)) (behind_blanks line)
 
+-- a word, or the line's end
+abbrev pub word_or_end : (List ℕ → Verdict) → Reading
+word_or_end judge line = unless_end (a_word judge) (behind_blanks line)
+
 -- this word, or the line's end
 abbrev pub keyword_or_end : List ℕ → Reading
-keyword_or_end w line = unless_end (keyword w) (behind_blanks line)
+keyword_or_end w = word_or_end (λ found. fits_if (bytes_eq found w))
 
 -- a space right here
 abbrev pub space_here : Reading

@@ -6,8 +6,12 @@ use Rattle.cap_changes.specs.Group.{TableChanges}
 use Rattle.cap_changes.specs.Patch.{patch_list_of}
 use Rattle.cap_codec.specs.Changeset.{list_bytes_with}
 use Rattle.cap_codec.specs.Patchset.{patch_list_bytes_with}
+use Rattle.cap_codec.specs.declared.key_flags.KeyFlags.TheVariants.{Ones}
+use Rattle.cap_codec.specs.declared.read.Contents.{Contents}
+use Rattle.cap_codec.specs.declared.read.Contents.TheVariants.{Changes, Patches}
 use Rattle.cap_apply.specs.Report.{ReportState}
 use Rattle.cap_apply.specs.declared.conflict.Conflict.{Conflict}
+use Rattle.cap_rebase.specs.Buffer.{buffer_of}
 use Rattle.cap_core.specs.declared.command.Command.{Command}
 use Rattle.cap_core.specs.declared.command.Command.TheVariants as command
 use Rattle.cap_core.specs.declared.reply.Reply.{Reply}
@@ -18,7 +22,7 @@ use Rattle.cap_script.specs.RowText.{snapshot_text}
 use Rattle.cap_script.specs.Words.{answer_word, kind_word}
 use Rattle.cap_script.specs.declared.line.Line.{Line}
 use Rattle.cap_script.specs.declared.line.Show.{Show}
-use Rattle.cap_script.specs.declared.line.Show.TheVariants.{Changeset, Patchset, Report}
+use Rattle.cap_script.specs.declared.line.Show.TheVariants.{Buffer, Changeset, Patchset, Report}
 
 -- lower case hex digits, or `-` where there are no bytes
 abbrev pub hex_or_dash : List ℕ → List ℕ
@@ -51,10 +55,21 @@ report_text report =
     ++ flat_map (number_text (codes "skipped")) report.skipped)
 
 module _ {A : Type 0} where
-  -- the outcome of an apply
-  abbrev pub applied_shown : Show A → ℕ → ReportState → List ℕ
-  applied_shown Report version report = applied_text version report ++ report_text report
-  applied_shown _ version report = applied_text version report
+  -- the changes of a changeset that met a conflict, each with its answer. A patchset has no buffer.
+  abbrev pub buffer_digits : Contents A → List Conflict → List ℕ
+  buffer_digits (Changes list) conflicts = hex_or_dash (list_bytes_with Ones (buffer_of list conflicts))
+  buffer_digits (Patches list) conflicts = codes "none"
+
+  -- the buffer of the application of a blob, on a line of its own, after the line before
+  abbrev pub buffer_text : Command A → List Conflict → List ℕ
+  buffer_text (command.Apply contents policy) conflicts = 10 ∷ (codes "buffer " ++ buffer_digits contents conflicts)
+  buffer_text _ conflicts = []
+
+  -- the outcome of the command, an apply
+  abbrev pub applied_shown : Show A → Command A → ℕ → ReportState → List ℕ
+  applied_shown Report asked version report = applied_text version report ++ report_text report
+  applied_shown Buffer asked version report = applied_text version report ++ buffer_text asked report.conflicts
+  applied_shown _ asked version report = applied_text version report
 
   -- whether a session is empty is true or false, and a flag is on or off
   abbrev pub flag_text : Command A → Bool → List ℕ
@@ -72,7 +87,7 @@ module _ {A : Type 0} where
   unfoldable pub reply_text : Line A → Reply A → List ℕ
   reply_text line Done = codes "ok"
   reply_text line (Written version) = codes "ok version " ++ decimal version
-  reply_text line (Applied version report) = applied_shown line.show version report
+  reply_text line (Applied version report) = applied_shown line.show line.command version report
   reply_text line (Session number) = codes "session " ++ decimal number
   reply_text line (Snapshot snapshot) = snapshot_text line.show snapshot
   reply_text line (Flag flag) = flag_text line.command flag

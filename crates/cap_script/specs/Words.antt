@@ -4,6 +4,8 @@ use Rattle.cap_apply.specs.declared.conflict.ConflictKind.{ConflictKind}
 use Rattle.cap_apply.specs.declared.conflict.ConflictKind.TheVariants.{Data, NotFound, Conflict}
 use Rattle.cap_apply.specs.declared.policy.Answer.{Answer}
 use Rattle.cap_apply.specs.declared.policy.Answer.TheVariants.{Omit, Replace, Abort}
+use Rattle.cap_script.specs.declared.line.Show.{Show}
+use Rattle.cap_script.specs.declared.line.Show.TheVariants.{Report, Buffer}
 use Rattle.cap_script.specs.declared.words.Head.{Head}
 use Rattle.cap_script.specs.declared.words.Head.TheVariants as head
 use Rattle.cap_script.specs.declared.words.SessionWord.{SessionWord}
@@ -48,6 +50,12 @@ abbrev pub answer_word : Answer → List ℕ
 answer_word Omit = codes "omit"
 answer_word Replace = codes "replace"
 answer_word Abort = codes "abort"
+
+-- what is printed of an apply beside its counts
+abbrev pub report_word : {A : Type 0} → Show A → Option (List ℕ)
+report_word Report = Some (codes "report")
+report_word Buffer = Some (codes "buffer")
+report_word _ = None
 
 -- the kind of a conflict
 abbrev pub kind_word : ConflictKind → List ℕ

@@ -1,16 +1,15 @@
 //! Reads commands. Each function but the first reads a command after its first word.
-ghost use Rattle.std.specs.Prelude.{List, ℕ, OnErr, IfOk, IfErr, codes};
+ghost use Rattle.std.specs.Prelude.{◌≡◌, ◌≢◌, List, ℕ, OnErr, IfOk, IfErr, MatchOption, Some, codes};
 ghost use Rattle.cap_apply.specs.declared.policy.Answer.{Answer};
 ghost use Rattle.cap_apply.specs.declared.policy.Policy.{Policy};
 ghost use Rattle.cap_script.specs.Commands.{SpelledBlob, SpelledCommand, SpelledPolicy, SpelledReport};
 ghost use Rattle.cap_script.specs.Forms.{NotSpelled, Word};
 ghost use Rattle.cap_script.specs.LineFaults.{answer, command, commands, contents, name, operations, policy};
-ghost use Rattle.cap_script.specs.LineFaults.{row};
-ghost use Rattle.cap_script.specs.LineFaults.{schema};
+ghost use Rattle.cap_script.specs.LineFaults.{report, row, schema};
 ghost use Rattle.cap_script.specs.LineLimits.{CommandWithin, SchemaWithin, ShowWithin};
-ghost use Rattle.cap_script.specs.Reading.{Reads, ◌⋙◌, behind, keyword_or_end, natural};
+ghost use Rattle.cap_script.specs.Reading.{Reads, ◌⋙◌, behind, natural};
 ghost use Rattle.cap_script.specs.RefusedLines.{NoBlob, NoCommand, NoSchema};
-ghost use Rattle.cap_script.specs.Words.{answer_word, head_word, letters};
+ghost use Rattle.cap_script.specs.Words.{answer_word, head_word, letters, report_word};
 ghost use Rattle.cap_script.specs.declared.line.Show.{Show};
 
 use crate::Show;
@@ -145,7 +144,7 @@ fn apply<A: AllocHandle>(
     ensures none { (line : List ℕ) → Word (codes "apply") line cursor.old.rest.now
         → IfErr result (λ fault. NoCommand A fault line) }
     ensures reads { Reads result cursor.new.rest.now
-        ((contents A ⋙ policy ⋙ keyword_or_end (codes "report")) cursor.old.rest.now) }
+        ((contents A ⋙ policy ⋙ report) cursor.old.rest.now) }
 {
     let blob = contents(alloc, cursor)?;
     let policy = policy(cursor)?;
@@ -189,18 +188,30 @@ fn answer(cursor: &mut Cursor<'_>) -> Result<Answer, LineFault>
     answer_of(word.text).ok_or(word.unexpected)
 }
 
-// Reads how the outcome of an apply is printed: `report`, or nothing for its counts alone.
+// Reads how the outcome of an apply is printed: `report`, `buffer`, or nothing for its counts alone.
 fn report<A: AllocHandle>(cursor: &mut Cursor<'_>) -> Result<Show<A>, LineFault>
     ensures next { IfOk result (λ made. SpelledReport made cursor.old.rest.now cursor.new.rest.now) }
     ensures within { IfOk result (λ made. ShowWithin made) }
     ensures none { OnErr result ((show : Show A) → NotSpelled (SpelledReport show) cursor.old.rest.now) }
-    ensures reads { Reads result cursor.new.rest.now (keyword_or_end (codes "report") cursor.old.rest.now) }
+    ensures reads { Reads result cursor.new.rest.now (report cursor.old.rest.now) }
 {
     if cursor.takes_end() {
         return Ok(Show::Plain);
     }
-    cursor.keyword("report")?;
-    Ok(Show::Report)
+    let word = cursor.word()?;
+    report_of(word.text).ok_or(word.unexpected)
+}
+
+// What is printed of an apply beside its counts, if the word is `report` or `buffer`.
+fn report_of<A: AllocHandle>(word: &str) -> Option<Show<A>>
+    ensures { MatchOption result ((word.now ≢ codes "report") × (word.now ≢ codes "buffer"))
+        (λ show. report_word show ≡ Some word.now) }
+{
+    match word {
+        "report" => Some(Show::Report),
+        "buffer" => Some(Show::Buffer),
+        _ => None,
+    }
 }
 
 // Reads a query for a row of a snapshot: `T REF`.

@@ -1,6 +1,7 @@
 //! The text of workloads and of their replies: one command a line, and one line or more a reply.
 #![tactic(auto)]
 
+mod buffer_text;
 mod command;
 mod cursor;
 mod fault;

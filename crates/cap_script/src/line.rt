@@ -30,6 +30,8 @@ pub enum Show<A: AllocHandle> {
     Patchset(KeyFlags),
     /// The outcome of an apply, with its conflicts, the omitted changes and the skipped groups.
     Report,
+    /// The outcome of an apply, with the buffer over which local changes are rebased.
+    Buffer,
 }
 
 /// A line of a workload: a command, its worker, and how its reply is printed.

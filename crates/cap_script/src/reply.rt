@@ -3,9 +3,10 @@ ghost use Rattle.std.specs.Prelude.{◌≡◌, IfOk, string_bytes, codes, ◌++�
 ghost use Rattle.cap_changes.specs.Patch.{patch_list_of};
 ghost use Rattle.cap_codec.specs.Changeset.{list_bytes_with};
 ghost use Rattle.cap_codec.specs.Patchset.{patch_list_bytes_with};
-ghost use Rattle.cap_script.specs.ReplyText.{applied_shown, applied_text, capture_text, flag_text};
-ghost use Rattle.cap_script.specs.ReplyText.{hex_or_dash, reply_text, report_text};
+ghost use Rattle.cap_script.specs.ReplyText.{applied_shown, applied_text, buffer_text};
+ghost use Rattle.cap_script.specs.ReplyText.{capture_text, flag_text, hex_or_dash, reply_text, report_text};
 
+use crate::buffer_text::write_buffer;
 use crate::refusal_text::RefusalText;
 use crate::report_text::write_report;
 use crate::row_text::snapshot_text;
@@ -28,7 +29,7 @@ pub fn print_reply<A: AllocHandle>(
     match reply {
         Reply::Done => String::from_str(alloc, "ok"),
         Reply::Written { version } => format!(in alloc; "ok version {version}"),
-        Reply::Applied { version, report } => applied_text(alloc, &line.show, *version, report),
+        Reply::Applied { version, report } => applied_text(alloc, line, *version, report),
         Reply::Session(number) => format!(in alloc; "session {number}"),
         Reply::Snapshot(snapshot) => snapshot_text(alloc, &line.show, snapshot),
         Reply::Flag(flag) => String::from_str(alloc, flag_text(&line.command, *flag)),
@@ -44,14 +45,16 @@ pub fn print_reply<A: AllocHandle>(
 // The outcome of an apply.
 fn applied_text<A: AllocHandle>(
     alloc: A,
-    show: &Show<A>,
+    line: &Line<A>,
     version: u64,
     report: &Report<A>,
 ) -> Result<String<A>, OutOfMemory>
-    ensures { IfOk result (λ text. string_bytes text ≡ applied_shown show.now version report.now) }
+    ensures { IfOk result (λ text.
+        string_bytes text ≡ applied_shown line.now.show line.now.command version report.now) }
 {
-    match show {
+    match &line.show {
         Show::Report => applied_with_report(alloc, version, report),
+        Show::Buffer => applied_with_buffer(alloc, &line.command, version, report),
         _ => applied_counts(alloc, version, report),
     }
 }
@@ -66,6 +69,20 @@ fn applied_with_report<A: AllocHandle>(
 {
     let mut text = applied_counts(alloc, version, report)?;
     write_report(alloc, report, &mut text)?;
+    Ok(text)
+}
+
+fn applied_with_buffer<A: AllocHandle>(
+    alloc: A,
+    command: &Command<A>,
+    version: u64,
+    report: &Report<A>,
+) -> Result<String<A>, OutOfMemory>
+    ensures { IfOk result (λ text. string_bytes text
+        ≡ applied_text version report.now ++ buffer_text command.now report.now.conflicts) }
+{
+    let mut text = applied_counts(alloc, version, report)?;
+    write_buffer(alloc, command, report.conflicts(), &mut text)?;
     Ok(text)
 }
 
@@ -136,7 +153,7 @@ fn patchset_text<A: AllocHandle>(
 }
 
 // Lower case hex digits, or `-` for no bytes.
-fn hex_or_dash<A: AllocHandle>(alloc: A, bytes: &[u8]) -> Result<String<A>, OutOfMemory>
+pub(crate) fn hex_or_dash<A: AllocHandle>(alloc: A, bytes: &[u8]) -> Result<String<A>, OutOfMemory>
     ensures { IfOk result (λ text. string_bytes text ≡ hex_or_dash bytes.now) }
 {
     if bytes.is_empty() {

@@ -4,7 +4,7 @@ use Rattle.cap_codec.specs.StreamCalls.{AllWent, Calls}
 use Rattle.cap_run.specs.Reads.{EndsReads}
 use Rattle.cap_run.specs.Writes.{EndsBoth, EndsWrites}
 use Rattle.cap_run.specs.declared.fault.RunFault.{RunFault}
-use Rattle.cap_run.specs.declared.fault.RunFault.TheVariants.{Blob, Call, Close, Concat, NotHex, NotUtf8, OutOfMemory, Patchset, Read, Script, Write}
+use Rattle.cap_run.specs.declared.fault.RunFault.TheVariants.{Blob, Call, Close, BlobList, NotHex, NotUtf8, OutOfMemory, Patchset, Read, Script, Write}
 
 module _ {S : Type 0} (has_failed : S → Bool) where
   -- a call that did not fail
@@ -30,7 +30,7 @@ module _ {S : Type 0} (has_failed : S → Bool) where
   read_reported (Err NotHex) a b so fresh failed = none_failed a b so fresh failed
   read_reported (Err (Blob fault)) a b so fresh failed = none_failed a b so fresh failed
   read_reported (Err Patchset) a b so fresh failed = none_failed a b so fresh failed
-  read_reported (Err (Concat fault)) a b so fresh failed = none_failed a b so fresh failed
+  read_reported (Err (BlobList fault)) a b so fresh failed = none_failed a b so fresh failed
   read_reported (Err (Call fault)) a b so fresh failed = none_failed a b so fresh failed
   read_reported (Err Read) a b so fresh failed = refl
   read_reported (Err Write) a b so fresh failed = none_failed a b so fresh failed
@@ -44,7 +44,7 @@ module _ {S : Type 0} (has_failed : S → Bool) where
   write_reported (Err NotHex) a b so fresh failed = none_failed a b so fresh failed
   write_reported (Err (Blob fault)) a b so fresh failed = none_failed a b so fresh failed
   write_reported (Err Patchset) a b so fresh failed = none_failed a b so fresh failed
-  write_reported (Err (Concat fault)) a b so fresh failed = none_failed a b so fresh failed
+  write_reported (Err (BlobList fault)) a b so fresh failed = none_failed a b so fresh failed
   write_reported (Err (Call fault)) a b so fresh failed = none_failed a b so fresh failed
   write_reported (Err Read) a b so fresh failed = none_failed a b so fresh failed
   write_reported (Err Write) a b so fresh failed = refl

@@ -1,5 +1,5 @@
-//! Tests of the command line, of shells, of blobs that are shown, converted or concatenated in refused
-//! memory, and of streams that fail.
+//! Tests of the command line, of shells, of blobs that are shown, converted, concatenated or rebased in
+//! refused memory, and of streams that fail.
 #![tactic(auto)]
 
 #[cfg(test)]

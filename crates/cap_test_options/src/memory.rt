@@ -1,8 +1,10 @@
-//! Each request for memory refused in turn, where a blob is shown or converted, or blobs are concatenated.
+//! Each request for memory refused in turn, where a blob is shown or converted, or blobs are concatenated or
+//! rebased.
 use crate::rows::{
-    CHANGESET, INVERSE, JOINED, PATCHSET, SHOWN, TO_INVERSE, TO_JOIN, TO_PATCHSET, TOGETHER,
+    CHANGESET, INVERSE, JOINED, OVER_BUFFERS, PATCHSET, REBASED, SHOWN, TO_INVERSE, TO_JOIN,
+    TO_PATCHSET, TO_REBASE, TOGETHER,
 };
-use cap_run::{Encoding, Form, RunFault, concat_blobs, convert_blob, show_blob};
+use cap_run::{Encoding, Form, RunFault, combine_blobs, convert_blob, show_blob};
 use cap_test_support::{Failure, Memory, Source};
 use std::alloc::Global;
 use std::test::Fail;
@@ -20,6 +22,7 @@ enum Made {
     Inverse,
     Patchset,
     Concatenation,
+    Rebase,
 }
 
 // Makes it in this memory. The reader gives so many bytes at a time.
@@ -39,7 +42,8 @@ fn make(
         Made::Text => show_blob(memory, Form::Text, Encoding::Hex, &mut reader, written),
         Made::Inverse => convert_blob(memory, TO_INVERSE, &mut reader, written),
         Made::Patchset => convert_blob(memory, TO_PATCHSET, &mut reader, written),
-        Made::Concatenation => concat_blobs(memory, TOGETHER, &mut reader, written),
+        Made::Concatenation => combine_blobs(memory, TOGETHER, &mut reader, written),
+        Made::Rebase => combine_blobs(memory, OVER_BUFFERS, &mut reader, written),
     }
 }
 
@@ -98,6 +102,13 @@ fn out_of_memory_for_a_conversion(rt: HostRuntime) -> Result<(), Fail> {
 #[test]
 fn out_of_memory_for_a_concatenation(rt: HostRuntime) -> Result<(), Fail> {
     let spared = most_spared(rt.alloc(), Made::Concatenation, TO_JOIN, JOINED).ok_or("refused")?;
+    assert!(rt; spared <= SPARED_MAX, "{spared}");
+    Ok(())
+}
+
+#[test]
+fn out_of_memory_for_a_rebase(rt: HostRuntime) -> Result<(), Fail> {
+    let spared = most_spared(rt.alloc(), Made::Rebase, TO_REBASE, REBASED).ok_or("refused")?;
     assert!(rt; spared <= SPARED_MAX, "{spared}");
     Ok(())
 }

@@ -1,7 +1,9 @@
 //! The words of a command line: what they ask for, and those that are refused.
 use cap_blob::Target;
 use cap_codec::KeyFlags;
-use cap_run::{Concatenation, Conversion, Encoding, Form, Options, OptionsFault, Pace, options};
+use cap_run::{
+    Combination, CombinationKind, Conversion, Encoding, Form, Options, OptionsFault, Pace, options,
+};
 use std::alloc::{AllocError, Global};
 use std::test::Fail;
 
@@ -32,8 +34,8 @@ fn asks_to_convert(alloc: Global, line: &str, conversion: Conversion) -> bool {
     asked(alloc, line) == Some(Options::Convert(conversion))
 }
 
-fn asks_to_join(alloc: Global, line: &str, concatenation: Concatenation) -> bool {
-    asked(alloc, line) == Some(Options::Concat(concatenation))
+fn asks_to_combine(alloc: Global, line: &str, combination: Combination) -> bool {
+    asked(alloc, line) == Some(Options::Combine(combination))
 }
 
 #[test]
@@ -67,7 +69,7 @@ fn what_is_asked_for(rt: HostRuntime) -> Result<(), Fail> {
     Ok(())
 }
 
-// The words behind `invert`, `patchset` and `concat`.
+// The words behind `invert`, `patchset`, `concat` and `rebase`.
 const CONVERSIONS: [(&str, KeyFlags, Encoding); 6] = [
     ("", KeyFlags::Places, Encoding::Hex),
     ("--binary", KeyFlags::Places, Encoding::Binary),
@@ -100,15 +102,22 @@ fn what_is_converted(rt: HostRuntime) -> Result<(), Fail> {
                 "{line}"
             );
         }
-        let line = format!(in rt.alloc(); "concat {words}")?;
-        let concatenation = Concatenation {
-            key_flags,
-            encoding,
-        };
-        assert!(rt;
-            asks_to_join(rt.alloc(), line.as_str(), concatenation),
-            "{line}"
-        );
+        let kinds = [
+            ("concat", CombinationKind::Concatenation),
+            ("rebase", CombinationKind::Rebase),
+        ];
+        for (word, kind) in kinds {
+            let line = format!(in rt.alloc(); "{word} {words}")?;
+            let combination = Combination {
+                kind,
+                key_flags,
+                encoding,
+            };
+            assert!(rt;
+                asks_to_combine(rt.alloc(), line.as_str(), combination),
+                "{line}"
+            );
+        }
     }
     Ok(())
 }
@@ -181,6 +190,8 @@ fn what_is_refused(rt: HostRuntime) -> Result<(), Fail> {
         "patchset --binary=yes",
         "concat file",
         "concat --key-flags Places",
+        "rebase file",
+        "rebase --key-flags both",
     ];
     for line in lines {
         assert!(rt; is_refused(rt.alloc(), line), "{line}");
@@ -212,6 +223,7 @@ fn help(rt: HostRuntime) -> Result<(), Fail> {
         ("patchset --help", "| changecap patchset"),
         ("help patchset", "--binary"),
         ("concat --help", "| changecap concat"),
+        ("rebase --help", "| changecap rebase"),
     ];
     for (line, part) in table {
         assert!(rt; is_explained(rt.alloc(), line, part), "{line}");

@@ -1,7 +1,7 @@
 //! A blob with what is shown of it and what it is converted to.
 use cap_blob::Target;
 use cap_codec::KeyFlags;
-use cap_run::{Concatenation, Conversion, Encoding};
+use cap_run::{Combination, CombinationKind, Conversion, Encoding};
 
 /// What SQLite 3.40 captured of inserts, an update and a delete in two tables, the last two of them indirect.
 pub(crate) const CHANGESET: &str =
@@ -41,7 +41,25 @@ pub(crate) const TO_JOIN: &str =
 pub(crate) const JOINED: &str =
     "5403010000740012000180000000000000000300017fffffffffffffff170001000000000000000103036f6c640000030869742773206e65770009000100000000000000020304676f6e65040200ff54030100026772c3b6c39f6500170103016b01ffffffffffffffff0100000000000000090001000000000000000000\n";
 
-pub(crate) const TOGETHER: Concatenation = Concatenation {
+pub(crate) const TOGETHER: Combination = Combination {
+    kind: CombinationKind::Concatenation,
+    key_flags: KeyFlags::Places,
+    encoding: Encoding::Hex,
+};
+
+/// A local changeset, and the buffers of two applications, a blob a line. The first buffer has an insert of
+/// the row that is inserted locally, which was omitted, the second an update of the row that is updated
+/// locally, which replaced it.
+pub(crate) const TO_REBASE: &str =
+    "540301000074001200010000000000000001030161030162170001000000000000000203016303016400030165030166\n540301000074001200010000000000000001030161030178\n540301000074001701010000000000000002000301640000030179\n";
+
+/// The local changeset over both: an update of what differs from the row that was inserted, and of the column
+/// that was not replaced.
+pub(crate) const REBASED: &str =
+    "5403010000740017000100000000000000010003017800000301621700010000000000000002030163000003016500\n";
+
+pub(crate) const OVER_BUFFERS: Combination = Combination {
+    kind: CombinationKind::Rebase,
     key_flags: KeyFlags::Places,
     encoding: Encoding::Hex,
 };

@@ -1,7 +1,10 @@
 //! Readers and writers that fail, that are interrupted, and that give or take one byte at a time.
-use crate::rows::{CHANGESET, INVERSE, JOINED, SHOWN, TO_INVERSE, TO_JOIN, TOGETHER};
+use crate::rows::{
+    CHANGESET, INVERSE, JOINED, OVER_BUFFERS, REBASED, SHOWN, TO_INVERSE, TO_JOIN, TO_REBASE,
+    TOGETHER,
+};
 use crate::watched::{
-    Watched, concat_watched, convert_watched, run_watched, serve_watched, show_watched,
+    Watched, combine_watched, convert_watched, run_watched, serve_watched, show_watched,
 };
 use cap_run::RunFault;
 use cap_test_support::{Failure, Sink, Source};
@@ -26,15 +29,17 @@ enum Program {
     Show,
     Invert,
     Concat,
+    Rebase,
 }
 
 // The programs, each with an input and its output.
-const PROGRAMS: [(Program, &str, &str); 5] = [
+const PROGRAMS: [(Program, &str, &str); 6] = [
     (Program::Core, WORKLOAD, REPLIES),
     (Program::Workload, WORKLOAD, REPLIES),
     (Program::Show, CHANGESET, SHOWN),
     (Program::Invert, CHANGESET, INVERSE),
     (Program::Concat, TO_JOIN, JOINED),
+    (Program::Rebase, TO_REBASE, REBASED),
 ];
 
 // Runs a program on these streams. It reports a call that failed.
@@ -52,7 +57,8 @@ fn run<T: Threads + Wait + Sync>(
         Program::Workload => serve_watched(rt, alloc, &mut reader, &mut writer),
         Program::Show => show_watched(alloc, &mut reader, &mut writer),
         Program::Invert => convert_watched(alloc, TO_INVERSE, &mut reader, &mut writer),
-        Program::Concat => concat_watched(alloc, TOGETHER, &mut reader, &mut writer),
+        Program::Concat => combine_watched(alloc, TOGETHER, &mut reader, &mut writer),
+        Program::Rebase => combine_watched(alloc, OVER_BUFFERS, &mut reader, &mut writer),
     }
 }
 

@@ -5,7 +5,7 @@ ghost use Rattle.std.specs.declared.io.ErrorKind.TheVariants.{Interrupted};
 
 use cap_codec::Source;
 use cap_run::{
-    Concatenation, Conversion, Encoding, Form, NoGate, Pace, RunFault, RunOutput, concat_blobs,
+    Combination, Conversion, Encoding, Form, NoGate, Pace, RunFault, RunOutput, combine_blobs,
     convert_blob, run_core, run_shell, run_workload, show_blob,
 };
 use std::alloc::Global;
@@ -175,10 +175,10 @@ pub fn convert_watched<R: Read, W: Write>(
     convert_blob(alloc, conversion, reader, writer)
 }
 
-/// Concatenates blobs. A call of the streams that failed is what the run reports.
-pub fn concat_watched<R: Read, W: Write>(
+/// Concatenates or rebases blobs. A call of the streams that failed is what the run reports.
+pub fn combine_watched<R: Read, W: Write>(
     alloc: Global,
-    concatenation: Concatenation,
+    combination: Combination,
     reader: &mut Watched<R>,
     writer: &mut Watched<W>,
 ) -> Result<(), RunFault>
@@ -187,5 +187,5 @@ pub fn concat_watched<R: Read, W: Write>(
     ensures read { reader.new.has_failed ≡ true → result ≡ Err RunFault.Read }
     ensures write { writer.new.has_failed ≡ true → result ≡ Err RunFault.Write }
 {
-    concat_blobs(alloc, concatenation, reader, writer)
+    combine_blobs(alloc, combination, reader, writer)
 }

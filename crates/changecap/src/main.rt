@@ -1,12 +1,13 @@
 //! The program `changecap`. `run` runs the workload on standard input and prints the replies; `shell` runs
 //! each line as it is read; `show` prints the changes in a blob; `invert` and `patchset` print the inverse
-//! and the patchset of a changeset; `concat` prints the concatenation of blobs.
+//! and the patchset of a changeset; `concat` prints the concatenation of blobs, and `rebase` a changeset
+//! over buffers.
 #![tactic(auto)]
 
 ghost use Rattle.cap_run.specs.Options.{IsThreadCount};
 
 use cap_run::{
-    NoGate, Options, OptionsFault, Pace, RunFault, concat_blobs, convert_blob, options, run_core,
+    NoGate, Options, OptionsFault, Pace, RunFault, combine_blobs, convert_blob, options, run_core,
     run_shell, run_workload, show_blob,
 };
 use std::alloc::AllocError;
@@ -155,8 +156,8 @@ fn run_program<R: Input + Print + Eprint + Env + AllocGlobal + Threads + Wait + 
             let outcome = convert_blob(alloc, conversion, &mut rt.reader(), &mut io::writer(rt));
             Ok(report(rt, is_verbose, outcome))
         }
-        Ok(Options::Concat(concatenation)) => {
-            let outcome = concat_blobs(alloc, concatenation, &mut rt.reader(), &mut io::writer(rt));
+        Ok(Options::Combine(combination)) => {
+            let outcome = combine_blobs(alloc, combination, &mut rt.reader(), &mut io::writer(rt));
             Ok(report(rt, is_verbose, outcome))
         }
         Err(fault) => Ok(explain(rt, is_verbose, &fault)),
