@@ -75,7 +75,8 @@ class Copy:
         for _ in range(count):
             table = chance.choice(sorted(self.shapes))
             shape = self.shapes[table]
-            row = [chance.choice(KEYS if letter == "k" else VALUES) for letter in shape]
+            keys = KEYS[:2 if shape.count("k") > 1 else len(KEYS)]
+            row = [chance.choice(keys if letter == "k" else VALUES) for letter in shape]
             values = [column for column, letter in enumerate(shape) if letter == "v"]
             where = " AND ".join(f"c{column} = ?" for column, letter in enumerate(shape) if letter == "k")
             key = [value for value, letter in zip(row, shape) if letter == "k"]
@@ -186,12 +187,12 @@ class Case:
             client, hub = Copy(self.shapes), Copy(self.shapes)
             for copy in client, hub:
                 stack.callback(copy.close)
-            client.change(self.chance, 12)
+            client.change(self.chance, self.chance.randint(0, 24))
             hub.fill(client.rows())
             captured = []
             for copy in client, hub:
                 copy.begin("own")
-                copy.change(self.chance, self.chance.randint(1, 12))
+                copy.change(self.chance, self.chance.randint(1, 16))
                 captured.append(copy.end("own"))
             yield from self.compare(client, hub, *captured)
 
