@@ -210,8 +210,8 @@ impl ChangesetIter {
     }
 
     /// The rebase buffer of what the iterator goes over, after [`Client::apply_iter`](crate::Client::apply_iter)
-    /// has applied it, or [`answer`](Self::answer) was told of its conflicts. [`Error::Patchset`] of a patchset.
-    /// Where there is no memory for the bytes they may be asked for again.
+    /// has applied it, or [`answer`](Self::answer) has said which changes met a conflict. [`Error::Patchset`] of a
+    /// patchset. Where there is no memory for the bytes they may be asked for again.
     pub fn buffer(&mut self) -> Result<RebaseBuffer> {
         let iter = self.handle.at();
         // SAFETY: the iterator is open. A buffer and a length that are of the call alone.
