@@ -35,7 +35,8 @@ static bytes buffer_of(changecap_iter *it, uint32_t key_flags){
   made.n = len;
   made.at = __real_malloc(len + 1);
   made.at[0] = made.at[len] = 0xaa;
-  if( len ) CHECK(changecap_iter_buffer(it, key_flags, made.at, len - 1, &len) == CHANGECAP_ROOM && made.at[0] == 0xaa);
+  if( len ) CHECK(changecap_iter_buffer(it, key_flags, made.at, len - 1, &len) == CHANGECAP_ROOM);
+  CHECK(len == made.n && made.at[0] == 0xaa);
   CHECK(changecap_iter_buffer(it, key_flags, made.at, made.n, &len) == CHANGECAP_OK && len == made.n);
   CHECK(made.at[len] == 0xaa);
   return made;

@@ -63,7 +63,7 @@ class Rebases(unittest.TestCase):
         for changeset, buffers, status, blob in (
                 (patchset, [buffer], changecap.PATCHSET, 0), (b"T", [buffer], changecap.MALFORMED, 0),
                 (TWO_KEYS, [buffer], changecap.COLUMNS, 0),
-                (INSERT, [buffer, buffer_of(TWO_KEYS, changecap.OMIT)], changecap.COLUMNS, 1)):
+                (INSERT, [buffer, buffer_of(TWO_KEYS, changecap.OMIT)], changecap.COLUMNS, 0)):
             with self.assertRaises(changecap.Error) as raised:
                 rebased(changeset, *buffers)
             self.assertEqual((raised.exception.status, raised.exception.blob), (status, blob))

@@ -51,7 +51,8 @@ static PyObject *patchset(PyObject *Py_UNUSED(module), PyObject *const *args, Py
 }
 
 /* The same of two blobs, where the error may have the number of the one that is refused. */
-static PyObject *bytes_or_error_of(uint32_t status, const changecap_fault *fault, arena *written, size_t len, size_t blob){
+static PyObject *bytes_or_error_of(uint32_t status, const changecap_fault *fault, arena *written, size_t len,
+                                   size_t blob){
   int is_of_blob = status == CHANGECAP_MALFORMED || status == CHANGECAP_KIND || status == CHANGECAP_COLUMNS ||
                    status == CHANGECAP_PATCHSET;
   if( !is_of_blob ) return bytes_or_error(status, fault, written, len);

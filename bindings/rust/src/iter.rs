@@ -176,17 +176,17 @@ impl ChangesetIter {
     /// The record of one side of the change, by its call.
     fn record(&mut self, call: ffi::RecordCall) -> Result<Record> {
         let iter = self.handle.at();
-        // SAFETY: the iterator is open, and the call is one of an iterator. A buffer and a length that are of the
-        // call alone.
+        // SAFETY: the iterator is open, and the call is one of an iterator. A buffer and a length that are of
+        // the call alone.
         let len = taken_into(&mut self.bytes, |out, len, _| unsafe {
             call(iter, out.as_mut_ptr(), out.len(), len)
         })?;
         Record::of(&self.bytes[..len]).ok_or(Error::Misuse)
     }
 
-    /// Says of an application elsewhere, as by SQLite, that the change that `next` answered last met a conflict,
-    /// and its answer, Omit or Replace: once for each such change, in their order. [`buffer`](Self::buffer) has
-    /// them then. [`Error::Misuse`] where there is no change, or with Abort.
+    /// Says of an application elsewhere, as by SQLite, that the change that `next` answered last met a
+    /// conflict, and its answer, Omit or Replace: once for each such change, in their order.
+    /// [`buffer`](Self::buffer) has them then. [`Error::Misuse`] where there is no change, or with Abort.
     ///
     /// ```
     /// use changecap::{Changeset, ConflictAction::Omit, KeyFlags, Rebaser};
@@ -209,9 +209,9 @@ impl ChangesetIter {
         done(|_| unsafe { ffi::changecap_iter_answer(self.handle.at(), answer.number()) })
     }
 
-    /// The rebase buffer of what the iterator goes over, after [`Client::apply_iter`](crate::Client::apply_iter)
-    /// has applied it, or [`answer`](Self::answer) has said which changes met a conflict. [`Error::Patchset`] of a
-    /// patchset. Where there is no memory for the bytes they may be asked for again.
+    /// The rebase buffer of what the iterator goes over: it has the conflicts of the last
+    /// [`Client::apply_iter`](crate::Client::apply_iter), if any, and of [`answer`](Self::answer) since.
+    /// [`Error::Patchset`] of a patchset. Where there is no memory for the bytes they may be asked for again.
     pub fn buffer(&mut self) -> Result<RebaseBuffer> {
         let iter = self.handle.at();
         // SAFETY: the iterator is open. A buffer and a length that are of the call alone.

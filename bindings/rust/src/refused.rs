@@ -123,6 +123,19 @@ pub struct Item {
 }
 
 /// What of its table an [`Item`] is.
+///
+/// ```
+/// use changecap::{Cause, Error, ItemKind, Server};
+/// let client = Server::open_in_memory()?.client()?;
+/// client.create_table("t", &[true, false])?;
+/// let [mut first, mut second] = [client.snapshot()?.transaction()?, client.snapshot()?.transaction()?];
+/// first.insert("t", (1, "x"), Cause::Direct)?;
+/// second.scan("t")?;
+/// first.commit(&client)?;
+/// let Err(Error::Refused(why)) = second.commit(&client) else { panic!() };
+/// assert_eq!(why.item.unwrap().kind, ItemKind::Scan);
+/// # Ok::<(), changecap::Error>(())
+/// ```
 #[derive(Clone, Debug, PartialEq, Eq)]
 #[non_exhaustive]
 pub enum ItemKind {

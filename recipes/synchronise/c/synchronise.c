@@ -96,8 +96,9 @@ static sqlite3_int64 id_of(sqlite3_changeset_iter *change, int op){
   return sqlite3_value_int64(id);
 }
 
-/* The answer to a conflict: the hub's change is made where the id is odd. Of a row that is not there it cannot be. The
- * iterator, over the same changes, goes to this one, and is told the answer: SQLite goes over them in their order. */
+/* The answer to a conflict: the hub's change is made where the id is odd. Of a row that is not there it cannot be.
+ * The iterator, over the same changes, goes to this one and notes the answer. SQLite goes over them in their order, and
+ * there is one table: else its name is compared, too. */
 static int on_conflict(void *context, int kind, sqlite3_changeset_iter *change){
   changecap_iter *it = context;
   changecap_value id;
