@@ -13,10 +13,10 @@ mod refusal;
 mod rows;
 
 pub use buffer::buffer_of;
-pub use bytes::buffer_bytes;
+pub use bytes::{buffer_bytes, rebase_bytes};
 pub use change::rebase_change;
 pub use laws::{
     one_row_has_one_key, rebased_from_the_hub_to_the_client, rebased_over_each_in_turn,
 };
 pub use rebaser::Rebaser;
-pub use refusal::{BlobRefusal, RebaseRefusal};
+pub use refusal::{BlobRefusal, NumberedRefusal, RebaseRefusal};

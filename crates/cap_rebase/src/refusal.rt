@@ -26,3 +26,12 @@ pub enum BlobRefusal {
     #[error("{0}")]
     Columns(RebaseRefusal),
 }
+
+/// Why a changeset and buffers, both bytes, are refused.
+#[derive(Clone, Copy, Debug, PartialEq, Eq, Drop, Error)]
+#[error("blob {blob}: {why}")]
+pub struct NumberedRefusal {
+    /// Which bytes are refused: 0 for the changeset, 1 for the buffers.
+    pub blob: usize,
+    pub why: BlobRefusal,
+}
