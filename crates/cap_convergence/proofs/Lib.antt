@@ -4,3 +4,4 @@ pub mod AppliedLemmas
 pub mod TurnLemmas
 pub mod RebasedLemmas
 pub mod LeadsLemmas
+pub mod SeveralLemmas

@@ -1,12 +1,11 @@
 //! Laws of whole changesets. The functions do nothing when they run.
-ghost use Rattle.std.specs.Prelude.{◌≡◌, ℕ, List, Ok, [], ◌∷◌};
+ghost use Rattle.std.specs.Prelude.{◌≡◌, List, ◌++◌, Ok};
+ghost use Rattle.std.specs.List.{AllByRecursion};
 ghost use Rattle.cap_database.specs.Read.{row_at};
 ghost use Rattle.cap_database.specs.Tables.{AreRising, Tables};
 ghost use Rattle.cap_changes.specs.Group.{TableChanges};
 ghost use Rattle.cap_codec.specs.declared.read.Contents.TheVariants.{Changes};
-ghost use Rattle.cap_apply.specs.Applied.{AppliedState};
-ghost use Rattle.cap_apply.specs.Apply.{apply};
-ghost use Rattle.cap_apply.specs.Counted.{change_count};
+ghost use Rattle.cap_apply.specs.Fitting.{FitsItsColumns};
 ghost use Rattle.cap_apply.specs.declared.policy.Policy.{Policy};
 ghost use Rattle.cap_rebase.specs.Rebaser.{Buffers, rebase};
 ghost use Rattle.cap_convergence.specs.Convergence.{AreAppliedInTurn, Columns, HasOneChangeEach, HasTables};
@@ -16,8 +15,8 @@ ghost use Rattle.cap_convergence.specs.Convergence.{Rows};
 use cap_apply::applied_blobs_keep_order;
 use cap_value::AllocHandle;
 
-/// A changeset, applied to a database that has the rows that it leads from, meets no conflict under any policy,
-/// and leaves the rows that it leads to.
+/// A changeset, applied to a database that has the rows that it leads from, meets no conflict under any
+/// policy, and leaves the rows that it leads to.
 pub fn a_changeset_applies_to_the_rows_it_leads_from<A: AllocHandle>()
     ensures { (columns : Columns) (before after : Rows A) (changes : List (TableChanges A))
         (database : Tables A) (policy : Policy) → LeadsFrom columns before after changes
@@ -25,9 +24,9 @@ pub fn a_changeset_applies_to_the_rows_it_leads_from<A: AllocHandle>()
         → IsAppliedWhole columns after database changes policy }
 {}
 
-/// A client and a hub have changesets from one base. The client applies those of the hub, one after the other,
-/// with success, and has a buffer of each. Its own changeset over these buffers is not refused. It leads from
-/// the hub's rows to those that the client then has, with one change of each row at most.
+/// A client and a hub have changesets from one base. The client applies those of the hub, one after the
+/// other, with success, and has a buffer of each. Its own changeset over these buffers is not refused. It
+/// leads from the hub's rows to those that the client then has, with one change of each row at most.
 pub fn a_rebased_changeset_leads_from_the_hub_to_the_client<A: AllocHandle>()
     ensures rebased { (columns : Columns) (base hub : Rows A) (client last : Tables A)
         (local : List (TableChanges A)) (remotes : List (RemoteChangeset A)) (buffers : Buffers A)
@@ -47,3 +46,13 @@ pub fn a_rebased_changeset_leads_from_the_hub_to_the_client<A: AllocHandle>()
 {
     applied_blobs_keep_order::<A>();
 }
+
+/// A changeset over several buffers, if it is not refused, is what it is over the first of them and then over
+/// the others.
+pub fn rebased_over_one_buffer_after_the_other<A: AllocHandle>()
+    ensures { (buffers more : Buffers A) (changes rebased : List (TableChanges A))
+        → AllByRecursion (λ buffer. FitsItsColumns (Changes buffer)) (buffers ++ more)
+        → FitsItsColumns (Changes changes) → rebase (buffers ++ more) changes ≡ Ok rebased
+        → (between : List (TableChanges A)) × (rebase buffers changes ≡ Ok between)
+        × (rebase more between ≡ Ok rebased) }
+{}
