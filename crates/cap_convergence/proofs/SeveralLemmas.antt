@@ -59,13 +59,14 @@ neither false b is = (refl, is)
 module _ {A : Type 0} where
   -- ---- key fields of records that are made of others
 
-  -- the key fields are defined, or none of them is
+  -- each key field is defined
   abbrev HasKeyFields : List Bool → RecordFields A → Type 0
   HasKeyFields [] fields = fields ≡ []
   HasKeyFields (key ∷ flags) [] = ⊥
   HasKeyFields (true ∷ flags) (field ∷ fields) = (is_some field ≡ true) × HasKeyFields flags fields
   HasKeyFields (false ∷ flags) (field ∷ fields) = HasKeyFields flags fields
 
+  -- no key field is
   abbrev HasNoKeyField : List Bool → RecordFields A → Type 0
   HasNoKeyField [] fields = fields ≡ []
   HasNoKeyField (key ∷ flags) [] = ⊥
