@@ -15,7 +15,8 @@ OUT = bindings/out
 PREFIX = /usr/local
 DESTDIR =
 
-.PHONY: run check build test docs format clean conformance bench lib shared python install uninstall test-bindings
+.PHONY: run check build test docs format clean conformance bench lib shared python install uninstall test-bindings \
+        test-recipes
 
 # The replies to the first example, by the optimised program where `make build` or `make test` left one. Else by the
 # program without proofs, which is built here unless `make check` left it.
@@ -90,6 +91,10 @@ install:
 
 uninstall:
 	@bindings/install --remove "$(DESTDIR)" "$(PREFIX)"
+
+# The recipes from C, Rust and Python, with databases of SQLite. `make test-bindings` runs them too.
+test-recipes:
+	@recipes/test $(OUT)
 
 # The library's calls from C, Rust and Python.
 test-bindings:

@@ -190,6 +190,29 @@ class Connection:
             raise applied.error
         return applied
 
+    def apply_with_buffer(self, blob, answer):
+        """Applies a changeset by `sqlite3changeset_apply_v2`. What it answers to a conflict is the answer of a function
+        from the kind of the conflict and the change. Returns the result code, the changes that met a conflict, each
+        with its kind and its answer, and the rebase buffer."""
+        conflicts, length, content = [], c_int(), c_void_p()
+
+        def note(_, kind, iterator):
+            """SQLite calls this, so that no exception may leave it."""
+            try:
+                change = change_at(self.calls, c_void_p(iterator))
+                conflicts.append((change, CONFLICTS[kind], answer(CONFLICTS[kind], change)))
+                return ANSWERS[conflicts[-1][2]]
+            except Exception as error:  # noqa: BLE001
+                conflicts.append((None, "error", error))
+                return ANSWERS["abort"]
+
+        code = self.calls.sqlite3changeset_apply_v2(self.at, len(blob), blob, None, XConflict(note), None,
+                                                    byref(content), byref(length), 0)
+        for change, _, error in conflicts:
+            if change is None:
+                raise error
+        return code, conflicts, taken(self.calls, length, content)
+
     def close(self):
         for session in list(self.sessions):
             session.delete()
@@ -296,6 +319,20 @@ def invert(blob):
 def concat(first, second):
     """Both as one by `sqlite3changeset_concat`."""
     return made_by("sqlite3changeset_concat", len(first), first, len(second), second)
+
+
+def rebase(changeset, buffers):
+    """The changeset over rebase buffers, by `sqlite3rebaser_configure` and `sqlite3rebaser_rebase`."""
+    calls, rebaser = library().calls, c_void_p()
+    calls.sqlite3rebaser_create(byref(rebaser))
+    try:
+        for content in buffers:
+            code = calls.sqlite3rebaser_configure(rebaser, len(content), content)
+            if code != OK:
+                raise SqliteError(code, "sqlite3rebaser_configure")
+        return made_by("sqlite3rebaser_rebase", rebaser, len(changeset), changeset)
+    finally:
+        calls.sqlite3rebaser_delete(rebaser)
 
 
 def iterate(blob):

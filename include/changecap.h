@@ -150,6 +150,16 @@ uint32_t changecap_patchset(const void *blob, size_t n, uint32_t key_flags, void
 uint32_t changecap_concat(const void *first, size_t n, const void *second, size_t m, uint32_t key_flags,
                           void *out, size_t room, size_t *len, changecap_fault *fault, size_t *blob);
 
+/* A changeset of a client's own over the buffers of its applications (changecap_iter_buffer), one behind the other in
+ * the order of the applications, as sqlite3rebaser_rebase: what it has to be, so that where the applied changesets
+ * come from it meets no conflict and leaves the rows that the client has (docs/manual/applying.md). *blob is the number
+ * of what is refused: 0 of the changeset, 1 of the buffers.
+ *   OK (*len), MALFORMED (*fault, *blob), ROOM (*len), NOMEM, PATCHSET (*blob), MISUSE (no such key_flags),
+ *   COLUMNS (*blob).
+ * Unless the status is OK, out is as it was. */
+uint32_t changecap_rebase(const void *changeset, size_t n, const void *buffers, size_t m, uint32_t key_flags,
+                          void *out, size_t room, size_t *len, changecap_fault *fault, size_t *blob);
+
 /* A changeset or a patchset as JSON: an array with an object for each change, and a line feed, in UTF-8 without a
  * zero byte at its end. An object has the "table", the "op" ("insert", "update" or "delete"), whether it is
  * "indirect", the names of the "key" columns, and its "old" and "new" values by column. Columns are "c0", "c1" and so
@@ -232,6 +242,23 @@ uint32_t changecap_iter_new(changecap_iter *it, size_t column, changecap_value *
  *   OK (*len), ROOM (*len), MISUSE. */
 uint32_t changecap_iter_old_bytes(changecap_iter *it, size_t column, void *out, size_t room, size_t *len);
 uint32_t changecap_iter_new_bytes(changecap_iter *it, size_t column, void *out, size_t room, size_t *len);
+
+/* Write the record of the row before or after the change: a field for each column, undefined where there is no value.
+ *   OK (*len), ROOM (*len), MISUSE, NOMEM. */
+uint32_t changecap_iter_old_record(changecap_iter *it, void *out, size_t room, size_t *len);
+uint32_t changecap_iter_new_record(changecap_iter *it, void *out, size_t room, size_t *len);
+
+/* Notes that the change met a conflict with this answer, CHANGECAP_OMIT or CHANGECAP_REPLACE, in an application
+ * elsewhere, as by sqlite3changeset_apply. Once for each such change, in order. changecap_apply_iter notes its own.
+ *   OK, MISUSE (there is no change, or no such answer), NOMEM. */
+uint32_t changecap_iter_answer(changecap_iter *it, uint32_t answer);
+
+/* The buffer of an application of the changeset, for changecap_rebase, as sqlite3changeset_apply_v2 has one: the
+ * changes that met a conflict, each with its answer in the place of the indirect flag. It is no longer than the
+ * changeset. It has the conflicts of the last changecap_apply_iter, if any, and of changecap_iter_answer since.
+ *   OK (*len), ROOM (*len), PATCHSET, MISUSE (no such key_flags), NOMEM.
+ * Unless the status is OK, out is as it was. */
+uint32_t changecap_iter_buffer(changecap_iter *it, uint32_t key_flags, void *out, size_t room, size_t *len);
 
 /* Closes the iterator and frees what it has. A closed one stays closed. */
 void changecap_iter_close(changecap_iter *it);
@@ -405,6 +432,12 @@ typedef struct changecap_report {
  *   MISUSE (no such answer), NOMEM, FULL. */
 uint32_t changecap_apply(changecap_client *client, const void *blob, size_t n, uint32_t data, uint32_t notfound,
                          uint32_t conflict, changecap_report *report, changecap_fault *fault);
+
+/* The same of what an iterator was opened on, wherever it stands. With OK it has the conflicts of this application
+ * (changecap_iter_buffer), and else what it had.
+ *   OK (*report), REFUSED (fault->at is the number of the change, from 0), MISUSE (no such answer), NOMEM, FULL. */
+uint32_t changecap_apply_iter(changecap_client *client, changecap_iter *it, uint32_t data, uint32_t notfound,
+                              uint32_t conflict, changecap_report *report, changecap_fault *fault);
 
 /* ---- Sessions ---- */
 
@@ -697,8 +730,7 @@ uint32_t changecap_end(changecap_transaction *transaction, changecap_batch *batc
 /* ---- Calls that do not wait ---- */
 
 /* Each is the call of its name without try_, but answers CHANGECAP_BUSY where another call has the state, and has
- * changed nothing then. They take no NULL. changecap_try_apply applies what an iterator was opened on, wherever it
- * stands, and leaves it as it was. */
+ * changed nothing then. They take no NULL. changecap_try_apply is changecap_apply_iter. */
 uint32_t changecap_try_call(changecap_client *client, const void *text, size_t n, changecap_fault *fault);
 uint32_t changecap_try_create(changecap_client *client, const void *table, size_t n, const void *key, size_t columns,
                               uint64_t *version, changecap_fault *fault);
@@ -760,6 +792,9 @@ CHANGECAP_END(transaction, changecap_rollback)
 #define changecap_concat(first, n, second, m, key_flags, out, room, len, fault, blob) \
   changecap_concat(changecap_bytes(first), n, changecap_bytes(second), m, key_flags, changecap_room(out), room, len, \
                    fault, blob)
+#define changecap_rebase(changeset, n, buffers, m, key_flags, out, room, len, fault, blob) \
+  changecap_rebase(changecap_bytes(changeset), n, changecap_bytes(buffers), m, key_flags, changecap_room(out), room, \
+                   len, fault, blob)
 #define changecap_json(blob, n, out, room, len, fault) \
   changecap_json(changecap_bytes(blob), n, changecap_room(out), room, len, fault)
 #define changecap_iter_open(blob, n, it, fault) changecap_iter_open(changecap_bytes(blob), n, it, fault)
@@ -768,6 +803,10 @@ CHANGECAP_END(transaction, changecap_rollback)
   changecap_iter_old_bytes(it, column, changecap_room(out), room, len)
 #define changecap_iter_new_bytes(it, column, out, room, len) \
   changecap_iter_new_bytes(it, column, changecap_room(out), room, len)
+#define changecap_iter_old_record(it, out, room, len) changecap_iter_old_record(it, changecap_room(out), room, len)
+#define changecap_iter_new_record(it, out, room, len) changecap_iter_new_record(it, changecap_room(out), room, len)
+#define changecap_iter_buffer(it, key_flags, out, room, len) \
+  changecap_iter_buffer(it, key_flags, changecap_room(out), room, len)
 #define changecap_decoder_feed(decoder, piece, n, fault) \
   changecap_decoder_feed(decoder, changecap_bytes(piece), n, fault)
 #define changecap_reply(client, out, room, len) changecap_reply(client, changecap_room(out), room, len)

@@ -214,8 +214,7 @@ uint32_t changecap_save(changecap_client *client, const void *database, size_t n
   RETURN_LOCKED(client, changecap_try_save(client, changecap_bytes(database), n, fault));
 }
 
-/* Applies what an iterator was opened on. */
-static uint32_t apply_changes(changecap_client *client, changecap_iter *it, uint32_t data, uint32_t notfound,
+uint32_t changecap_apply_iter(changecap_client *client, changecap_iter *it, uint32_t data, uint32_t notfound,
                               uint32_t conflict, changecap_report *report, changecap_fault *fault){
   RETURN_LOCKED(client, changecap_try_apply(client, it, data, notfound, conflict, report, fault));
 }
@@ -225,7 +224,7 @@ uint32_t changecap_apply(changecap_client *client, const void *blob, size_t n, u
   changecap_iter it = CHANGECAP_CLOSED;
   uint32_t status = changecap_iter_open(blob, n, &it, fault);
   if( status != CHANGECAP_OK ) return status;
-  status = apply_changes(client, &it, data, notfound, conflict, report, fault);
+  status = changecap_apply_iter(client, &it, data, notfound, conflict, report, fault);
   changecap_iter_close(&it);
   return status;
 }

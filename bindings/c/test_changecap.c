@@ -100,27 +100,6 @@ bytes record(const char *letters, ...){
   return copy_of(fields, n);
 }
 
-/* The lengths at which a varint gets a byte more, as the format has them. */
-static void put_lengths(void){
-  static const struct { size_t n; const char *hex; } front[] = {
-    { 0, "0400" }, { 1, "0401" }, { 127, "047f" }, { 128, "048100" }, { 300, "04822c" }, { 16383, "04ff7f" },
-    { 16384, "04818000" }, { 2097151, "04ffff7f" }, { 2097152, "0481808000" },
-  };
-  bytes room = { calloc(1, CHANGECAP_FIELD_MAX(2097152)), 0 }, zeros = { calloc(1, 2097152), 0 };
-  for(size_t i = 0; i < sizeof front / sizeof *front; i++){
-    size_t digits = strlen(front[i].hex), n = changecap_put_blob(room.at, zeros.at, front[i].n);
-    CHECK(n == digits / 2 + front[i].n && n <= CHANGECAP_FIELD_MAX(front[i].n));
-    CHECK(is_hex((bytes){ room.at, digits / 2 }, front[i].hex));
-  }
-  CHECK(changecap_put_int(room.at, -2) == 9 && is_hex((bytes){ room.at, 9 }, "01fffffffffffffffe"));
-  CHECK(changecap_put_text(room.at, "ab", 2) == 4 && is_hex((bytes){ room.at, 4 }, "03026162"));
-  CHECK(changecap_put_null(room.at) == 1 && is_hex((bytes){ room.at, 1 }, "05"));
-  CHECK(changecap_put_undefined(room.at) == 1 && is_hex((bytes){ room.at, 1 }, "00"));
-  CHECK(changecap_put_text(room.at, NULL, 0) == 2);
-  free(room.at);
-  free(zeros.at);
-}
-
 /* ---- Words ---- */
 
 /* Each status has words of its own, and any other number has the same. */
@@ -427,6 +406,7 @@ void read_change(changecap_iter *it){
     if( change.op == CHANGECAP_UPDATE && is_key ) CHECK(new.type == CHANGECAP_UNDEFINED);
   }
   CHECK(keys > 0);
+  records_agree(it);
   changecap_value value = { 77, 77, 77 };
   uint32_t is_key = 77;
   CHECK(changecap_iter_old(it, change.columns, &value) == CHANGECAP_MISUSE && value.type == 77);
@@ -449,7 +429,9 @@ static void reads_nothing(changecap_iter *it){
   CHECK(changecap_iter_old(it, 0, &value) == CHANGECAP_MISUSE);
   CHECK(changecap_iter_new(it, 0, &value) == CHANGECAP_MISUSE && value.type == 77);
   CHECK(changecap_iter_old_bytes(it, 0, &none, 1, &len) == CHANGECAP_MISUSE);
-  CHECK(changecap_iter_new_bytes(it, 0, &none, 1, &len) == CHANGECAP_MISUSE && none == 0xaa);
+  CHECK(changecap_iter_new_bytes(it, 0, &none, 1, &len) == CHANGECAP_MISUSE);
+  CHECK(changecap_iter_old_record(it, &none, 1, &len) == CHANGECAP_MISUSE);
+  CHECK(changecap_iter_new_record(it, &none, 1, &len) == CHANGECAP_MISUSE && none == 0xaa);
 }
 
 /* How many changes there are, each read whole; or none where the blob has a fault. */
@@ -772,7 +754,6 @@ int main(int words, char **word){
     fputs("test_changecap BLOBS COUNT\n", stderr);
     return 2;
   }
-  put_lengths();
   words_of_statuses();
   worked_values();
   worked_concatenations();
@@ -780,6 +761,8 @@ int main(int words, char **word){
   worked_iterator();
   worked_pieces();
   no_bytes_are_null();
+  test_records();
+  test_rebases();
   test_server();
   test_batches();
   test_examples();

@@ -170,6 +170,42 @@ static void read_blobs(void){
   free(blob.at);
 }
 
+/* ---- Rebasing ---- */
+
+/* Applies what a hub has changed, where the client's rows stay, and writes what the client has changed itself, rebased
+ * for the hub. */
+static uint32_t rebased(changecap_client *client, bytes hub, bytes own, uint8_t *out, size_t room, size_t *len){
+  changecap_iter it = CHANGECAP_CLOSED;
+  changecap_report report;
+  changecap_fault fault;
+  size_t n, refused;
+  uint8_t *buffer = malloc(hub.n + 1); /* it is no longer than the hub's changeset */
+  uint32_t status = buffer ? changecap_iter_open(hub.at, hub.n, &it, &fault) : CHANGECAP_NOMEM;
+  if( status == CHANGECAP_OK )
+    status = changecap_apply_iter(client, &it, CHANGECAP_OMIT, CHANGECAP_OMIT, CHANGECAP_OMIT, &report, &fault);
+  if( status == CHANGECAP_OK ) status = changecap_iter_buffer(&it, CHANGECAP_KEYS_PLACES, buffer, hub.n, &n);
+  if( status == CHANGECAP_OK )
+    status = changecap_rebase(own.at, own.n, buffer, n, CHANGECAP_KEYS_PLACES, out, room, len, &fault, &refused);
+  changecap_iter_close(&it);
+  free(buffer);
+  return status;
+}
+
+static void rebased_changesets(void){
+  changecap_client client = with_table();
+  changecap_report report;
+  changecap_fault fault;
+  bytes hub = of_hex(INSERT, strlen(INSERT)), own = of_hex(INSERT, strlen(INSERT));
+  uint8_t out[64];
+  size_t len;
+  own.at[own.n - 1] = 'y';
+  CHECK(applied(&client, own.at, own.n, &report, &fault) == CHANGECAP_OK);
+  CHECK(rebased(&client, hub, own, out, sizeof out, &len) == CHANGECAP_OK && is_hex((bytes){ out, len }, UPDATE));
+  changecap_close(&client);
+  free(hub.at);
+  free(own.at);
+}
+
 /* ---- Rows ---- */
 
 /* The sum of the integers in the second column of the table t, or -1. */
@@ -270,5 +306,6 @@ void test_examples(void){
   captured_session();
   applied_changesets();
   read_blobs();
+  rebased_changesets();
   shared_history();
 }

@@ -60,6 +60,11 @@ bytes record(const char *letters, ...);
 /* Reads all of a change at which an iterator stands. */
 void read_change(changecap_iter *it);
 
+/* Its records are those of its values. */
+void records_agree(changecap_iter *it);
+
+void test_records(void);
+void test_rebases(void);
 void test_server(void);
 void test_batches(void);
 void test_examples(void);

@@ -640,6 +640,18 @@ class Examples(unittest.TestCase):
                 self.assertEqual((report.applied, report.conflicts), (1, conflicts))
             self.assertEqual(server.get("t", (1,)).values, (1, "x"))
 
+    def test_a_rebased_changeset(self):
+        with changecap.Server() as client, changecap.Server() as hub:
+            own, of_hub = INSERT[:-1] + b"y", INSERT
+            for server, changeset in ((client, own), (hub, of_hub)):
+                server.create_table("t", [True, False])
+                server.apply(changeset)
+            report = client.apply(of_hub, changecap.OMIT, changecap.OMIT, changecap.OMIT, rebase=True)
+            rebaser = changecap.Rebaser()
+            rebaser.configure(report.buffer())
+            hub.apply(rebaser.rebase(own))
+            self.assertEqual(hub.scan("t"), client.scan("t"))
+
     def test_changes(self):
         inserted = []
         for change in changecap.iterate(INSERT):

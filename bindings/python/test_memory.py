@@ -64,6 +64,8 @@ class Memory(unittest.TestCase):
         for name, call in (("check", lambda: changecap.check(blob)), ("invert", lambda: changecap.invert(blob)),
                            ("patchset", lambda: changecap.patchset(blob)), ("json", lambda: changecap.json(blob)),
                            ("concat", lambda: changecap.concat(blob, b"")),
+                           ("rebase", lambda: changecap.Rebaser().rebase(blob)),
+                           ("rebase_buffer", lambda: changecap.rebase_buffer(blob, lambda change: changecap.OMIT)),
                            ("iterate", lambda: list(changecap.iterate(blob))),
                            ("pieces", lambda: list(changecap.iterate_pieces([blob[:7], blob[7:]])))):
             self.refused(name, call)
@@ -75,6 +77,8 @@ class Memory(unittest.TestCase):
                 ("call", lambda: server.call("scan t"), ()), ("commit", lambda: server.commit(*change), ()),
                 ("commit_captured", lambda: server.commit_captured(session, *change), (changecap.Uncaptured,)),
                 ("apply", lambda: server.apply(self.blob, changecap.OMIT), ()),
+                ("apply, rebase", lambda: server.apply(self.blob, changecap.OMIT, rebase=True), ()),
+                ("buffer", server.apply(self.blob, changecap.OMIT, rebase=True).buffer, ()),
                 ("get", lambda: server.get("t", (40,)), ()), ("save", lambda: server.save("now"), ()),
                 ("scan_from", lambda: server.snapshot().scan_from("t", (45,), 3), ()),
                 ("diff", lambda: session.diff("before", "t"), ()), ("restart", session.restart, ()),

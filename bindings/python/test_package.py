@@ -33,6 +33,10 @@ with changecap.Server() as server, server.session() as session:
     rows: list[tuple[changecap.Value, ...]] = [row.values for row in server.scan("t")]
     for change in changecap.iterate(blobs[0]):
         text: str = change.table
+    rebaser = changecap.Rebaser()
+    rebaser.configure(server.apply(blobs[0], changecap.OMIT, rebase=True).buffer())
+    rebased: bytes = rebaser.rebase(blobs[0], changecap.KEYS_ONES)
+    buffer: bytes = changecap.rebase_buffer(rebased, lambda change: changecap.OMIT if change.indirect else None)
     try:
         server.apply(blobs[0], changecap.OMIT)
     except changecap.Conflict as conflict:
@@ -43,7 +47,7 @@ with changecap.Server() as server, server.session() as session:
 # Each is refused by the types.
 WRONG = ('changecap.Server().commit(("inser", "t", (1,)))', 'changecap.invert("T")', "changecap.Server().get(5, (1,))",
          'changecap.Server().commit_many("t", [1.5])', "changecap.Server().session().nothing",
-         'changecap.Server().get("t", (1.5,))')
+         'changecap.Server().get("t", (1.5,))', 'changecap.rebase_buffer(b"", lambda change: change.table)')
 
 
 class Package(unittest.TestCase):

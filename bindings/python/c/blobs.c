@@ -50,8 +50,22 @@ static PyObject *patchset(PyObject *Py_UNUSED(module), PyObject *const *args, Py
   return converted(args, count, 1);
 }
 
-/* The concatenation of two blobs that nobody changes. */
-static PyObject *concatenation(PyObject *first, PyObject *second, uint32_t flags){
+/* The same of two blobs, where the error may have the number of the one that is refused. */
+static PyObject *bytes_or_error_of(uint32_t status, const changecap_fault *fault, arena *written, size_t len,
+                                   size_t blob){
+  int is_of_blob = status == CHANGECAP_MALFORMED || status == CHANGECAP_KIND || status == CHANGECAP_COLUMNS ||
+                   status == CHANGECAP_PATCHSET;
+  if( !is_of_blob ) return bytes_or_error(status, fault, written, len);
+  arena_free(written);
+  PyObject *detail = Py_BuildValue("{sK}", "blob", (unsigned long long)blob);
+  if( detail == NULL ) return NULL;
+  failed(status, fault, -1, detail);
+  Py_DECREF(detail);
+  return NULL;
+}
+
+/* What becomes of two blobs that nobody changes: their concatenation, or a changeset over buffers. */
+static PyObject *joined(PyObject *first, PyObject *second, uint32_t flags, int is_rebased){
   changecap_fault fault = { 0, 0 };
   arena out = { NULL, 0, 0 };
   uint32_t status;
@@ -59,27 +73,30 @@ static PyObject *concatenation(PyObject *first, PyObject *second, uint32_t flags
   const char *one = PyBytes_AS_STRING(first), *other = PyBytes_AS_STRING(second);
   PyThreadState *saved = PyEval_SaveThread();
   WRITTEN(status, &out, n + m + 1, len,
-          changecap_concat(one, n, other, m, flags, out.at, out.room, &len, &fault, &blob));
+          is_rebased ? changecap_rebase(one, n, other, m, flags, out.at, out.room, &len, &fault, &blob)
+                     : changecap_concat(one, n, other, m, flags, out.at, out.room, &len, &fault, &blob));
   PyEval_RestoreThread(saved);
-  int is_of_blob = status == CHANGECAP_MALFORMED || status == CHANGECAP_KIND || status == CHANGECAP_COLUMNS;
-  if( !is_of_blob ) return bytes_or_error(status, &fault, &out, len);
-  arena_free(&out);
-  PyObject *detail = Py_BuildValue("{sK}", "blob", (unsigned long long)blob);
-  if( detail == NULL ) return NULL;
-  failed(status, &fault, -1, detail);
-  Py_DECREF(detail);
-  return NULL;
+  return bytes_or_error_of(status, &fault, &out, len, blob);
 }
 
-static PyObject *concat(PyObject *Py_UNUSED(module), PyObject *const *args, Py_ssize_t count){
+/* Takes two blobs and key flags. */
+static PyObject *join(PyObject *const *args, Py_ssize_t count, int is_rebased){
   uint32_t flags;
   if( !has_arguments(count, 3) ) return NULL;
   PyObject *first = content_of(args[0]);
   PyObject *second = first == NULL ? NULL : content_of(args[1]);
-  PyObject *made = second != NULL && word_of(args[2], &flags) ? concatenation(first, second, flags) : NULL;
+  PyObject *made = second != NULL && word_of(args[2], &flags) ? joined(first, second, flags, is_rebased) : NULL;
   Py_XDECREF(first);
   Py_XDECREF(second);
   return made;
+}
+
+static PyObject *concat(PyObject *Py_UNUSED(module), PyObject *const *args, Py_ssize_t count){
+  return join(args, count, 0);
+}
+
+static PyObject *rebase(PyObject *Py_UNUSED(module), PyObject *const *args, Py_ssize_t count){
+  return join(args, count, 1);
 }
 
 static PyObject *json(PyObject *Py_UNUSED(module), PyObject *blob){
@@ -106,13 +123,12 @@ PyMethodDef blob_calls[] = {
   { "invert", (PyCFunction)(void (*)(void))invert, METH_FASTCALL, NULL },
   { "patchset", (PyCFunction)(void (*)(void))patchset, METH_FASTCALL, NULL },
   { "concat", (PyCFunction)(void (*)(void))concat, METH_FASTCALL, NULL },
+  { "rebase", (PyCFunction)(void (*)(void))rebase, METH_FASTCALL, NULL },
   { "json", json, METH_O, NULL },
   { NULL, NULL, 0, NULL },
 };
 
 /* ---- Changes ---- */
-
-typedef struct changes { owner own; changecap_iter handle; } changes;
 
 /* A change. Behind it are the name of its table, a byte for each column whether it is in the key, and the records of
  * the values before it and after it. */
@@ -121,29 +137,14 @@ typedef struct change_head {
   size_t table, old, new;
 } change_head;
 
-typedef uint32_t (*field_call)(changecap_iter *it, size_t column, changecap_value *value);
-typedef uint32_t (*bytes_call)(changecap_iter *it, size_t column, void *out, size_t room, size_t *len);
+typedef uint32_t (*record_call)(changecap_iter *it, void *out, size_t room, size_t *len);
 
-/* Puts the values before or after a change last, with an undefined field for each column that has none. */
-static uint32_t put_side(changecap_iter *it, size_t columns, field_call field, bytes_call bytes, arena *to){
-  changecap_value value;
-  for(size_t column = 0; column < columns; column++){
-    uint32_t status = field(it, column, &value);
-    if( status != CHANGECAP_OK ) return status;
-    if( !arena_has_room(to, CHANGECAP_FIELD_MAX(value.len)) ) return CHANGECAP_NOMEM;
-    uint8_t *at = to->at + to->n;
-    if( value.type == CHANGECAP_INTEGER ){
-      to->n += changecap_put_int(at, value.number);
-    }else if( value.type == CHANGECAP_TEXT || value.type == CHANGECAP_BLOB ){
-      to->n += put_head(at, value.type, value.len);
-      status = bytes(it, column, to->at + to->n, value.len, &value.len);
-      if( status != CHANGECAP_OK ) return status;
-      to->n += value.len;
-    }else{
-      to->n += value.type == CHANGECAP_NULL ? changecap_put_null(at) : changecap_put_undefined(at);
-    }
-  }
-  return CHANGECAP_OK;
+/* Puts the record of the values before or after a change last, and sets its length. */
+static uint32_t put_side(changecap_iter *it, record_call call, arena *to, size_t *len){
+  uint32_t status;
+  WRITTEN(status, to, 128, *len, call(it, to->at + to->n, to->room - to->n, len));
+  if( status == CHANGECAP_OK ) to->n += *len;
+  return status;
 }
 
 /* Puts the name of the table and the key last. */
@@ -169,16 +170,13 @@ static uint32_t put_change(changecap_iter *it, arena *to){
   if( status != CHANGECAP_OK ) return status;
   if( !arena_has_room(to, sizeof head) ) return CHANGECAP_NOMEM;
   to->n += sizeof head;
+  head.old = head.new = 0;
   status = put_table(it, &head, to);
-  size_t before = to->n;
   /* Only what an operation has is asked for. */
   if( status == CHANGECAP_OK && head.info.op != CHANGECAP_INSERT )
-    status = put_side(it, head.info.columns, changecap_iter_old, changecap_iter_old_bytes, to);
-  head.old = to->n - before;
-  before = to->n;
+    status = put_side(it, changecap_iter_old_record, to, &head.old);
   if( status == CHANGECAP_OK && head.info.op != CHANGECAP_DELETE )
-    status = put_side(it, head.info.columns, changecap_iter_new, changecap_iter_new_bytes, to);
-  head.new = to->n - before;
+    status = put_side(it, changecap_iter_new_record, to, &head.new);
   memcpy(to->at + begin, &head, sizeof head);
   return status;
 }
@@ -315,6 +313,46 @@ static PyObject *changes_new(PyTypeObject *type, PyObject *args, PyObject *Py_UN
   return failed(status, &fault, -1, NULL);
 }
 
+/* Goes over all changes, and says of each that met a conflict its answer. A byte for each change: the answer, or
+ * NO_CONFLICT. */
+static uint32_t answer_all(changecap_iter *it, const uint8_t *answers, size_t n){
+  enum { NO_CONFLICT = 255 };
+  for(size_t i = 0; changecap_iter_next(it) == CHANGECAP_ROW; i++){
+    if( i < n && answers[i] == NO_CONFLICT ) continue;
+    uint32_t status = i < n ? changecap_iter_answer(it, answers[i]) : CHANGECAP_MISUSE;
+    if( status != CHANGECAP_OK ) return status;
+  }
+  return CHANGECAP_OK;
+}
+
+/* Writes the buffer, without the GIL. */
+static uint32_t put_buffer(changecap_iter *it, arena *out, size_t *len){
+  uint32_t status;
+  WRITTEN(status, out, 1024, *len, changecap_iter_buffer(it, CHANGECAP_KEYS_PLACES, out->at, out->room, len));
+  return status;
+}
+
+static PyObject *changes_answer(changes *self, PyObject *answers){
+  static const changecap_fault no_fault;
+  uint32_t status;
+  PyObject *content = content_of(answers);
+  if( content == NULL ) return NULL;
+  CALL(self, status, answer_all(&self->handle, (uint8_t *)PyBytes_AS_STRING(content),
+                                (size_t)PyBytes_GET_SIZE(content)));
+  Py_DECREF(content);
+  return answered(status, &no_fault, -1);
+}
+
+/* The buffer of the changes that met a conflict. */
+static PyObject *changes_buffer(changes *self, PyObject *Py_UNUSED(none)){
+  static const changecap_fault no_fault;
+  arena out = { NULL, 0, 0 };
+  uint32_t status;
+  size_t len = 0;
+  CALL(self, status, put_buffer(&self->handle, &out, &len));
+  return bytes_or_error(status, &no_fault, &out, len);
+}
+
 static PyObject *changes_close(changes *self, PyObject *Py_UNUSED(none)){
   CLOSE(self, changecap_iter_close);
   Py_RETURN_NONE;
@@ -326,6 +364,8 @@ static void changes_dealloc(changes *self){
 
 static PyMethodDef changes_methods[] = {
   { "some", (PyCFunction)changes_some, METH_NOARGS, NULL },
+  { "answer", (PyCFunction)changes_answer, METH_O, NULL },
+  { "buffer", (PyCFunction)changes_buffer, METH_NOARGS, NULL },
   { "close", (PyCFunction)changes_close, METH_NOARGS, NULL },
   { NULL, NULL, 0, NULL },
 };

@@ -94,25 +94,68 @@ static PyObject *client_save(client *self, PyObject *database){
   return answered(status, &fault, -1);
 }
 
+/* What an application is asked for and answers. */
+typedef struct application {
+  uint32_t data, notfound, conflict, status;
+  changecap_report report;
+  changecap_fault fault;
+} application;
+
+/* The report, or the error of the status. */
+static PyObject *report_or_error(const application *made){
+  const changecap_report *it = &made->report;
+  /* 15 and 16 are the refusals of a change. */
+  int is_of_change = made->fault.kind == 15 || made->fault.kind == 16;
+  if( made->status != CHANGECAP_OK )
+    return failed(made->status, &made->fault, is_of_change ? (long long)made->fault.at : -1, NULL);
+  return Py_BuildValue("KKKKK", (unsigned long long)it->version, (unsigned long long)it->applied,
+                       (unsigned long long)it->conflicts, (unsigned long long)it->omitted,
+                       (unsigned long long)it->skipped);
+}
+
+/* Takes the three answers, behind a blob. */
+static int take_answers(PyObject *const *args, Py_ssize_t count, application *to){
+  *to = (application){ 0, 0, 0, CHANGECAP_OK, { 0, 0, 0, 0, 0 }, { 0, 0 } };
+  return has_arguments(count, 4) && word_of(args[1], &to->data) && word_of(args[2], &to->notfound) &&
+         word_of(args[3], &to->conflict);
+}
+
 /* Takes a blob and the three answers. */
 static PyObject *client_apply(client *self, PyObject *const *args, Py_ssize_t count){
-  changecap_fault fault = { 0, 0 };
-  changecap_report made = { 0, 0, 0, 0, 0 };
-  uint32_t status, data, notfound, conflict;
-  if( !has_arguments(count, 4) || !word_of(args[1], &data) || !word_of(args[2], &notfound) ||
-      !word_of(args[3], &conflict) )
-    return NULL;
+  application made;
+  if( !take_answers(args, count, &made) ) return NULL;
   PyObject *blob = content_of(args[0]);
   if( blob == NULL ) return NULL;
-  CALL(self, status, changecap_apply(&self->handle, PyBytes_AS_STRING(blob), (size_t)PyBytes_GET_SIZE(blob), data,
-                                     notfound, conflict, &made, &fault));
+  CALL(self, made.status, changecap_apply(&self->handle, PyBytes_AS_STRING(blob), (size_t)PyBytes_GET_SIZE(blob),
+                                          made.data, made.notfound, made.conflict, &made.report, &made.fault));
   Py_DECREF(blob);
-  /* 15 and 16 are the refusals of a change. */
-  int is_of_change = fault.kind == 15 || fault.kind == 16;
-  if( status != CHANGECAP_OK ) return failed(status, &fault, is_of_change ? (long long)fault.at : -1, NULL);
-  return Py_BuildValue("KKKKK", (unsigned long long)made.version, (unsigned long long)made.applied,
-                       (unsigned long long)made.conflicts, (unsigned long long)made.omitted,
-                       (unsigned long long)made.skipped);
+  return report_or_error(&made);
+}
+
+/* Applies what changes are of, without the GIL. They are locked before the client, here alone. */
+static void apply_changes(client *self, changes *of, application *made){
+  pthread_mutex_lock(&of->own.mutex);
+  pthread_mutex_lock(&self->own.mutex);
+  int is_open = self->handle.at && of->handle.at;
+  made->status = !is_open ? CLOSED
+                          : changecap_apply_iter(&self->handle, &of->handle, made->data, made->notfound, made->conflict,
+                                                 &made->report, &made->fault);
+  pthread_mutex_unlock(&self->own.mutex);
+  pthread_mutex_unlock(&of->own.mutex);
+}
+
+/* Takes changes and the three answers. */
+static PyObject *client_apply_changes(client *self, PyObject *const *args, Py_ssize_t count){
+  application made;
+  if( !take_answers(args, count, &made) ) return NULL;
+  if( Py_TYPE(args[0]) != &changes_type ){
+    PyErr_SetString(PyExc_TypeError, "these are no changes");
+    return NULL;
+  }
+  PyThreadState *saved = PyEval_SaveThread();
+  apply_changes(self, (changes *)args[0], &made);
+  PyEval_RestoreThread(saved);
+  return report_or_error(&made);
 }
 
 /* ---- Sessions ---- */
@@ -410,6 +453,7 @@ static PyMethodDef client_methods[] = {
   { "create", FAST(create) },
   { "save", (PyCFunction)client_save, METH_O, NULL },
   { "apply", FAST(apply) },
+  { "apply_changes", FAST(apply_changes) },
   { "session_new", (PyCFunction)client_session_new, METH_NOARGS, NULL },
   { "session_drop", (PyCFunction)client_session_drop, METH_O, NULL },
   { "session_attach", FAST(session_attach) },

@@ -1,8 +1,10 @@
 //! Batches of operations.
-use crate::call::{done, done_at, done_with_records};
+use crate::call::{done, done_with_records, taken, text_of};
 use crate::handle::Owned;
 use crate::params::{name_of, record_of};
-use crate::{ffi, record, Error, Params, Result, RowName, ToValue};
+use crate::record::{self, Record};
+use crate::refused::{Item, ItemKind, Refused};
+use crate::{ffi, Error, Params, Refusal, Result, RowId, RowName, ToValue, Value};
 
 /// What causes an operation, by which a session marks its touch.
 ///
@@ -129,7 +131,53 @@ impl Batch {
         if self.has_failed {
             return Err(Error::FailedBatch);
         }
-        done_at(|fault| call(self.handle.at(), fault), |kind| !OF_NO_OPERATION.contains(&kind))
+        let mut fault = ffi::Fault::default();
+        match call(self.handle.at(), &mut fault) {
+            ffi::OK => Ok(()),
+            status => {
+                let error = Error::of(status, fault, |kind| !OF_NO_OPERATION.contains(&kind));
+                Err(self.named(error, fault.at))
+            }
+        }
+    }
+
+    /// An error, where it says that an item has changed with the item of this number.
+    fn named(&self, error: Error, at: usize) -> Error {
+        match error {
+            Error::Refused(why) if why.code == Refusal::Stale => {
+                Error::Refused(Refused { item: self.item(at).ok().map(Box::new), ..why })
+            }
+            error => error,
+        }
+    }
+
+    /// An item that a transaction looked at, for its batch. [`Error::Misuse`] where there is none.
+    fn item(&self, at: usize) -> Result<Item> {
+        let (batch, mut item) = (self.handle.at(), ffi::Item::default());
+        // SAFETY: the handle is open as long as the batch is there, and a place of this function.
+        done(|_| unsafe { ffi::changecap_batch_item(batch, at, &mut item) })?;
+        // SAFETY: the batch is open. A buffer and a length that are of the call alone.
+        let table = taken(255, |out, len, _| unsafe {
+            ffi::changecap_batch_item_table(batch, at, out.as_mut_ptr(), out.len(), len)
+        })?;
+        let kind = match item.kind {
+            ffi::ITEM_TABLE => ItemKind::Table,
+            ffi::ITEM_SCAN => ItemKind::Scan,
+            ffi::ITEM_NEXT_ID => ItemKind::NextId,
+            _ if item.id != 0 => ItemKind::RowId(RowId(item.id)),
+            _ => ItemKind::Row(self.key_of_item(at)?),
+        };
+        Ok(Item { table: text_of(table)?, kind })
+    }
+
+    /// The key of the row that an item is.
+    fn key_of_item(&self, at: usize) -> Result<Vec<Value>> {
+        // SAFETY: the batch is open. A buffer and a length that are of the call alone.
+        let key = taken(64, |out, len, _| unsafe {
+            ffi::changecap_batch_item_key(self.handle.at(), at, out.as_mut_ptr(), out.len(), len)
+        })?;
+        let key = Record::of(&key).ok_or(Error::Misuse)?;
+        Ok((0..key.len()).filter_map(|column| key.get(column)).map(Value::from).collect())
     }
 }
 

@@ -29,7 +29,7 @@ pub enum ConflictAction {
 }
 
 impl ConflictAction {
-    fn number(self) -> u32 {
+    pub(crate) fn number(self) -> u32 {
         match self {
             ConflictAction::Omit => ffi::OMIT,
             ConflictAction::Replace => ffi::REPLACE,
@@ -176,15 +176,54 @@ impl Client {
         not_found: ConflictAction,
         conflict: ConflictAction,
     ) -> Result<Report> {
-        let (blob, mut report) = (blob.as_ref(), ffi::Report::default());
+        let blob = blob.as_ref();
         let (data, not_found, conflict) = (data.number(), not_found.number(), conflict.number());
-        // SAFETY: the client is open, and no other call has it. A slice, and places of this function.
-        let mut apply = |client: &mut ffi::Client, fault: &mut ffi::Fault| unsafe {
+        // SAFETY: the client is open, and no other call has it. A slice, and places of the call.
+        self.applied(|client, report, fault| unsafe {
             let (at, n) = (blob.as_ptr(), blob.len());
-            ffi::changecap_apply(client, at, n, data, not_found, conflict, &mut report, fault)
-        };
-        self.with(|client| done_at(|fault| apply(client, fault), |kind| OF_A_CHANGE.contains(&kind)))
-            .map_err(|error| named(error, blob))?;
+            ffi::changecap_apply(client, at, n, data, not_found, conflict, report, fault)
+        })
+        .map_err(|error| named(error, blob))
+    }
+
+    /// The same of all that an iterator goes over, wherever it stands. It has the rebase buffer of the
+    /// application then ([`ChangesetIter::buffer`]), for a [`Rebaser`](crate::Rebaser).
+    ///
+    /// ```
+    /// use changecap::{Changeset, ConflictAction::Omit, Server};
+    /// let client = Server::open_in_memory()?.client()?;
+    /// let insert = [0x54, 2, 1, 0, b't', 0, 0x12, 0, 1, 0, 0, 0, 0, 0, 0, 0, 1, 3, 1, b'x'];
+    /// client.create_table("t", &[true, false])?;
+    /// let mut changes = Changeset::from_bytes(&insert)?.iter()?;
+    /// for conflicts in [0, 1] {
+    ///     assert_eq!(client.apply_iter(&mut changes, Omit, Omit, Omit)?.conflicts, conflicts);
+    ///     assert_eq!(changes.buffer()?.is_empty(), conflicts == 0);
+    /// }
+    /// # Ok::<(), changecap::Error>(())
+    /// ```
+    pub fn apply_iter(
+        &self,
+        changes: &mut ChangesetIter,
+        data: ConflictAction,
+        not_found: ConflictAction,
+        conflict: ConflictAction,
+    ) -> Result<Report> {
+        let (data, not_found, conflict) = (data.number(), not_found.number(), conflict.number());
+        // SAFETY: the client and the iterator are open, and no other call has them. Places of the call.
+        self.applied(|client, report, fault| unsafe {
+            ffi::changecap_apply_iter(client, changes.handle.at(), data, not_found, conflict, report, fault)
+        })
+    }
+
+    /// What became of the changes of a blob that a call applies.
+    fn applied(
+        &self,
+        call: impl FnOnce(&mut ffi::Client, &mut ffi::Report, &mut ffi::Fault) -> u32,
+    ) -> Result<Report> {
+        let mut report = ffi::Report::default();
+        self.with(|client| {
+            done_at(|fault| call(client, &mut report, fault), |kind| OF_A_CHANGE.contains(&kind))
+        })?;
         let ffi::Report { version, applied, conflicts, omitted, skipped } = report;
         Ok(Report { version, applied, conflicts, omitted, skipped })
     }
@@ -211,7 +250,7 @@ fn named(error: Error, blob: &[u8]) -> Error {
         Error::Refused(Refused { code, at: Some(at), .. }) => {
             let change = ChangesetIter::start(blob).ok().and_then(|mut changes| changes.nth(at));
             let change = change.map(|change| RefusedChange::of(&change).into());
-            Error::Refused(Refused { code, at: Some(at), change })
+            Error::Refused(Refused { code, at: Some(at), change, item: None })
         }
         error => error,
     }

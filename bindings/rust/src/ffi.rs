@@ -40,6 +40,11 @@ pub const ASK: u32 = 2;
 pub const DIRECT: u32 = 0;
 pub const CASCADE: u32 = 1;
 
+pub const ITEM_TABLE: u32 = 0;
+pub const ITEM_ROW: u32 = 1;
+pub const ITEM_SCAN: u32 = 2;
+pub const ITEM_NEXT_ID: u32 = 3;
+
 #[repr(C)]
 #[derive(Default, Clone, Copy)]
 pub struct Fault {
@@ -56,13 +61,11 @@ pub struct Change {
     pub columns: usize,
 }
 
-/// A `changecap_value`.
 #[repr(C)]
 #[derive(Default, Clone, Copy)]
-pub struct Field {
+pub struct Item {
     pub kind: u32,
-    pub number: i64,
-    pub len: usize,
+    pub id: u64,
 }
 
 #[repr(C)]
@@ -107,8 +110,8 @@ pub type CaptureCall = unsafe extern "C" fn(*mut Client, u64, *mut Handle, *mut 
 pub type WriteCall = unsafe extern "C" fn(*mut Handle, u32, *mut u8, usize, *mut usize) -> u32;
 pub type ConvertCall =
     unsafe extern "C" fn(*const u8, usize, u32, *mut u8, usize, *mut usize, *mut Fault) -> u32;
-pub type FieldCall = unsafe extern "C" fn(*mut Handle, usize, *mut Field) -> u32;
-pub type BytesCall = unsafe extern "C" fn(*mut Handle, usize, *mut u8, usize, *mut usize) -> u32;
+/// The record of one side of a change.
+pub type RecordCall = unsafe extern "C" fn(*mut Handle, *mut u8, usize, *mut usize) -> u32;
 /// An insert into a batch or a transaction.
 pub type InsertCall =
     unsafe extern "C" fn(*mut Handle, *const u8, usize, *const u8, usize, u32, *mut Fault) -> u32;
@@ -180,23 +183,30 @@ unsafe extern "C" {
         fault: *mut Fault,
     ) -> u32;
 
+    pub fn changecap_rebase(
+        changeset: *const u8,
+        n: usize,
+        buffers: *const u8,
+        m: usize,
+        key_flags: u32,
+        out: *mut u8,
+        room: usize,
+        len: *mut usize,
+        fault: *mut Fault,
+        blob: *mut usize,
+    ) -> u32;
+
     pub fn changecap_iter_open(blob: *const u8, n: usize, iter: *mut Handle, fault: *mut Fault) -> u32;
     pub fn changecap_iter_next(iter: *mut Handle) -> u32;
     pub fn changecap_iter_op(iter: *mut Handle, change: *mut Change) -> u32;
     pub fn changecap_iter_table(iter: *mut Handle, out: *mut u8, room: usize, len: *mut usize) -> u32;
     pub fn changecap_iter_key(iter: *mut Handle, column: usize, key: *mut u32) -> u32;
-    pub fn changecap_iter_old(iter: *mut Handle, column: usize, field: *mut Field) -> u32;
-    pub fn changecap_iter_new(iter: *mut Handle, column: usize, field: *mut Field) -> u32;
-    pub fn changecap_iter_old_bytes(
+    pub fn changecap_iter_old_record(iter: *mut Handle, out: *mut u8, room: usize, len: *mut usize) -> u32;
+    pub fn changecap_iter_new_record(iter: *mut Handle, out: *mut u8, room: usize, len: *mut usize) -> u32;
+    pub fn changecap_iter_answer(iter: *mut Handle, answer: u32) -> u32;
+    pub fn changecap_iter_buffer(
         iter: *mut Handle,
-        column: usize,
-        out: *mut u8,
-        room: usize,
-        len: *mut usize,
-    ) -> u32;
-    pub fn changecap_iter_new_bytes(
-        iter: *mut Handle,
-        column: usize,
+        key_flags: u32,
         out: *mut u8,
         room: usize,
         len: *mut usize,
@@ -230,6 +240,15 @@ unsafe extern "C" {
         client: *mut Client,
         blob: *const u8,
         n: usize,
+        data: u32,
+        notfound: u32,
+        conflict: u32,
+        report: *mut Report,
+        fault: *mut Fault,
+    ) -> u32;
+    pub fn changecap_apply_iter(
+        client: *mut Client,
+        iter: *mut Handle,
         data: u32,
         notfound: u32,
         conflict: u32,
@@ -360,6 +379,22 @@ unsafe extern "C" {
         version: *mut u64,
         capture: *mut Handle,
         fault: *mut Fault,
+    ) -> u32;
+
+    pub fn changecap_batch_item(batch: *mut Handle, at: usize, item: *mut Item) -> u32;
+    pub fn changecap_batch_item_table(
+        batch: *mut Handle,
+        at: usize,
+        out: *mut u8,
+        room: usize,
+        len: *mut usize,
+    ) -> u32;
+    pub fn changecap_batch_item_key(
+        batch: *mut Handle,
+        at: usize,
+        out: *mut u8,
+        room: usize,
+        len: *mut usize,
     ) -> u32;
 
     pub fn changecap_snapshot_open(client: *mut Client, snapshot: *mut Handle) -> u32;

@@ -1,8 +1,8 @@
 //! The changes of a blob.
-use crate::call::{done, taken_into};
-use crate::fields::Fields;
+use crate::call::{done, taken, taken_into};
 use crate::handle::Owned;
-use crate::{ffi, Error, Result, ValueRef};
+use crate::record::Record;
+use crate::{ffi, ConflictAction, Error, RebaseBuffer, Result, ValueRef};
 use std::io::{ErrorKind, Read};
 use std::iter::FusedIterator;
 
@@ -41,8 +41,8 @@ pub struct Change {
     code: Action,
     indirect: bool,
     key: Vec<bool>,
-    old: Fields,
-    new: Fields,
+    old: Record,
+    new: Record,
 }
 
 impl Change {
@@ -89,7 +89,7 @@ impl Change {
 }
 
 /// The changes of a changeset or a patchset, in their order. It owns what it has read, and may go to another
-/// thread.
+/// thread. `next` panics where there is no memory for a change.
 ///
 /// ```
 /// use changecap::ChangesetIter;
@@ -100,8 +100,8 @@ impl Change {
 /// ```
 #[derive(Debug)]
 pub struct ChangesetIter {
-    handle: Owned,
-    /// What a name or a value is read into.
+    pub(crate) handle: Owned,
+    /// What a name or a record is read into.
     bytes: Vec<u8>,
 }
 
@@ -150,50 +150,75 @@ impl ChangesetIter {
             ffi::UPDATE => Action::Update,
             _ => Action::Delete,
         };
-        let mut made = Change {
-            table,
-            code,
-            indirect: change.indirect != 0,
-            key: Vec::with_capacity(change.columns),
-            old: Fields::default(),
-            new: Fields::default(),
-        };
-        for column in 0..change.columns {
-            let mut is_key = 0;
-            // SAFETY: the iterator is open, and a place of this function.
-            done(|_| unsafe { ffi::changecap_iter_key(iter, column, &mut is_key) })?;
-            made.key.push(is_key != 0);
-            self.put(&mut made.old, column, ffi::changecap_iter_old, ffi::changecap_iter_old_bytes)?;
-            self.put(&mut made.new, column, ffi::changecap_iter_new, ffi::changecap_iter_new_bytes)?;
+        let key = self.key(change.columns)?;
+        let (mut old, mut new) = (Record::default(), Record::default());
+        if code != Action::Insert {
+            old = self.record(ffi::changecap_iter_old_record)?;
         }
-        Ok(made)
+        if code != Action::Delete {
+            new = self.record(ffi::changecap_iter_new_record)?;
+        }
+        Ok(Change { table, code, indirect: change.indirect != 0, key, old, new })
     }
 
-    /// Puts the value of a column behind others by two calls, that of the value and that of its bytes.
-    fn put(
-        &mut self,
-        to: &mut Fields,
-        column: usize,
-        field_of: ffi::FieldCall,
-        bytes_of: ffi::BytesCall,
-    ) -> Result<()> {
-        let (iter, mut field) = (self.handle.at(), ffi::Field::default());
-        // SAFETY: the iterator is open, and a place of this function. Both calls are those of an iterator.
-        done(|_| unsafe { field_of(iter, column, &mut field) })?;
-        if field.kind == ffi::TEXT || field.kind == ffi::BLOB {
-            // SAFETY: the iterator is open. A buffer and a length that are of the call alone.
-            taken_into(&mut self.bytes, |out, len, _| unsafe {
-                bytes_of(iter, column, out.as_mut_ptr(), out.len(), len)
-            })?;
+    /// For each column whether it is in the key.
+    fn key(&self, columns: usize) -> Result<Vec<bool>> {
+        let (iter, mut is_key) = (self.handle.at(), 0);
+        let mut key = Vec::with_capacity(columns);
+        for column in 0..columns {
+            // SAFETY: the iterator is open, and a place of this function.
+            done(|_| unsafe { ffi::changecap_iter_key(iter, column, &mut is_key) })?;
+            key.push(is_key != 0);
         }
-        to.put(match field.kind {
-            ffi::UNDEFINED => None,
-            ffi::INTEGER => Some(ValueRef::Integer(field.number)),
-            ffi::TEXT => Some(ValueRef::Text(text_in(&self.bytes[..field.len])?)),
-            ffi::BLOB => Some(ValueRef::Blob(&self.bytes[..field.len])),
-            _ => Some(ValueRef::Null),
-        });
-        Ok(())
+        Ok(key)
+    }
+
+    /// The record of one side of the change, by its call.
+    fn record(&mut self, call: ffi::RecordCall) -> Result<Record> {
+        let iter = self.handle.at();
+        // SAFETY: the iterator is open, and the call is one of an iterator. A buffer and a length that are of
+        // the call alone.
+        let len = taken_into(&mut self.bytes, |out, len, _| unsafe {
+            call(iter, out.as_mut_ptr(), out.len(), len)
+        })?;
+        Record::of(&self.bytes[..len]).ok_or(Error::Misuse)
+    }
+
+    /// Says of an application elsewhere, as by SQLite, that the change that `next` answered last met a
+    /// conflict, and its answer, Omit or Replace: once for each such change, in their order.
+    /// [`buffer`](Self::buffer) has them then. [`Error::Misuse`] where there is no change, or with Abort.
+    ///
+    /// ```
+    /// use changecap::{Changeset, ConflictAction::Omit, KeyFlags, Rebaser};
+    /// let theirs = [0x54, 2, 1, 0, b't', 0, 0x12, 0, 1, 0, 0, 0, 0, 0, 0, 0, 1, 3, 1, b'x'];
+    /// let ours = [0x54, 2, 1, 0, b't', 0, 0x12, 0, 1, 0, 0, 0, 0, 0, 0, 0, 1, 3, 1, b'y'];
+    /// let mut changes = Changeset::from_bytes(&theirs)?.iter()?;
+    /// while let Some(change) = changes.next() {
+    ///     // SQLite had a row with this key already, and its own stayed.
+    ///     assert_eq!(change.table_name(), "t");
+    ///     changes.answer(Omit)?;
+    /// }
+    /// let mut rebaser = Rebaser::new();
+    /// rebaser.configure(&changes.buffer()?);
+    /// let rebased = rebaser.rebase(&Changeset::from_bytes(&ours)?, KeyFlags::Places)?;
+    /// assert_eq!(rebased.iter()?.next().unwrap().code(), changecap::Action::Update);
+    /// # Ok::<(), changecap::Error>(())
+    /// ```
+    pub fn answer(&mut self, answer: ConflictAction) -> Result<()> {
+        // SAFETY: the handle is open as long as the iterator is there.
+        done(|_| unsafe { ffi::changecap_iter_answer(self.handle.at(), answer.number()) })
+    }
+
+    /// The rebase buffer of what the iterator goes over: it has the conflicts of the last
+    /// [`Client::apply_iter`](crate::Client::apply_iter), if any, and of [`answer`](Self::answer) since.
+    /// [`Error::Patchset`] of a patchset. Where there is no memory for the bytes they may be asked for again.
+    pub fn buffer(&mut self) -> Result<RebaseBuffer> {
+        let iter = self.handle.at();
+        // SAFETY: the iterator is open. A buffer and a length that are of the call alone.
+        let bytes = taken(256, |out, len, _| unsafe {
+            ffi::changecap_iter_buffer(iter, ffi::KEYS_PLACES, out.as_mut_ptr(), out.len(), len)
+        })?;
+        Ok(RebaseBuffer(bytes))
     }
 }
 
@@ -208,7 +233,7 @@ impl Iterator for ChangesetIter {
     fn next(&mut self) -> Option<Change> {
         // SAFETY: the handle is open as long as the iterator is there.
         match unsafe { ffi::changecap_iter_next(self.handle.at()) } {
-            // The library answers each of these calls with OK, and texts in UTF-8, while it is at a change.
+            // While it is at a change, the library answers each of these calls with OK, unless memory is out.
             ffi::ROW => Some(self.change().expect("a change that the library has read")),
             _ => None,
         }

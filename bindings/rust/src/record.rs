@@ -1,6 +1,5 @@
 //! Records: a row, a key and the new values of an update as bytes, the fields one after the other as a
 //! changeset has them (docs/manual/formats.md, "Changeset").
-use crate::fields::Fields;
 use crate::{ffi, ToValue, ValueRef};
 
 /// The first column that no table has.
@@ -55,37 +54,54 @@ pub(crate) fn of_assignments<V: ToValue>(set: &[(usize, V)]) -> Vec<u8> {
     record
 }
 
-/// The values of the record of a row, or none where the bytes are no such record.
-pub(crate) fn fields_of(record: &[u8]) -> Option<Fields> {
-    let (mut fields, mut rest) = (Fields::default(), record);
-    while !rest.is_empty() {
-        rest = put_first(&mut fields, rest)?;
-    }
-    Some(fields)
+/// A record that was read: a row, a key, or one side of a change. It lends its values.
+#[derive(Clone, Debug, Default, PartialEq, Eq)]
+pub(crate) struct Record {
+    bytes: Box<[u8]>,
+    /// Where each field begins.
+    starts: Box<[usize]>,
 }
 
-/// Puts the first value of a record behind others, and answers what is behind it.
-fn put_first<'a>(fields: &mut Fields, record: &'a [u8]) -> Option<&'a [u8]> {
+impl Record {
+    /// The record with these bytes, or none where they are no record.
+    pub(crate) fn of(bytes: &[u8]) -> Option<Record> {
+        let (mut starts, mut rest) = (Vec::new(), bytes);
+        while !rest.is_empty() {
+            starts.push(bytes.len() - rest.len());
+            (_, rest) = first_field(rest)?;
+        }
+        Some(Record { bytes: bytes.into(), starts: starts.into() })
+    }
+
+    /// How many fields there are.
+    pub(crate) fn len(&self) -> usize {
+        self.starts.len()
+    }
+
+    /// The value of a field, or none where it is undefined or there is no such field.
+    pub(crate) fn get(&self, at: usize) -> Option<ValueRef<'_>> {
+        first_field(&self.bytes[*self.starts.get(at)?..])?.0
+    }
+}
+
+/// The value of the first field of a record, or none where it is undefined, and what is behind the field. None
+/// of both where the bytes are no record.
+fn first_field(record: &[u8]) -> Option<(Option<ValueRef<'_>>, &[u8])> {
     let (kind, rest) = record.split_first()?;
     match u32::from(*kind) {
+        ffi::UNDEFINED => Some((None, rest)),
+        ffi::NULL => Some((Some(ValueRef::Null), rest)),
         ffi::INTEGER => {
             let (number, rest) = rest.split_first_chunk()?;
-            fields.put(Some(ValueRef::Integer(i64::from_be_bytes(*number))));
-            Some(rest)
+            Some((Some(ValueRef::Integer(i64::from_be_bytes(*number))), rest))
         }
         ffi::TEXT => {
             let (text, rest) = first_bytes(rest)?;
-            fields.put(Some(ValueRef::Text(std::str::from_utf8(text).ok()?)));
-            Some(rest)
+            Some((Some(ValueRef::Text(std::str::from_utf8(text).ok()?)), rest))
         }
         ffi::BLOB => {
             let (blob, rest) = first_bytes(rest)?;
-            fields.put(Some(ValueRef::Blob(blob)));
-            Some(rest)
-        }
-        ffi::NULL => {
-            fields.put(Some(ValueRef::Null));
-            Some(rest)
+            Some((Some(ValueRef::Blob(blob)), rest))
         }
         _ => None,
     }
@@ -115,9 +131,9 @@ mod tests {
         record
     }
 
-    fn values_of(record: &[u8]) -> Option<Vec<Value>> {
-        let fields = fields_of(record)?;
-        (0..fields.len()).map(|at| fields.get(at).map(Value::from)).collect()
+    fn values_of(record: &[u8]) -> Option<Vec<Option<Value>>> {
+        let record = Record::of(record)?;
+        Some((0..record.len()).map(|at| record.get(at).map(Value::from)).collect())
     }
 
     #[test]
@@ -153,12 +169,12 @@ mod tests {
         let record = of_values(&row);
         assert_eq!(record[..17], [1, 255, 255, 255, 255, 255, 255, 255, 254, 3, 1, b'x', 5, 4, 2, 0, 255]);
         assert_eq!(record[17..20], [3, 0x81, 0x48]);
-        assert_eq!(values_of(&record).unwrap(), row);
+        assert_eq!(values_of(&record).unwrap(), row.map(Some));
         assert_eq!(values_of(&[]), Some(Vec::new()));
-        for no_row in
-            [&[0u8][..], &[2], &[6], &[1, 0], &[3], &[3, 1], &[3, 1, 255], &[4, 0x81], &[3, 2, b'x']]
-        {
-            assert_eq!(values_of(no_row), None);
+        assert_eq!(values_of(&[0, 5, 0]), Some(vec![None, Some(Value::Null), None]));
+        assert_eq!(Record::of(&[0, 5]).unwrap().get(2), None);
+        for no_record in [&[2u8][..], &[6], &[1, 0], &[3], &[3, 1], &[3, 1, 255], &[4, 0x81], &[3, 2, b'x']] {
+            assert_eq!(values_of(no_record), None);
         }
     }
 

@@ -1,5 +1,5 @@
 //! Why the rules refuse a command.
-use crate::{Action, Change, Error, Value};
+use crate::{Action, Change, Error, RowId, Value};
 use std::{error, fmt};
 
 macro_rules! refusals {
@@ -94,6 +94,61 @@ pub struct Refused {
     pub at: Option<usize>,
     /// The change of an applied blob that was refused.
     pub change: Option<Box<RefusedChange>>,
+    /// Of a transaction that is refused with [`Refusal::Stale`], the first item that has changed.
+    pub item: Option<Box<Item>>,
+}
+
+/// What a transaction looked at (docs/manual/threads.md, "Transactions").
+///
+/// ```
+/// use changecap::{Cause, Error, Item, ItemKind, Server};
+/// let client = Server::open_in_memory()?.client()?;
+/// client.create_table("t", &[true, false])?;
+/// let [mut first, mut second] = [client.snapshot()?.transaction()?, client.snapshot()?.transaction()?];
+/// first.insert("t", (1, "x"), Cause::Direct)?;
+/// second.insert("t", (1, "y"), Cause::Direct)?;
+/// first.commit(&client)?;
+/// let Err(Error::Refused(why)) = second.commit(&client) else { panic!() };
+/// let wanted = Item { table: "t".into(), kind: ItemKind::Row(vec![1.into()]) };
+/// assert_eq!(why.item.as_deref(), Some(&wanted));
+/// assert_eq!(why.to_string(), "refused: E11 Stale, t key(1)");
+/// # Ok::<(), changecap::Error>(())
+/// ```
+#[derive(Clone, Debug, PartialEq, Eq)]
+pub struct Item {
+    /// The name of a table.
+    pub table: String,
+    /// What of the table it is.
+    pub kind: ItemKind,
+}
+
+/// What of its table an [`Item`] is.
+///
+/// ```
+/// use changecap::{Cause, Error, ItemKind, Server};
+/// let client = Server::open_in_memory()?.client()?;
+/// client.create_table("t", &[true, false])?;
+/// let [mut first, mut second] = [client.snapshot()?.transaction()?, client.snapshot()?.transaction()?];
+/// first.insert("t", (1, "x"), Cause::Direct)?;
+/// second.scan("t")?;
+/// first.commit(&client)?;
+/// let Err(Error::Refused(why)) = second.commit(&client) else { panic!() };
+/// assert_eq!(why.item.unwrap().kind, ItemKind::Scan);
+/// # Ok::<(), changecap::Error>(())
+/// ```
+#[derive(Clone, Debug, PartialEq, Eq)]
+#[non_exhaustive]
+pub enum ItemKind {
+    /// Whether there is such a table, and its columns.
+    Table,
+    /// The row with this key, or that there is none.
+    Row(Vec<Value>),
+    /// The row with this id, or that there is none.
+    RowId(RowId),
+    /// All rows.
+    Scan,
+    /// The id that the next row without a key gets.
+    NextId,
 }
 
 /// The change of an applied blob that was refused: what it does to which row.
@@ -125,7 +180,7 @@ pub struct RefusedChange {
 impl Refused {
     /// A refusal of a part, or of the whole command.
     pub(crate) fn error(code: Refusal, at: Option<usize>) -> Error {
-        Error::Refused(Refused { code, at, change: None })
+        Error::Refused(Refused { code, at, change: None, item: None })
     }
 
     /// The refusal that the text of a reply has, as `refused at 1: E6 NoRow`.
@@ -133,7 +188,7 @@ impl Refused {
         let (place, why) = reply.strip_prefix("refused")?.split_once(": E")?;
         let code = Refusal::of(why.split(' ').next()?.parse().ok()?)?;
         let at = place.strip_prefix(" at ").and_then(|number| number.parse().ok());
-        Some(Refused { code, at, change: None })
+        Some(Refused { code, at, change: None, item: None })
     }
 }
 
@@ -151,11 +206,33 @@ impl fmt::Display for RefusedChange {
             Action::Update => "update",
             Action::Delete => "delete",
         };
-        write!(f, "{word} {} key(", self.table)?;
-        for (place, value) in self.key.iter().enumerate() {
-            write!(f, "{}{value}", if place == 0 { "" } else { "," })?;
+        write!(f, "{word} {} ", self.table)?;
+        write_key(&self.key, f)
+    }
+}
+
+/// Writes a key as a workload has it: `key(1,'x')`.
+fn write_key(key: &[Value], f: &mut fmt::Formatter<'_>) -> fmt::Result {
+    f.write_str("key(")?;
+    for (place, value) in key.iter().enumerate() {
+        write!(f, "{}{value}", if place == 0 { "" } else { "," })?;
+    }
+    f.write_str(")")
+}
+
+impl fmt::Display for Item {
+    fn fmt(&self, f: &mut fmt::Formatter<'_>) -> fmt::Result {
+        f.write_str(&self.table)?;
+        match &self.kind {
+            ItemKind::Table => Ok(()),
+            ItemKind::Row(key) => {
+                f.write_str(" ")?;
+                write_key(key, f)
+            }
+            ItemKind::RowId(RowId(id)) => write!(f, " loose {id}"),
+            ItemKind::Scan => f.write_str(" scan"),
+            ItemKind::NextId => f.write_str(" next id"),
         }
-        f.write_str(")")
     }
 }
 
@@ -165,9 +242,10 @@ impl fmt::Display for Refused {
             Some(at) => write!(f, "refused at {at}: {}", self.code)?,
             None => write!(f, "refused: {}", self.code)?,
         }
-        match &self.change {
-            Some(change) => write!(f, ", {change}"),
-            None => Ok(()),
+        match (&self.change, &self.item) {
+            (Some(change), _) => write!(f, ", {change}"),
+            (None, Some(item)) => write!(f, ", {item}"),
+            (None, None) => Ok(()),
         }
     }
 }

@@ -1,9 +1,9 @@
 //! Rows that are read.
 use crate::call::{done, done_with_records, taken_into};
-use crate::fields::Fields;
 use crate::handle::Owned;
 use crate::params::name_of;
-use crate::{ffi, record, Error, FromValue, Result, RowId, RowName, ValueRef};
+use crate::record::Record;
+use crate::{ffi, Error, FromValue, Result, RowId, RowName, ValueRef};
 use std::iter::FusedIterator;
 
 /// A row that was read. It owns its values and lends them.
@@ -23,7 +23,7 @@ use std::iter::FusedIterator;
 #[derive(Clone, Debug, PartialEq, Eq)]
 pub struct Row {
     id: u64,
-    fields: Fields,
+    record: Record,
 }
 
 #[allow(clippy::len_without_is_empty)] // A row has a column.
@@ -35,7 +35,7 @@ impl Row {
 
     /// How many columns it has.
     pub fn len(&self) -> usize {
-        self.fields.len()
+        self.record.len()
     }
 
     /// What is made of the value of a column, from 0 on: [`Error::ColumnIndex`] where there is no such
@@ -46,12 +46,12 @@ impl Row {
 
     /// The value of a column, from 0 on, or [`Error::ColumnIndex`].
     pub fn get_ref(&self, column: usize) -> Result<ValueRef<'_>> {
-        self.fields.get(column).ok_or(Error::ColumnIndex(column))
+        self.record.get(column).ok_or(Error::ColumnIndex(column))
     }
 
     /// The values of all columns.
     pub fn values(&self) -> impl ExactSizeIterator<Item = ValueRef<'_>> {
-        (0..self.len()).map(|column| self.fields.get(column).unwrap_or(ValueRef::Null))
+        (0..self.len()).map(|column| self.record.get(column).unwrap_or(ValueRef::Null))
     }
 }
 
@@ -94,8 +94,8 @@ impl Rows {
             // SAFETY: the same, and what is written is a buffer and a length of this call alone.
             unsafe { ffi::changecap_row(rows, out.as_mut_ptr(), out.len(), len) }
         })?;
-        let fields = record::fields_of(&self.record[..len]).ok_or(Error::Misuse)?;
-        Ok(Row { id, fields })
+        let record = Record::of(&self.record[..len]).ok_or(Error::Misuse)?;
+        Ok(Row { id, record })
     }
 }
 

@@ -56,6 +56,28 @@ fn an_application_with_conflicts() {
     assert_eq!(report, Report { version: 3, applied: 1, conflicts: 1, omitted: 0, skipped: 0 });
 }
 
+/// Applies what a hub has changed, where the client's rows stay. Answers what the client has changed itself,
+/// rebased for the hub.
+fn rebased(client: &Client, hub: &Changeset, own: &Changeset) -> Result<Changeset> {
+    use ConflictAction::Omit;
+    let mut changes = hub.iter()?;
+    client.apply_iter(&mut changes, Omit, Omit, Omit)?;
+    let mut rebaser = Rebaser::new();
+    rebaser.configure(&changes.buffer()?);
+    rebaser.rebase(own, KeyFlags::Places)
+}
+
+#[test]
+fn a_rebased_changeset() {
+    let client = with_table().unwrap().client().unwrap();
+    let hub = Changeset::from_bytes(&INSERT).unwrap();
+    let own = Changeset::from_bytes(&[&INSERT[..19], b"y"].concat()).unwrap();
+    applied(&client, own.as_bytes()).unwrap();
+    let rebased = rebased(&client, &hub, &own).unwrap();
+    let change = rebased.iter().unwrap().next().unwrap();
+    assert_eq!((change.code(), change.new_value(1)), (Action::Update, Some(ValueRef::Text("y"))));
+}
+
 /// The texts of the rows whose key is not below a number.
 fn texts(client: &Client, first: i64) -> Result<Vec<String>> {
     let snapshot = client.snapshot()?;

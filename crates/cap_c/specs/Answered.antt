@@ -135,8 +135,7 @@ module _ {X : Type 0} where
   Given (Some meant) calls old new answer = calls meant old new answer
   Given None calls old new answer = (answer ≡ misused) × (new ≡ old)
 
--- What an iterator was opened on is applied, or misuse where the policy means nothing. The iterator is as it
--- was.
+-- What an iterator was opened on is applied, or misuse where the policy means nothing.
 abbrev pub AppliesBy : Option Policy → IterState → IterState → ConnectionState → ConnectionState →
     Result Applied (Fault ConnectionFault) → Type 0
 AppliesBy (Some policy) before after old new answer = Applies policy before after old new answer

@@ -11,6 +11,7 @@ pub mod Json
 pub mod Numbers
 pub mod Outputs
 pub mod Owns
+pub mod Rebased
 pub mod Recorded
 pub mod Refusal
 pub mod RowOutputs

@@ -60,7 +60,7 @@ pub extern "C" fn changecap_decoder_finish(
         (λ pieces. Opens (iter_at pieces) result iter.new.value fault.old fault.new) }
 {
     let decoder = take(alloc, handle);
-    match Box::into_inner(decoder).finish() {
+    match Box::into_inner(decoder).finish(alloc) {
         Ok(it) => match Box::new(alloc, it) {
             Ok(it) => {
                 iter_handle::put(iter, it);

@@ -1,18 +1,21 @@
 //! The calls on an iterator over the changes of a blob, as `sqlite3changeset_start` and what follows it.
 ghost use Rattle.std.specs.Prelude.{◌≡◌, Bool, IfSome, IsSome, None};
 ghost use Rattle.cap_codec.specs.Spelling.{Spells};
-ghost use Rattle.cap_connection.specs.Iter.{Steps, iter_at, table_of};
+ghost use Rattle.cap_connection.specs.Iter.{Steps, iter_at, new_record_of, old_record_of, table_of};
 ghost use Rattle.cap_c.specs.Handle.{Between, Keeps, Opens};
 ghost use Rattle.cap_c.specs.IterOutputs.{info_of, key_output, new_bytes, new_output, old_bytes, old_output};
-ghost use Rattle.cap_c.specs.IterOutputs.{step_status};
-ghost use Rattle.cap_c.specs.Outputs.{OutputsBytes, OutputsFound};
+ghost use Rattle.cap_c.specs.IterOutputs.{NotesBy, OutputsBuffer, step_status};
+ghost use Rattle.cap_c.specs.Numbers.{answer_of, key_flags_of};
+ghost use Rattle.cap_c.specs.Outputs.{OutputsBytes, OutputsFound, OutputsMade};
 
 use crate::change_info::{ChangeInfo, FieldValue};
 use crate::fault::PlacedFault;
 use crate::iter_handle::{IterHandle, put, take};
 use crate::iter_outputs::{
-    set_info, set_key, set_new, set_new_bytes, set_old, set_old_bytes, set_table, step_status,
+    note, set_buffer, set_info, set_key, set_new, set_new_bytes, set_new_record, set_old,
+    set_old_bytes, set_old_record, set_table, step_status,
 };
+use crate::numbers::{answer_of, key_flags_of};
 use crate::status::{MALFORMED, NOMEM, OK};
 use cap_connection::BlobIter;
 use cap_value::Fault;
@@ -183,6 +186,74 @@ pub extern "C" fn changecap_iter_new_bytes(
 {
     let it = take(alloc, handle);
     let status = set_new_bytes(&it, column, out, len);
+    put(handle, it);
+    status
+}
+
+/// Writes the record of the row before the change: a field for each column, undefined where it has no value.
+#[unsafe(no_mangle)]
+pub extern "C" fn changecap_iter_old_record(
+    alloc: Global,
+    handle: &mut IterHandle,
+    out: &mut [u8],
+    len: &mut usize,
+) -> u32
+    requires opened { IsSome handle.old.value }
+    ensures outputs { Keeps handle.old.value handle.new.value
+        (λ it. OutputsMade (old_record_of it) result out.old out.new len.old len.new) }
+{
+    let it = take(alloc, handle);
+    let status = set_old_record(alloc, &it, out, len);
+    put(handle, it);
+    status
+}
+
+/// Writes the record of the row after the change.
+#[unsafe(no_mangle)]
+pub extern "C" fn changecap_iter_new_record(
+    alloc: Global,
+    handle: &mut IterHandle,
+    out: &mut [u8],
+    len: &mut usize,
+) -> u32
+    requires opened { IsSome handle.old.value }
+    ensures outputs { Keeps handle.old.value handle.new.value
+        (λ it. OutputsMade (new_record_of it) result out.old out.new len.old len.new) }
+{
+    let it = take(alloc, handle);
+    let status = set_new_record(alloc, &it, out, len);
+    put(handle, it);
+    status
+}
+
+/// Notes that the change met a conflict with this answer, in an application elsewhere.
+#[unsafe(no_mangle)]
+pub extern "C" fn changecap_iter_answer(alloc: Global, handle: &mut IterHandle, answer: u32) -> u32
+    requires opened { IsSome handle.old.value }
+    ensures noted { Between handle.old.value handle.new.value
+        (λ old new. NotesBy (answer_of answer) old new result) }
+{
+    let mut it = take(alloc, handle);
+    let status = note(&mut it, answer_of(answer));
+    put(handle, it);
+    status
+}
+
+/// Writes the buffer of the application in which the changes met their conflicts.
+#[unsafe(no_mangle)]
+pub extern "C" fn changecap_iter_buffer(
+    alloc: Global,
+    handle: &mut IterHandle,
+    key_flags: u32,
+    out: &mut [u8],
+    len: &mut usize,
+) -> u32
+    requires opened { IsSome handle.old.value }
+    ensures outputs { Keeps handle.old.value handle.new.value
+        (λ it. OutputsBuffer (key_flags_of key_flags) it result out.old out.new len.old len.new) }
+{
+    let it = take(alloc, handle);
+    let status = set_buffer(alloc, &it, key_flags_of(key_flags), out, len);
     put(handle, it);
     status
 }

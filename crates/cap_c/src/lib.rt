@@ -28,6 +28,7 @@ mod numbers;
 mod operations;
 mod output;
 mod parts;
+mod rebase;
 mod recorded;
 mod rows;
 mod rows_handle;

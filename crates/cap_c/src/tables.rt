@@ -78,7 +78,7 @@ pub extern "C" fn changecap_try_commit(
 }
 
 /// Applies the changeset or the patchset of an iterator, as `sqlite3changeset_apply`, with an answer to each
-/// kind of conflict. The iterator is as it was.
+/// kind of conflict, wherever it stands. It then has the conflicts of this application.
 #[unsafe(no_mangle)]
 pub extern "C" fn changecap_try_apply(
     alloc: Global,

@@ -2,4 +2,5 @@ mod CallLemmas
 pub mod Crossing
 mod OneCommandLemmas
 mod PositionLemmas
+mod RecordLemmas
 mod ReplyLemmas

@@ -1,5 +1,6 @@
 -- What each call on a connection answers, and what it leaves.
 use Rattle.std.specs.Prelude.{◌≡◌, ℕ, List, [], None, Result, IsUtf8, OnErr, OnOk}
+use Rattle.std.specs.Result.{result_map_both}
 use Rattle.std.specs.Global.{Global}
 use Rattle.cap_value.specs.declared.memory.Fault.{Fault}
 use Rattle.cap_database.specs.Snapshot.{SnapshotState}
@@ -13,7 +14,7 @@ use Rattle.cap_records.specs.Names.{IsName}
 use Rattle.cap_connection.specs.Connection.{ConnectionState}
 use Rattle.cap_connection.specs.Iter.{IterState}
 use Rattle.cap_connection.specs.Columns.{IsTable, key_columns}
-use Rattle.cap_connection.specs.Replies.{applied_in, captured_in, nothing_in, number_in, snapshot_in}
+use Rattle.cap_connection.specs.Replies.{captured_in, nothing_in, number_in, outcome_in, snapshot_in}
 use Rattle.cap_connection.specs.Runs.{Gives, Means, Reads, Runs, RunsMade}
 use Rattle.cap_connection.specs.declared.fault.ConnectionFault.{ConnectionFault}
 use Rattle.cap_connection.specs.declared.fault.ConnectionFault.TheVariants as fault
@@ -49,11 +50,14 @@ abbrev pub SetsFilter : ℕ → List ℕ → ConnectionState → ConnectionState
 SetsFilter session text old new = Means (IsUtf8 text) (Reads (filter_of text) fault.NoFilter
     (λ filter. RunsMade nothing_in (command.SetFilter session filter) old new) old new) old new
 
--- The contents of the iterator are applied, and the iterator is as it was.
+-- The contents of the iterator are applied, and it has the conflicts that its changes met. Where nothing was
+-- applied it is as it was.
 pub record Applies (policy : Policy) (before after : IterState) (old new : ConnectionState)
     (result : Result Applied (Fault ConnectionFault)) : Type 0 where
-  pub applied : Runs applied_in (command.Apply before.contents policy) old new result
-  pub kept : after ≡ before
+  pub applied : Runs outcome_in (command.Apply before.contents policy) old new
+      (result_map_both (λ made. (made, after.conflicts)) (λ why. why) result)
+  pub kept : after ≡ record before { conflicts = after.conflicts }
+  pub conflicts_kept : OnErr result (after.conflicts ≡ before.conflicts)
 
 -- ---- Snapshots, captures and batches
 

@@ -1,7 +1,7 @@
 -- What is at a position of a blob: the table, the change, and its fields (The Session Extension,
 -- "sqlite3changeset_op", "sqlite3changeset_old" and "sqlite3changeset_new").
-use Rattle.std.specs.Prelude.{ℕ, Bool, false, List, Option, Some, None, slice_get, slice_index_or}
-use Rattle.std.specs.Prelude.{if◌then◌else◌}
+use Rattle.std.specs.Prelude.{ℕ, zero, suc, Bool, false, List, [], ◌++◌, Option, Some, None}
+use Rattle.std.specs.Prelude.{slice_get, slice_index_or, if◌then◌else◌}
 use Rattle.std.specs.Option.{option_and_then, option_flatten, option_map}
 use Rattle.cap_value.specs.declared.value.Value.{Value}
 use Rattle.cap_changes.specs.Entries.{TableEntries}
@@ -10,11 +10,14 @@ use Rattle.cap_changes.specs.declared.patch.Patch.{Patch}
 use Rattle.cap_changes.specs.declared.patch.Patch.TheVariants as patched
 use Rattle.cap_changes.specs.declared.row_change.RowChange.{RowChange}
 use Rattle.cap_changes.specs.declared.row_change.RowChange.TheVariants as changed
+use Rattle.cap_codec.specs.Field.{field_bytes}
 use Rattle.cap_codec.specs.declared.operation.Operation.TheVariants as does
 use Rattle.cap_codec.specs.declared.read.Contents.{Contents}
 use Rattle.cap_codec.specs.declared.read.Contents.TheVariants.{Changes, Patches}
 use Rattle.cap_connection.specs.declared.iter_fields.ChangeHead.{ChangeHead}
 use Rattle.cap_connection.specs.declared.iter_position.Position.{Position}
+use Rattle.cap_connection.specs.declared.iter_record.Side.{Side}
+use Rattle.cap_connection.specs.declared.iter_record.Side.TheVariants.{Old, New}
 
 -- what a group says, where there is one
 abbrev pub in_group : {X Y : Type 0} → (TableEntries X → Y) → List (TableEntries X) → ℕ → Option Y
@@ -93,3 +96,12 @@ module _ {A : Type 0} where
   new_at (Changes list) position column = entry_at (λ group change. change_new change column) list position
   new_at (Patches list) position column =
       entry_at (λ group patch. patch_new group.schema patch column) list position
+
+  abbrev pub side_at : Side → Contents A → Position → ℕ → Option (Value A)
+  side_at Old contents position column = old_at contents position column
+  side_at New contents position column = new_at contents position column
+
+  -- the fields of the columns before this one, one after the other, as a record has them
+  abbrev pub fields_before : (ℕ → Option (Value A)) → ℕ → List ℕ
+  fields_before field zero = []
+  fields_before field (suc column) = fields_before field column ++ field_bytes (field column)

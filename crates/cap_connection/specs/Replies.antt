@@ -1,5 +1,6 @@
 -- What a reply has for the caller. Of a reply of another kind, which such a command never has, it is nothing.
-use Rattle.std.specs.Prelude.{ℕ, Bool, false, List, length, Option, Some, None}
+use Rattle.std.specs.Prelude.{ℕ, Bool, false, List, [], length, Option, Some, None}
+use Rattle.cap_apply.specs.declared.conflict.Conflict.{Conflict}
 use Rattle.cap_changes.specs.Patch.{patch_list_of}
 use Rattle.cap_codec.specs.Changeset.{list_bytes_with}
 use Rattle.cap_codec.specs.Patchset.{patch_list_bytes_with}
@@ -41,6 +42,15 @@ module _ {A : Type 0} where
     skipped = length report.skipped;
   }
   applied_in _ = record { version = 0; applied = 0; conflicts = 0; omitted = 0; skipped = 0 }
+
+  -- the conflicts of an application
+  abbrev pub conflicts_in : Reply A → List Conflict
+  conflicts_in (reply.Applied version report) = report.conflicts
+  conflicts_in _ = []
+
+  -- both
+  abbrev pub outcome_in : Reply A → Applied × List Conflict
+  outcome_in reply = (applied_in reply, conflicts_in reply)
 
   -- the tables with their version
   abbrev pub snapshot_in : Reply A → Option (SnapshotState A)

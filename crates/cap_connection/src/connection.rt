@@ -1,5 +1,7 @@
 //! A connection to a history in memory, which several connections may share.
-ghost use Rattle.std.specs.Prelude.{◌≡◌, IfErr, IfOk, Some, length};
+ghost use Rattle.std.specs.Prelude.{◌≡◌, [], IfErr, IfOk, Some, length};
+ghost use Rattle.std.specs.Option.{option_map_or};
+ghost use Rattle.std.specs.Result.{result_map_both};
 ghost use mathlib.Core.List.{IsPrefix};
 ghost use Rattle.cap_txn.specs.Batch.{BatchState};
 ghost use Rattle.cap_core.specs.declared.command.Command.TheVariants as command;
@@ -9,7 +11,7 @@ ghost use Rattle.cap_connection.specs.Calls.{Applies, Attaches, Captures, Commit
 ghost use Rattle.cap_connection.specs.Calls.{Saves, SetsFilter, TakesSnapshot};
 ghost use Rattle.cap_connection.specs.Clients.{Joins, Looks, Meets, Opens};
 ghost use Rattle.cap_connection.specs.Commands.{IsApply, IsCapture, blob_in};
-ghost use Rattle.cap_connection.specs.Replies.{applied_in, flag_in, nothing_in, number_in};
+ghost use Rattle.cap_connection.specs.Replies.{flag_in, nothing_in, number_in, outcome_in};
 ghost use Rattle.cap_connection.specs.Runs.{Runs, RunsMade};
 ghost use Rattle.cap_connection.specs.TextCall.{CallsText, RunsLine};
 
@@ -20,9 +22,9 @@ use crate::iter::BlobIter;
 use crate::one_command::one_command;
 use crate::printer::Printer;
 use crate::replies::{
-    Applied, applied_in, flag_in, is_accepted, number_in, refusal_in, snapshot_in,
+    Applied, applied_in, flag_in, is_accepted, number_in, refusal_in, report_in, snapshot_in,
 };
-use cap_apply::Policy;
+use cap_apply::{Policy, Report};
 use cap_codec::Contents;
 use cap_core::{Command, Reply};
 use cap_database::Snapshot;
@@ -200,8 +202,8 @@ impl Connection {
         self.run_nothing(&Command::SaveAs { database })
     }
 
-    /// Applies the changeset or the patchset of an iterator (sqlite3changeset_apply). The iterator is as it
-    /// was.
+    /// Applies the changeset or the patchset of an iterator (sqlite3changeset_apply), wherever it stands. It
+    /// then has the conflicts of this application. Where nothing was applied it is as it was.
     pub fn apply(
         &mut self,
         alloc: Global,
@@ -216,7 +218,13 @@ impl Connection {
         };
         let answer = self.run_applied(&command);
         it.put_contents(contents_of(command));
-        answer
+        match answer {
+            Ok((applied, report)) => {
+                it.put_report(report);
+                Ok(applied)
+            }
+            Err(why) => Err(why),
+        }
     }
 
     /// Makes a session (sqlite3session_create). The answer is its number.
@@ -430,11 +438,16 @@ impl Connection {
         }
     }
 
-    fn run_applied(&mut self, command: &Command<Global>) -> Result<Applied, Fault<ConnectionFault>>
-        ensures { Runs applied_in command.now self.old self.new result }
+    fn run_applied(
+        &mut self,
+        command: &Command<Global>,
+    ) -> Result<(Applied, Option<Report<Global>>), Fault<ConnectionFault>>
+        ensures { Runs outcome_in command.now self.old self.new
+            (result_map_both (λ made. (made.0, option_map_or (λ report. report.conflicts) made.1 []))
+            (λ why. why) result) }
     {
         match self.accepted(command) {
-            Ok(reply) => Ok(applied_in(&reply)),
+            Ok(reply) => Ok((applied_in(&reply), report_in(reply))),
             Err(why) => Err(why),
         }
     }

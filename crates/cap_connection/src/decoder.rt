@@ -44,14 +44,14 @@ impl PieceDecoder {
     }
 
     /// An iterator over the changes of all the pieces, before the first.
-    pub fn finish(self) -> Result<BlobIter, Fault<BlobFault>>
+    pub fn finish(self, alloc: Global) -> Result<BlobIter, Fault<BlobFault>>
         ensures opened { AnswersUnlessMemory result (iter_at self) }
         // It goes over what the pieces spell.
         ensures spelled { IfOk result (λ it. Spells it.contents self) }
     {
         let PieceDecoder { pieces } = self;
         match pieces.finish() {
-            Ok(contents) => Ok(BlobIter::new(contents)),
+            Ok(contents) => Ok(BlobIter::new(alloc, contents)),
             Err(Fault::Refused(wrong)) => Err(Fault::Refused(wrong)),
             Err(Fault::OutOfMemory) => Err(Fault::OutOfMemory),
         }

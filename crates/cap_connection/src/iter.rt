@@ -1,35 +1,49 @@
 //! An iterator over the changes of a blob.
-ghost use Rattle.std.specs.Prelude.{◌≡◌, IfOk};
-ghost use Rattle.std.specs.Option.{option_copied};
+ghost use Rattle.std.specs.Prelude.{◌≡◌, [], IfOk, OnErr, is_some};
+ghost use Rattle.std.specs.Option.{option_copied, option_map, option_map_or};
 ghost use Rattle.cap_value.specs.Memory.{AnswersUnlessMemory, RefusesFirst};
 ghost use Rattle.cap_codec.specs.FirstByte.{first_fault};
 ghost use Rattle.cap_codec.specs.Spelling.{Spells};
-ghost use Rattle.cap_connection.specs.Iter.{Steps, begin, columns_of, head_of, is_key, is_patchset, iter_at};
-ghost use Rattle.cap_connection.specs.Iter.{new_of, old_of, table_of};
+ghost use Rattle.cap_connection.specs.Iter.{Notes, Steps, begin, buffer_in, columns_of, head_of, is_key};
+ghost use Rattle.cap_connection.specs.Iter.{is_patchset, iter_at, new_of, new_record_of, old_of};
+ghost use Rattle.cap_connection.specs.Iter.{old_record_of, table_of};
 
 use crate::iter_fields::{ChangeHead, head_at, new_at, old_at, schema_at, table_at};
-use crate::iter_position::{Position, first_from};
+use crate::iter_position::{Position, first_from, number_at};
+use crate::iter_record::{Side, side_record};
+use cap_apply::{Answer, Conflict, ConflictKind, Report};
 use cap_changes::ChangeList;
-use cap_codec::{BlobFault, Contents, read_blob};
-use cap_value::{Fault, Name, Value};
+use cap_codec::{BlobFault, Contents, KeyFlags, read_blob, write_changes_with};
+use cap_rebase::buffer_of;
+use cap_value::{Fault, Name, OutOfMemory, Value};
 use std::alloc::Global;
 use std::marker::Model;
 use std::mem;
 
-/// An iterator over the changes of a changeset or a patchset, which owns what it has read.
+/// An iterator over the changes of a changeset or a patchset, which owns what it has read, and the conflicts
+/// that its changes met: those of its last application, and those that were noted since.
 #[derive(Drop)]
 pub struct BlobIter {
     contents: Contents<Global>,
     current: Option<Position>,
     next: Position,
+    report: Option<Report<Global>>,
+    noted: Vec<Conflict, Global>,
 }
 
 impl Model for BlobIter {
+    ghost use Rattle.std.specs.Prelude.{◌++◌, []};
+    ghost use Rattle.std.specs.Option.{option_map_or};
     ghost use Rattle.cap_connection.specs.Iter.{IterState};
 
     ghost Value = { IterState };
 
-    ghost view = { λ it. record { contents = it.contents; current = it.current; next = it.next } };
+    ghost view = { λ it. record {
+      contents = it.contents;
+      current = it.current;
+      next = it.next;
+      conflicts = option_map_or (λ report. report.conflicts) it.report [] ++ it.noted.items;
+    } };
 }
 
 impl BlobIter {
@@ -42,14 +56,14 @@ impl BlobIter {
         ensures first { RefusesFirst (first_fault blob.now) result }
     {
         match read_blob(alloc, blob) {
-            Ok(contents) => Ok(BlobIter::new(contents)),
+            Ok(contents) => Ok(BlobIter::new(alloc, contents)),
             Err(Fault::Refused(wrong)) => Err(Fault::Refused(wrong)),
             Err(Fault::OutOfMemory) => Err(Fault::OutOfMemory),
         }
     }
 
-    /// The iterator before the first change.
-    pub fn new(contents: Contents<Global>) -> Self
+    /// The iterator before the first change. Takes no memory.
+    pub fn new(alloc: Global, contents: Contents<Global>) -> Self
         ensures { result ≡ begin contents }
     {
         BlobIter {
@@ -59,6 +73,8 @@ impl BlobIter {
                 group: 0,
                 change: 0,
             },
+            report: None,
+            noted: Vec::new(alloc),
         }
     }
 
@@ -78,6 +94,16 @@ impl BlobIter {
         ensures { self.new ≡ record self.old { contents = contents } }
     {
         self.contents = contents;
+    }
+
+    // Has the conflicts of an application, in place of those before.
+    pub(crate) fn put_report(&mut self, report: Option<Report<Global>>)
+        ensures { self.new ≡ record self.old {
+          conflicts = option_map_or (λ report. report.conflicts) report [];
+        } }
+    {
+        self.report = report;
+        self.noted.clear();
     }
 
     /// Goes to the next change, or behind the last (sqlite3changeset_next).
@@ -104,6 +130,13 @@ impl BlobIter {
     {
         let position = self.current?;
         head_at(&self.contents, position)
+    }
+
+    /// Whether it stands at a change.
+    pub fn is_at_change(&self) -> bool
+        ensures { result ≡ is_some self.now.current }
+    {
+        self.current.is_some()
     }
 
     /// Whether the blob is a patchset.
@@ -167,5 +200,83 @@ impl BlobIter {
             Some(position) => new_at(&self.contents, position, column),
             None => None,
         }
+    }
+
+    /// The record of the row before the change: a field for each column, undefined where there is no value. None
+    /// where there is no change.
+    pub fn old_record(&self, alloc: Global) -> Result<Option<Vec<u8, Global>>, OutOfMemory>
+        ensures { IfOk result (λ it. option_map (λ bytes. bytes.items) it ≡ old_record_of self.now) }
+    {
+        match self.current {
+            Some(position) => {
+                let columns = self.columns();
+                let record = side_record(alloc, &self.contents, position, Side::Old, columns)?;
+                Ok(Some(record))
+            }
+            None => Ok(None),
+        }
+    }
+
+    /// The same of the row after the change.
+    pub fn new_record(&self, alloc: Global) -> Result<Option<Vec<u8, Global>>, OutOfMemory>
+        ensures { IfOk result (λ it. option_map (λ bytes. bytes.items) it ≡ new_record_of self.now) }
+    {
+        match self.current {
+            Some(position) => {
+                let columns = self.columns();
+                let record = side_record(alloc, &self.contents, position, Side::New, columns)?;
+                Ok(Some(record))
+            }
+            None => Ok(None),
+        }
+    }
+
+    /// Notes that the change met a conflict with this answer, in an application elsewhere. Answers whether there
+    /// is a change. Once for each such change, in order.
+    pub fn note(&mut self, answer: Answer) -> Result<bool, OutOfMemory>
+        ensures noted { IfOk result (Notes answer self.old self.new) }
+        ensures kept { OnErr result (self.new ≡ self.old) }
+    {
+        let Some(position) = self.current else {
+            return Ok(false);
+        };
+        let Some(change) = number_at(&self.contents, position) else {
+            return Err(OutOfMemory);
+        };
+        self.noted.push(Conflict {
+            change,
+            kind: ConflictKind::Data,
+            answer,
+        })?;
+        Ok(true)
+    }
+
+    /// The buffer of the application in which its changes met these conflicts, for `cap_rebase`, with these key
+    /// flags. None where the blob is a patchset.
+    pub fn buffer(
+        &self,
+        alloc: Global,
+        key_flags: KeyFlags,
+    ) -> Result<Option<Vec<u8, Global>>, OutOfMemory>
+        ensures { IfOk result (λ it. option_map (λ bytes. bytes.items) it
+            ≡ buffer_in key_flags self.now.contents self.now.conflicts) }
+    {
+        let Contents::Changes(list) = &self.contents else {
+            return Ok(None);
+        };
+        let conflicts = self.conflicts(alloc)?;
+        let buffer = buffer_of(alloc, list, conflicts.as_slice())?;
+        Ok(Some(write_changes_with(alloc, key_flags, &buffer)?))
+    }
+
+    fn conflicts(&self, alloc: Global) -> Result<Vec<Conflict, Global>, OutOfMemory>
+        ensures { IfOk result (λ all. all.items ≡ self.now.conflicts) }
+    {
+        let mut all = Vec::new(alloc);
+        if let Some(report) = &self.report {
+            all.extend_from_slice(report.conflicts())?;
+        }
+        all.extend_from_slice(self.noted.as_slice())?;
+        Ok(all)
     }
 }

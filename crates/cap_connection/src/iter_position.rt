@@ -1,5 +1,6 @@
 //! The positions of the changes of a blob, in order.
 ghost use Rattle.std.specs.Prelude.{◌≡◌, ◌+◌, ◌<◌, ◌^◌, IfSome, MatchOption, length, map, slice_index_or};
+ghost use Rattle.cap_connection.specs.Iter as iter;
 ghost use Rattle.cap_connection.specs.Positions.{IsFirstFrom, IsNoneFrom, counts};
 
 use cap_changes::{Entry, TableGroup};
@@ -33,6 +34,18 @@ pub(crate) fn first_from(contents: &Contents<Global>, from: Position) -> Option<
         };
     }
     None
+}
+
+/// The number of the change at a position, counted from 0 over the whole blob. No memory holds a blob of which
+/// it has none.
+pub(crate) fn number_at(contents: &Contents<Global>, position: Position) -> Option<u64>
+    ensures { IfSome result (λ number. number ≡ iter.number_at contents.now position) }
+{
+    let mut number = position.change as u64;
+    for group in 0..position.group {
+        number = number.checked_add(change_count(contents, group) as u64)?;
+    }
+    Some(number)
 }
 
 fn group_count(contents: &Contents<Global>) -> usize

@@ -10,6 +10,7 @@ mod fault;
 mod iter;
 mod iter_fields;
 mod iter_position;
+mod iter_record;
 mod one_command;
 mod printer;
 mod replies;

@@ -1,11 +1,13 @@
 //! What a reply has for the caller.
-ghost use Rattle.std.specs.Prelude.{◌≡◌, Some};
+ghost use Rattle.std.specs.Prelude.{◌≡◌, [], Some};
+ghost use Rattle.std.specs.Option.{option_map_or};
 ghost use Rattle.cap_core.specs.Past.{is_accepted};
 ghost use Rattle.cap_core.specs.RefusedFirst.{refusal_in};
 ghost use Rattle.cap_core.specs.declared.reply.Reply.TheVariants as replied;
 ghost use Rattle.cap_database.specs.Snapshot.{SnapshotState};
-ghost use Rattle.cap_connection.specs.Replies.{applied_in, flag_in, number_in, snapshot_in};
+ghost use Rattle.cap_connection.specs.Replies.{applied_in, conflicts_in, flag_in, number_in, snapshot_in};
 
+use cap_apply::Report;
 use cap_core::Reply;
 use cap_database::Snapshot;
 use cap_value::Refusal;
@@ -85,6 +87,16 @@ pub(crate) fn applied_in(reply: &Reply<Global>) -> Applied
             omitted: 0,
             skipped: 0,
         },
+    }
+}
+
+/// The report of an application.
+pub(crate) fn report_in(reply: Reply<Global>) -> Option<Report<Global>>
+    ensures { option_map_or (λ report. report.conflicts) result [] ≡ conflicts_in reply }
+{
+    match reply {
+        Reply::Applied { report, .. } => Some(report),
+        _ => None,
     }
 }
 

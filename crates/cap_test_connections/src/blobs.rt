@@ -1,7 +1,8 @@
 //! Iterators over blobs, and blobs in pieces.
-use cap_codec::{BlobFault, FaultKind, Operation};
+use cap_apply::Answer;
+use cap_codec::{BlobFault, FaultKind, KeyFlags, Operation};
 use cap_connection::{BlobIter, PieceDecoder};
-use cap_value::{Fault, Value};
+use cap_value::{Fault, OutOfMemory, Value};
 use std::alloc::Global;
 
 // An UPDATE of t: the key column is 1, the second column was 2 and is 3.
@@ -48,11 +49,50 @@ fn opened(alloc: Global, blob: &[u8]) -> bool {
     }
 }
 
-fn finished(decoder: PieceDecoder) -> bool {
-    match decoder.finish() {
+fn finished(alloc: Global, decoder: PieceDecoder) -> bool {
+    match decoder.finish(alloc) {
         Ok(mut it) => goes_over_the_update(&mut it),
         Err(_) => false,
     }
+}
+
+/// Whether there are these bytes.
+pub(crate) fn are_bytes(found: Result<Option<Vec<u8, Global>>, OutOfMemory>, bytes: &[u8]) -> bool {
+    match found {
+        Ok(Some(found)) => found.as_slice() == bytes,
+        _ => false,
+    }
+}
+
+// Whether the iterator, at no change and then at the UPDATE, has its records.
+fn has_records(alloc: Global, it: &mut BlobIter) -> bool {
+    let none = matches!(it.old_record(alloc), Ok(None)) && matches!(it.new_record(alloc), Ok(None));
+    let old = it.step() && are_bytes(it.old_record(alloc), &UPDATE[8..26]);
+    none && old && are_bytes(it.new_record(alloc), &UPDATE[26..])
+}
+
+// Whether the buffer is empty before the conflict of the UPDATE is noted, and then the UPDATE with the answer.
+fn has_a_buffer(alloc: Global, it: &mut BlobIter) -> bool {
+    let empty = are_bytes(it.buffer(alloc, KeyFlags::Ones), &[]);
+    let mut buffer = UPDATE;
+    buffer[7] = 0;
+    let noted = matches!(it.note(Answer::Omit), Ok(true));
+    empty && noted && are_bytes(it.buffer(alloc, KeyFlags::Ones), &buffer)
+}
+
+fn has_records_and_a_buffer(alloc: Global) -> bool {
+    match BlobIter::open(alloc, &UPDATE) {
+        Ok(mut it) => {
+            let none = matches!(it.note(Answer::Omit), Ok(false));
+            none && has_records(alloc, &mut it) && has_a_buffer(alloc, &mut it)
+        }
+        Err(_) => false,
+    }
+}
+
+#[test]
+fn the_records_and_the_buffer_of_an_update(rt: HostRuntime) {
+    assert!(rt; has_records_and_a_buffer(rt.alloc()));
 }
 
 #[test]
@@ -65,7 +105,7 @@ fn an_update_in_two_pieces(rt: HostRuntime) {
     let mut decoder = PieceDecoder::new(rt.alloc());
     assert!(rt; decoder.feed(&UPDATE[..10]) == Ok(()));
     assert!(rt; decoder.feed(&UPDATE[10..]) == Ok(()));
-    assert!(rt; finished(decoder));
+    assert!(rt; finished(rt.alloc(), decoder));
 }
 
 #[test]

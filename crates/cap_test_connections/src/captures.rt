@@ -1,4 +1,5 @@
 //! Captures, their bytes, and blobs that are applied.
+use crate::blobs::are_bytes;
 use crate::texts::accepts;
 use cap_apply::{Answer, Policy};
 use cap_codec::KeyFlags;
@@ -109,7 +110,9 @@ fn an_iterator_goes_on_after_it_was_applied(rt: HostRuntime) -> Result<(), Fail>
     assert!(rt; it.step());
     assert!(rt; applied(&mut connection, alloc, &mut it) == Some((2, 1, 0)));
     assert!(rt; it.head().is_some());
+    assert!(rt; are_bytes(it.buffer(alloc, KeyFlags::Ones), &[]));
     assert!(rt; applied(&mut connection, alloc, &mut it) == Some((3, 0, 1)));
+    assert!(rt; are_bytes(it.buffer(alloc, KeyFlags::Ones), &CHANGESET));
     assert!(rt; !it.step());
     Ok(())
 }

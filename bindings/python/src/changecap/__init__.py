@@ -23,8 +23,8 @@ try:
 except ImportError as _error:
     raise ImportError("changecap._changecap is not built: `make python` at the top of changecap's sources builds the "
                       "package, or `pip install` of bindings/python does") from _error
-from ._blobs import (EXAMPLE, Blob, Change, Given, Row, RowId, Value, check, concat, invert, iterate, iterate_pieces,
-                     json, patchset)
+from ._blobs import (EXAMPLE, Blob, Change, Given, Rebaser, Row, RowId, Value, check, concat, invert, iterate,
+                     iterate_pieces, json, patchset, rebase_buffer)
 from ._errors import Conflict, Error, Malformed, NoFilter, NotOneCommand, Refused, Uncaptured
 from ._numbers import (ABORT, BUSY, CASCADE, CLIENTS, COLUMNS, COMMAND, DIRECT, DONE, FILTER, FULL, KEYS_ONES,
                        KEYS_PLACES, KIND, MALFORMED, MISUSE, NOMEM, OK, OMIT, OVERTAKEN, PATCHSET, REFUSED, REPLACE,
@@ -36,6 +36,7 @@ __all__ = [
     "ABORT", "BUSY", "CASCADE", "CLIENTS", "COLUMNS", "COMMAND", "DIRECT", "DONE", "EXAMPLE", "FILTER", "FULL",
     "KEYS_ONES", "KEYS_PLACES", "KIND", "MALFORMED", "MISUSE", "NOMEM", "OK", "OMIT", "OVERTAKEN", "PATCHSET",
     "REFUSED", "REPLACE", "ROOM", "ROW", "Blob", "Capture", "Change", "Conflict", "Error", "Given", "Key", "Malformed",
-    "NoFilter", "NotOneCommand", "Operation", "Refused", "Report", "Row", "RowId", "Server", "Session", "Snapshot",
-    "Transaction", "Uncaptured", "Value", "check", "concat", "invert", "iterate", "iterate_pieces", "json", "patchset",
+    "NoFilter", "NotOneCommand", "Operation", "Rebaser", "Refused", "Report", "Row", "RowId", "Server", "Session",
+    "Snapshot", "Transaction", "Uncaptured", "Value", "check", "concat", "invert", "iterate", "iterate_pieces", "json",
+    "patchset", "rebase_buffer",
 ]

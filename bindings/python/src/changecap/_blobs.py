@@ -1,11 +1,11 @@
 """Blobs, their changes, and rows."""
 from __future__ import annotations
 
-from collections.abc import Iterable, Iterator, Mapping, Sequence
+from collections.abc import Callable, Iterable, Iterator, Mapping, Sequence
 from typing import NamedTuple, Union
 
 from . import _changecap, _errors
-from ._numbers import KEYS_PLACES
+from ._numbers import KEYS_PLACES, MISUSE, OMIT, PATCHSET, REPLACE
 
 Value = Union[None, int, str, bytes]
 """A value that is read."""
@@ -143,6 +143,62 @@ def iterate_pieces(pieces: Iterable[Blob]) -> Iterator[Change]:
     for piece in pieces:
         decoder.feed(piece)
     yield from _each(decoder.finish())
+
+
+def _answer_byte(answer: int | None) -> int:
+    """The byte of an answer, or of no conflict."""
+    if answer is None:
+        return 255
+    if answer not in (OMIT, REPLACE):
+        raise _errors.Error(MISUSE, _changecap.errstr(MISUSE))
+    return int(answer)
+
+
+def rebase_buffer(changeset: Blob, answer: Callable[[Change], int | None]) -> bytes:
+    """The rebase buffer of an application elsewhere, as by SQLite, for `Rebaser.configure`: the changes that met a
+    conflict, each with its answer. The function is called with each change, in order, and answers OMIT, REPLACE, or
+    None where the change met no conflict. It is not the rebase buffer of SQLite, which has less.
+
+    >>> import changecap
+    >>> noted = {("t", (1,)): changecap.OMIT}
+    >>> len(rebase_buffer(EXAMPLE, lambda change: noted.get((change.table, change.row))))
+    20
+    >>> rebase_buffer(EXAMPLE, lambda change: None)
+    b''
+    """
+    changes = _changecap.Changes(changeset)
+    changes.answer(bytes(_answer_byte(answer(change)) for change in iterate(changeset)))
+    return changes.buffer()
+
+
+class Rebaser:
+    """Makes changesets of a copy such that they lead from the rows of the copy whose changes it has applied to its own
+    rows, as `apsw.Rebaser`.
+
+    >>> import changecap
+    >>> theirs, ours = EXAMPLE, EXAMPLE[:-1] + b"y"
+    >>> rebaser = Rebaser()
+    >>> rebaser.configure(rebase_buffer(theirs, lambda change: changecap.OMIT))
+    >>> change, = iterate(rebaser.rebase(ours))
+    >>> change.operation, change.old, change.new
+    ('update', {0: 1, 1: 'x'}, {1: 'y'})
+    """
+
+    def __init__(self) -> None:
+        self._buffers = b""
+
+    def configure(self, buffer: Blob) -> None:
+        """Takes the rebase buffer of an application, behind those of earlier ones: `Report.buffer`, or
+        `rebase_buffer`."""
+        check(buffer)
+        if bytes(buffer[:1]) == b"P":
+            raise _errors.Error(PATCHSET, _changecap.errstr(PATCHSET))
+        self._buffers += bytes(buffer)
+
+    def rebase(self, changeset: Blob, key_flags: int = KEYS_PLACES) -> bytes:
+        """The changeset over the buffers. It has all that the copy has changed since it was as the other one: several
+        are concatenated first. Of an error, `blob` is 0 for the changeset and 1 for the buffers."""
+        return _changecap.rebase(changeset, self._buffers, key_flags)
 
 
 _changecap.set_up(_errors.error_of, Row, RowId, Change, Sequence, Mapping)

@@ -32,7 +32,7 @@ class Error(Exception):
     status: int
     """The status, as in changecap.h."""
     blob: int | None = None
-    """Of a concatenation that failed: 0 or 1, the blob that is refused."""
+    """Of a concatenation or a rebase that failed: 0 or 1, the blob that is refused."""
 
     def __init__(self, status: int, message: str) -> None:
         super().__init__(message)

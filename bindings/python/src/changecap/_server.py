@@ -5,7 +5,7 @@ import threading
 import weakref
 from collections import deque
 from collections.abc import Callable, Iterable, Iterator, Mapping, Sequence
-from dataclasses import dataclass
+from dataclasses import dataclass, field
 from itertools import islice
 from types import TracebackType
 from typing import Literal, TypeVar, Union
@@ -64,6 +64,24 @@ class Report:
     conflicts: int
     omitted: int
     skipped: int
+    _changes: _changecap.Changes | None = field(default=None, repr=False, compare=False)
+
+    def buffer(self) -> bytes:
+        """The rebase buffer of an application with `rebase`, for `Rebaser.configure`: the changes that met a conflict,
+        each with its answer. Where there is no memory for it, it may be asked for again.
+
+        >>> import changecap
+        >>> with Server() as server:
+        ...     server.create_table("t", [True, False])
+        ...     server.apply(changecap.EXAMPLE, rebase=True).buffer()
+        ...     len(server.apply(changecap.EXAMPLE, conflict=changecap.OMIT, rebase=True).buffer())
+        1
+        b''
+        20
+        """
+        if self._changes is None:
+            raise ValueError("the blob was applied without rebase=True")
+        return self._changes.buffer()
 
 
 class Server:
@@ -222,9 +240,11 @@ class Server:
         """Saves the tables under a name, for `Session.diff`."""
         self._client().save(database)
 
-    def apply(self, blob: Blob, data: int = ABORT, notfound: int = ABORT, conflict: int = ABORT) -> Report:
+    def apply(self, blob: Blob, data: int = ABORT, notfound: int = ABORT, conflict: int = ABORT,
+              rebase: bool = False) -> Report:
         """Applies a changeset or a patchset, with an answer where a row differs, where it is missing, and where its
-        key is in use. Of a `Refused`, `change` is the change that is refused and `at` its number, from 0.
+        key is in use. With `rebase` it is a changeset, and the report has its rebase buffer. Of a `Refused`, `change`
+        is the change that is refused and `at` its number, from 0.
 
         >>> import changecap
         >>> with Server() as server:
@@ -238,8 +258,12 @@ class Server:
         1
         refused at 0: E15 Aborted: insert of t (1,)
         """
+        changes = _changecap.Changes(blob) if rebase else None
         try:
-            return Report(*self._client().apply(blob, data, notfound, conflict))
+            if changes is None:
+                return Report(*self._client().apply(blob, data, notfound, conflict))
+            changes.buffer()  # A patchset has none, and is not applied.
+            return Report(*self._client().apply_changes(changes, data, notfound, conflict), changes)
         except Refused as refused:
             if refused.at is None:
                 raise
