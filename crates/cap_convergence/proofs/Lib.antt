@@ -5,3 +5,4 @@ pub mod TurnLemmas
 pub mod RebasedLemmas
 pub mod LeadsLemmas
 pub mod SeveralLemmas
+pub mod ConcatenationLemmas

@@ -39,7 +39,7 @@ use Rattle.cap_convergence.proofs.AppliedLemmas.{AllStand, AreSound, RowApplied,
 module _ {A : Type 0} where
   -- ---- what is known of a changeset
 
-  sound_from : (columns : Columns) (groups : List (TableChanges A)) → AllByRecursion (λ group. columns group.table ≡ Some group.schema) groups → AllByRecursion (IsFitting change_fits) groups → AreSound columns groups
+  pub sound_from : (columns : Columns) (groups : List (TableChanges A)) → AllByRecursion (λ group. columns group.table ≡ Some group.schema) groups → AllByRecursion (IsFitting change_fits) groups → AreSound columns groups
   sound_from columns [] known fits = tt
   sound_from columns (group ∷ groups) known fits =
       ((known.0, fits.0.keyed, recursion_from_All (λ change. change_fits group.schema change ≡ true) group.changes fits.0.each), sound_from columns groups known.1 fits.1)

@@ -1,5 +1,5 @@
 //! Laws of whole changesets. The functions do nothing when they run.
-ghost use Rattle.std.specs.Prelude.{◌≡◌, List, ◌++◌, Ok};
+ghost use Rattle.std.specs.Prelude.{◌≡◌, List, ◌++◌, Ok, map};
 ghost use Rattle.std.specs.List.{AllByRecursion};
 ghost use Rattle.cap_database.specs.Read.{row_at};
 ghost use Rattle.cap_database.specs.Tables.{AreRising, Tables};
@@ -7,6 +7,8 @@ ghost use Rattle.cap_changes.specs.Group.{TableChanges};
 ghost use Rattle.cap_codec.specs.declared.read.Contents.TheVariants.{Changes};
 ghost use Rattle.cap_apply.specs.Fitting.{FitsItsColumns};
 ghost use Rattle.cap_apply.specs.declared.policy.Policy.{Policy};
+ghost use Rattle.cap_group.specs.ChangeGroup.{concat_of};
+ghost use Rattle.cap_captures.specs.Rows.{AreInARow};
 ghost use Rattle.cap_rebase.specs.Rebaser.{Buffers, rebase};
 ghost use Rattle.cap_convergence.specs.Convergence.{AreAppliedInTurn, Columns, HasOneChangeEach, HasTables};
 ghost use Rattle.cap_convergence.specs.Convergence.{HaveSameRows, IsAppliedWhole, LeadsFrom, RemoteChangeset};
@@ -22,6 +24,16 @@ pub fn a_changeset_applies_to_the_rows_it_leads_from<A: AllocHandle>()
         (database : Tables A) (policy : Policy) → LeadsFrom columns before after changes
         → AreRising database → HasTables columns database → HaveSameRows columns (row_at database) before
         → IsAppliedWhole columns after database changes policy }
+{}
+
+/// Changesets of which each begins from the rows that the one before it leaves: their concatenation leads
+/// from the first rows to the last, with one change of each row at most.
+pub fn a_concatenation_leads_from_the_first_rows_to_the_last<A: AllocHandle>()
+    ensures { (columns : Columns) (first last : Rows A) (lists : List (List (TableChanges A)))
+        (changes : List (TableChanges A)) → AreInARow columns first last lists
+        → AllByRecursion (λ list. FitsItsColumns (Changes list)) lists
+        → concat_of (map Changes lists) ≡ Ok (Changes changes)
+        → LeadsFrom columns first last changes × HasOneChangeEach changes }
 {}
 
 /// A client and a hub have changesets from one base. The client applies those of the hub, one after the

@@ -174,8 +174,8 @@ are two tables of one name with different columns. With --binary each blob of th
 length as eight bytes, the most significant first.";
 
 const REBASE_EXAMPLE: &str =
-    "The first line is a changeset of local changes, and each other line the buffer of an application of remote
-changes, which `apply .. buffer` of a workload prints, in digits of either case. For example
+    "The first line is a changeset of local changes, and each other line the buffer of an application of
+remote changes, which `apply .. buffer` of a workload prints, in digits of either case. For example
     printf '%s\\n' 5402010074001200010000000000000001030178 \\
         5402010074001200010000000000000001030179 | changecap rebase
 prints

@@ -1,6 +1,6 @@
 //! Runs a workload: reads its text, calls a server with its commands, and prints the replies. Also runs a
-//! shell, shows a changeset or patchset, makes the inverse or the patchset of a changeset, concatenates blobs, and
-//! rebases a changeset.
+//! shell, shows a changeset or patchset, makes the inverse or the patchset of a changeset, concatenates
+//! blobs, and rebases a changeset.
 #![tactic(auto)]
 
 mod blob_list;

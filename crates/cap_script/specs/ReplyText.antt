@@ -62,13 +62,15 @@ module _ {A : Type 0} where
 
   -- the buffer of the application of a blob, on a line of its own, after the line before
   abbrev pub buffer_text : Command A → List Conflict → List ℕ
-  buffer_text (command.Apply contents policy) conflicts = 10 ∷ (codes "buffer " ++ buffer_digits contents conflicts)
+  buffer_text (command.Apply contents policy) conflicts =
+      10 ∷ (codes "buffer " ++ buffer_digits contents conflicts)
   buffer_text _ conflicts = []
 
   -- the outcome of the command, an apply
   abbrev pub applied_shown : Show A → Command A → ℕ → ReportState → List ℕ
   applied_shown Report asked version report = applied_text version report ++ report_text report
-  applied_shown Buffer asked version report = applied_text version report ++ buffer_text asked report.conflicts
+  applied_shown Buffer asked version report =
+      applied_text version report ++ buffer_text asked report.conflicts
   applied_shown _ asked version report = applied_text version report
 
   -- whether a session is empty is true or false, and a flag is on or off

@@ -43,33 +43,43 @@ fn an_inserted_row_is_captured(rt: HostRuntime) -> Result<(), Fail> {
     Ok(())
 }
 
+fn keeps_a_session(alloc: Global, connection: &mut Connection) -> bool {
+    let attached = connection.attach_all(1) == Ok(())
+        && connection.set_filter(alloc, 1, b"is t") == Ok(())
+        && connection.enable(1, Some(false)) == Ok(false);
+    let flags = connection.indirect(1, None) == Ok(false) && connection.is_empty(1) == Ok(true);
+    let differs = connection.save(alloc, b"d") == Ok(())
+        && connection.diff(alloc, 1, b"d", b"t") == Ok(());
+    attached && flags && differs && connection.drop_session(1) == Ok(())
+}
+
 #[test]
 fn sessions_and_saved_databases(rt: HostRuntime) -> Result<(), Fail> {
     let alloc = rt.alloc();
     let mut connection = Connection::open(alloc)?;
     assert!(rt; accepts(&mut connection, alloc, &["create t kv", "session"]));
-    assert!(rt; connection.attach_all(1) == Ok(()));
-    assert!(rt; connection.set_filter(alloc, 1, b"is t") == Ok(()));
-    assert!(rt; connection.enable(1, Some(false)) == Ok(false));
-    assert!(rt; connection.indirect(1, None) == Ok(false));
-    assert!(rt; connection.is_empty(1) == Ok(true));
-    assert!(rt; connection.save(alloc, b"d") == Ok(()));
-    assert!(rt; connection.diff(alloc, 1, b"d", b"t") == Ok(()));
-    assert!(rt; connection.drop_session(1) == Ok(()));
+    assert!(rt; keeps_a_session(alloc, &mut connection));
     Ok(())
+}
+
+fn refuses_a_second_table(alloc: Global, connection: &mut Connection) -> bool {
+    connection.create_table(alloc, b"t", &[1]) == Ok(1)
+        && connection.create_table(alloc, b"t", &[1]) == Err(refused(None, Refusal::TableExists))
+}
+
+fn tells_misuse(alloc: Global, connection: &mut Connection) -> bool {
+    connection.create_table(alloc, b"", &[1]) == Err(MISUSE)
+        && connection.create_table(alloc, b"u", &[]) == Err(MISUSE)
+        && connection.drop_session(1) == Err(refused(None, Refusal::NoSession))
+        && connection.set_filter(alloc, 1, &[0xff]) == Err(MISUSE)
 }
 
 #[test]
 fn refused_commands_and_misuse(rt: HostRuntime) -> Result<(), Fail> {
     let alloc = rt.alloc();
     let mut connection = Connection::open(alloc)?;
-    let exists = refused(None, Refusal::TableExists);
-    assert!(rt; connection.create_table(alloc, b"t", &[1]) == Ok(1));
-    assert!(rt; connection.create_table(alloc, b"t", &[1]) == Err(exists));
-    assert!(rt; connection.create_table(alloc, b"", &[1]) == Err(MISUSE));
-    assert!(rt; connection.create_table(alloc, b"u", &[]) == Err(MISUSE));
-    assert!(rt; connection.drop_session(1) == Err(refused(None, Refusal::NoSession)));
-    assert!(rt; connection.set_filter(alloc, 1, &[0xff]) == Err(MISUSE));
+    assert!(rt; refuses_a_second_table(alloc, &mut connection));
+    assert!(rt; tells_misuse(alloc, &mut connection));
     Ok(())
 }
 

@@ -1,4 +1,5 @@
 //! Records, and the operations of batches and transactions that are made of them.
+use crate::blobs::are_bytes;
 use crate::rows::{KEY, are, tables};
 use crate::texts::{accepts, answers};
 use cap_connection::Connection;
@@ -56,33 +57,73 @@ fn is_item(alloc: Global, batch: &Batch<Global>, at: usize, kind: ItemKind, key:
     }
 }
 
+fn is_spelled_again(alloc: Global) -> bool {
+    let Ok(row) = row_of(alloc, &ROW) else {
+        return false;
+    };
+    match record_of_row(alloc, &row) {
+        Ok(record) => row.width() == 2 && record.as_slice() == ROW.as_slice(),
+        Err(_) => false,
+    }
+}
+
+fn is_read_as_its_record(alloc: Global, snapshot: &Snapshot<Global>) -> bool {
+    let Ok(mut rows) = get(alloc, snapshot, b"t", &KEY, 0) else {
+        return false;
+    };
+    matches!(rows.record(alloc), Ok(None)) && rows.step() && are_bytes(rows.record(alloc), &ROW)
+}
+
 #[test]
 fn a_row_is_its_record(rt: HostRuntime) -> Result<(), Fail> {
-    let alloc = rt.alloc();
-    let row = row_of(alloc, &ROW).ok().ok_or("a row")?;
-    assert!(rt; row.width() == 2);
-    assert!(rt; record_of_row(alloc, &row)?.as_slice() == ROW.as_slice());
-    let snapshot = tables(alloc, &["create t kv", "commit insert t (2,'x')"]).ok_or("tables")?;
-    let mut rows = get(alloc, &snapshot, b"t", &KEY, 0).ok().ok_or("rows")?;
-    assert!(rt; rows.record(alloc)?.is_none());
-    assert!(rt; rows.step());
-    assert!(rt; rows.record(alloc)?.ok_or("a record")?.as_slice() == ROW.as_slice());
+    let texts = ["create t kv", "commit insert t (2,'x')"];
+    let snapshot = tables(rt.alloc(), &texts).ok_or("tables")?;
+    let read = is_spelled_again(rt.alloc()) && is_read_as_its_record(rt.alloc(), &snapshot);
+    assert!(rt; read);
     Ok(())
+}
+
+// Whether a batch of an operation of each kind is committed as the third version, and which rows it leaves.
+fn commits_three(alloc: Global, connection: &mut Connection) -> bool {
+    let mut batch = Batch::blind(alloc);
+    let put = puts_three(alloc, &mut batch).is_some() && !has_all_ops(&batch);
+    if !put || connection.commit(alloc, &mut batch) != Ok(3) {
+        return false;
+    }
+    match connection.read() {
+        Ok(snapshot) => are(scan(alloc, &snapshot, b"t"), &[(0, 7), (0, 50)]),
+        Err(_) => false,
+    }
 }
 
 #[test]
 fn a_batch_of_each_operation(rt: HostRuntime) -> Result<(), Fail> {
     let alloc = rt.alloc();
     let mut connection = Connection::open(alloc)?;
-    let mut batch = Batch::blind(alloc);
     let texts = ["create t kv", "commit insert t (2,20) ; insert t (null,30)"];
-    assert!(rt; accepts(&mut connection, alloc, &texts));
-    assert!(rt; puts_three(alloc, &mut batch).is_some());
-    assert!(rt; !has_all_ops(&batch));
-    assert!(rt; connection.commit(alloc, &mut batch) == Ok(3));
-    let snapshot = connection.read().ok().ok_or("tables")?;
-    assert!(rt; are(scan(alloc, &snapshot, b"t"), &[(0, 7), (0, 50)]));
+    let made = accepts(&mut connection, alloc, &texts) && commits_three(alloc, &mut connection);
+    assert!(rt; made);
     Ok(())
+}
+
+fn has_its_items(alloc: Global, batch: &Batch<Global>) -> bool {
+    is_item(alloc, batch, 0, ItemKind::Table, b"")
+        && is_item(alloc, batch, 1, ItemKind::Row, &KEY)
+        && is_item(alloc, batch, 2, ItemKind::Scan, b"")
+        && item_at(batch, 3).is_none()
+}
+
+// Whether the transaction that sets row 2 is committed as the third version.
+fn commits_seven(alloc: Global, connection: &mut Connection) -> bool {
+    let Ok(snapshot) = connection.read() else {
+        return false;
+    };
+    match sets_seven(alloc, &snapshot) {
+        Some(mut batch) => {
+            has_its_items(alloc, &batch) && connection.commit(alloc, &mut batch) == Ok(3)
+        }
+        None => false,
+    }
 }
 
 #[test]
@@ -90,14 +131,8 @@ fn a_transaction_of_records(rt: HostRuntime) -> Result<(), Fail> {
     let alloc = rt.alloc();
     let mut connection = Connection::open(alloc)?;
     let texts = ["create t kv", "commit insert t (2,20) ; insert t (null,30)"];
-    assert!(rt; accepts(&mut connection, alloc, &texts));
-    let snapshot = connection.read().ok().ok_or("tables")?;
-    let mut batch = sets_seven(alloc, &snapshot).ok_or("a transaction")?;
-    assert!(rt; is_item(alloc, &batch, 0, ItemKind::Table, b""));
-    assert!(rt; is_item(alloc, &batch, 1, ItemKind::Row, &KEY));
-    assert!(rt; is_item(alloc, &batch, 2, ItemKind::Scan, b""));
-    assert!(rt; item_at(&batch, 3).is_none());
-    assert!(rt; connection.commit(alloc, &mut batch) == Ok(3));
+    let made = accepts(&mut connection, alloc, &texts) && commits_seven(alloc, &mut connection);
+    assert!(rt; made);
     assert!(rt; answers(&mut connection, alloc, "get t key(2)", "row (2,7)"));
     Ok(())
 }

@@ -61,43 +61,61 @@ pub(crate) fn fault_of(read: Result<RowCursor, Fault<RecordFault>>) -> Option<Fa
     read.err()
 }
 
+// Whether the cursor goes over three rows, two by their keys and then one by its id.
+fn are_in_order(mut rows: RowCursor) -> bool {
+    let before = rows.columns().is_none() && next(&mut rows) == Some((0, 10));
+    let at_the_first = rows.columns() == Some(2) && rows.value(2).is_none();
+    let others = next(&mut rows) == Some((0, 20)) && next(&mut rows) == Some((1, 30));
+    before && at_the_first && others && !rows.step()
+}
+
+fn reads_in_order(alloc: Global, snapshot: &Snapshot<Global>) -> bool {
+    match scan(alloc, snapshot, b"t") {
+        Ok(rows) => are_in_order(rows),
+        Err(_) => false,
+    }
+}
+
+fn reads_from_a_key(alloc: Global, snapshot: &Snapshot<Global>) -> bool {
+    are(scan_from(alloc, snapshot, b"t", &KEY, 5), &[(0, 20)])
+        && are(scan_from(alloc, snapshot, b"t", &KEY, 0), &[])
+}
+
 #[test]
 fn rows_in_the_order_of_their_keys(rt: HostRuntime) -> Result<(), Fail> {
-    let alloc = rt.alloc();
     let texts = [
         "create t kv",
         "commit insert t (2,20) ; insert t (null,30) ; insert t (1,10)",
     ];
-    let snapshot = tables(alloc, &texts).ok_or("tables")?;
-    let mut rows = scan(alloc, &snapshot, b"t").ok().ok_or("rows")?;
-    assert!(rt; rows.columns().is_none());
-    assert!(rt; next(&mut rows) == Some((0, 10)));
-    assert!(rt; rows.columns() == Some(2));
-    assert!(rt; rows.value(2).is_none());
-    assert!(rt; next(&mut rows) == Some((0, 20)));
-    assert!(rt; next(&mut rows) == Some((1, 30)));
-    assert!(rt; !rows.step());
-    assert!(rt; are(scan_from(alloc, &snapshot, b"t", &KEY, 5), &[(0, 20)]));
-    assert!(rt; are(scan_from(alloc, &snapshot, b"t", &KEY, 0), &[]));
+    let snapshot = tables(rt.alloc(), &texts).ok_or("tables")?;
+    let read = reads_in_order(rt.alloc(), &snapshot) && reads_from_a_key(rt.alloc(), &snapshot);
+    assert!(rt; read);
     Ok(())
 }
 
-#[test]
-fn one_row_by_its_key_or_its_id(rt: HostRuntime) -> Result<(), Fail> {
-    let alloc = rt.alloc();
-    let texts = ["create t kv", "commit insert t (2,20) ; insert t (null,30)"];
-    let snapshot = tables(alloc, &texts).ok_or("tables")?;
-    assert!(rt; are(get(alloc, &snapshot, b"t", &KEY, 0), &[(0, 20)]));
-    assert!(rt; are(get(alloc, &snapshot, b"t", b"", 1), &[(1, 30)]));
-    assert!(rt; are(get(alloc, &snapshot, b"t", &ABSENT, 0), &[]));
-    assert!(rt; fault_of(get(alloc, &snapshot, b"t", b"", 0)) == Some(MISUSE));
-    assert!(rt; fault_of(get(alloc, &snapshot, b"t", &KEY, 1)) == Some(MISUSE));
-    assert!(rt; fault_of(scan(alloc, &snapshot, b"u")) == Some(NO_TABLE));
+fn reads_one_row(alloc: Global, snapshot: &Snapshot<Global>) -> bool {
+    are(get(alloc, snapshot, b"t", &KEY, 0), &[(0, 20)])
+        && are(get(alloc, snapshot, b"t", b"", 1), &[(1, 30)])
+        && are(get(alloc, snapshot, b"t", &ABSENT, 0), &[])
+}
+
+fn refuses_other_names(alloc: Global, snapshot: &Snapshot<Global>) -> bool {
     let malformed = BlobFault {
         kind: FaultKind::BadField,
         at: 0,
     };
     let malformed = Fault::Refused(RecordFault::Malformed(malformed));
-    assert!(rt; fault_of(get(alloc, &snapshot, b"t", b"\x09", 0)) == Some(malformed));
+    fault_of(get(alloc, snapshot, b"t", b"", 0)) == Some(MISUSE)
+        && fault_of(get(alloc, snapshot, b"t", &KEY, 1)) == Some(MISUSE)
+        && fault_of(scan(alloc, snapshot, b"u")) == Some(NO_TABLE)
+        && fault_of(get(alloc, snapshot, b"t", b"\x09", 0)) == Some(malformed)
+}
+
+#[test]
+fn one_row_by_its_key_or_its_id(rt: HostRuntime) -> Result<(), Fail> {
+    let texts = ["create t kv", "commit insert t (2,20) ; insert t (null,30)"];
+    let snapshot = tables(rt.alloc(), &texts).ok_or("tables")?;
+    let read = reads_one_row(rt.alloc(), &snapshot) && refuses_other_names(rt.alloc(), &snapshot);
+    assert!(rt; read);
     Ok(())
 }

@@ -1,4 +1,4 @@
-use Rattle.std.proofs.Common.{List, ℕ, codes, ap, sym, ◌∙◌}
+use Rattle.std.proofs.Common.{codes, ap, sym, ◌∙◌}
 use Rattle.cap_script.specs.LineFaults.{report, report_words}
 use Rattle.cap_script.specs.Reading.{Verdict, a_word, any_of, judged}
 use Rattle.cap_script.specs.Tokens.{behind_blanks, word}
