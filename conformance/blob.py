@@ -175,6 +175,20 @@ def with_ones(content):
     return write(replace(group, flags=bytes(map(bool, group.flags))) for group in read(content))
 
 
+def buffer(content, answers):
+    """The buffer of an application: the changes that met a conflict, each with its answer in the place of its indirect
+    flag. `answers` has their numbers in the blob."""
+    groups, number = [], 0
+    for group in read(content):
+        changes = []
+        for number, change in enumerate(group.changes, number):
+            if number in answers:
+                changes.append(replace(change, indirect=int(answers[number] == "replace")))
+        number += bool(group.changes)
+        groups += [replace(group, changes=changes)] if changes else []
+    return write(groups)
+
+
 def in_key_order(content):
     """The blob with the changes of each group in ascending order of their keys."""
     return write(replace(group, changes=sorted(group.changes, key=group.key_of)) for group in read(content))

@@ -14,6 +14,9 @@ from sqlite_server import SqliteServer
 
 CAPTURE = re.compile(r"(changeset|patchset) ([0-9a-f]+|-)$")
 REPORTED = re.compile(r"(conflict|omitted|skipped) \d+ ?")
+BUFFER = re.compile(r"buffer (?:([0-9a-f]+)|none|-)$")
+# What may stand behind the counts of an application.
+BEHIND = re.compile(f"{REPORTED.pattern}|{BUFFER.pattern}")
 REFUSED = re.compile(r"refused at \d+: E1[56] \w+")
 
 
@@ -28,12 +31,12 @@ class Case:
 
 def split(lines, commands):
     """The lines of each command's reply: one, for all rows of a table one more for each row, and for an application
-    one more for each thing that is reported. A text that has a line feed moves the replies after it, on both sides
-    alike."""
+    one more for each thing that is reported, or for the buffer. A text that has a line feed moves the replies after
+    it, on both sides alike."""
     replies, at = [], 0
     for _ in commands:
         more = int(lines[at][5:]) if at < len(lines) and lines[at].startswith("rows ") else 0
-        while at + 1 + more < len(lines) and REPORTED.match(lines[at + 1 + more]):
+        while at + 1 + more < len(lines) and BEHIND.match(lines[at + 1 + more]):
             more += 1
         replies.append(lines[at:at + 1 + more])
         at += 1 + more
@@ -54,8 +57,14 @@ def settled(reply):
     """A reply to the same command with a blob whose changes have another order: the numbers of changes are open."""
     lines = [REFUSED.sub("refused", line) for line in comparable(reply)]
     if reply and reply[0].startswith("ok "):
-        return [lines[0], *sorted(REPORTED.sub(r"\1 ", line) for line in lines[1:])]
+        return [lines[0], *sorted(REPORTED.sub(r"\1 ", in_order(line)) for line in lines[1:])]
     return lines
+
+
+def in_order(line):
+    """A line, where it is a buffer with its changes in the order of their keys."""
+    found = BUFFER.match(line)
+    return f"buffer {blob.in_key_order(bytes.fromhex(found[1])).hex()}" if found and found[1] else line
 
 
 def blobs_of(replies):

@@ -163,7 +163,7 @@ class Maker:
 
     def apply(self):
         content = self.pick(self.blobs) if self.blobs and self.chance(0.6) else self.blob_by_hand()
-        self.add(f"apply x'{content.hex()}' {self.policy()}{self.pick((' report', ''))}")
+        self.add(f"apply x'{content.hex()}' {self.policy()}{self.pick((' report', ' buffer', ''))}")
 
     # Sessions
 
@@ -279,6 +279,7 @@ def target_of(maker, first, parts):
         if maker.server.tables:
             maker.commit()
     blobs = maker.pick((range(1, 2 * parts, 2), [2 * parts + 1], [2 * parts + 2]))
-    maker.lines += ["session", "attachall 1"] + [f"apply x'{{{number}}}' {maker.policy()} report" for number in blobs]
+    more = maker.pick(("report", "buffer"))
+    maker.lines += ["session", "attachall 1"] + [f"apply x'{{{number}}}' {maker.policy()} {more}" for number in blobs]
     maker.lines += ["changeset 1 places"] + [f"scan {name}" for name in sorted(maker.server.tables)]
     return maker.end()

@@ -87,7 +87,8 @@ def columns_that_only_an_omitted_update_modifies(check):
 @difference
 def rebased_insert_over_an_insert(check):
     """An UPDATE of the fields that differ, or of all fields, those of the key too."""
-    both = Both(check, "kvv", [], ["INSERT INTO t VALUES(1, 'n', 'q')"], [("INSERT INTO t VALUES(1, 'm', 'q')", "omit")])
+    local, remote = (f"INSERT INTO t VALUES(1, '{value}', 'q')" for value in "nm")
+    both = Both(check, "kvv", [], [local], [(remote, "omit")])
     nothing, flags = blob.UNDEFINED, b"\1\0\0"
     ours = bytes_of(update([1, "m", nothing], [nothing, "n", nothing]), flags=flags)
     check.compare("changecap", both.rebased_by_program(), [ours])

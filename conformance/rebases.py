@@ -108,21 +108,10 @@ def key_of(change):
 
 
 def buffer_of(content, conflicts):
-    """The buffer of an application: the changes that met a conflict, each with its answer in the place of its indirect
-    flag."""
+    """The buffer of an application of a changeset with one change of each row."""
     answers = {key_of(change): answer for change, _, answer in conflicts}
-    groups = []
-    for group in blob.read(content):
-        changes = []
-        for change in group.changes:
-            record = change.new if change.operation == blob.INSERT else change.old
-            key = tuple(value for value, flag in zip(record, group.flags) if flag)
-            if (group.table, key) in answers:
-                mark = int(answers[group.table, key] == "replace")
-                changes.append(blob.Change(change.operation, mark, change.old, change.new))
-        if changes:
-            groups.append(blob.Group(group.kind, group.flags, group.table, changes))
-    return blob.write(groups)
+    numbered = enumerate(map(key_of, sqlite.iterate(content)))
+    return blob.buffer(content, {number: answers[key] for number, key in numbered if key in answers})
 
 
 def program_buffer(program, shapes, rows, content, policy):

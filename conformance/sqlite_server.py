@@ -398,14 +398,16 @@ class SqliteServer:
 
     # Applying
 
-    def do_apply(self, content, on_data, on_notfound, on_conflict, has_report):
+    def do_apply(self, content, on_data, on_notfound, on_conflict, more):
         answers = {"data": on_data, "notfound": on_notfound, "conflict": on_conflict}
         self.rehearse(lambda: self.apply(content, answers))
         applied, skipped = self.apply(content, answers)
         for state in self.sessions.values():
             state.note(applied.tables)
         counts = self.written(f", applied {applied.made}, omitted {applied.omitted}, skipped {len(skipped)}")
-        return [counts, *report_lines(content, applied.conflicts, skipped)] if has_report else counts
+        if more == "buffer":
+            return [counts, buffer_line(content, applied.conflicts, skipped)]
+        return [counts, *report_lines(content, applied.conflicts, skipped)] if more == "report" else counts
 
     def apply(self, content, answers):
         """Applies the blob, and returns what is seen of that and the numbers of the groups that SQLite skipped."""
@@ -433,6 +435,14 @@ def report_lines(content, conflicts, skipped):
     return [*(f"conflict {change} {kind} {answer}" for change, kind, answer in numbered),
             *(f"omitted {change}" for change, _, answer in numbered if answer == "omit"),
             *(f"skipped {number}" for number in skipped)]
+
+
+def buffer_line(content, conflicts, skipped):
+    """What `apply .. buffer` prints behind the counts."""
+    if content[:1] == bytes([blob.PATCHSET]):
+        return "buffer none"
+    answers = {change_of(content, skipped, conflict): conflict[1] for conflict in conflicts}
+    return f"buffer {blob.with_ones(blob.buffer(content, answers)).hex() or '-'}"
 
 
 def change_of(content, skipped, conflict):

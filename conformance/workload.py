@@ -174,7 +174,7 @@ def capture_of(tokens):
 
 def application_of(tokens):
     blob, answers = tokens.take("blob"), [tokens.word("omit", "replace", "abort") for _ in range(3)]
-    return blob, *answers, not tokens.is_done() and tokens.word("report") == "report"
+    return blob, *answers, None if tokens.is_done() else tokens.word("report", "buffer")
 
 
 FORMS = {

@@ -185,7 +185,7 @@ static void worked_answers(void){
   CHECK(buffer.n == 0);
   free(buffer.at);
   CHECK(changecap_iter_next(&it) == CHANGECAP_ROW);
-  CHECK(changecap_iter_answer(&it, CHANGECAP_ABORT) == CHANGECAP_MISUSE);
+  CHECK(changecap_iter_answer(&it, 3) == CHANGECAP_MISUSE);
   CHECK(changecap_iter_answer(&it, CHANGECAP_REPLACE) == CHANGECAP_OK);
   CHECK(changecap_iter_next(&it) == CHANGECAP_ROW && changecap_iter_next(&it) == CHANGECAP_ROW);
   CHECK(changecap_iter_answer(&it, CHANGECAP_OMIT) == CHANGECAP_OK);

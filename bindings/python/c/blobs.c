@@ -137,14 +137,29 @@ typedef struct change_head {
   size_t table, old, new;
 } change_head;
 
-typedef uint32_t (*record_call)(changecap_iter *it, void *out, size_t room, size_t *len);
+typedef uint32_t (*field_call)(changecap_iter *it, size_t column, changecap_value *value);
+typedef uint32_t (*bytes_call)(changecap_iter *it, size_t column, void *out, size_t room, size_t *len);
 
-/* Puts the record of the values before or after a change last, and sets its length. */
-static uint32_t put_side(changecap_iter *it, record_call call, arena *to, size_t *len){
-  uint32_t status;
-  WRITTEN(status, to, 128, *len, call(it, to->at + to->n, to->room - to->n, len));
-  if( status == CHANGECAP_OK ) to->n += *len;
-  return status;
+/* Puts the values before or after a change last, with an undefined field for each column that has none. */
+static uint32_t put_side(changecap_iter *it, size_t columns, field_call field, bytes_call bytes, arena *to){
+  changecap_value value;
+  for(size_t column = 0; column < columns; column++){
+    uint32_t status = field(it, column, &value);
+    if( status != CHANGECAP_OK ) return status;
+    if( !arena_has_room(to, CHANGECAP_FIELD_MAX(value.len)) ) return CHANGECAP_NOMEM;
+    uint8_t *at = to->at + to->n;
+    if( value.type == CHANGECAP_INTEGER ){
+      to->n += changecap_put_int(at, value.number);
+    }else if( value.type == CHANGECAP_TEXT || value.type == CHANGECAP_BLOB ){
+      to->n += put_head(at, value.type, value.len);
+      status = bytes(it, column, to->at + to->n, value.len, &value.len);
+      if( status != CHANGECAP_OK ) return status;
+      to->n += value.len;
+    }else{
+      to->n += value.type == CHANGECAP_NULL ? changecap_put_null(at) : changecap_put_undefined(at);
+    }
+  }
+  return CHANGECAP_OK;
 }
 
 /* Puts the name of the table and the key last. */
@@ -170,13 +185,16 @@ static uint32_t put_change(changecap_iter *it, arena *to){
   if( status != CHANGECAP_OK ) return status;
   if( !arena_has_room(to, sizeof head) ) return CHANGECAP_NOMEM;
   to->n += sizeof head;
-  head.old = head.new = 0;
   status = put_table(it, &head, to);
+  size_t before = to->n;
   /* Only what an operation has is asked for. */
   if( status == CHANGECAP_OK && head.info.op != CHANGECAP_INSERT )
-    status = put_side(it, changecap_iter_old_record, to, &head.old);
+    status = put_side(it, head.info.columns, changecap_iter_old, changecap_iter_old_bytes, to);
+  head.old = to->n - before;
+  before = to->n;
   if( status == CHANGECAP_OK && head.info.op != CHANGECAP_DELETE )
-    status = put_side(it, changecap_iter_new_record, to, &head.new);
+    status = put_side(it, head.info.columns, changecap_iter_new, changecap_iter_new_bytes, to);
+  head.new = to->n - before;
   memcpy(to->at + begin, &head, sizeof head);
   return status;
 }

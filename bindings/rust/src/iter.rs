@@ -5,6 +5,7 @@ use crate::record::Record;
 use crate::{ffi, ConflictAction, Error, RebaseBuffer, Result, ValueRef};
 use std::io::{ErrorKind, Read};
 use std::iter::FusedIterator;
+use std::sync::Arc;
 
 /// What a change does to its row.
 ///
@@ -37,23 +38,30 @@ pub enum Action {
 /// ```
 #[derive(Clone, Debug, PartialEq, Eq)]
 pub struct Change {
-    table: String,
+    table: Arc<Table>,
     code: Action,
     indirect: bool,
-    key: Vec<bool>,
     old: Record,
     new: Record,
+}
+
+/// The table of changes that follow each other.
+#[derive(Debug, PartialEq, Eq)]
+struct Table {
+    name: String,
+    /// For each column whether it is in the key.
+    key: Vec<bool>,
 }
 
 impl Change {
     /// The name of its table.
     pub fn table_name(&self) -> &str {
-        &self.table
+        &self.table.name
     }
 
     /// How many columns the table has.
     pub fn number_of_columns(&self) -> usize {
-        self.key.len()
+        self.table.key.len()
     }
 
     /// What the change does.
@@ -68,7 +76,7 @@ impl Change {
 
     /// For each column whether it is in the table's key.
     pub fn pk(&self) -> &[bool] {
-        &self.key
+        &self.table.key
     }
 
     /// The value of a column before the change, or none where it is undefined or there is no such column.
@@ -84,7 +92,8 @@ impl Change {
     /// The values of the columns in the table's key.
     pub fn key(&self) -> impl Iterator<Item = ValueRef<'_>> {
         let side = if self.code == Action::Insert { &self.new } else { &self.old };
-        (0..self.key.len()).filter(|column| self.key[*column]).filter_map(|column| side.get(column))
+        let columns = 0..self.number_of_columns();
+        columns.filter(|column| self.pk()[*column]).filter_map(|column| side.get(column))
     }
 }
 
@@ -103,13 +112,17 @@ pub struct ChangesetIter {
     pub(crate) handle: Owned,
     /// What a name or a record is read into.
     bytes: Vec<u8>,
+    /// What key columns are read into.
+    key: Vec<bool>,
+    /// The table of the change before.
+    table: Option<Arc<Table>>,
 }
 
 impl ChangesetIter {
     /// The iterator that a call opens.
     fn open(call: impl FnOnce(*mut ffi::Handle, &mut ffi::Fault) -> u32) -> Result<ChangesetIter> {
         let handle = Owned::open(ffi::changecap_iter_close, |iter| done(|fault| call(iter, fault)))?;
-        Ok(ChangesetIter { handle, bytes: Vec::new() })
+        Ok(ChangesetIter { handle, bytes: Vec::new(), key: Vec::new(), table: None })
     }
 
     /// Before the first change of a blob, all of which is read. [`Error::Malformed`] where it is none.
@@ -140,17 +153,12 @@ impl ChangesetIter {
         let (iter, mut change) = (self.handle.at(), ffi::Change::default());
         // SAFETY: the handle is open as long as the iterator is there, and a place of this function.
         done(|_| unsafe { ffi::changecap_iter_op(iter, &mut change) })?;
-        // SAFETY: the iterator is open. A buffer and a length that are of the call alone.
-        let len = taken_into(&mut self.bytes, |out, len, _| unsafe {
-            ffi::changecap_iter_table(iter, out.as_mut_ptr(), out.len(), len)
-        })?;
-        let table = text_in(&self.bytes[..len])?.to_owned();
         let code = match change.op {
             ffi::INSERT => Action::Insert,
             ffi::UPDATE => Action::Update,
             _ => Action::Delete,
         };
-        let key = self.key(change.columns)?;
+        let table = self.table(change.columns)?;
         let (mut old, mut new) = (Record::default(), Record::default());
         if code != Action::Insert {
             old = self.record(ffi::changecap_iter_old_record)?;
@@ -158,19 +166,34 @@ impl ChangesetIter {
         if code != Action::Delete {
             new = self.record(ffi::changecap_iter_new_record)?;
         }
-        Ok(Change { table, code, indirect: change.indirect != 0, key, old, new })
+        Ok(Change { table, code, indirect: change.indirect != 0, old, new })
     }
 
-    /// For each column whether it is in the key.
-    fn key(&self, columns: usize) -> Result<Vec<bool>> {
+    /// The table of the change, which has so many columns. It is that of the change before where it has the same
+    /// name and key.
+    fn table(&mut self, columns: usize) -> Result<Arc<Table>> {
         let (iter, mut is_key) = (self.handle.at(), 0);
-        let mut key = Vec::with_capacity(columns);
+        // SAFETY: the iterator is open. A buffer and a length that are of the call alone.
+        let len = taken_into(&mut self.bytes, |out, len, _| unsafe {
+            ffi::changecap_iter_table(iter, out.as_mut_ptr(), out.len(), len)
+        })?;
+        self.key.clear();
         for column in 0..columns {
             // SAFETY: the iterator is open, and a place of this function.
             done(|_| unsafe { ffi::changecap_iter_key(iter, column, &mut is_key) })?;
-            key.push(is_key != 0);
+            self.key.push(is_key != 0);
         }
-        Ok(key)
+        let name = &self.bytes[..len];
+        match &self.table {
+            Some(before) if before.name.as_bytes() == name && before.key == self.key => {
+                Ok(Arc::clone(before))
+            }
+            _ => {
+                let table = Arc::new(Table { name: text_in(name)?.to_owned(), key: self.key.clone() });
+                self.table = Some(Arc::clone(&table));
+                Ok(table)
+            }
+        }
     }
 
     /// The record of one side of the change, by its call.
@@ -205,6 +228,9 @@ impl ChangesetIter {
     /// # Ok::<(), changecap::Error>(())
     /// ```
     pub fn answer(&mut self, answer: ConflictAction) -> Result<()> {
+        if answer == ConflictAction::Abort {
+            return Err(Error::Misuse);
+        }
         // SAFETY: the handle is open as long as the iterator is there.
         done(|_| unsafe { ffi::changecap_iter_answer(self.handle.at(), answer.number()) })
     }
