@@ -1,0 +1,4 @@
+pub mod ImageLemmas
+pub mod LeadLemmas
+pub mod StepLemmas
+pub mod ConvergenceLemmas

@@ -1,0 +1,294 @@
+//! Synchronises a client with a hub.
+ghost use Rattle.std.specs.Prelude.{◌≡◌, ℕ, Ok, IfOk, List, MatchOption, OnErr, reverse};
+ghost use Rattle.cap_codec.specs.BlobReading.{blob_at};
+ghost use Rattle.cap_codec.specs.Changeset.{list_bytes};
+ghost use Rattle.cap_codec.specs.Writable.{IsWritable};
+ghost use Rattle.cap_codec.specs.declared.read.Contents.TheVariants.{Changes};
+ghost use Rattle.cap_apply.specs.declared.policy.Policy.{Policy as AppliedPolicy};
+ghost use Rattle.cap_core.specs.declared.command.Command.TheVariants as command;
+ghost use Rattle.cap_core.specs.declared.event.Event.{Event};
+ghost use Rattle.cap_core.specs.declared.reply.Reply.TheVariants as reply;
+ghost use Rattle.cap_captures.specs.Parts.{IsLeftBy};
+ghost use Rattle.cap_test_convergence.specs.Steps.{IsCarriedOut, IsExchanged, IsNoCapture, IsRebased};
+ghost use Rattle.cap_test_convergence.specs.Synchronised.{HaveOneBase, IsSynchronised};
+
+use cap_apply::{Answer, Policy, Report, applied_blobs_keep_columns, applied_blobs_keep_order};
+use cap_changes::ChangeList;
+use cap_codec::{Contents, changes_are_writable, read_blob, write_changes};
+use cap_convergence::a_rebased_changeset_leads_from_the_hub_to_the_client;
+use cap_core::{Capture, Command, Core, EVENTS_MAX, Reply, bytes_of_a_capture_give_the_rows_now};
+use cap_database::{tables_keep_columns, tables_keep_order};
+use cap_rebase::{Rebaser, buffer_of};
+use cap_value::{AllocHandle, Fault, OutOfMemory, Refusal};
+
+/// What a client and a hub exchanged.
+#[derive(Drop)]
+pub struct Synchronised<A: AllocHandle> {
+    /// What became of the hub's changes at the client.
+    pub report: Report<A>,
+    /// The bytes of the client's changes, rebased, which the hub has applied.
+    pub rebased: Vec<u8, A>,
+}
+
+/// Why a client and a hub are not synchronised.
+#[derive(Clone, Copy, Debug, PartialEq, Eq, Drop)]
+pub enum NotSynchronised {
+    /// The client has no live session with the number.
+    NoClientSession,
+    /// The hub has no live session with the number.
+    NoHubSession,
+    /// The client refuses the hub's changes, by the policy.
+    NotApplied(Refusal),
+    /// The sessions do not begin from the same rows of the same tables.
+    OtherBase,
+    /// A history has no room for three more events.
+    Full,
+    /// Out of memory.
+    OutOfMemory,
+}
+
+impl From<OutOfMemory> for NotSynchronised {
+    fn from(_error: OutOfMemory) -> Self {
+        NotSynchronised::OutOfMemory
+    }
+}
+
+// A server after a command, and the reply to it.
+#[derive(Drop)]
+struct Answered<A: AllocHandle> {
+    core: Core<A>,
+    reply: Reply<A>,
+}
+
+// A server after a capture or a restart of a session, and what was captured.
+#[derive(Drop)]
+struct CaptureTaken<A: AllocHandle> {
+    core: Core<A>,
+    capture: Capture<A>,
+}
+
+// A server after a changeset was applied, and the report.
+#[derive(Drop)]
+struct Received<A: AllocHandle> {
+    core: Core<A>,
+    report: Report<A>,
+}
+
+// What a synchronisation leaves of client and hub.
+#[derive(Drop)]
+struct BothLeft<A: AllocHandle> {
+    client: Core<A>,
+    hub: Core<A>,
+    exchange: Synchronised<A>,
+}
+
+/// Synchronises a client with a hub, which has a session for this client. The client captures its session,
+/// and the hub that one. The hub's changes go to the client as bytes, and are applied there under the policy.
+/// The client's changes are rebased over those that met a conflict, go to the hub as bytes, and are applied
+/// there. Then both sessions are restarted, so that they have nothing of what was exchanged.
+///
+/// Both then have the same rows, and may synchronise again. On an error neither has changed.
+pub fn synchronise<A: AllocHandle>(
+    alloc: A,
+    client: &mut Core<A>,
+    client_session: u64,
+    hub: &mut Core<A>,
+    hub_session: u64,
+    policy: Policy,
+) -> Result<Synchronised<A>, NotSynchronised>
+    ensures synchronised { (c h : List (Event A)) → IsLeftBy c client.old → IsLeftBy h hub.old →
+        HaveOneBase client_session (reverse c) hub_session (reverse h) → IfOk result
+        (IsSynchronised c client_session h hub_session policy client.new hub.new) }
+    ensures kept { OnErr result ((client.new ≡ client.old) × (hub.new ≡ hub.old)) }
+{
+    a_rebased_changeset_leads_from_the_hub_to_the_client::<A>();
+    applied_blobs_keep_columns::<A>();
+    applied_blobs_keep_order::<A>();
+    bytes_of_a_capture_give_the_rows_now::<A>();
+    tables_keep_columns::<A>();
+    tables_keep_order::<A>();
+    let made = exchanged(alloc, client, client_session, hub, hub_session, policy)?;
+    *client = made.client;
+    *hub = made.hub;
+    Ok(made.exchange)
+}
+
+// The servers after they have exchanged their changes.
+fn exchanged<A: AllocHandle>(
+    alloc: A,
+    client: &Core<A>,
+    client_session: u64,
+    hub: &Core<A>,
+    hub_session: u64,
+    policy: Policy,
+) -> Result<BothLeft<A>, NotSynchronised>
+    ensures { IfOk result (λ made. IsExchanged client.now client_session hub.now hub_session policy
+        made.client made.hub made.exchange) }
+{
+    let Some(local) = captured(client, client_session)? else {
+        return Err(NotSynchronised::NoClientSession);
+    };
+    let Some(remote) = captured(hub, hub_session)? else {
+        return Err(NotSynchronised::NoHubSession);
+    };
+    let sent = sent_by(alloc, &remote.capture)?;
+    let changes = read_changes(alloc, sent.as_slice())?;
+    let received = applied_at(&local.core, changes, policy)?;
+    let rebased = rebased_over(alloc, &local.capture, sent.as_slice(), &received.report)?;
+    let made = applied_at_hub(&remote.core, read_changes(alloc, rebased.as_slice())?)?;
+    let client_left = restarted(&received.core, client_session)?;
+    let hub_left = restarted(&made.core, hub_session)?;
+    Ok(BothLeft {
+        client: client_left.core,
+        hub: hub_left.core,
+        exchange: Synchronised {
+            report: received.report,
+            rebased,
+        },
+    })
+}
+
+// The reply to a command, and the server after it.
+fn carried_out<A: AllocHandle>(
+    core: &Core<A>,
+    command: Command<A>,
+) -> Result<Answered<A>, NotSynchronised>
+    ensures { IfOk result (λ made. IsCarriedOut core.now command made.reply made.core) }
+{
+    if core.events() >= EVENTS_MAX {
+        return Err(NotSynchronised::Full);
+    }
+    command.blob_fits();
+    let (core, reply) = core.prepare(&command)?;
+    Ok(Answered { core, reply })
+}
+
+// A capture or a restart of a session; none where the reply is no capture.
+fn captured_by<A: AllocHandle>(
+    core: &Core<A>,
+    command: Command<A>,
+) -> Result<Option<CaptureTaken<A>>, NotSynchronised>
+    ensures { IfOk result (λ made. MatchOption made (IsNoCapture core.now command)
+        (λ taken. IsCarriedOut core.now command (reply.Capture taken.capture) taken.core)) }
+{
+    let Answered { core, reply } = carried_out(core, command)?;
+    match reply {
+        Reply::Capture(capture) => Ok(Some(CaptureTaken { core, capture })),
+        _ => Ok(None),
+    }
+}
+
+fn captured<A: AllocHandle>(
+    core: &Core<A>,
+    session: u64,
+) -> Result<Option<CaptureTaken<A>>, NotSynchronised>
+    ensures { IfOk result (λ made. MatchOption made (IsNoCapture core.now (command.Capture session))
+        (λ taken. IsCarriedOut core.now (command.Capture session) (reply.Capture taken.capture)
+        taken.core)) }
+{
+    captured_by(core, Command::Capture { session })
+}
+
+fn restarted<A: AllocHandle>(
+    core: &Core<A>,
+    session: u64,
+) -> Result<CaptureTaken<A>, NotSynchronised>
+    ensures { IfOk result (λ taken.
+        IsCarriedOut core.now (command.Restart session) (reply.Capture taken.capture) taken.core) }
+{
+    match captured_by(core, Command::Restart { session })? {
+        Some(taken) => Ok(taken),
+        None => Err(NotSynchronised::OtherBase),
+    }
+}
+
+// The bytes of a capture.
+fn sent_by<A: AllocHandle>(alloc: A, capture: &Capture<A>) -> Result<Vec<u8, A>, NotSynchronised>
+    ensures bytes { IfOk result (λ bytes. bytes.items ≡ list_bytes capture.now.changes) }
+    ensures writable { IfOk result (λ bytes. IsWritable (Changes capture.now.changes)) }
+{
+    capture.is_writable(alloc)?;
+    Ok(capture.changeset(alloc)?)
+}
+
+// The changeset with these bytes.
+fn read_changes<A: AllocHandle>(alloc: A, bytes: &[u8]) -> Result<ChangeList<A>, NotSynchronised>
+    ensures { IfOk result (λ list. blob_at bytes.now ≡ Ok (Changes list)) }
+{
+    match read_blob(alloc, bytes) {
+        Ok(Contents::Changes(list)) => Ok(list),
+        Err(Fault::OutOfMemory) => Err(NotSynchronised::OutOfMemory),
+        _ => Err(NotSynchronised::OtherBase),
+    }
+}
+
+// A changeset is applied.
+fn applied_at<A: AllocHandle>(
+    core: &Core<A>,
+    list: ChangeList<A>,
+    policy: Policy,
+) -> Result<Received<A>, NotSynchronised>
+    ensures { IfOk result (λ made. (version : ℕ) × IsCarriedOut core.now
+        (command.Apply (Changes list) policy) (reply.Applied version made.report) made.core) }
+{
+    let command = Command::Apply {
+        blob: Contents::Changes(list),
+        policy,
+    };
+    let Answered { core, reply } = carried_out(core, command)?;
+    match reply {
+        Reply::Applied {
+            version: _version,
+            report,
+        } => Ok(Received { core, report }),
+        Reply::Refused { at: _at, why } => Err(NotSynchronised::NotApplied(why)),
+        _ => Err(NotSynchronised::OtherBase),
+    }
+}
+
+// The rebased changes are applied at the hub, without a conflict.
+fn applied_at_hub<A: AllocHandle>(
+    core: &Core<A>,
+    list: ChangeList<A>,
+) -> Result<Received<A>, NotSynchronised>
+    ensures { IfOk result (λ made. (policy : AppliedPolicy) × (version : ℕ) × IsCarriedOut core.now
+        (command.Apply (Changes list) policy) (reply.Applied version made.report) made.core) }
+{
+    let policy = Policy {
+        on_data: Answer::Abort,
+        on_notfound: Answer::Abort,
+        on_conflict: Answer::Abort,
+    };
+    match applied_at(core, list, policy) {
+        Ok(made) => Ok(made),
+        Err(NotSynchronised::NotApplied(_)) => Err(NotSynchronised::OtherBase),
+        Err(why) => Err(why),
+    }
+}
+
+// The bytes of the captured changes, rebased over those of the remote changeset that met a conflict.
+fn rebased_over<A: AllocHandle>(
+    alloc: A,
+    capture: &Capture<A>,
+    remote: &[u8],
+    report: &Report<A>,
+) -> Result<Vec<u8, A>, NotSynchronised>
+    ensures { IfOk result (λ bytes. IsRebased remote.now report.now.conflicts capture.now.changes bytes.items) }
+{
+    let remote = read_changes(alloc, remote)?;
+    let buffer = buffer_of(alloc, &remote, report.conflicts())?;
+    let local = capture.changes(alloc)?;
+    changes_are_writable(&local);
+    let mut rebaser = Rebaser::new(alloc);
+    if rebaser.configure(buffer).is_err() {
+        return Err(NotSynchronised::OtherBase);
+    }
+    match rebaser.rebase(&local) {
+        Ok(list) => {
+            changes_are_writable(&list);
+            Ok(write_changes(alloc, &list)?)
+        }
+        Err(Fault::Refused(_)) => Err(NotSynchronised::OtherBase),
+        Err(Fault::OutOfMemory) => Err(NotSynchronised::OutOfMemory),
+    }
+}
