@@ -29,6 +29,11 @@ answer_of number =
     if number == 0 then Some Omit
     else (if number == 1 then Some Replace else (if number == 2 then Some Abort else None))
 
+-- those that leave an application: ABORT does not
+abbrev pub buffered_answer_of : ℕ → Option Answer
+buffered_answer_of number =
+    if number == 0 then Some Omit else (if number == 1 then Some Replace else None)
+
 -- the answers to DATA, NOTFOUND and CONFLICT
 abbrev pub policy_of : ℕ → ℕ → ℕ → Option Policy
 policy_of differs notfound conflict = option_and_then (λ on_data. option_and_then (λ on_notfound.

@@ -5,7 +5,7 @@ ghost use Rattle.cap_connection.specs.Iter.{Steps, iter_at, new_record_of, old_r
 ghost use Rattle.cap_c.specs.Handle.{Between, Keeps, Opens};
 ghost use Rattle.cap_c.specs.IterOutputs.{info_of, key_output, new_bytes, new_output, old_bytes, old_output};
 ghost use Rattle.cap_c.specs.IterOutputs.{NotesBy, OutputsBuffer, step_status};
-ghost use Rattle.cap_c.specs.Numbers.{answer_of, key_flags_of};
+ghost use Rattle.cap_c.specs.Numbers.{buffered_answer_of, key_flags_of};
 ghost use Rattle.cap_c.specs.Outputs.{OutputsBytes, OutputsFound, OutputsMade};
 
 use crate::change_info::{ChangeInfo, FieldValue};
@@ -15,7 +15,7 @@ use crate::iter_outputs::{
     note, set_buffer, set_info, set_key, set_new, set_new_bytes, set_new_record, set_old,
     set_old_bytes, set_old_record, set_table, step_status,
 };
-use crate::numbers::{answer_of, key_flags_of};
+use crate::numbers::{buffered_answer_of, key_flags_of};
 use crate::status::{MALFORMED, NOMEM, OK};
 use cap_connection::BlobIter;
 use cap_value::Fault;
@@ -231,10 +231,10 @@ pub extern "C" fn changecap_iter_new_record(
 pub extern "C" fn changecap_iter_answer(alloc: Global, handle: &mut IterHandle, answer: u32) -> u32
     requires opened { IsSome handle.old.value }
     ensures noted { Between handle.old.value handle.new.value
-        (λ old new. NotesBy (answer_of answer) old new result) }
+        (λ old new. NotesBy (buffered_answer_of answer) old new result) }
 {
     let mut it = take(alloc, handle);
-    let status = note(&mut it, answer_of(answer));
+    let status = note(&mut it, buffered_answer_of(answer));
     put(handle, it);
     status
 }

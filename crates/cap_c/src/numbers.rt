@@ -1,6 +1,7 @@
 //! What the numbers of an argument mean.
 ghost use Rattle.std.specs.Prelude.{◌≡◌};
-ghost use Rattle.cap_c.specs.Numbers.{answer_of, asked_of, cause_of, key_flags_of, policy_of};
+ghost use Rattle.cap_c.specs.Numbers.{answer_of, asked_of, buffered_answer_of, cause_of, key_flags_of};
+ghost use Rattle.cap_c.specs.Numbers.{policy_of};
 
 use cap_apply::{Answer, Policy};
 use cap_codec::KeyFlags;
@@ -54,14 +55,24 @@ pub(crate) fn policy_of(on_data: u32, on_notfound: u32, on_conflict: u32) -> Opt
     })
 }
 
-/// The answer to a conflict.
-pub(crate) fn answer_of(number: u32) -> Option<Answer>
+fn answer_of(number: u32) -> Option<Answer>
     ensures { result ≡ answer_of number }
 {
     match number {
         0 => Some(Answer::Omit),
         1 => Some(Answer::Replace),
         2 => Some(Answer::Abort),
+        _ => None,
+    }
+}
+
+/// The answer to a conflict in an application, which ABORT does not leave.
+pub(crate) fn buffered_answer_of(number: u32) -> Option<Answer>
+    ensures { result ≡ buffered_answer_of number }
+{
+    match number {
+        0 => Some(Answer::Omit),
+        1 => Some(Answer::Replace),
         _ => None,
     }
 }

@@ -17,6 +17,9 @@ pub(crate) enum Side {
     New,
 }
 
+// How many bytes a field has, as far as memory for it is asked for at once.
+const FIELD_BYTES: usize = 16;
+
 // The type byte of a field that is not defined.
 const UNDEFINED: u8 = 0x00;
 
@@ -30,7 +33,7 @@ pub(crate) fn side_record(
 ) -> Result<Vec<u8, Global>, OutOfMemory>
     ensures { IfOk result (λ out. out.items ≡ fields_before (side_at side contents.now position) columns) }
 {
-    let mut out = Vec::new(alloc);
+    let mut out = Vec::with_capacity(alloc, columns.saturating_mul(FIELD_BYTES))?;
     for column in 0..columns {
         push_field(&mut out, side_at(contents, position, side, column))?;
     }
