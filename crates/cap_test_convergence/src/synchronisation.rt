@@ -273,7 +273,8 @@ fn rebased_over<A: AllocHandle>(
     remote: &[u8],
     report: &Report<A>,
 ) -> Result<Vec<u8, A>, NotSynchronised>
-    ensures { IfOk result (λ bytes. IsRebased remote.now report.now.conflicts capture.now.changes bytes.items) }
+    ensures { IfOk result (λ bytes.
+        IsRebased remote.now report.now.conflicts capture.now.changes bytes.items) }
 {
     let remote = read_changes(alloc, remote)?;
     let buffer = buffer_of(alloc, &remote, report.conflicts())?;
