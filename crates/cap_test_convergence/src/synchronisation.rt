@@ -281,8 +281,10 @@ fn rebased_over<A: AllocHandle>(
     let local = capture.changes(alloc)?;
     changes_are_writable(&local);
     let mut rebaser = Rebaser::new(alloc);
-    if rebaser.configure(buffer).is_err() {
-        return Err(NotSynchronised::OtherBase);
+    match rebaser.configure(buffer) {
+        Ok(()) => {}
+        Err(Fault::Refused(_)) => return Err(NotSynchronised::OtherBase),
+        Err(Fault::OutOfMemory) => return Err(NotSynchronised::OutOfMemory),
     }
     match rebaser.rebase(&local) {
         Ok(list) => {
