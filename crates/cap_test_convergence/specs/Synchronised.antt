@@ -54,8 +54,8 @@ module _ {A : Type 0} where
       ∷ event_by 0 (Restart session) (reply.Capture exchange.echo) ∷ []
 
   -- After their histories both sides exchange the changes of their sessions. The client applies those of the
-  -- hub under the policy, and the hub those of the client, rebased over the ones that met a conflict; there is
-  -- none at the hub. Then both have the same rows, and the sessions begin from them.
+  -- hub under the policy, and the hub those of the client, rebased over the ones that met a conflict. At the
+  -- hub there is no conflict. Then both have the same rows, and the sessions begin from them.
   pub record IsSynchronised (client_history : List (Event A)) (client_session : ℕ)
       (hub_history : List (Event A)) (hub_session : ℕ) (policy : Policy) (client hub : State A)
       (made : Synchronised A) : Type 0 where

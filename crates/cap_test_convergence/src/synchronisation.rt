@@ -273,15 +273,18 @@ fn rebased_over<A: AllocHandle>(
     remote: &[u8],
     report: &Report<A>,
 ) -> Result<Vec<u8, A>, NotSynchronised>
-    ensures { IfOk result (λ bytes. IsRebased remote.now report.now.conflicts capture.now.changes bytes.items) }
+    ensures { IfOk result (λ bytes.
+        IsRebased remote.now report.now.conflicts capture.now.changes bytes.items) }
 {
     let remote = read_changes(alloc, remote)?;
     let buffer = buffer_of(alloc, &remote, report.conflicts())?;
     let local = capture.changes(alloc)?;
     changes_are_writable(&local);
     let mut rebaser = Rebaser::new(alloc);
-    if rebaser.configure(buffer).is_err() {
-        return Err(NotSynchronised::OtherBase);
+    match rebaser.configure(buffer) {
+        Ok(()) => {}
+        Err(Fault::Refused(_)) => return Err(NotSynchronised::OtherBase),
+        Err(Fault::OutOfMemory) => return Err(NotSynchronised::OutOfMemory),
     }
     match rebaser.rebase(&local) {
         Ok(list) => {
