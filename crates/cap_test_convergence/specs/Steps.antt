@@ -1,5 +1,6 @@
 -- The steps of a synchronisation, each on one side.
-use Rattle.std.specs.Prelude.{◌≡◌, ℕ, List, [], Ok}
+use Rattle.std.specs.Prelude.{◌≡◌, ℕ, List, [], ◌∷◌, Ok}
+use Rattle.cap_value.specs.declared.refusal.Refusal.{Refusal}
 use Rattle.cap_changes.specs.Group.{TableChanges}
 use Rattle.cap_codec.specs.BlobReading.{blob_at}
 use Rattle.cap_codec.specs.Changeset.{list_bytes}
@@ -18,7 +19,23 @@ use Rattle.cap_core.specs.Answer.{State, answer}
 use Rattle.cap_core.specs.Capture.{CaptureState}
 use Rattle.cap_core.specs.Table.{BlobFits}
 use Rattle.cap_core.specs.Transition.{next}
+use Rattle.cap_test_convergence.specs.declared.synchronisation.NotSynchronised.{NotSynchronised}
+use Rattle.cap_test_convergence.specs.declared.synchronisation.NotSynchronised.TheVariants as why
 use Rattle.cap_test_convergence.specs.declared.synchronisation.Synchronised.{Synchronised}
+
+-- Why a step is not made: what holds where the history is full, where changes are refused, and where the bases
+-- differ. Want of memory shows nothing, and a step does not err for a session.
+abbrev pub Hinders : Type 0 → (Refusal → Type 0) → Type 0 → NotSynchronised → Type 0
+Hinders full refused other why.NoClientSession = ⊥
+Hinders full refused other why.NoHubSession = ⊥
+Hinders full refused other (why.NotApplied reason) = refused reason
+Hinders full refused other why.OtherBase = other
+Hinders full refused other why.Full = full
+Hinders full refused other why.OutOfMemory = Unit {0}
+
+-- the bytes are no changeset
+abbrev pub IsUnreadable : Type 0 → List ℕ → Type 0
+IsUnreadable A bytes = (changes : List (TableChanges A)) → blob_at bytes ≡ Ok (Changes changes) → ⊥
 
 module _ {A : Type 0} where
   -- A command that the sequential server has carried out: its reply, and the state that it leaves.
@@ -46,6 +63,13 @@ module _ {A : Type 0} where
     pub local_writable : IsWritable (Changes local)
     pub written : bytes ≡ list_bytes rebased
     pub again : blob_at bytes ≡ Ok (with_some (Changes rebased))
+
+  -- The remote bytes are no changeset, or the local changeset is refused over it.
+  pub record IsNotRebased (remote : List ℕ) (conflicts : List Conflict) (local : List (TableChanges A))
+      : Type 0 where
+    pub local_writable : IsWritable (Changes local)
+    pub none : (changes rebased : List (TableChanges A)) → blob_at remote ≡ Ok (Changes changes)
+        → rebase (buffer_of changes conflicts ∷ []) local ≡ Ok rebased → ⊥
 
   -- Both sides capture their sessions. The client applies what it reads of the hub's bytes under the policy,
   -- and the hub what it reads of the rebased bytes. Then both restart their sessions.

@@ -1,5 +1,5 @@
 -- A client and a hub that synchronise (The Session Extension, "Rebasing changesets").
-use Rattle.std.specs.Prelude.{◌≡◌, ℕ, List, [], ◌∷◌, ◌++◌, Option, Ok, reverse}
+use Rattle.std.specs.Prelude.{◌≡◌, ℕ, ◌+◌, ◌<◌, ◌^◌, List, [], ◌∷◌, ◌++◌, Option, Ok, Err, reverse}
 use Rattle.std.specs.Option.{unwrap_or}
 use Rattle.cap_row.specs.Fields.{Fields}
 use Rattle.cap_database.specs.Read.{row_at}
@@ -7,6 +7,7 @@ use Rattle.cap_database.specs.Tables.{schema_of}
 use Rattle.cap_changes.specs.Group.{TableChanges}
 use Rattle.cap_codec.specs.Changeset.{list_bytes}
 use Rattle.cap_codec.specs.declared.read.Contents.TheVariants.{Changes}
+use Rattle.cap_apply.specs.Apply.{apply}
 use Rattle.cap_apply.specs.Report.{ReportState}
 use Rattle.cap_apply.specs.declared.policy.Policy.{Policy}
 use Rattle.cap_rebase.specs.Buffer.{buffer_of}
@@ -14,13 +15,16 @@ use Rattle.cap_rebase.specs.Rebaser.{rebase}
 use Rattle.cap_core.specs.declared.command.Command.TheVariants.{Apply, Capture, Restart}
 use Rattle.cap_core.specs.declared.event.Event.{Event}
 use Rattle.cap_core.specs.declared.reply.Reply.TheVariants as reply
-use Rattle.cap_core.specs.Answer.{State, event_by}
+use Rattle.cap_core.specs.Answer.{State, answer, event_by}
 use Rattle.cap_core.specs.Capture.{CaptureState}
 use Rattle.cap_core.specs.History.{main}
 use Rattle.cap_core.specs.Past.{Past}
 use Rattle.cap_core.specs.Restarts.{first_touched}
 use Rattle.cap_core.specs.Touch.{touches}
 use Rattle.cap_captures.specs.Parts.{IsLeftBy}
+use Rattle.cap_test_convergence.specs.Steps.{IsNoCapture}
+use Rattle.cap_test_convergence.specs.declared.synchronisation.NotSynchronised.{NotSynchronised}
+use Rattle.cap_test_convergence.specs.declared.synchronisation.NotSynchronised.TheVariants as why
 use Rattle.cap_test_convergence.specs.declared.synchronisation.Synchronised.{Synchronised}
 
 -- What one side does: it captures its session, applies changes of the other side, and restarts the session.
@@ -74,3 +78,19 @@ module _ {A : Type 0} where
         → row_at client.main name key ≡ row_at hub.main name key
     pub base : HaveOneBase client_session (reverse (client_history ++ events_of client_session at_client))
         hub_session (reverse (hub_history ++ events_of hub_session at_hub))
+
+  -- Why a client and a hub with one base are not synchronised: one of them has no capture of its session, the
+  -- client refuses the hub's captured changes, or a history has no room for three more events. That the bases
+  -- differ is never the answer.
+  abbrev pub Explains : NotSynchronised → State A → ℕ → State A → ℕ → Policy → Type 0
+  Explains why.NoClientSession client client_session hub hub_session policy =
+      IsNoCapture client (Capture client_session)
+  Explains why.NoHubSession client client_session hub hub_session policy =
+      IsNoCapture hub (Capture hub_session)
+  Explains (why.NotApplied reason) client client_session hub hub_session policy =
+      (capture : CaptureState A) × (answer hub (Capture hub_session) ≡ reply.Capture capture)
+      × (apply client.main (Changes capture.changes) policy ≡ Err reason)
+  Explains why.OtherBase client client_session hub hub_session policy = ⊥
+  Explains why.Full client client_session hub hub_session policy =
+      client.events + 3 < 2 ^ 63 → hub.events + 3 < 2 ^ 63 → ⊥
+  Explains why.OutOfMemory client client_session hub hub_session policy = Unit {0}

@@ -1,16 +1,20 @@
 //! Synchronises a client with a hub.
-ghost use Rattle.std.specs.Prelude.{◌≡◌, ℕ, Ok, IfOk, List, MatchOption, OnErr, reverse};
+ghost use Rattle.std.specs.Prelude.{◌≡◌, ℕ, Err, Ok, IfErr, IfOk, List, MatchOption, OnErr, reverse};
+ghost use Rattle.cap_value.specs.declared.refusal.Refusal.{Refusal as Reason};
 ghost use Rattle.cap_codec.specs.BlobReading.{blob_at};
 ghost use Rattle.cap_codec.specs.Changeset.{list_bytes};
 ghost use Rattle.cap_codec.specs.Writable.{IsWritable};
 ghost use Rattle.cap_codec.specs.declared.read.Contents.TheVariants.{Changes};
+ghost use Rattle.cap_apply.specs.Apply.{apply};
 ghost use Rattle.cap_apply.specs.declared.policy.Policy.{Policy as AppliedPolicy};
 ghost use Rattle.cap_core.specs.declared.command.Command.TheVariants as command;
 ghost use Rattle.cap_core.specs.declared.event.Event.{Event};
 ghost use Rattle.cap_core.specs.declared.reply.Reply.TheVariants as reply;
+ghost use Rattle.cap_core.specs.Past.{HasRoom};
 ghost use Rattle.cap_captures.specs.Parts.{IsLeftBy};
-ghost use Rattle.cap_test_convergence.specs.Steps.{IsCarriedOut, IsExchanged, IsNoCapture, IsRebased};
-ghost use Rattle.cap_test_convergence.specs.Synchronised.{HaveOneBase, IsSynchronised};
+ghost use Rattle.cap_test_convergence.specs.Steps.{Hinders, IsCarriedOut, IsExchanged, IsNoCapture, IsNotRebased};
+ghost use Rattle.cap_test_convergence.specs.Steps.{IsRebased, IsUnreadable};
+ghost use Rattle.cap_test_convergence.specs.Synchronised.{Explains, HaveOneBase, IsSynchronised};
 
 use cap_apply::{Answer, Policy, Report, applied_blobs_keep_columns, applied_blobs_keep_order};
 use cap_changes::ChangeList;
@@ -48,6 +52,10 @@ pub enum NotSynchronised {
 }
 
 impl From<OutOfMemory> for NotSynchronised {
+    ghost use Rattle.cap_test_convergence.specs.declared.synchronisation.NotSynchronised.TheVariants.{OutOfMemory};
+
+    ghost from_gives = { λ _ why. why ≡ OutOfMemory };
+
     fn from(_error: OutOfMemory) -> Self {
         NotSynchronised::OutOfMemory
     }
@@ -99,6 +107,9 @@ pub fn synchronise<A: AllocHandle>(
     ensures synchronised { (c h : List (Event A)) → IsLeftBy c client.old → IsLeftBy h hub.old →
         HaveOneBase client_session (reverse c) hub_session (reverse h) → IfOk result
         (IsSynchronised c client_session h hub_session policy client.new hub.new) }
+    ensures explained { (c h : List (Event A)) → IsLeftBy c client.old → IsLeftBy h hub.old →
+        HaveOneBase client_session (reverse c) hub_session (reverse h) → IfErr result
+        (λ why. Explains why client.old client_session hub.old hub_session policy) }
     ensures kept { OnErr result ((client.new ≡ client.old) × (hub.new ≡ hub.old)) }
 {
     a_rebased_changeset_leads_from_the_hub_to_the_client::<A>();
@@ -122,9 +133,18 @@ fn exchanged<A: AllocHandle>(
     hub_session: u64,
     policy: Policy,
 ) -> Result<BothLeft<A>, NotSynchronised>
-    ensures { IfOk result (λ made. IsExchanged client.now client_session hub.now hub_session policy
-        made.client made.hub made.exchange) }
+    ensures exchanged { IfOk result (λ made. IsExchanged client.now client_session hub.now hub_session
+        policy made.client made.hub made.exchange) }
+    ensures explained { (c h : List (Event A)) → IsLeftBy c client.now → IsLeftBy h hub.now →
+        HaveOneBase client_session (reverse c) hub_session (reverse h) → IfErr result
+        (λ why. Explains why client.now client_session hub.now hub_session policy) }
 {
+    a_rebased_changeset_leads_from_the_hub_to_the_client::<A>();
+    applied_blobs_keep_columns::<A>();
+    applied_blobs_keep_order::<A>();
+    bytes_of_a_capture_give_the_rows_now::<A>();
+    tables_keep_columns::<A>();
+    tables_keep_order::<A>();
     let Some(local) = captured(client, client_session)? else {
         return Err(NotSynchronised::NoClientSession);
     };
@@ -153,7 +173,8 @@ fn carried_out<A: AllocHandle>(
     core: &Core<A>,
     command: Command<A>,
 ) -> Result<Answered<A>, NotSynchronised>
-    ensures { IfOk result (λ made. IsCarriedOut core.now command made.reply made.core) }
+    ensures step { IfOk result (λ made. IsCarriedOut core.now command made.reply made.core) }
+    ensures hindered { IfErr result (Hinders (HasRoom core.now.events → ⊥) (λ _. ⊥) ⊥) }
 {
     if core.events() >= EVENTS_MAX {
         return Err(NotSynchronised::Full);
@@ -168,8 +189,9 @@ fn captured_by<A: AllocHandle>(
     core: &Core<A>,
     command: Command<A>,
 ) -> Result<Option<CaptureTaken<A>>, NotSynchronised>
-    ensures { IfOk result (λ made. MatchOption made (IsNoCapture core.now command)
+    ensures step { IfOk result (λ made. MatchOption made (IsNoCapture core.now command)
         (λ taken. IsCarriedOut core.now command (reply.Capture taken.capture) taken.core)) }
+    ensures hindered { IfErr result (Hinders (HasRoom core.now.events → ⊥) (λ _. ⊥) ⊥) }
 {
     let Answered { core, reply } = carried_out(core, command)?;
     match reply {
@@ -182,9 +204,10 @@ fn captured<A: AllocHandle>(
     core: &Core<A>,
     session: u64,
 ) -> Result<Option<CaptureTaken<A>>, NotSynchronised>
-    ensures { IfOk result (λ made. MatchOption made (IsNoCapture core.now (command.Capture session))
+    ensures step { IfOk result (λ made. MatchOption made (IsNoCapture core.now (command.Capture session))
         (λ taken. IsCarriedOut core.now (command.Capture session) (reply.Capture taken.capture)
         taken.core)) }
+    ensures hindered { IfErr result (Hinders (HasRoom core.now.events → ⊥) (λ _. ⊥) ⊥) }
 {
     captured_by(core, Command::Capture { session })
 }
@@ -193,8 +216,10 @@ fn restarted<A: AllocHandle>(
     core: &Core<A>,
     session: u64,
 ) -> Result<CaptureTaken<A>, NotSynchronised>
-    ensures { IfOk result (λ taken.
+    ensures step { IfOk result (λ taken.
         IsCarriedOut core.now (command.Restart session) (reply.Capture taken.capture) taken.core) }
+    ensures hindered { IfErr result (Hinders (HasRoom core.now.events → ⊥) (λ _. ⊥)
+        (IsNoCapture core.now (command.Restart session))) }
 {
     match captured_by(core, Command::Restart { session })? {
         Some(taken) => Ok(taken),
@@ -206,6 +231,7 @@ fn restarted<A: AllocHandle>(
 fn sent_by<A: AllocHandle>(alloc: A, capture: &Capture<A>) -> Result<Vec<u8, A>, NotSynchronised>
     ensures bytes { IfOk result (λ bytes. bytes.items ≡ list_bytes capture.now.changes) }
     ensures writable { IfOk result (λ bytes. IsWritable (Changes capture.now.changes)) }
+    ensures hindered { IfErr result (Hinders ⊥ (λ _. ⊥) ⊥) }
 {
     capture.is_writable(alloc)?;
     Ok(capture.changeset(alloc)?)
@@ -213,7 +239,8 @@ fn sent_by<A: AllocHandle>(alloc: A, capture: &Capture<A>) -> Result<Vec<u8, A>,
 
 // The changeset with these bytes.
 fn read_changes<A: AllocHandle>(alloc: A, bytes: &[u8]) -> Result<ChangeList<A>, NotSynchronised>
-    ensures { IfOk result (λ list. blob_at bytes.now ≡ Ok (Changes list)) }
+    ensures read { IfOk result (λ list. blob_at bytes.now ≡ Ok (Changes list)) }
+    ensures hindered { IfErr result (Hinders ⊥ (λ _. ⊥) (IsUnreadable A bytes.now)) }
 {
     match read_blob(alloc, bytes) {
         Ok(Contents::Changes(list)) => Ok(list),
@@ -228,8 +255,10 @@ fn applied_at<A: AllocHandle>(
     list: ChangeList<A>,
     policy: Policy,
 ) -> Result<Received<A>, NotSynchronised>
-    ensures { IfOk result (λ made. (version : ℕ) × IsCarriedOut core.now
+    ensures step { IfOk result (λ made. (version : ℕ) × IsCarriedOut core.now
         (command.Apply (Changes list) policy) (reply.Applied version made.report) made.core) }
+    ensures hindered { IfErr result (Hinders (HasRoom core.now.events → ⊥)
+        (λ why. apply core.now.main (Changes list) policy ≡ Err why) ⊥) }
 {
     let command = Command::Apply {
         blob: Contents::Changes(list),
@@ -251,8 +280,11 @@ fn applied_at_hub<A: AllocHandle>(
     core: &Core<A>,
     list: ChangeList<A>,
 ) -> Result<Received<A>, NotSynchronised>
-    ensures { IfOk result (λ made. (policy : AppliedPolicy) × (version : ℕ) × IsCarriedOut core.now
-        (command.Apply (Changes list) policy) (reply.Applied version made.report) made.core) }
+    ensures step { IfOk result (λ made. (policy : AppliedPolicy) × (version : ℕ)
+        × IsCarriedOut core.now (command.Apply (Changes list) policy)
+        (reply.Applied version made.report) made.core) }
+    ensures hindered { IfErr result (Hinders (HasRoom core.now.events → ⊥) (λ _. ⊥)
+        ((policy : AppliedPolicy) × (why : Reason) × (apply core.now.main (Changes list) policy ≡ Err why))) }
 {
     let policy = Policy {
         on_data: Answer::Abort,
@@ -273,13 +305,15 @@ fn rebased_over<A: AllocHandle>(
     remote: &[u8],
     report: &Report<A>,
 ) -> Result<Vec<u8, A>, NotSynchronised>
-    ensures { IfOk result (λ bytes.
+    ensures rebased { IfOk result (λ bytes.
         IsRebased remote.now report.now.conflicts capture.now.changes bytes.items) }
+    ensures hindered { IfErr result (Hinders ⊥ (λ _. ⊥)
+        (IsNotRebased remote.now report.now.conflicts capture.now.changes)) }
 {
-    let remote = read_changes(alloc, remote)?;
-    let buffer = buffer_of(alloc, &remote, report.conflicts())?;
     let local = capture.changes(alloc)?;
     changes_are_writable(&local);
+    let remote = read_changes(alloc, remote)?;
+    let buffer = buffer_of(alloc, &remote, report.conflicts())?;
     let mut rebaser = Rebaser::new(alloc);
     match rebaser.configure(buffer) {
         Ok(()) => {}

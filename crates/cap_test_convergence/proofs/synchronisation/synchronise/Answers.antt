@@ -12,4 +12,4 @@ returns-clause-synchronised g c =
     (main-rises order.empty order.run order.create c.applied_blobs_keep_order.ensures)
     (λ past session capture is writable. c.bytes_of_a_capture_give_the_rows_now.ensures.changeset_read past session capture Ones is writable)
     p q c.args.client.now c.args.hub.now c.in_ok-made.made.client c.in_ok-made.made.hub c.args.client_session c.args.hub_session c.args.policy c.in_ok-made.made.exchange
-    c.in_ok-made.ensures p_left q_left one
+    c.in_ok-made.ensures.exchanged p_left q_left one
