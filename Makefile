@@ -16,7 +16,7 @@ PREFIX = /usr/local
 DESTDIR =
 
 .PHONY: run check build test docs format clean conformance bench lib shared python install uninstall test-bindings \
-        test-recipes
+        test-recipes test-pictures
 
 # The replies to the first example, by the optimised program where `make build` or `make test` left one. Else by the
 # program without proofs, which is built here unless `make check` left it.
@@ -99,3 +99,7 @@ test-recipes:
 # The library's calls from C, Rust and Python.
 test-bindings:
 	@bindings/test $(OUT)
+
+# The drawings of runs, in headless Chromium.
+test-pictures:
+	@pictures/test

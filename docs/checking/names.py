@@ -8,7 +8,7 @@ from sources import OPTION
 IDENTIFIER = re.compile(r"[A-Za-z_][\w-]*$")
 PATH_WORDS = re.compile(r"[\w.+@*-]+(?:/[\w.+@*-]+)*/?$")
 FILE = re.compile(r"\.(?:rt|antt|md|py|h|c|rs|txt|toml|so|a|pc|in|out|err|status|edit|cases|workloads?|long|lines|hex"
-                  r"|blobs|words|calls|threads|any-order)$")
+                  r"|blobs|words|calls|threads|any-order|svg|html|css|js|jsonl|bash)$")
 # What a page in a crate's folder means of that crate.
 OF_A_CRATE = re.compile(r"(?:src|specs|proofs|must-fail)(?:/|$)")
 # A word that stands for any other in a path, as NAME in crates/NAME/src.
