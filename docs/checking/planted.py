@@ -5,9 +5,11 @@ faults that are new has to say what is wrong.
 """
 import re
 
+import manual_pages
 from limits import spelled
 from names import is_path
 from pages import SPAN, Page
+from sources import text_of
 
 CLAUSE = re.compile(r"(`(\w+::\w+)`, clause `)\w+(?=`)")
 OF_CRATE = re.compile(r"(`(\w+)` of `)cap_\w+(?=`)")
@@ -147,6 +149,19 @@ PLANTS = [
 ]
 # Those that are found where the examples of the page are run.
 OF_EXAMPLES = "prints"
+# What is planted in a manual page, in the help or in the header, as a text in the place of another one, and what a
+# fault has to say of it.
+OF_MANUAL_PAGES = [
+    ("a command that the manual page lacks", manual_pages.PAGE, ".TP\n.B scan T\n", ".PP\n", "scan T"),
+    ("a command that the program lacks", manual_pages.PAGE, ".B isempty S\n", ".B isfull S\n", "isfull S"),
+    ("a refusal of another name", manual_pages.PAGE, "E8 NoTable", "E8 NoSuchTable", "E8 NoTable"),
+    ("a call that the page for C lacks", manual_pages.HEADER, "changecap_seen(", "changecap_seen_anew(",
+     "changecap_seen_anew"),
+    ("a number that the page for C lacks", manual_pages.HEADER, "#define CHANGECAP_FULL ", "#define CHANGECAP_ANEW ",
+     "CHANGECAP_ANEW"),
+    ("a comment that the page for C lacks", manual_pages.HEADER, " * Unless the status is OK, out is as it was.",
+     " * What the buffer has is left to chance.", "left to chance"),
+]
 
 
 def found_by(check, path, text, wanted, before):
@@ -159,8 +174,21 @@ def found_by(check, path, text, wanted, before):
     return next((f"{path}:{number}: {why}" for number, why in new), None)
 
 
+def found_in_manual_pages(check, path, old, new, wanted):
+    """The fault by which an error is found that is planted in the text of one path, if it is."""
+    def planted(root, other):
+        text = text_of(root, other)
+        return text.replace(old, new, 1) if other == path else text
+
+    return next((it for it in manual_pages.faults(check.sources, check.program, planted) if wanted in it), None)
+
+
 def main(check):
     passed, failed, before = 0, 0, {}
+    for label, *plant in OF_MANUAL_PAGES:
+        fault = found_in_manual_pages(check, *plant)
+        passed, failed = passed + bool(fault), failed + (not fault)
+        print(f"{label}: {fault or 'NOT FOUND'}"[:200])
     for label, plant, wanted in PLANTS:
         if wanted == OF_EXAMPLES and not check.program:
             print(f"{label}: no program was given")
