@@ -40,7 +40,8 @@ class SqliteError(Exception):
 
 @dataclass
 class Change:
-    """One change as SQLite's iterator gives it. A field that is undefined has no entry in `old` or `new`."""
+    """One change as SQLite's iterator gives it. A field that is undefined has no entry in `old` or `new`. `row` has the
+    fields of the row with which it is in conflict, where there is one."""
 
     table: str
     width: int
@@ -49,6 +50,7 @@ class Change:
     indirect: int
     old: dict
     new: dict
+    row: dict = None
 
 
 class Library:
@@ -200,6 +202,8 @@ class Connection:
             """SQLite calls this, so that no exception may leave it."""
             try:
                 change = change_at(self.calls, c_void_p(iterator))
+                if CONFLICTS[kind] in ("data", "conflict"):
+                    change.row = fields_of(self.calls.sqlite3changeset_conflict, c_void_p(iterator), change.width)
                 conflicts.append((change, CONFLICTS[kind], answer(CONFLICTS[kind], change)))
                 return ANSWERS[conflicts[-1][2]]
             except Exception as error:  # noqa: BLE001

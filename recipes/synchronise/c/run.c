@@ -1,65 +1,89 @@
-/* Three clients change the same rows and synchronise. Prints the rows of each, and of the hub. */
+/* Three clients change the same rows and synchronise, in each order. Prints the rows that all of them have then. */
 #include "synchronise.h"
 
 #include <stdio.h>
+
+/* Who writes which row, and when; and who deletes which, without a stamp. */
+static const int changes[][3] = {
+  { 0, 1, 20 }, { 1, 1, 31 }, { 2, 1, 22 }, { 0, 2, 40 }, { 1, 2, 21 }, { 2, 2, 32 }, { 1, 3, 51 }, { 1, 4, 61 },
+  { 0, 5, 30 }, { 1, 5, 41 }, { 2, 5, 22 }, { 2, 6, 52 }, { 0, 3, 0 }, { 2, 4, 0 },
+};
 
 static void execute(client *of, const char *sql){
   if( sqlite3_exec(of->database, sql, NULL, NULL, NULL) != SQLITE_OK ) fputs(sqlite3_errmsg(of->database), stderr);
 }
 
-static void print_client(client *of){
-  sqlite3_stmt *rows;
-  printf("client %d:", of->number);
-  sqlite3_prepare_v2(of->database, "SELECT * FROM t ORDER BY id", -1, &rows, NULL);
-  for(const char *between = ""; sqlite3_step(rows) == SQLITE_ROW; between = ",")
-    printf("%s %s %s %s", between, (const char *)sqlite3_column_text(rows, 0),
-           (const char *)sqlite3_column_text(rows, 1), (const char *)sqlite3_column_text(rows, 2));
-  sqlite3_finalize(rows);
-  putchar('\n');
+static void write_row(client *of, int row, int stamp){
+  char text[16] = "first", sql[160];
+  if( stamp > 10 ) snprintf(text, sizeof text, "of %d", of->number);
+  snprintf(sql, sizeof sql, "INSERT INTO t VALUES(%d, '%s', %d) ON CONFLICT(id) DO UPDATE "
+           "SET text = excluded.text, stamp = excluded.stamp", row, text, stamp);
+  if( stamp == 0 ) snprintf(sql, sizeof sql, "DELETE FROM t WHERE id = %d", row);
+  execute(of, sql);
 }
 
-static void print_hub(hub *of){
+/* Puts a row behind others, as text. */
+static void add_row(char *text, size_t room, long long id, int n, const char *of, long long stamp){
+  size_t len = strlen(text);
+  snprintf(text + len, room - len, "%s%lld %.*s at %lld", len ? ", " : "", id, n, of, stamp);
+}
+
+static void rows_of_client(client *of, char *text, size_t room){
+  sqlite3_stmt *rows;
+  sqlite3_prepare_v2(of->database, "SELECT * FROM t ORDER BY id", -1, &rows, NULL);
+  for(*text = 0; sqlite3_step(rows) == SQLITE_ROW; )
+    add_row(text, room, sqlite3_column_int64(rows, 0), 16, (const char *)sqlite3_column_text(rows, 1),
+            sqlite3_column_int64(rows, 2));
+  sqlite3_finalize(rows);
+}
+
+static void rows_of_hub(hub *of, char *text, size_t room){
   changecap_snapshot snapshot = CHANGECAP_CLOSED;
   changecap_rows rows = CHANGECAP_CLOSED;
   changecap_fault fault;
-  changecap_value id;
-  char a[16], b[16];
-  size_t n = 0, m = 0;
-  printf("hub:");
+  changecap_value id, stamp;
+  char name[16];
+  size_t n = 0;
+  *text = 0;
   if( changecap_snapshot_open(&of->client, &snapshot) != CHANGECAP_OK ) return;
   changecap_scan(&snapshot, "t", 1, &rows, &fault);
-  for(const char *between = ""; changecap_step(&rows) == CHANGECAP_ROW; between = ","){
+  while( changecap_step(&rows) == CHANGECAP_ROW ){
     changecap_column(&rows, 0, &id);
-    changecap_column_bytes(&rows, 1, a, sizeof a, &n);
-    changecap_column_bytes(&rows, 2, b, sizeof b, &m);
-    printf("%s %lld %.*s %.*s", between, (long long)id.number, (int)n, a, (int)m, b);
+    changecap_column_bytes(&rows, 1, name, sizeof name, &n);
+    changecap_column(&rows, 2, &stamp);
+    add_row(text, room, id.number, (int)n, name, stamp.number);
   }
   changecap_rows_close(&rows);
   changecap_snapshot_close(&snapshot);
+}
+
+static void run(const int order[CLIENTS]){
+  hub hub;
+  client clients[CLIENTS], *second = &clients[order[1]];
+  char text[512], other[512];
+  hub_open(&hub);
+  for(int i = 0; i < CLIENTS; i++) client_open(&clients[i], i);
+  for(int row = 1; row <= 4; row++) write_row(&clients[0], row, 10);
+  for(int i = 0; i < CLIENTS; i++) client_synchronise(&clients[i], &hub);
+  for(size_t i = 0; i < sizeof changes / sizeof *changes; i++)
+    write_row(&clients[changes[i][0]], changes[i][1], changes[i][2]);
+  client_synchronise(&clients[order[0]], &hub);
+  client_pull(second, &hub);
+  client_synchronise(&clients[order[2]], &hub); /* between a pull of the second and its push */
+  client_synchronise(second, &hub);
+  for(int i = 0; i < CLIENTS; i++) client_synchronise(&clients[i], &hub);
+  rows_of_hub(&hub, text, sizeof text);
+  printf("%d %d %d - %s", order[0], order[1], order[2], text);
+  for(int i = 0; i < CLIENTS; i++){
+    rows_of_client(&clients[i], other, sizeof other);
+    if( strcmp(text, other) != 0 ) printf(" | %s", other);
+    client_close(&clients[i]);
+  }
   putchar('\n');
+  hub_close(&hub);
 }
 
 int main(void){
-  hub hub;
-  client clients[CLIENTS];
-  char sql[128];
-  hub_open(&hub);
-  for(int i = 0; i < CLIENTS; i++) client_open(&clients[i], i);
-  execute(&clients[0], "INSERT INTO t VALUES(1, 'a', 'b'), (2, 'a', 'b'), (3, 'a', 'b'), (4, 'a', 'b')");
-  for(int i = 0; i < CLIENTS; i++) client_synchronise(&clients[i], &hub);
-  for(int i = 0; i < CLIENTS; i++){
-    snprintf(sql, sizeof sql, "UPDATE t SET a = 'of %d' WHERE id IN (1, 2); INSERT INTO t VALUES(5, 'of %d', 'b')", i, i);
-    execute(&clients[i], sql);
-  }
-  execute(&clients[0], "DELETE FROM t WHERE id IN (3, 4)");
-  execute(&clients[1], "UPDATE t SET b = 'of 1' WHERE id IN (2, 3, 4)");
-  client_synchronise(&clients[0], &hub);
-  client_pull(&clients[1], &hub);
-  client_synchronise(&clients[2], &hub); /* between a pull of client 1 and its push */
-  client_synchronise(&clients[1], &hub);
-  for(int i = 0; i < CLIENTS; i++) client_synchronise(&clients[i], &hub);
-  for(int i = 0; i < CLIENTS; i++) print_client(&clients[i]);
-  print_hub(&hub);
-  for(int i = 0; i < CLIENTS; i++) client_close(&clients[i]);
-  hub_close(&hub);
+  static const int orders[][CLIENTS] = { { 0, 1, 2 }, { 0, 2, 1 }, { 1, 0, 2 }, { 1, 2, 0 }, { 2, 0, 1 }, { 2, 1, 0 } };
+  for(size_t i = 0; i < sizeof orders / sizeof *orders; i++) run(orders[i]);
 }

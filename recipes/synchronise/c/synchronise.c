@@ -69,7 +69,7 @@ static void begin_session(client *of){
 void client_open(client *of, int number){
   *of = (client){ .number = number };
   RIGHT(sqlite3_open(":memory:", &of->database));
-  RIGHT(sqlite3_exec(of->database, "CREATE TABLE t(id INTEGER PRIMARY KEY, a, b)", NULL, NULL, NULL));
+  RIGHT(sqlite3_exec(of->database, "CREATE TABLE t(id INTEGER PRIMARY KEY, text, stamp)", NULL, NULL, NULL));
   begin_session(of);
 }
 
@@ -96,9 +96,19 @@ static sqlite3_int64 id_of(sqlite3_changeset_iter *change, int op){
   return sqlite3_value_int64(id);
 }
 
-/* The answer to a conflict: the hub's change is made where the id is odd. Of a row that is not there it cannot be.
- * The iterator, over the same changes, goes to this one and notes the answer. SQLite goes over them in their order, and
- * there is one table: else its name is compared, too. */
+/* Whether the hub's change is made, of those that are in conflict: the newest write of a row stays, by the stamp in its
+ * last column, and a deletion in any case. Each write changes all columns. Of a row that is not there it cannot be made. */
+static int is_made(int kind, int op, sqlite3_changeset_iter *change){
+  sqlite3_value *theirs, *ours;
+  if( kind == SQLITE_CHANGESET_NOTFOUND ) return 0;
+  if( op == SQLITE_DELETE ) return 1;
+  RIGHT(sqlite3changeset_new(change, 2, &theirs));
+  RIGHT(sqlite3changeset_conflict(change, 2, &ours));
+  return sqlite3_value_int64(theirs) > sqlite3_value_int64(ours);
+}
+
+/* Answers a conflict. The iterator, over the same changes, goes to this one and notes the answer. SQLite goes over them
+ * in their order, and there is one table: else its name is compared, too. */
 static int on_conflict(void *context, int kind, sqlite3_changeset_iter *change){
   changecap_iter *it = context;
   changecap_value id;
@@ -110,9 +120,9 @@ static int on_conflict(void *context, int kind, sqlite3_changeset_iter *change){
     RIGHT(changecap_iter_next(it) != CHANGECAP_ROW);
     RIGHT((op == SQLITE_INSERT ? changecap_iter_new : changecap_iter_old)(it, 0, &id));
   }while( id.type != CHANGECAP_INTEGER || id.number != wanted );
-  int answer = kind != SQLITE_CHANGESET_NOTFOUND && wanted % 2 ? SQLITE_CHANGESET_REPLACE : SQLITE_CHANGESET_OMIT;
-  RIGHT(changecap_iter_answer(it, answer == SQLITE_CHANGESET_REPLACE ? CHANGECAP_REPLACE : CHANGECAP_OMIT));
-  return answer;
+  int is_theirs = is_made(kind, op, change);
+  RIGHT(changecap_iter_answer(it, is_theirs ? CHANGECAP_REPLACE : CHANGECAP_OMIT));
+  return is_theirs ? SQLITE_CHANGESET_REPLACE : SQLITE_CHANGESET_OMIT;
 }
 
 /* Rebases what is pending over the changes of the iterator that met a conflict. */

@@ -32,7 +32,7 @@ class Client:
 
     def __init__(self, number):
         self.number, self.database, self.pending = number, sqlite.Connection(), b""
-        self.database.execute("CREATE TABLE t(id INTEGER PRIMARY KEY, a, b)")
+        self.database.execute("CREATE TABLE t(id INTEGER PRIMARY KEY, text, stamp)")
         self.begin_session()
 
     def begin_session(self):
@@ -65,5 +65,8 @@ def id_of(change):
 
 
 def answer(kind, change):
-    """The hub's change is made where the id is odd. Of a row that is not there it cannot be."""
-    return "replace" if kind != "notfound" and id_of(change) % 2 else "omit"
+    """The newest write of a row stays, by the stamp in its last column, and a deletion in any case. Each write changes
+    all columns. Of a row that is not there the hub's change cannot be made."""
+    if kind == "notfound":
+        return "omit"
+    return "replace" if change.operation == "delete" or change.new[2] > change.row[2] else "omit"

@@ -4,6 +4,7 @@ use std::ffi::{c_char, c_int, c_void, CStr, CString};
 use std::ptr::{null, null_mut};
 
 type OnConflict = unsafe extern "C" fn(*mut c_void, c_int, *mut c_void) -> c_int;
+type OnValue = unsafe extern "C" fn(*mut c_void, c_int, *mut *mut c_void) -> c_int;
 type OnRow = unsafe extern "C" fn(*mut c_void, c_int, *mut *mut c_char, *mut *mut c_char) -> c_int;
 
 #[link(name = "sqlite3")]
@@ -40,17 +41,20 @@ unsafe extern "C" {
     ) -> c_int;
     fn sqlite3changeset_old(change: *mut c_void, column: c_int, value: *mut *mut c_void) -> c_int;
     fn sqlite3changeset_new(change: *mut c_void, column: c_int, value: *mut *mut c_void) -> c_int;
+    fn sqlite3changeset_conflict(change: *mut c_void, column: c_int, value: *mut *mut c_void) -> c_int;
 }
 
+const DELETE: c_int = 9;
 const INSERT: c_int = 18;
 const NOT_FOUND: c_int = 2;
 
-/// A conflict: the change's table and the integer in its first column, which is the key, and whether no row
-/// has it.
+/// A conflict: the change's table, the integer in its first column, which is the key, and the integers in the
+/// third column after the change, unless it is a deletion, and of the row, where there is one.
 pub struct Conflict {
     pub table: String,
     pub id: i64,
-    pub is_not_found: bool,
+    pub theirs: Option<i64>,
+    pub ours: Option<i64>,
 }
 
 /// A database in memory, and a session on all of its tables.
@@ -146,14 +150,20 @@ unsafe extern "C" fn note_row(
 
 /// SQLite calls this with a change that has met a conflict, and an answer as its context.
 unsafe extern "C" fn on_conflict(answer: *mut c_void, kind: c_int, change: *mut c_void) -> c_int {
-    let (mut table, mut value, mut columns, mut op, mut indirect) = (null(), null_mut(), 0, 0, 0);
+    let (mut table, mut columns, mut op, mut indirect) = (null(), 0, 0, 0);
     // SAFETY: the change is there as long as this runs, and places of this function.
     unsafe {
         assert_eq!(sqlite3changeset_op(change, &mut table, &mut columns, &mut op, &mut indirect), 0);
-        let side = if op == INSERT { sqlite3changeset_new } else { sqlite3changeset_old };
-        assert_eq!(side(change, 0, &mut value), 0);
+        let integer = |call: OnValue, column| {
+            let mut value = null_mut();
+            assert_eq!(call(change, column, &mut value), 0);
+            sqlite3_value_int64(value)
+        };
+        let id = integer(if op == INSERT { sqlite3changeset_new } else { sqlite3changeset_old }, 0);
+        let theirs = (op != DELETE).then(|| integer(sqlite3changeset_new, 2));
+        let ours = (kind != NOT_FOUND).then(|| integer(sqlite3changeset_conflict, 2));
         let table = CStr::from_ptr(table).to_str().unwrap().to_owned();
-        let conflict = Conflict { table, id: sqlite3_value_int64(value), is_not_found: kind == NOT_FOUND };
+        let conflict = Conflict { table, id, theirs, ours };
         match (*answer.cast::<Answer>())(conflict) {
             ConflictAction::Omit => 0,
             ConflictAction::Replace => 1,

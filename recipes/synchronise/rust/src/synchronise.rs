@@ -1,5 +1,5 @@
 //! Databases of SQLite that synchronise through a hub of changecap. ../../README.md says how.
-use crate::sqlite::Database;
+use crate::sqlite::{Conflict, Database};
 use changecap::ConflictAction::{self, Abort, Omit, Replace};
 use changecap::{Changeset, KeyFlags, Rebaser, Result, Server, Session};
 use std::collections::HashMap;
@@ -48,7 +48,7 @@ pub struct Client {
 impl Client {
     pub fn open(number: usize) -> Result<Client> {
         let mut database = Database::open();
-        database.execute("CREATE TABLE t(id INTEGER PRIMARY KEY, a, b)");
+        database.execute("CREATE TABLE t(id INTEGER PRIMARY KEY, text, stamp)");
         database.begin_session();
         Ok(Client { number, database, pending: Changeset::from_bytes(&[])? })
     }
@@ -59,7 +59,7 @@ impl Client {
         self.database.execute("BEGIN IMMEDIATE"); // nobody writes between the capture and the application
         let captured = Changeset::from_bytes(&self.database.end_session())?;
         self.database.apply(remote.as_bytes(), |conflict| {
-            let answer = answer(conflict.id, conflict.is_not_found);
+            let answer = answer(&conflict);
             noted.insert((conflict.table, conflict.id), answer);
             answer
         });
@@ -89,11 +89,18 @@ impl Client {
     }
 }
 
-/// The hub's change is made where the id is odd. Of a row that is not there it cannot be.
-fn answer(id: i64, is_not_found: bool) -> ConflictAction {
-    if !is_not_found && id % 2 != 0 {
-        Replace
-    } else {
-        Omit
+/// The newest write of a row stays, by the stamp in its last column, and a deletion in any case. Each write
+/// changes all columns. Of a row that is not there the hub's change cannot be made.
+fn answer(conflict: &Conflict) -> ConflictAction {
+    match (conflict.theirs, conflict.ours) {
+        (_, None) => Omit,
+        (None, Some(_)) => Replace,
+        (Some(theirs), Some(ours)) => {
+            if theirs > ours {
+                Replace
+            } else {
+                Omit
+            }
+        }
     }
 }
