@@ -1,7 +1,7 @@
 """The history of a run as a drawing in SVG, and how a capture follows from first images and rows."""
 from html import escape
 
-LEFT, STEP, LANE, TOP, SESSION = 104, 74, 36, 62, 54
+LEFT, STEP, LANE, TOP, SESSION = 104, 80, 36, 62, 54
 LETTERS = {"insert": "I", "update": "U", "delete": "D", "diff": "?"}
 STYLE = """
 .drawing { font: 12px system-ui, sans-serif; --ink: #1c2430; --soft: #5d6b7c; --line: #c9d1db; --ground: #ffffff;
@@ -96,7 +96,7 @@ def call_marks(point, points, y):
     if point.kind == "write":
         parts.append(text(x - 8, TOP - 8, f"v{point.version}", "soft", "end"))
     word = "commit" if call.command.word == "commitat" else call.command.word
-    parts += [rectangle(x - 33, y - 11, 66, 22, f"call {point.kind}", 'rx="5"'), text(x, y + 4, word)]
+    parts += [rectangle(x - 36, y - 11, 72, 22, f"call {point.kind}", 'rx="5"'), text(x, y + 4, word)]
     return [f'<g class="point" data-at="{point.number}">{about}{"".join(parts)}</g>']
 
 
@@ -104,7 +104,7 @@ def begin_of(point, points):
     """Where a transaction may have begun at the earliest: at its base, and behind the call of its worker before it."""
     base = next(it.number for it in points if it.version >= point.call.base)
     own = [it.number for it in points[1:point.number] if it.call.worker == point.call.worker]
-    return max([x_of(base), *(x_of(number) + 33 for number in own)])
+    return max([x_of(base), *(x_of(number) + 36 for number in own)])
 
 
 def session_lane(points, number, y):
