@@ -16,7 +16,7 @@ PREFIX = /usr/local
 DESTDIR =
 
 .PHONY: run check build test docs format clean conformance bench lib shared python install uninstall test-bindings \
-        test-recipes test-pictures
+        test-recipes test-pictures package test-package
 
 # The replies to the first example, by the optimised program where `make build` or `make test` left one. Else by the
 # program without proofs, which is built here unless `make check` left it.
@@ -85,12 +85,20 @@ shared:
 python:
 	@bindings/package $(OUT)
 
-# The program and the library where others find them.
+# The program, the library, the manual pages, completions, the crate and the package for Python where others find them.
 install:
-	@bindings/install $(PROGRAM) $(OUT) "$(DESTDIR)" "$(PREFIX)"
+	@bindings/install $(PROGRAM) $(OUT) "$(DESTDIR)" "$(PREFIX)" $(LIBDIR) $(PYTHONDIR)
 
 uninstall:
-	@bindings/install --remove "$(DESTDIR)" "$(PREFIX)"
+	@bindings/install --remove "$(DESTDIR)" "$(PREFIX)" $(LIBDIR) $(PYTHONDIR)
+
+# The same as a package of Debian.
+package:
+	@bindings/debian $(PROGRAM) $(OUT)
+
+# That package, on a system of its own.
+test-package:
+	@bindings/test_package $(OUT) $(SYSTEM)
 
 # The recipes from C, Rust and Python, with databases of SQLite. `make test-bindings` runs them too.
 test-recipes:

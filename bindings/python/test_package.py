@@ -57,6 +57,12 @@ class Package(unittest.TestCase):
             self.assertEqual(found.failed, 0, name)
             self.assertGreater(found.attempted, 10, name)
 
+    def test_each_has_an_example(self):
+        for name in changecap.__all__:
+            it = getattr(changecap, name)
+            if getattr(it, "__module__", "").startswith("changecap"):
+                self.assertIn(">>>", it.__doc__, name)
+
     def test_names(self):
         self.assertEqual(len(set(changecap.__all__)), len(changecap.__all__))
         for name in changecap.__all__:

@@ -33,6 +33,12 @@ impl KeyFlags {
 }
 
 /// Whether the bytes are a changeset or a patchset: [`Error::Malformed`] where they are none.
+///
+/// ```
+/// use changecap::{check, Error, Fault};
+/// assert!(check(&[]).is_ok());
+/// assert!(matches!(check(b"T\x80"), Err(Error::Malformed(Fault { kind: 3, at: 1 }))));
+/// ```
 pub fn check(blob: &[u8]) -> Result<()> {
     // SAFETY: a slice, and a fault that is there.
     done(|fault| unsafe { ffi::changecap_check(blob.as_ptr(), blob.len(), fault) })
@@ -187,6 +193,14 @@ impl AsRef<[u8]> for Patchset {
 }
 
 /// Inverts a changeset, with key flags as SQLite's code writes them.
+///
+/// ```
+/// let mut insert = &[0x54, 2, 1, 0, b't', 0, 0x12, 0, 1, 0, 0, 0, 0, 0, 0, 0, 1, 3, 1, b'x'][..];
+/// let mut inverse = Vec::new();
+/// changecap::invert_strm(&mut insert, &mut inverse)?;
+/// assert_eq!(inverse[6], 0x09);
+/// # Ok::<(), changecap::Error>(())
+/// ```
 pub fn invert_strm(input: &mut dyn Read, output: &mut dyn Write) -> Result<()> {
     let mut bytes = Vec::new();
     input.read_to_end(&mut bytes)?;

@@ -77,7 +77,13 @@ class Change(NamedTuple):
 
 
 def check(blob: Blob) -> None:
-    """Raises Malformed unless the bytes are a changeset or a patchset."""
+    """Raises Malformed unless the bytes are a changeset or a patchset.
+
+    >>> check(EXAMPLE)
+    >>> check(EXAMPLE[:5])
+    Traceback (most recent call last):
+    changecap.Malformed: fault D1 at 5
+    """
     _changecap.check(blob)
 
 
