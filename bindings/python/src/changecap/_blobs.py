@@ -79,10 +79,13 @@ class Change(NamedTuple):
 def check(blob: Blob) -> None:
     """Raises Malformed unless the bytes are a changeset or a patchset.
 
+    >>> import changecap
     >>> check(EXAMPLE)
-    >>> check(EXAMPLE[:5])
-    Traceback (most recent call last):
-    changecap.Malformed: fault D1 at 5
+    >>> try:
+    ...     check(EXAMPLE[:5])
+    ... except changecap.Malformed as fault:
+    ...     fault.kind, fault.at
+    (1, 5)
     """
     _changecap.check(blob)
 
