@@ -1,11 +1,11 @@
 -- A captured changeset, and its patchset, fit the tables that they are applied to.
 use Rattle.std.proofs.Common.{◌≡◌, ℕ, Bool, true, false, cond, not, ◌&&◌, Option, Some, None, List, [], ◌∷◌, length, map, refl, ap, subst, nat_le}
-use Rattle.std.specs.Prelude.{All, is_some}
+use Rattle.std.specs.Prelude.{is_some}
 use Rattle.std.specs.List.{AllByRecursion, list_any}
 use Rattle.std.proofs.lemmas.List.Elements.{All-from_recursion, recursion_from_All}
 use Rattle.cap_value.specs.Value.{is_null}
 use Rattle.cap_row.specs.Fields.{Fields}
-use Rattle.cap_row.specs.Key.{fields_eq, key_fields, key_of}
+use Rattle.cap_row.specs.Key.{fields_eq, key_fields}
 use Rattle.cap_row.specs.Schema.{has_key}
 use Rattle.cap_table.specs.Table.{TableState}
 use Rattle.cap_database.specs.Tables.{Tables}
@@ -15,7 +15,7 @@ use Rattle.cap_changes.specs.Entries.{IsFitting}
 use Rattle.cap_changes.specs.Fits.{change_fits, patch_fits}
 use Rattle.cap_changes.specs.Group.{TableChanges}
 use Rattle.cap_changes.specs.PatchGroup.{TablePatches}
-use Rattle.cap_changes.specs.Patch.{patch_list_of, patch_of, patches_of}
+use Rattle.cap_changes.specs.Patch.{patch_list_of, patch_of}
 use Rattle.cap_changes.specs.declared.row_change.RowChange.{RowChange}
 use Rattle.cap_changes.specs.declared.row_change.RowChange.TheVariants.{Delete, Insert, Update}
 use Rattle.cap_changes.proofs.ChangeLemmas.{full_fits, update_fits}

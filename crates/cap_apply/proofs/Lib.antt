@@ -7,6 +7,7 @@ pub mod DifferenceLemmas
 pub mod EntryLemmas
 pub mod FittingLemmas
 pub mod GroupLemmas
+pub mod KeyLemmas
 pub mod MadeLemmas
 pub mod OnceLemmas
 pub mod OperationLemmas

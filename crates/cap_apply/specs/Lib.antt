@@ -5,6 +5,8 @@ pub mod Captured
 pub mod Counted
 pub mod Difference
 pub mod Fitting
+pub mod KeyRecord
+pub mod Merged
 pub mod Operated
 pub mod Operations
 pub mod Policy

@@ -14,6 +14,10 @@ answer_to policy Data = policy.on_data
 answer_to policy NotFound = policy.on_notfound
 answer_to policy Conflict = policy.on_conflict
 
+-- the same answer to each kind
+abbrev pub always : Answer → Policy
+always answer = record { on_data = answer; on_notfound = answer; on_conflict = answer }
+
 -- whether a change with a conflict is applied all the same, or the refusal of the blob: there is nothing to
 -- replace where there is no row
 abbrev pub made_anyway : ℕ → ConflictKind → Answer → Result Bool Refusal

@@ -8,6 +8,7 @@ ghost use Rattle.cap_database.specs.Keyed.{GoesBack, IsOwnRow};
 ghost use Rattle.cap_database.specs.Read.{row_at};
 ghost use Rattle.cap_database.specs.Tables.{table_of};
 ghost use Rattle.cap_apply.specs.Apply.{counted, left_out, noted, nothing_applied, skipped};
+ghost use Rattle.cap_apply.specs.Merged.{merged, row_put};
 ghost use Rattle.cap_apply.specs.Policy.{is_made};
 ghost use Rattle.cap_apply.specs.Row.{missed, set_fields};
 ghost use Rattle.cap_apply.specs.Steps.{placed, placed_if_made, with_changes};
@@ -18,7 +19,7 @@ ghost use Rattle.cap_changes.specs.Patch.{update_record};
 use crate::decision::Decision;
 use crate::replace::{NotUpdated, RowUpdate};
 use crate::target::has_target;
-use crate::{ConflictKind, Report};
+use crate::{Answer, Conflict, ConflictKind, Report};
 use cap_database::{Cause, Change, Database};
 use cap_row::{Key, Row, Schema};
 use cap_value::{AllocHandle, Fault, Name, OutOfMemory, Refusal};
@@ -53,8 +54,8 @@ impl<A: AllocHandle> Drop for Applied<A> {
 }
 
 impl<A: AllocHandle> Applied<A> {
-    // Nothing is applied yet.
-    pub(crate) fn new(alloc: A, database: Database<A>) -> Self
+    /// Of this database nothing is applied yet. Takes no memory.
+    pub fn new(alloc: A, database: Database<A>) -> Self
         ensures { result ≡ nothing_applied database }
     {
         Applied {
@@ -106,15 +107,15 @@ impl<A: AllocHandle> Applied<A> {
         self.alloc
     }
 
-    // Whether the database has a table for a group with this name and these columns.
-    pub(crate) fn has_target(&self, name: &Name<A>, columns: &Schema<A>) -> bool
+    /// Whether the database has a table for a group with this name and these columns.
+    pub fn has_target(&self, name: &Name<A>, columns: &Schema<A>) -> bool
         ensures { result ≡ is_some (target self.now.database name.now columns.now) }
     {
         has_target(&self.database, name, columns)
     }
 
-    // Reports a skipped group.
-    pub(crate) fn skip(&mut self, group: u64) -> Result<(), OutOfMemory>
+    /// Reports a skipped group.
+    pub fn skip(&mut self, group: u64) -> Result<(), OutOfMemory>
         ensures { OnOk result (self.new ≡ skipped group self.old) }
     {
         self.report.skip(group)
@@ -149,6 +150,41 @@ impl<A: AllocHandle> Applied<A> {
             self.report.omit(decision.number)?;
         }
         Ok(made)
+    }
+
+    /// Puts a row under its key in place of a change with this number, which met a conflict. The change is
+    /// omitted.
+    pub fn merge(
+        &mut self,
+        number: u64,
+        kind: ConflictKind,
+        table: &Name<A>,
+        key: Key<A>,
+        row: Row<A>,
+    ) -> Result<(), OutOfMemory>
+        requires there { IsTrue (is_some (table_of self.old.database table.now)) }
+        requires own { IsOwnRow self.old.database table.now key row }
+        ensures { OnOk result (self.new ≡ merged number kind table.now key row self.old) }
+    {
+        self.put_and_add(table, key, row)?;
+        self.report.note(Conflict {
+            change: number,
+            kind,
+            answer: Answer::Omit,
+        })?;
+        self.report.omit(number)
+    }
+
+    // Puts a row under its key, and adds the changes of it and of the replaced row.
+    fn put_and_add(&mut self, table: &Name<A>, key: Key<A>, row: Row<A>) -> Result<(), OutOfMemory>
+        requires there { IsTrue (is_some (table_of self.old.database table.now)) }
+        requires own { IsOwnRow self.old.database table.now key row }
+        ensures { OnOk result (self.new ≡ row_put table.now key row self.old) }
+    {
+        match self.put(table, key.copy()?, row)? {
+            Some(_) => self.add_replacement(table, key),
+            None => self.add_change(table, key),
+        }
     }
 
     // Puts a row under its key and answers the replaced row, which may be put back.

@@ -7,7 +7,7 @@ ghost use Rattle.cap_apply.specs.Requested.{requested_in};
 ghost use Rattle.cap_apply.specs.Target.{target};
 
 use crate::decision::Decision;
-use crate::entry::Apply;
+use crate::entry::BlobChange;
 use crate::{Applied, Policy};
 use cap_changes::TableGroup;
 use cap_codec::Contents;
@@ -40,7 +40,7 @@ pub fn apply<A: AllocHandle>(
     Ok(applied)
 }
 
-fn apply_groups<C: Apply<A>, A: AllocHandle>(
+fn apply_groups<C: BlobChange<A>, A: AllocHandle>(
     applied: &mut Applied<A>,
     policy: Policy,
     groups: &[TableGroup<C, A>],
@@ -64,7 +64,7 @@ fn apply_groups<C: Apply<A>, A: AllocHandle>(
     Ok(())
 }
 
-fn apply_group<C: Apply<A>, A: AllocHandle>(
+fn apply_group<C: BlobChange<A>, A: AllocHandle>(
     applied: &mut Applied<A>,
     policy: Policy,
     number: u64,

@@ -5,11 +5,13 @@ ghost use Rattle.cap_apply.specs.Policy.{answer_to, is_made};
 use crate::{Answer, Conflict, ConflictKind, Policy};
 use cap_value::Refusal;
 
-// A change's number, counted from 0 over the whole blob, and the policy.
+/// By what a change is decided.
 #[derive(Clone, Copy, Drop)]
-pub(crate) struct Decision {
-    pub(crate) number: u64,
-    pub(crate) policy: Policy,
+pub struct Decision {
+    /// Its number, counted from 0 over the whole blob.
+    pub number: u64,
+    /// The answer to its conflict, if it meets one.
+    pub policy: Policy,
 }
 
 impl Decision {

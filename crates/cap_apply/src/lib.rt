@@ -19,6 +19,8 @@ mod target;
 pub use applied::Applied;
 pub use apply_blob::apply;
 pub use conflict::{Conflict, ConflictKind};
+pub use decision::Decision;
+pub use entry::BlobChange;
 pub use fitting::blob_fits_its_columns;
 pub use laws::{
     a_changeset_gives_the_rows_now, a_patchset_gives_the_rows_now, applied_blobs_keep_columns,

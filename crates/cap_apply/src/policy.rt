@@ -27,7 +27,18 @@ pub struct Policy {
 }
 
 impl Policy {
-    ghost use Rattle.cap_apply.specs.Policy.{answer_to};
+    ghost use Rattle.cap_apply.specs.Policy.{always, answer_to};
+
+    /// The same answer to each kind.
+    pub fn always(answer: Answer) -> Self
+        ensures { result ≡ always answer }
+    {
+        Policy {
+            on_data: answer,
+            on_notfound: answer,
+            on_conflict: answer,
+        }
+    }
 
     /// The answer to a kind of conflict.
     pub fn answer(self, kind: ConflictKind) -> Answer

@@ -1,7 +1,7 @@
-//! The conflict of an update or a delete with the row under its key.
+//! The conflict of a change with the row under its key.
 ghost use Rattle.std.specs.Prelude.{◌≡◌};
 ghost use Rattle.std.specs.Option.{option_copied};
-ghost use Rattle.cap_apply.specs.Row.{missed};
+ghost use Rattle.cap_apply.specs.Row.{missed, taken};
 
 use crate::ConflictKind;
 use crate::fields::has_old_values;
@@ -25,5 +25,15 @@ pub(crate) fn missed<A: AllocHandle>(
                 Some(ConflictKind::Data)
             }
         }
+    }
+}
+
+// The conflict of an insert, if any.
+pub(crate) fn taken<A: AllocHandle>(row: Option<&Row<A>>) -> Option<ConflictKind>
+    ensures { result ≡ taken (option_copied row.entry) }
+{
+    match row {
+        None => None,
+        Some(_) => Some(ConflictKind::Conflict),
     }
 }

@@ -1,19 +1,17 @@
 -- The changes of a commit that are all of one key, as one touch of the key.
-use Rattle.std.proofs.Common.{◌≡◌, ℕ, Bool, true, false, cond, Option, Some, None, List, [], ◌∷◌, ◌++◌, ◌&&◌, ◌||◌, map, refl, sym, ap, ap₂, ◌∙◌}
+use Rattle.std.proofs.Common.{◌≡◌, ℕ, Bool, true, false, cond, Option, Some, None, List, [], ◌∷◌, ◌++◌, ◌&&◌, ◌||◌, refl, sym, ap, ap₂, ◌∙◌}
 use Rattle.std.specs.List.{cons_option}
 use Rattle.std.specs.Cmp.Lexicographic.{bytes_decides}
-use Rattle.cap_value.specs.Bytes.{bytes_eq}
 use Rattle.cap_row.specs.Fields.{Fields}
 use Rattle.cap_row.specs.Key.{fields_cmp, fields_cmp_total}
 use Rattle.cap_tree.specs.Tree.{get, put_entry}
 use Rattle.cap_database.specs.Read.{row_at}
 use Rattle.cap_database.specs.Tables.{Tables}
-use Rattle.cap_database.specs.declared.cause.Cause.{Cause}
 use Rattle.cap_database.specs.declared.change.Change.{Change}
 use Rattle.cap_database.proofs.BackLemmas.{again}
 use Rattle.cap_session.specs.declared.record.Record.{Record}
 use Rattle.cap_session.specs.declared.rule.AutomaticRule.{AutomaticRule}
-use Rattle.cap_session.specs.Recording.{attach_by, attach_by_rule, is_cascade, record_commit, record_key, touch_of, touch_table, touch_tables, touches_of}
+use Rattle.cap_session.specs.Recording.{attach_by, is_cascade, record_commit, record_key, touch_of, touch_table, touch_tables, touches_of}
 use Rattle.cap_session.specs.Records.{Records, Touch, record_after, touch, with_touches}
 use Rattle.cap_session.specs.Session.{AttachedTables, SessionState, accepts_by, attach}
 use Rattle.cap_session.specs.Sessions.{NumberedSessions, record_commit_each, record_key_each}

@@ -23,19 +23,19 @@ module _ {K V : Type 0} (R : K → K → Ordering) where
 
 module _ {A : Type 0} where
   -- The records of a tree and the one that was put last, where there is one.
-  module _ (settled : Records A) (latest : Option (Fields A × Record A)) (last : Fields A × Record A) (is : latest ≡ Some last) where
-    pub latest_some : with_latest settled latest ≡ [] → ⊥
-    latest_some empty = put_some fields_cmp settled last.0 last.1 (ap (with_latest settled) (sym is) ∙ empty)
+  module _ (tree : Records A) (latest : Option (Fields A × Record A)) (last : Fields A × Record A) (is : latest ≡ Some last) where
+    pub latest_some : with_latest tree latest ≡ [] → ⊥
+    latest_some empty = put_some fields_cmp tree last.0 last.1 (ap (with_latest tree) (sym is) ∙ empty)
 
-    pub counted : (found : Option (Record A)) (count : ℕ) → count ≡ length settled → IsOrdered fields_cmp settled → get fields_cmp settled last.0 ≡ found → count + cond (is_some found) 0 1 ≡ length (with_latest settled latest)
+    pub counted : (found : Option (Record A)) (count : ℕ) → count ≡ length tree → IsOrdered fields_cmp tree → get fields_cmp tree last.0 ≡ found → count + cond (is_some found) 0 1 ≡ length (with_latest tree latest)
     counted found count all ordered there =
-        ap₂ (λ n r. n + cond (is_some r) 0 1) all (sym there) ∙ sym (length-put_entry fields_cmp fields_cmp_total last.0 last.1 settled ordered) ∙ ap (λ l. length (with_latest settled l)) (sym is)
+        ap₂ (λ n r. n + cond (is_some r) 0 1) all (sym there) ∙ sym (length-put_entry fields_cmp fields_cmp_total last.0 last.1 tree ordered) ∙ ap (λ l. length (with_latest tree l)) (sym is)
 
-    found : (q : Fields A) (same : Bool) → fields_eq q last.0 ≡ same → get fields_cmp (with_latest settled latest) q ≡ cond same (Some last.1) (get fields_cmp settled q)
-    found q same e = ap (λ l. get fields_cmp (with_latest settled l) q) is ∙ get-put settled last.0 last.1 q ∙ ap (λ b. cond b (Some last.1) (get fields_cmp settled q)) e
+    found : (q : Fields A) (same : Bool) → fields_eq q last.0 ≡ same → get fields_cmp (with_latest tree latest) q ≡ cond same (Some last.1) (get fields_cmp tree q)
+    found q same e = ap (λ l. get fields_cmp (with_latest tree l) q) is ∙ get-put tree last.0 last.1 q ∙ ap (λ b. cond b (Some last.1) (get fields_cmp tree q)) e
 
-    pub get_latest : (q : Fields A) → fields_eq q last.0 ≡ true → Some last.1 ≡ get fields_cmp (with_latest settled latest) q
+    pub get_latest : (q : Fields A) → fields_eq q last.0 ≡ true → Some last.1 ≡ get fields_cmp (with_latest tree latest) q
     get_latest q same = sym (found q true same)
 
-    pub get_other : (q : Fields A) → fields_eq q last.0 ≡ false → get fields_cmp settled q ≡ get fields_cmp (with_latest settled latest) q
+    pub get_other : (q : Fields A) → fields_eq q last.0 ≡ false → get fields_cmp tree q ≡ get fields_cmp (with_latest tree latest) q
     get_other q other = sym (found q false other)

@@ -9,3 +9,4 @@ mod PlaceLemmas
 mod RecordLemmas
 mod TableLemmas
 mod StageLemmas
+mod StagedLemmas

@@ -4,7 +4,7 @@ use Rattle.std.specs.List.{remove}
 use Rattle.std.specs.Option.{option_map}
 use Rattle.cap_session.specs.declared.ending.Ending.{Ending}
 use Rattle.cap_session.specs.declared.numbered.Numbered.{Numbered}
-use Rattle.cap_session.specs.Code.Ending.{session_after}
+use Rattle.cap_session.specs.Code.Ending.{after_ending}
 use Rattle.cap_session.specs.Code.Numbered.{made_of}
 use Rattle.cap_session.specs.Session.{SessionState, StagedSession, settled}
 use Rattle.cap_session.specs.Sessions.{NumberedSessions, session_numbered, with_session, with_session_if, without_session}
@@ -15,7 +15,7 @@ module _ {A : Type 0} where
   see numbered = (numbered.number, numbered.session)
 
   abbrev pub ended : Ending → ℕ × StagedSession A → ℕ × StagedSession A
-  ended ending s = (s.0, settled (session_after ending s.1))
+  ended ending s = (s.0, settled (after_ending ending s.1.live s.1.staged))
 
 module _ {A : Type 0} (number : ℕ) where
   abbrev pub has_number : Numbered A → Bool

@@ -1,37 +1,32 @@
 //! The attach list of a session, published and staged.
-ghost use Rattle.std.specs.Prelude.{◌≡◌, ◌<◌, ◌^◌, ◌∷◌, ◌++◌, [], Some, None, length, nat_eq, IfOk, OnOk};
+ghost use Rattle.std.specs.Prelude.{◌≡◌, ◌<◌, ◌^◌, ◌∷◌, ◌++◌, [], Some, None, false, length, nat_eq, IfOk, OnOk};
 ghost use Rattle.std.specs.List.{IsDistinct, position};
 ghost use Rattle.std.specs.Map.{keys_of};
 ghost use Rattle.std.specs.Option.{option_copied};
 ghost use Rattle.cap_value.specs.Bytes.{bytes_eq};
-ghost use Rattle.cap_session.specs.Code.AttachList.{IsWhole, after_in, attached_of, live_in, staged_in};
-ghost use Rattle.cap_session.specs.Code.AttachList.{staged_of};
-ghost use Rattle.cap_session.specs.Code.Ending.{count_after, tables_after};
+ghost use Rattle.cap_session.specs.Code.AttachList.{IsWhole, attached_of, staged_of};
 ghost use Rattle.cap_session.specs.Code.Staging.{touches_by};
 ghost use Rattle.cap_session.specs.Recording.{attach_by, attach_by_rule, touch_table, touch_tables};
-ghost use Rattle.cap_session.specs.Session.{records_of, stored};
+ghost use Rattle.cap_session.specs.Session.{forget, records_of, stored};
 
 use crate::attached::Attached;
-use crate::ending::Ending;
-use crate::table_records::TableRecords;
+use crate::staged_records::{StagedRecords, Tables, stage_at};
 use crate::touch::Touches;
 use crate::{AutomaticRule, Records};
 use cap_database::{Change, Database};
 use cap_value::{AllocHandle, Name, OutOfMemory};
 use indexmap::IndexMap;
-use std::hash::{BuildHasherDefault, FoldHasher};
-
-// Tables by name, in the order in which they were put into the map.
-type Tables<A> = IndexMap<Name<A>, TableRecords<A>, BuildHasherDefault<FoldHasher>, A>;
 
 // The attached tables with their records. A change that takes memory is staged first, and then published,
-// which takes none.
+// which takes none. What is not touched is not visited by either.
 #[derive(Drop)]
 pub(crate) struct AttachList<A: AllocHandle> {
     alloc: A,
     tables: Tables<A>,
     // How many of the tables are attached. Those behind them are staged.
     attached: usize,
+    // The staged records, where they change.
+    staged: Vec<StagedRecords<A>, A>,
 }
 
 impl<A: AllocHandle> AttachList<A> {
@@ -45,32 +40,52 @@ impl<A: AllocHandle> AttachList<A> {
             alloc,
             tables: IndexMap::new(alloc),
             attached: 0,
+            staged: Vec::new(alloc),
         }
     }
 
-    // Ends what is staged. Staged tables are attached where it is published, and else discarded.
-    pub(crate) fn end_staging(&mut self, ending: Ending)
+    // Whether anything may be staged.
+    pub(crate) fn has_staged(&self) -> bool
+        requires whole { IsWhole self.now }
+        ensures { result ≡ false → staged_of self.now ≡ attached_of self.now }
+    {
+        self.attached < self.tables.len() || !self.staged.is_empty()
+    }
+
+    // Discards what is staged.
+    pub(crate) fn discard(&mut self)
         requires whole { IsWhole self.old }
-        ensures kept { attached_of self.new
-            ≡ tables_after ending (attached_of self.old) (staged_of self.old) }
-        ensures none { staged_of self.new
-            ≡ tables_after ending (attached_of self.old) (staged_of self.old) }
+        ensures kept { attached_of self.new ≡ attached_of self.old }
+        ensures none { staged_of self.new ≡ attached_of self.old }
+        ensures empty { self.new.staged.items ≡ [] }
         ensures whole { IsWhole self.new }
     {
-        let count = self.count_after(ending);
-        self.tables.truncate(count);
-        end_each(self.alloc, &mut self.tables, ending);
-        self.attached = count;
+        self.staged.clear();
+        self.tables.truncate(self.attached);
     }
 
-    // How many of the tables are left.
-    fn count_after(&self, ending: Ending) -> usize
-        ensures { result ≡ count_after ending self.now.attached (length self.now.tables.entries) }
+    // Publishes what is staged.
+    pub(crate) fn publish(&mut self)
+        requires whole { IsWhole self.old }
+        ensures published { attached_of self.new ≡ staged_of self.old }
+        ensures none { staged_of self.new ≡ staged_of self.old }
+        ensures whole { IsWhole self.new }
     {
-        match ending {
-            Ending::Publish => self.tables.len(),
-            Ending::Discard | Ending::Clear => self.attached,
+        while let Some(own) = self.staged.pop() {
+            self.tables[own.place] = own.records;
         }
+        self.attached = self.tables.len();
+    }
+
+    // Forgets all records, and discards what is staged.
+    pub(crate) fn clear(&mut self)
+        requires whole { IsWhole self.old }
+        ensures kept { attached_of self.new ≡ forget (attached_of self.old) }
+        ensures none { staged_of self.new ≡ forget (attached_of self.old) }
+        ensures whole { IsWhole self.new }
+    {
+        self.discard();
+        clear_each(self.alloc, &mut self.tables);
     }
 
     // Stages the changes of one commit after what is staged. `before` is the database before it. Tables that
@@ -112,7 +127,10 @@ impl<A: AllocHandle> AttachList<A> {
         ensures whole { IsWhole self.new }
     {
         match self.place_by(rule, name)? {
-            Some(place) => self.tables[place].stage(indirect, touches),
+            Some(place) => {
+                move_latest_at(&mut self.tables, place)?;
+                stage_at(&self.tables, &mut self.staged, place, indirect, touches)
+            }
             None => Ok(()),
         }
     }
@@ -155,10 +173,7 @@ impl<A: AllocHandle> AttachList<A> {
     {
         let name = name.copy()?;
         let place = self.tables.len();
-        match self
-            .tables
-            .insert(name, TableRecords::new(Records::empty(self.alloc)))
-        {
+        match self.tables.insert(name, Records::empty(self.alloc)) {
             Ok(_) => Ok(place),
             Err(_) => Err(OutOfMemory),
         }
@@ -181,7 +196,7 @@ impl<A: AllocHandle> AttachList<A> {
     {
         let place = self.tables.get_index_of(name)?;
         if place < self.attached {
-            Some(&self.tables[place].records)
+            Some(&self.tables[place])
         } else {
             None
         }
@@ -225,7 +240,7 @@ impl<A: AllocHandle> AttachList<A> {
         let mut rest = self.attached();
         while let Some((name, records)) = rest.next() {
             // No name comes twice.
-            let Ok(None) = tables.insert(name.copy()?, TableRecords::new(records.copy()?)) else {
+            let Ok(None) = tables.insert(name.copy()?, records.copy()?) else {
                 return Err(OutOfMemory);
             };
         }
@@ -233,16 +248,24 @@ impl<A: AllocHandle> AttachList<A> {
             alloc: self.alloc,
             tables,
             attached: self.attached,
+            staged: Vec::new(self.alloc),
         })
     }
 }
 
-// Ends what is staged in each table.
-fn end_each<A: AllocHandle>(alloc: A, tables: &mut Tables<A>, ending: Ending)
-    ensures live { live_in tables.new.entries ≡ after_in ending tables.old.entries }
-    ensures staged { staged_in tables.new.entries ≡ after_in ending tables.old.entries }
+// Forgets the records of each table.
+fn clear_each<A: AllocHandle>(alloc: A, tables: &mut Tables<A>)
+    ensures { tables.new.entries ≡ forget tables.old.entries }
 {
     for place in 0..tables.len() {
-        tables[place].end_staging(alloc, ending);
+        tables[place] = Records::empty(alloc);
     }
+}
+
+// Moves the latest record of the table at this place into the tree of the others.
+fn move_latest_at<A: AllocHandle>(tables: &mut Tables<A>, place: usize) -> Result<(), OutOfMemory>
+    requires { place < length tables.old.entries }
+    ensures { tables.new.entries ≡ tables.old.entries }
+{
+    tables[place].move_latest()
 }

@@ -2,10 +2,8 @@
 ghost use Rattle.std.specs.Prelude.{◌≡◌, length};
 ghost use Rattle.std.specs.Iterator.{at_most};
 ghost use Rattle.std.specs.Map.Iter.{TakesFirst, deref_pair};
-ghost use Rattle.cap_session.specs.Code.AttachList.{live_in};
 
 use crate::Records;
-use crate::table_records::TableRecords;
 use cap_value::{AllocHandle, Name};
 use indexmap::map::Slice;
 use std::iter::FusedIterator;
@@ -14,21 +12,20 @@ use std::marker::Model;
 /// An iterator over attached tables, in the order in which they were attached, each with its records.
 #[derive(Drop)]
 pub struct Attached<'a, A: AllocHandle> {
-    tables: Slice<'a, Name<A>, TableRecords<A>>,
+    tables: Slice<'a, Name<A>, Records<A>>,
 }
 
 impl<'a, A: AllocHandle> Model for Attached<'a, A> {
     ghost use Rattle.cap_session.specs.Session.{AttachedTables};
-    ghost use Rattle.cap_session.specs.Code.AttachList.{live_in};
 
     ghost Value = { AttachedTables A };
 
-    ghost view = { λ a. live_in a.tables };
+    ghost view = { λ a. a.tables };
 }
 
 impl<'a, A: AllocHandle> Attached<'a, A> {
-    pub(crate) fn over(tables: Slice<'a, Name<A>, TableRecords<A>>) -> Self
-        ensures { result ≡ live_in tables.entry }
+    pub(crate) fn over(tables: Slice<'a, Name<A>, Records<A>>) -> Self
+        ensures { result ≡ tables.entry }
     {
         Attached { tables }
     }
@@ -42,9 +39,9 @@ impl<'a, A: AllocHandle> Iterator for Attached<'a, A> {
     ghost remaining = { λ a. at_most (length a) };
 
     fn next(&mut self) -> Option<(&'a Name<A>, &'a Records<A>)> {
-        let ((name, table), tables) = self.tables.split_first()?;
+        let (first, tables) = self.tables.split_first()?;
         self.tables = tables;
-        Some((name, &table.records))
+        Some(first)
     }
 }
 

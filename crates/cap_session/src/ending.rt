@@ -7,6 +7,4 @@ pub(crate) enum Ending {
     Discard,
     // What is staged is published.
     Publish,
-    // What is staged is discarded, and all records are cleared.
-    Clear,
 }

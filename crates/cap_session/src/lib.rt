@@ -13,8 +13,8 @@ mod rule;
 mod session;
 mod session_change;
 mod sessions;
+mod staged_records;
 mod staging;
-mod table_records;
 mod touch;
 
 pub use attached::Attached;

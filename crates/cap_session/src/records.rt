@@ -1,10 +1,11 @@
 //! The records of one table.
-ghost use Rattle.std.specs.Prelude.{◌≡◌, ◌≤◌, ◌^◌, ◌↔◌, [], length, IfOk, IsTrue, OnErr, OnOk};
+ghost use Rattle.std.specs.Prelude.{◌≡◌, ◌≤◌, ◌^◌, ◌↔◌, [], None, length, IfOk, IsTrue, OnErr, OnOk};
 ghost use Rattle.std.specs.Map.Iter.{ShowsInOrder, deref_pair};
 ghost use Rattle.std.specs.Option.{option_copied};
 ghost use Rattle.cap_row.specs.Fields.{Fields};
 ghost use Rattle.cap_row.specs.Key.{fields_cmp};
 ghost use Rattle.cap_tree.specs.Tree.{IsOrdered, get, put_entry};
+ghost use Rattle.cap_session.specs.Code.Latest.{with_latest};
 ghost use Rattle.cap_session.specs.declared.record.Record.{Record};
 
 use crate::Record;
@@ -20,7 +21,7 @@ use std::marker::Model;
 /// one is put. So a staged copy with one more record shares every node of the tree, and once it is published
 /// the tree is changed in place.
 pub struct Records<A: AllocHandle> {
-    settled: Tree<Key<A>, Record<A>, A>,
+    tree: Tree<Key<A>, Record<A>, A>,
     latest: Option<(Key<A>, Record<A>)>,
 }
 
@@ -32,18 +33,15 @@ impl<A: AllocHandle> Model for Records<A> {
 
     ghost Value = { Records A };
 
-    ghost view = { λ r. with_latest r.settled r.latest };
+    ghost view = { λ r. with_latest r.tree r.latest };
 
-    ghost invariant = { λ r. IsOrdered fields_cmp (with_latest r.settled r.latest) };
+    ghost invariant = { λ r. IsOrdered fields_cmp (with_latest r.tree r.latest) };
 }
 
 // A derived `Drop` would be opened in each caller's loop.
 impl<A: AllocHandle> Drop for Records<A> {
     fn drop(self) {
-        let Records {
-            settled: _,
-            latest: _,
-        } = self;
+        let Records { tree: _, latest: _ } = self;
     }
 }
 
@@ -53,7 +51,7 @@ impl<A: AllocHandle> Records<A> {
         ensures { result ≡ [] }
     {
         Records {
-            settled: Tree::empty(alloc),
+            tree: Tree::empty(alloc),
             latest: None,
         }
     }
@@ -64,22 +62,14 @@ impl<A: AllocHandle> Records<A> {
         ensures fits { result ≤ 2 ^ 64 }
         ensures ordered { IsOrdered fields_cmp self.now }
     {
-        let settled = self.settled.len() as u128;
+        let others = self.tree.len() as u128;
         match &self.latest {
-            None => settled,
-            Some((key, _)) => match self.settled.get(key) {
-                None => settled + 1,
-                Some(_) => settled,
+            None => others,
+            Some((key, _)) => match self.tree.get(key) {
+                None => others + 1,
+                Some(_) => others,
             },
         }
-    }
-
-    // A law: the keys are in order. It does nothing at run time.
-    #[inline]
-    pub(crate) fn in_order(&self)
-        ensures { IsOrdered fields_cmp self.now }
-    {
-        let _settled = &self.settled;
     }
 
     /// Whether there is no record.
@@ -87,22 +77,23 @@ impl<A: AllocHandle> Records<A> {
         ensures { IsTrue result ↔ (self.now ≡ []) }
     {
         match &self.latest {
-            None => self.settled.is_empty(),
+            None => self.tree.is_empty(),
             Some(_) => false,
         }
     }
 
     /// The record of a key, if any.
     pub fn get(&self, key: &Key<A>) -> Option<&Record<A>>
-        ensures { option_copied result ≡ get fields_cmp self.now key.now }
+        ensures found { option_copied result ≡ get fields_cmp self.now key.now }
+        ensures ordered { IsOrdered fields_cmp self.now }
     {
         match &self.latest {
-            None => self.settled.get(key),
+            None => self.tree.get(key),
             Some((latest, record)) => {
                 if key == latest {
                     Some(record)
                 } else {
-                    self.settled.get(key)
+                    self.tree.get(key)
                 }
             }
         }
@@ -117,22 +108,16 @@ impl<A: AllocHandle> Records<A> {
             None => None,
         };
         Ok(Records {
-            settled: self.settled.snapshot()?,
+            tree: self.tree.snapshot()?,
             latest,
         })
     }
 
     // Moves the latest record into the tree of the others.
-    pub(crate) fn settle(&mut self) -> Result<(), OutOfMemory>
+    pub(crate) fn move_latest(&mut self) -> Result<(), OutOfMemory>
         ensures { self.new ≡ self.old }
     {
-        if let Some((key, record)) = &self.latest {
-            let key = key.copy()?;
-            let record = record.copy()?;
-            self.settled.insert(key, record)?;
-            self.latest = None;
-        }
-        Ok(())
+        move_latest(&mut self.tree, &mut self.latest)
     }
 
     // Puts a record at its key.
@@ -140,13 +125,7 @@ impl<A: AllocHandle> Records<A> {
         ensures put { OnOk result (self.new ≡ put_entry fields_cmp self.old key kept) }
         ensures err { OnErr result (self.new ≡ self.old) }
     {
-        if let Some((key, record)) = &self.latest {
-            let key = key.copy()?;
-            let record = record.copy()?;
-            self.settled.insert(key, record)?;
-        }
-        // The count shows that the keys are in order.
-        let _count = self.settled.len();
+        move_latest(&mut self.tree, &mut self.latest)?;
         self.latest = Some((key, kept));
         Ok(())
     }
@@ -161,8 +140,26 @@ impl<A: AllocHandle> Records<A> {
             Some((key, record)) => Some((key, record)),
             None => None,
         };
-        RecordsIter::over(latest, self.settled.iter())
+        RecordsIter::over(latest, self.tree.iter())
     }
+}
+
+// Moves the latest record, if any, into the tree of the others.
+fn move_latest<A: AllocHandle>(
+    tree: &mut Tree<Key<A>, Record<A>, A>,
+    latest: &mut Option<(Key<A>, Record<A>)>,
+) -> Result<(), OutOfMemory>
+    ensures moved { OnOk result (tree.new ≡ with_latest tree.old latest.old) }
+    ensures none { OnOk result (latest.new ≡ None) }
+    ensures kept { OnErr result ((tree.new ≡ tree.old) × (latest.new ≡ latest.old)) }
+{
+    if let Some((key, record)) = &*latest {
+        let key = key.copy()?;
+        let record = record.copy()?;
+        tree.insert(key, record)?;
+        *latest = None;
+    }
+    Ok(())
 }
 
 impl<'a, A: AllocHandle> IntoIterator for &'a Records<A> {

@@ -33,13 +33,13 @@ impl<'a, A: AllocHandle> RecordsIter<'a, A> {
     // The records of a tree, and the one that was put last, if any.
     pub(crate) fn over(
         latest: Option<(&'a Key<A>, &'a Record<A>)>,
-        settled: Iter<'a, Key<A>, Record<A>, A>,
+        tree: Iter<'a, Key<A>, Record<A>, A>,
     ) -> Self
-        ensures { result ≡ before_tree latest.entry settled.entry }
+        ensures { result ≡ before_tree latest.entry tree.entry }
     {
         RecordsIter {
             latest,
-            rest: Peekable::of(settled),
+            rest: Peekable::of(tree),
         }
     }
 }

@@ -1,7 +1,7 @@
 //! One session.
 ghost use Rattle.std.specs.Prelude.{◌≡◌, ◌<◌, ◌^◌, length, nat_eq, IfOk, OnOk, OnErr};
 ghost use Rattle.std.specs.Option.{option_copied};
-ghost use Rattle.cap_session.specs.Code.Ending.{session_after};
+ghost use Rattle.cap_session.specs.Code.Ending.{after_ending};
 ghost use Rattle.cap_session.specs.Code.Staging.{staged_by};
 ghost use Rattle.cap_session.specs.Recording.{record_commit, record_diff};
 ghost use Rattle.cap_session.specs.Session.{attach_all, attached, changed_by, enabled_as, indirect_as};
@@ -151,8 +151,15 @@ impl<A: AllocHandle> Session<A> {
             SessionChange::SetFilter(filter) => self.rule = AutomaticRule::Filter(filter),
             SessionChange::Enable(asked) => self.enabled = asked.unwrap_or(self.enabled),
             SessionChange::Indirect(asked) => self.indirect = asked.unwrap_or(self.indirect),
-            SessionChange::Restart => self.end_staging(Ending::Clear),
+            SessionChange::Restart => self.clear(),
         }
+    }
+
+    // Forgets all records. Nothing is staged then.
+    fn clear(&mut self)
+        ensures { self.new ≡ settled (restart self.old.live) }
+    {
+        self.list.clear();
     }
 
     /// Records the changes of one commit. `before` is the database before it.
@@ -229,9 +236,14 @@ impl<A: AllocHandle> Session<A> {
 
     // Ends what is staged.
     pub(crate) fn end_staging(&mut self, ending: Ending)
-        ensures { self.new ≡ settled (session_after ending self.old) }
+        ensures { self.new ≡ settled (after_ending ending self.old.live self.old.staged) }
     {
-        self.list.end_staging(ending);
+        if self.list.has_staged() {
+            match ending {
+                Ending::Discard => self.list.discard(),
+                Ending::Publish => self.list.publish(),
+            }
+        }
     }
 
     /// Whether there is no record (SQLite's sqlite3session_isempty). The row of a record may be unchanged.

@@ -1,6 +1,6 @@
 //! The records after touches: by the changes of a commit, and by a diff.
-ghost use Rattle.std.specs.Prelude.{◌≡◌, IsTrue, IfOk, Some, map};
-ghost use Rattle.std.specs.Option.{option_copied, unwrap_or};
+ghost use Rattle.std.specs.Prelude.{◌≡◌, IsTrue, IfOk, OnOk};
+ghost use Rattle.std.specs.Option.{option_copied};
 ghost use Rattle.cap_row.specs.Key.{fields_cmp};
 ghost use Rattle.cap_tree.specs.Tree.{IsOrdered, get};
 ghost use Rattle.cap_session.specs.Code.Staging.{image_of, touches_by};
@@ -33,46 +33,40 @@ pub(crate) enum Image<'a, A: AllocHandle> {
     Given(Option<&'a Row<A>>),
 }
 
-// `after`, or where it is `None` the records, after touches.
-pub(crate) fn after_touches<A: AllocHandle>(
-    records: &Records<A>,
-    after: Option<Records<A>>,
+// Records touches. On an error some may be recorded.
+pub(crate) fn touch_all<A: AllocHandle>(
+    records: &mut Records<A>,
     indirect: bool,
     touches: Touches<'_, A>,
-) -> Result<Option<Records<A>>, OutOfMemory>
-    ensures { IfOk result (λ then. unwrap_or then records.now
-        ≡ with_touches (unwrap_or after records.now) (touches_by indirect touches.entry)) }
+) -> Result<(), OutOfMemory>
+    ensures { OnOk result (records.new ≡ with_touches records.old (touches_by indirect touches.entry)) }
 {
     match touches {
-        Touches::OfChange(before, change) => after_change(records, after, before, indirect, change),
+        Touches::OfChange(before, change) => touch_change(records, before, indirect, change),
         Touches::OfKey(key, cause, image) => {
             let indirect = indirect || is_cascade(cause);
-            after_touch(records, after, indirect, key, Image::Given(image))
+            touch(records, indirect, key, Image::Given(image))
         }
-        Touches::OfDiff(differences) => {
-            let after = after_or_copy(records, after)?;
-            Ok(Some(after_diff(after, indirect, differences)?))
-        }
+        Touches::OfDiff(differences) => touch_differences(records, indirect, differences),
     }
 }
 
-// `after`, or where it is `None` the records, after a change of their table.
-fn after_change<A: AllocHandle>(
-    records: &Records<A>,
-    after: Option<Records<A>>,
+// Records the touch by a change of the table, if any.
+fn touch_change<A: AllocHandle>(
+    records: &mut Records<A>,
     before: &Database<A>,
     indirect: bool,
     change: &Change<A>,
-) -> Result<Option<Records<A>>, OutOfMemory>
-    ensures { IfOk result (λ then. unwrap_or then records.now ≡ touch_if (unwrap_or after records.now)
+) -> Result<(), OutOfMemory>
+    ensures { OnOk result (records.new ≡ touch_if records.old
         (touch_of before.now indirect change.now.table change.now)) }
 {
     match &change.key {
-        None => Ok(after),
+        None => Ok(()),
         Some(key) => {
             let indirect = indirect || is_cascade(change.cause);
             let image = Image::In(before, &change.table);
-            after_touch(records, after, indirect, key, image)
+            touch(records, indirect, key, image)
         }
     }
 }
@@ -86,58 +80,55 @@ fn is_cascade(cause: Cause) -> bool
     }
 }
 
-// `after`, or where it is `None` the records, after one more touch. The key is searched once, and the image
-// only where the key has no record.
-fn after_touch<A: AllocHandle>(
-    records: &Records<A>,
-    after: Option<Records<A>>,
+// Records a touch of each key that differs.
+fn touch_differences<A: AllocHandle>(
+    records: &mut Records<A>,
+    indirect: bool,
+    differences: &[Difference<A>],
+) -> Result<(), OutOfMemory>
+    ensures { OnOk result (records.new
+        ≡ with_touches records.old (touches_found indirect differences.now)) }
+{
+    for difference in differences {
+        touch_difference(records, indirect, difference)?;
+    }
+    Ok(())
+}
+
+fn touch_difference<A: AllocHandle>(
+    records: &mut Records<A>,
+    indirect: bool,
+    difference: &Difference<A>,
+) -> Result<(), OutOfMemory>
+    ensures { OnOk result (records.new ≡ touch records.old (record {
+      key = difference.now.key;
+      image = difference.now.image;
+      indirect = indirect;
+    })) }
+{
+    let image = Image::Given(difference.image.as_ref());
+    touch(records, indirect, &difference.key, image)
+}
+
+// Records a touch. The key is searched once, and the image only where the key has no record.
+fn touch<A: AllocHandle>(
+    records: &mut Records<A>,
     indirect: bool,
     key: &Key<A>,
     image: Image<'_, A>,
-) -> Result<Option<Records<A>>, OutOfMemory>
-    ensures { IfOk result (λ then. unwrap_or then records.now
-        ≡ touch (unwrap_or after records.now) (record {
-          key = key.now;
-          image = image_of image.entry key.now;
-          indirect = indirect;
-        })) }
+) -> Result<(), OutOfMemory>
+    ensures { OnOk result (records.new ≡ touch records.old (record {
+      key = key.now;
+      image = image_of image.entry key.now;
+      indirect = indirect;
+    })) }
 {
-    let now = current(records, &after);
-    now.in_order();
-    let found = now.get(key);
+    let found = records.get(key);
     if changes_nothing(found, indirect) {
-        return Ok(after);
+        return Ok(());
     }
     let record = record_after(found, row_of(image, key), indirect)?;
-    let mut after = after_or_copy(records, after)?;
-    after.put(key.copy()?, record)?;
-    Ok(Some(after))
-}
-
-// `after`, or where it is `None` the records.
-fn current<'a, A: AllocHandle>(
-    records: &'a Records<A>,
-    after: &'a Option<Records<A>>,
-) -> &'a Records<A>
-    ensures { result.now ≡ unwrap_or after.now records.now }
-{
-    match after {
-        Some(after) => after,
-        None => records,
-    }
-}
-
-// `after`, or where it is `None` a copy of the records.
-fn after_or_copy<A: AllocHandle>(
-    records: &Records<A>,
-    after: Option<Records<A>>,
-) -> Result<Records<A>, OutOfMemory>
-    ensures { IfOk result (λ then. then ≡ unwrap_or after records.now) }
-{
-    match after {
-        Some(after) => Ok(after),
-        None => records.copy(),
-    }
+    records.put(key.copy()?, record)
 }
 
 // The row under this key before the commit, if any.
@@ -192,38 +183,4 @@ fn copy_of<A: AllocHandle>(row: Option<&Row<A>>) -> Result<Option<Row<A>>, OutOf
         Some(row) => Ok(Some(row.copy()?)),
         None => Ok(None),
     }
-}
-
-// The records after a touch of each key that differs.
-fn after_diff<A: AllocHandle>(
-    records: Records<A>,
-    indirect: bool,
-    differences: &[Difference<A>],
-) -> Result<Records<A>, OutOfMemory>
-    ensures { IfOk result (λ after. after
-        ≡ with_touches records (touches_found indirect differences.now)) }
-{
-    let mut after = records;
-    for difference in differences {
-        after = touch_difference(after, indirect, difference)?;
-    }
-    Ok(after)
-}
-
-fn touch_difference<A: AllocHandle>(
-    records: Records<A>,
-    indirect: bool,
-    difference: &Difference<A>,
-) -> Result<Records<A>, OutOfMemory>
-    ensures { IfOk result (λ after. after ≡ touch records (record {
-      key = difference.now.key;
-      image = difference.now.image;
-      indirect = indirect;
-    })) }
-{
-    let mut records = records;
-    let found = records.get(&difference.key);
-    let record = record_after(found, difference.image.as_ref(), indirect)?;
-    records.put(difference.key.copy()?, record)?;
-    Ok(records)
 }

@@ -9,10 +9,10 @@ use Rattle.cap_session.specs.Records.{Records}
 
 module _ {A : Type 0} where
   abbrev pub with_latest : Records A → Option (Fields A × Record A) → Records A
-  with_latest settled None = settled
-  with_latest settled (Some latest) = put_entry fields_cmp settled latest.0 latest.1
+  with_latest tree None = tree
+  with_latest tree (Some latest) = put_entry fields_cmp tree latest.0 latest.1
 
   -- the same where the latest is a reference
   abbrev pub before_tree : Option (Bor (Fields A) × Bor (Record A)) → Records A → Records A
-  before_tree None settled = settled
-  before_tree (Some latest) settled = put_entry fields_cmp settled latest.0.now latest.1.now
+  before_tree None tree = tree
+  before_tree (Some latest) tree = put_entry fields_cmp tree latest.0.now latest.1.now

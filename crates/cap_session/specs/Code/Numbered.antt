@@ -3,7 +3,7 @@ use Rattle.std.specs.Prelude.{ℕ, Option, Some, None, List, map}
 use Rattle.std.specs.Option.{option_map}
 use Rattle.cap_session.specs.declared.ending.Ending.{Ending}
 use Rattle.cap_session.specs.declared.numbered.Numbered.{Numbered}
-use Rattle.cap_session.specs.Code.Ending.{session_after}
+use Rattle.cap_session.specs.Code.Ending.{after_ending}
 use Rattle.cap_session.specs.Session.{SessionState}
 use Rattle.cap_session.specs.Sessions.{NumberedSessions, session_numbered, with_session_if}
 
@@ -18,7 +18,8 @@ module _ {A : Type 0} where
   -- the sessions once the staging has ended
   abbrev pub after_of : Ending → List (Numbered A) → NumberedSessions A
   after_of ending sessions =
-      map (λ numbered. (numbered.number, session_after ending numbered.session)) sessions
+      map (λ numbered.
+      (numbered.number, after_ending ending numbered.session.live numbered.session.staged)) sessions
 
   -- the sessions, with what is made of the one with the number, or of each
   abbrev pub made_of : (SessionState A → SessionState A) → Option ℕ → NumberedSessions A → NumberedSessions A

@@ -5,7 +5,7 @@ use Rattle.cap_apply.proofs.apply_blob.apply_group.Goals as goal
 pub loop-place-preserved : goal.loop-place-preserved
 loop-place-preserved g c =
     let group = c.args.group.now in
-    let requested = g.C.Apply.requested group.schema in
+    let requested = g.C.BlobChange.requested group.schema in
     let state = c.loop-place.applied in
     let next = c.apply_to.new.applied in
     let i = c.loop-place.place in

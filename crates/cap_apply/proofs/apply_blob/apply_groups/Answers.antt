@@ -10,7 +10,7 @@ use Rattle.cap_apply.proofs.apply_blob.apply_groups.Goals.{then-has_target+in_ok
 pub loop-place-preserved : goal.loop-place-preserved
 loop-place-preserved g c =
     let policy = c.args.policy in
-    let requested = g.C.Apply.requested in
+    let requested = g.C.BlobChange.requested in
     let groups = c.args.groups.now in
     let i = c.loop-place.place in
     let number = c.loop-place.number in

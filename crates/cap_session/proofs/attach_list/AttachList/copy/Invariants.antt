@@ -1,7 +1,5 @@
 use Rattle.std.proofs.Common.{◌≡◌, ◌++◌}
-use Rattle.cap_session.specs.Code.AttachList.{live_in, staged_in}
 use Rattle.cap_session.proofs.attach_list.AttachList.copy.Given as goal
 
 abbrev pub invariant-loop-name : goal.invariant-loop-name
-invariant-loop-name g l =
-    (live_in l.tables.entries ++ l.rest ≡ l.initial.rest) × (staged_in l.tables.entries ++ l.rest ≡ l.initial.rest)
+invariant-loop-name g l = l.tables.entries ++ l.rest ≡ l.initial.rest

@@ -8,7 +8,7 @@ use Rattle.cap_changes.proofs.PatchLemmas.{update_fits}
 use Rattle.cap_apply.specs.Row.{key_values}
 use Rattle.cap_apply.proofs.ChangeLemmas.{delete_asked, has_target}
 use Rattle.cap_apply.proofs.RowLemmas.{full_keyed, is_key-key_values}
-use Rattle.cap_apply.proofs.entry.RowChangeApply.apply_to.Goals as goal
+use Rattle.cap_apply.proofs.entry.RowChangeBlobChange.apply_to.Goals as goal
 
 pub update-requires-clause-fits : goal.update-requires-clause-fits
 update-requires-clause-fits g c =

@@ -2,7 +2,7 @@ use Rattle.std.proofs.Common.{ap, ◌∙◌}
 use Rattle.cap_row.specs.Key.{is_key}
 use Rattle.cap_apply.specs.Row.{key_values}
 use Rattle.cap_apply.proofs.RowLemmas.{alone_keyed, is_key-key_values, update_same}
-use Rattle.cap_apply.proofs.entry.PatchApply.apply_to.Goals as goal
+use Rattle.cap_apply.proofs.entry.PatchBlobChange.apply_to.Goals as goal
 
 pub update-requires-clause-fits : goal.update-requires-clause-fits
 update-requires-clause-fits g c =

@@ -1,0 +1,30 @@
+-- A row that the caller makes of a change and the row that it met, in place of the change.
+use Rattle.std.specs.Prelude.{ℕ, Some, List, [], ◌∷◌, ◌++◌}
+use Rattle.cap_row.specs.Fields.{Fields}
+use Rattle.cap_database.specs.Read.{row_at}
+use Rattle.cap_apply.specs.Applied.{AppliedState}
+use Rattle.cap_apply.specs.Apply.{keys_with, left_out}
+use Rattle.cap_apply.specs.Steps.{placed, with_changes}
+use Rattle.cap_apply.specs.declared.conflict.ConflictKind.{ConflictKind}
+use Rattle.cap_apply.specs.declared.policy.Answer.{Answer}
+use Rattle.cap_apply.specs.declared.policy.Answer.TheVariants.{Omit}
+
+module _ {A : Type 0} where
+  -- a conflict is reported with its answer
+  abbrev pub answered_with : ℕ → ConflictKind → Answer → AppliedState A → AppliedState A
+  answered_with number kind answer state = record state {
+    report = record state.report {
+      conflicts = state.report.conflicts ++ record { change = number; kind = kind; answer = answer } ∷ [];
+    };
+  }
+
+  -- the row stands under the key: one change for the row that was there, and one for this one
+  abbrev pub row_put : List ℕ → Fields A → Fields A → AppliedState A → AppliedState A
+  row_put name key row state =
+      with_changes name (keys_with key (row_at state.database name key) ++ keys_with key (Some row))
+      (placed name key (Some row) state)
+
+  -- the row stands under the key in place of the change, which is omitted
+  abbrev pub merged : ℕ → ConflictKind → List ℕ → Fields A → Fields A → AppliedState A → AppliedState A
+  merged number kind name key row state =
+      left_out number (answered_with number kind Omit (row_put name key row state))
