@@ -269,8 +269,8 @@ module _ {A : Type 0} where
   pub first-of : (tables : Tables A) (blob : Contents A) (policy : Policy) → remaining policy (begun tables blob None) ≡ apply tables blob policy
   first-of tables blob policy = ap (λ groups. groups_applied policy 0 0 groups (nothing_applied tables)) (from_first (requested_of blob))
 
-  pub between-of : (policy : Policy) (from to : ApplierState A) → AcceptsAll from.filter → IsReached from to → remaining policy to ≡ remaining policy from
-  between-of policy from to all way = (reached-follows policy from all way.0 to way.1).0
+  pub between-of : (policy : Policy) (from to : ApplierState A) → AcceptsAll from.filter → IsReached from to → (remaining policy to ≡ remaining policy from) × (to.filter ≡ from.filter)
+  between-of policy from to all way = reached-follows policy from all way.0 to way.1
 
   pub answered-of : (policy : Policy) (s : ApplierState A) (conflict : RowConflict A) → AcceptsAll s.filter → met s ≡ Some conflict
       → and_then (answered (answer_to policy conflict.kind) s) (remaining policy) ≡ remaining policy s

@@ -24,7 +24,8 @@ pub fn answers_of_a_policy_apply_the_blob<A: AllocHandle>()
     ensures first { (tables : Tables A) (blob : Contents A) (policy : Policy)
         → remaining policy (begun tables blob None) ≡ apply tables blob policy }
     ensures between { (policy : Policy) (from to : ApplierState A) → AcceptsAll from.filter
-        → IsReached from to → remaining policy to ≡ remaining policy from }
+        → IsReached from to
+        → (remaining policy to ≡ remaining policy from) × (to.filter ≡ from.filter) }
     ensures step { (policy : Policy) (s : ApplierState A) (conflict : RowConflict A)
         → AcceptsAll s.filter → met s ≡ Some conflict
         → and_then (answered (answer_to policy conflict.kind) s) (remaining policy)
