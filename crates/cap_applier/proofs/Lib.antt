@@ -1,0 +1,4 @@
+pub mod CountLemmas
+pub mod MergeLemmas
+pub mod NamedLemmas
+pub mod PolicyLemmas

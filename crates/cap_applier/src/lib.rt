@@ -1,0 +1,17 @@
+//! An applier that stops at each conflict, which its caller answers.
+#![tactic(auto)]
+
+mod application;
+mod applier;
+mod laws;
+mod merge;
+mod progress;
+mod row_conflict;
+
+pub use applier::Applier;
+pub use laws::{
+    a_merged_row_stands_at_its_key, a_step_counts_one_change_or_leaves_one_group,
+    answers_of_a_policy_apply_the_blob, rows_that_no_change_names_stay,
+};
+pub use merge::MergeRefusal;
+pub use row_conflict::RowConflict;
