@@ -4,8 +4,8 @@ import unittest
 
 import support  # noqa: F401 - the path of the package
 from stream_case import StreamCase
-from changecap_followers import (Follower, Leader, Overtaken, RedisBroker, Retry, ServerTarget, Snapshots, SqliteTarget,
-                                 Stopped)
+from changecap_followers import (PLACE_TABLE, Follower, Leader, Overtaken, RedisBroker, Retry, ServerTarget, Snapshots,
+                                 SqliteTarget, Stopped)
 
 
 class Examples(StreamCase):
@@ -20,7 +20,7 @@ class Examples(StreamCase):
         with Leader(broker, snapshots=Snapshots(broker, every=10_000, keep=1_000)) as leader:
             leader.ensure_table("t", [True, False])
             version = leader.server.commit(("insert", "t", (1, "x")))
-            leader.wait(version)  # the broker has it: now the client may be told
+            leader.wait(version)  # the broker has it: now the client may be answered
             answered.append("done")
         self.assertEqual((answered, self.broker.__class__(url).head().version > 0), (["done"], True))
 
@@ -50,7 +50,7 @@ class Examples(StreamCase):
         target = ServerTarget()
         Follower(RedisBroker(self.url), target).catch_up()
         snapshot = target.server.snapshot()
-        stream, number, version, digest = snapshot.get("changecap_place", ("changecap",)).values
+        stream, number, version, digest = snapshot.get(PLACE_TABLE, ("changecap",)).values
         rows = snapshot.scan("t")
         self.assertEqual((number > 0, version > 0, len(rows)), (True, True, 1))
 

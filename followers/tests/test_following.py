@@ -88,7 +88,7 @@ class Following:
             self.publish(leader, ("insert", "t", (number, "x")))
         read = self.broker.read
         twice = mock.Mock(wraps=self.broker)
-        twice.read = lambda number, count, seconds=0: read(max(0, number - 2), count, seconds)
+        twice.read = lambda number, count, seconds=0: read(max(0, number - 2), 2) + read(number, count, seconds)
         Follower(twice, target).catch_up()
         self.assertEqual(len(self.rows(target)), 5)
 

@@ -31,9 +31,10 @@ class Leading(StreamCase):
         self.assertTrue(leader.wait(version, 5))
         self.assertEqual(self.broker.read(0, 10)[-1].changeset, b"")
 
-    def test_what_is_not_there_yet_is_not_acknowledged(self):
+    def test_what_is_not_committed_cannot_be_waited_for(self):
         leader = self.lead()
-        self.assertFalse(leader.wait(leader.server.snapshot().version + 1, 0.1))
+        with self.assertRaises(ValueError):
+            leader.wait(leader.server.snapshot().version + 1, 0.1)
 
     def test_only_its_own_tables_are_published(self):
         leader = self.lead()

@@ -3,6 +3,7 @@ import dataclasses
 import threading
 import time
 import unittest
+from unittest import mock
 
 import support  # noqa: F401 - the path of the package
 from stream_case import StreamCase
@@ -142,6 +143,12 @@ class Stream(StreamCase):
         self.broker._redis.config_set("appendfsync", "everysec")
         self.addCleanup(self.broker._redis.config_set, "appendfsync", "always")
         self.assertFalse(self.broker.keeps_all())
+
+    def test_an_entry_that_is_too_large(self):
+        with mock.patch("changecap_followers.redis_broker.LIMIT", 10):
+            self.broker.publish(entry(changeset=b"x" * 10))
+            with self.assertRaisesRegex(ValueError, "entry 2 has 11 bytes"):
+                self.broker.publish(entry(self.broker.head(), 2, b"x" * 11))
 
     def test_no_broker(self):
         away = RedisBroker(f"redis://127.0.0.1:{support.free_port()}", timeout=1)

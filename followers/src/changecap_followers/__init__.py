@@ -23,9 +23,10 @@ from .retry import Retry, Stopped
 from .server_target import ServerTarget
 from .snapshots import Snapshots
 from .sqlite_target import SqliteTarget
+from .tables import PLACE_TABLE
 from .target import Target
 
-__all__ = ["START", "Broker", "Captured", "Entry", "Follower", "Leader", "Overtaken", "Place", "Poisoned", "Publisher",
+__all__ = ["PLACE_TABLE", "START", "Broker", "Captured", "Entry", "Follower", "Leader", "Overtaken", "Place", "Poisoned", "Publisher",
            "RedisBroker", "Retry", "ServerTarget", "Snapshot", "Snapshots", "Source", "SqliteTarget", "Stopped",
            "Target", "Unavailable"]
 

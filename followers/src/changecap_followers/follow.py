@@ -105,7 +105,8 @@ def main() -> int:
     broker, ending = broker_of(arguments, made), Ending()
 
     def work() -> int:
-        return serve(arguments, Follower(broker, target_of(arguments), arguments.one_by_one), ending)
+        target = Retry(ending.stop).until_done(lambda: target_of(arguments))
+        return serve(arguments, Follower(broker, target, arguments.one_by_one), ending)
 
     return status_of(work)
 

@@ -26,7 +26,7 @@ class Follower:
         self.broker, self.target, self.one_by_one, self.shown = broker, target, one_by_one, shown
         self.applied = 0
         """How many entries were applied."""
-        self._count = 1 if one_by_one else 16
+        self._count = 1
 
     @property
     def place(self) -> Place:

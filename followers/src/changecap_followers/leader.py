@@ -1,6 +1,7 @@
 """A leader: a changecap server whose changes are published."""
 from __future__ import annotations
 
+import logging
 import threading
 from collections.abc import Callable, Iterable
 from types import TracebackType
@@ -15,12 +16,14 @@ from .server_target import ServerTarget
 from .snapshots import Snapshots
 from .tables import PLACE_TABLE, headers
 
+log = logging.getLogger(__name__)
+
 
 class Leader:
     """A server that has what the stream has, and whose changes are published from then on. Only the tables that
     `ensure_table` has made are.
 
-    `target` is a follower's, where it is to lead now, else a fresh one. It waits for the broker at first, as `retry`
+    `target` is that of a follower that is to lead now and follows no more, else a fresh one. It waits for the broker at first, as `retry`
     says. `failed` is called where the publisher may not go on. Any thread may call the server and `wait`.
     """
 
@@ -38,9 +41,8 @@ class Leader:
             self._session.attach(table)
         self.publisher = Publisher(broker, self, place, interval, name, failed)
         self._retry = Retry()
-        self._threads = [threading.Thread(target=self.publisher.run, args=(self._retry,), name="publisher")]
-        if snapshots:
-            self._threads.append(threading.Thread(target=snapshots.run, args=(self._retry,), name="snapshots"))
+        works = [self.publisher.run, *([snapshots.run] if snapshots else [])]
+        self._threads = [threading.Thread(target=it, args=(self._retry,), daemon=True) for it in works]
         for thread in self._threads:
             thread.start()
 
@@ -65,7 +67,10 @@ class Leader:
     def wait(self, version: int, seconds: float | None = None) -> bool:
         """Waits until the broker has all that was committed up to a version of the server, as `commit` answers it, at
         most so long. Answers whether it has. Call it before a client is told that its commit is done. Overtaken is
-        raised where another publisher has written: this leader's commits since its last entry are lost."""
+        raised where another publisher has written: this leader's commits since its last entry are lost. A version that
+        is not committed yet is a ValueError."""
+        if version > self.server.snapshot().version:
+            raise ValueError(f"version {version} is not committed yet")
         return self.publisher.wait(version + self._offset, seconds)
 
     def stream_version(self, version: int) -> int:
@@ -98,9 +103,12 @@ class Leader:
         """Waits at most so long until all is published, and stops publishing. Answers whether all is. The server stays
         open."""
         try:
-            return self.wait(self.server.snapshot().version, seconds)
+            is_published = self.wait(self.server.snapshot().version, seconds)
         finally:
             self.stop()
+        if not is_published:
+            log.error("ended before all was published: version %d is the last that is", self.publisher.acknowledged)
+        return is_published
 
     def stop(self) -> None:
         """Stops publishing at once. The server stays open."""

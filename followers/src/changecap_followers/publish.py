@@ -25,6 +25,8 @@ _STATUSES = """0 all is published; 1 it failed; 2 the command line is wrong; 3 a
 stream has lost entries; 4 what the stream has cannot be applied; 5 it ended before all was published"""
 _CREATE = re.compile(r" *create +([A-Za-z_]\w*) +([kv]+) *$", re.A)
 _COMMANDS = "create", "commit", "commitat", "apply", "get", "scan"
+# How long it waits for the broker until it looks whether it is ended.
+_WAIT_SECONDS = 0.5
 _VERSION = re.compile(r"ok version (\d+)")
 
 
@@ -54,12 +56,22 @@ def reply_to(leader: Leader, line: str) -> str:
         return str(error)
 
 
+def is_published(leader: Leader, version: int, ending: Ending) -> bool:
+    """Waits until the broker has a version, or the command is ended. Answers whether it has."""
+    while not leader.wait(version, _WAIT_SECONDS):
+        if ending.stop.is_set():
+            return False
+    return True
+
+
 def serve(arguments: argparse.Namespace, broker: RedisBroker, ending: Ending) -> int:
     """Carries out the commands of standard input, and answers the exit status."""
     snapshots = Snapshots(broker, arguments.snapshot_every, arguments.keep) if arguments.snapshot_every else None
-    leader = Leader(broker, snapshots=snapshots, retry=Retry(ending.stop), failed=ending.end)
+    retry = Retry(ending.stop)
+    keeps_all = retry.until_done(broker.keeps_all)
+    leader = Leader(broker, snapshots=snapshots, retry=retry, failed=ending.end)
     log.info("leads from %s on", leader.publisher.place)
-    if not broker.keeps_all():
+    if not keeps_all:
         log.warning("the broker does not keep each entry on its disk (appendonly yes, appendfsync always): it may lose "
                     "entries that it has acknowledged")
     if arguments.progress:
@@ -68,16 +80,12 @@ def serve(arguments: argparse.Namespace, broker: RedisBroker, ending: Ending) ->
         for line in ending.lines():
             reply = reply_to(leader, line)
             made = _VERSION.match(reply)
-            if made and arguments.wait:
-                while not leader.wait(int(made[1]), 0.5):
-                    if ending.stop.is_set():
-                        return UNPUBLISHED
+            if made and arguments.wait and not is_published(leader, int(made[1]), ending):
+                break
             print(reply, flush=True)
     finally:
-        is_published = leader.close(arguments.drain)
-    if not is_published:
-        log.error("ended before all was published: version %d is the last that is", leader.publisher.acknowledged)
-    return DONE if is_published else UNPUBLISHED
+        all_is = leader.close(arguments.drain)
+    return DONE if all_is else UNPUBLISHED
 
 
 def main() -> int:

@@ -97,8 +97,8 @@ class Publisher:
             return True
 
     def wait(self, version: int, seconds: float | None = None) -> bool:
-        """Waits until the broker has all changes up to a version, at most so long. Answers whether it has. Raises what
-        has ended the publisher, Overtaken above all."""
+        """Waits until the broker has all changes up to a version that is committed, at most so long. Answers whether it
+        has. Raises what has ended the publisher, Overtaken above all."""
         with self._changed:
             self._wanted = max(self._wanted, version)
             self._hurry.set()

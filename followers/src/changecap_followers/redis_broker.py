@@ -22,6 +22,8 @@ from .entry import Entry, Place, Snapshot
 
 log = logging.getLogger(__name__)
 PIECE = 32 * 1024 * 1024
+# What Redis takes as one string, unless its proto-max-bulk-len says otherwise.
+LIMIT = 512 * 1024 * 1024
 # How long the pieces of a snapshot stay that is not finished.
 UNFINISHED_SECONDS = 3600
 # Refusals that end by themselves, or once someone has seen to the broker.
@@ -95,6 +97,8 @@ class RedisBroker:
 
     def publish(self, entry: Entry) -> None:
         before, after = entry.before, entry.after
+        if len(entry.changeset) > LIMIT:
+            raise ValueError(f"entry {after.number} has {len(entry.changeset)} bytes, and Redis takes {LIMIT}")
         with _failures():
             at = self._publish(
                 keys=[self._entries, self._head],

@@ -27,12 +27,16 @@ class SqliteTarget:
         self.stream = stream
         with _failures():
             self._database = Database(path)
-            self._database.execute("PRAGMA journal_mode = WAL")
-            # What a crash of the machine takes back is read from the stream again: the place goes with the tables.
-            self._database.execute("PRAGMA synchronous = NORMAL")
-            self._database.execute(_CREATE)
-            self._database.execute(f"INSERT OR IGNORE INTO {PLACE_TABLE} VALUES(?, 0, 0, '', x'')", stream)
-            self._place, self._tables = self._read_place()
+            try:
+                self._database.execute("PRAGMA journal_mode = WAL")
+                # What a crash of the machine takes back is read from the stream again: the place goes with the tables.
+                self._database.execute("PRAGMA synchronous = NORMAL")
+                self._database.execute(_CREATE)
+                self._database.execute(f"INSERT OR IGNORE INTO {PLACE_TABLE} VALUES(?, 0, 0, '', x'')", stream)
+                self._place, self._tables = self._read_place()
+            except BaseException:
+                self._database.close()
+                raise
 
     def _read_place(self) -> tuple[Place, bytes]:
         rows = self._database.execute(f"SELECT number, version, digest, tables FROM {PLACE_TABLE} WHERE stream = ?",
