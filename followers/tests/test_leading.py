@@ -168,6 +168,16 @@ class Leading(StreamCase):
             retry.stop.set()
             thread.join()
 
+    def test_out_of_memory_while_an_entry_is_sent(self):
+        leader, publish = self.lead(), self.broker.publish
+        with mock.patch("changecap_followers.publisher._MEMORY_SECONDS", 0.01), \
+                mock.patch.object(self.broker, "publish", side_effect=[MemoryError, Unavailable("away"), mock.DEFAULT],
+                                  wraps=publish):
+            self.publish(leader, ("insert", "t", (1, "x")))
+        target = ServerTarget()
+        Follower(self.broker, target).catch_up()
+        self.assertEqual(len(target.server.scan("t")), 1)
+
     def test_what_ends_the_publisher_is_told(self):
         source = mock.Mock(has_changes=lambda: True, capture=mock.Mock(side_effect=changecap.Error))
         told = threading.Event()
