@@ -1,6 +1,7 @@
 """Makes a wheel of the followers for pip, as bindings/python/backend.py makes that of the package changecap.
 
-That package is not among what it requires, so that no registry is asked for one of its name: install it first.
+That package is not among what it requires, so that no registry is asked for one of its name: install it
+first.
 """
 import importlib.util
 import os

@@ -1,7 +1,8 @@
 """A follower of the random runs: follower_process.py URL FOLDER NAME
 
-It follows until SIGTERM. NAME begins with sqlite or with server. A reader beside it notes in FOLDER/NAME.follower at
-each moment that it looks: 'DIGEST VERSION SUM', the place and the sum of the tables in one reading.
+It follows until SIGTERM. NAME begins with sqlite or with server. A reader beside it notes in
+FOLDER/NAME.follower at each moment that it looks: 'DIGEST VERSION SUM', the place and the sum of the tables
+in one reading.
 """
 from __future__ import annotations
 

@@ -1,12 +1,13 @@
 #!/usr/bin/env python3
 """Random runs with processes that are killed: run_random.py [RUNS [JOBS [SEED]]]
 
-In each run a Redis, a leader and three followers, one of them a database of SQLite, are killed by SIGKILL and started
-again at random moments, and at times a second leader runs beside the first. At the end the leader publishes what it
-has, and the followers catch up. Then:
+In each run a Redis, a leader and three followers, one of them a database of SQLite, are killed by SIGKILL and
+started again at random moments, and at times a second leader runs beside the first. At the end the leader
+publishes what it has, and the followers catch up. Then:
 
   - each state that a follower has shown is, at its version, the leader's that published it;
-  - it is on the one chain of entries that leads to the head: no follower has shown what the stream has not kept;
+  - it is on the one chain of entries that leads to the head: no follower has shown what the stream has not
+    kept;
   - what a leader was told that the broker has is on the chain;
   - each leader began with the tables of its place;
   - all followers are at the head.
@@ -62,7 +63,8 @@ class Run:
         self.followers[name] = self.process(f"{HERE}/follower_process.py", self.redis.url, self.folder, name)
 
     def see_to_leaders(self) -> None:
-        """Takes out those that have ended, and starts one where none is left. One that was overtaken may end."""
+        """Takes out those that have ended, and starts one where none is left. One that was overtaken may
+        end."""
         for name, process in list(self.leaders.items()):
             status = process.poll()
             if status is not None:
@@ -140,8 +142,10 @@ class Run:
 
     def has_begun(self) -> bool:
         """Whether each leader that runs leads, or has ended."""
-        return all(process.poll() is not None or any(line[0] == "acked" for line in self.lines(f"{name}.leader"))
-                   for name, process in self.leaders.items())
+        def leads(name: str) -> bool:
+            return any(line[0] == "acked" for line in self.lines(f"{name}.leader"))
+
+        return all(process.poll() is not None or leads(name) for name, process in self.leaders.items())
 
     def lines(self, name: str) -> list[list[str]]:
         """The whole lines of a file of notes, in words."""
@@ -167,7 +171,8 @@ class Run:
             for word, *words in self.lines(f"{name}.leader"):
                 if word == "state":
                     states[name, int(words[0])] = int(words[1])
-                    begun.setdefault(name, []).append(int(words[1])) if len(begun.get(name, [])) == 1 else None
+                    if len(begun[name]) == 1:
+                        begun[name].append(int(words[1]))
                 elif word == "entry":
                     entries[words[0]] = name, int(words[1]), words[2]
                 elif word == "begin":
@@ -186,16 +191,16 @@ class Run:
 
         last = Counter({name: version for name, version, _ in (entries[it] for it in reversed(chain))})
         for name, version in acked.items():
-            assert last[name] >= version, f"{name} was told that the broker has {version}, and it has {last[name]}"
+            assert last[name] >= version, f"the broker has not version {version}, which {name} waited for"
         for name, (digest, *found) in begun.items():
             assert digest in on_chain, f"{name} began at {digest}, which is not on the chain"
-            assert not found or found[0] == state_at(digest), f"{name} began with other tables than those at {digest}"
+            assert not found or found[0] == state_at(digest), f"{name} began with other tables than {digest}"
         self.shown = 0
         for name in FOLLOWERS:
             for digest, version, found in self.lines(f"{name}.follower"):
                 assert digest in on_chain, f"{name} showed {digest}, which is not on the chain"
                 assert int(version) == entries[digest][1], f"{name} showed {digest} as version {version}"
-                assert int(found) == state_at(digest), f"{name} showed other tables than the leader had at {version}"
+                assert int(found) == state_at(digest), f"{name} showed other tables than those of {version}"
                 self.shown += 1
         assert self.shown > 0 and chain, "nothing was shown"
         self.entries = len(chain)
@@ -235,7 +240,8 @@ def main() -> int:
             passed, failed = passed + (why is None), failed + (why is not None)
             if why:
                 print(f"run {works[work]}: {why}", flush=True)
-    print(f"in {time.monotonic() - began:.0f} seconds: " + ", ".join(f"{n} {what}" for what, n in sorted(done.items())))
+    counts = ", ".join(f"{count} {what}" for what, count in sorted(done.items()))
+    print(f"in {time.monotonic() - began:.0f} seconds: {counts}")
     print(f"{passed} passed, {failed} failed")
     return 1 if failed else 0
 

@@ -59,8 +59,8 @@ class RedisServer:
 
     def start(self) -> None:
         """Starts it, and waits until it listens."""
-        words = ["redis-server", "--port", self.port, "--bind", "127.0.0.1", "--dir", self.folder, "--save", "",
-                 "--appendonly", "yes", "--appendfsync", self.fsync]
+        words = ["redis-server", "--port", self.port, "--bind", "127.0.0.1", "--dir", self.folder,
+                 "--save", "", "--appendonly", "yes", "--appendfsync", self.fsync]
         self.process = subprocess.Popen([str(word) for word in words], stdout=subprocess.DEVNULL)
         until(lambda: not is_free(self.port), 20)
 
@@ -84,5 +84,5 @@ def until(is_so, seconds: float, pause: float = 0.01) -> None:
     end = time.monotonic() + seconds
     while not is_so():
         if time.monotonic() > end:
-            raise AssertionError(f"not so after {seconds} seconds: {getattr(is_so, '__doc__', None) or is_so}")
+            raise AssertionError(f"not so after {seconds} seconds: {is_so}")
         time.sleep(pause)

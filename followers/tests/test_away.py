@@ -1,4 +1,5 @@
-"""A broker that is away for a minute, or for as many seconds as the environment variable FOLLOWERS_AWAY has."""
+"""A broker that is away for a minute, or for as many seconds as the environment variable FOLLOWERS_AWAY
+has."""
 import os
 import threading
 import time
@@ -65,8 +66,8 @@ class Away(StreamCase):
             found = [row.values for row in leader.server.scan("t")]
             self.assertEqual([row.values for row in followers[0].target.server.scan("t")], found)
             self.assertEqual(followers[1].target._database.execute("SELECT * FROM t ORDER BY c0"), found)
-            print(f"\nthe broker was away for {SECONDS:.0f} s: {count} commits, memory grew by {grown // 1024} kB, "
-                  f"{entries} entries in all")
+            print(f"\nthe broker was away for {SECONDS:.0f} s: {count} commits, "
+                  f"memory grew by {grown // 1024} kB, {entries} entries in all")
         finally:
             retry.stop.set()
             for thread in threads:

@@ -20,8 +20,8 @@ class CommandCase(StreamCase):
 
     def command(self, name, *words, url=None, **how):
         """A process of a command."""
-        words = [sys.executable, "-m", f"changecap_followers.{name}", *map(str, words), "--stream", self.broker.name,
-                 url or self.url]
+        words = [sys.executable, "-m", f"changecap_followers.{name}", *map(str, words),
+                 "--stream", self.broker.name, url or self.url]
         process = subprocess.Popen(words, env=support.environment(), text=True, stdin=subprocess.PIPE,
                                    stdout=subprocess.PIPE, stderr=subprocess.PIPE, **how)
         self.addCleanup(self.end, process)
@@ -74,29 +74,32 @@ class Commands(CommandCase):
         self.assertEqual(self.ran("publish", url="nothing://localhost")[0], 2)
 
     def test_from_a_leader_to_a_database(self):
-        status, printed, logged = self.ran("publish", "--wait", given="create t kv\n# a comment\n\n"
-                                           "commit insert t (1,'x') ; insert t (2,null)\ncommit delete t key(2)\n")
+        given = ("create t kv\n# a comment\n\n"
+                 "commit insert t (1,'x') ; insert t (2,null)\ncommit delete t key(2)\n")
+        status, printed, logged = self.ran("publish", "--wait", given=given)
         self.assertEqual(status, 0, logged)
         self.assertRegex(printed, r"\A(ok version \d+\n){3}\Z")
         self.assertEqual(self.ran("follow", "--sqlite", f"{self.folder}/f.db", "--once")[0], 0)
         self.assertEqual(self.rows(), [(1, "x")])
         # Another leader goes on, and so does the follower. The last line has no line feed.
         self.assertEqual(self.ran("publish", given="commit update t key(1) set 1 = 'y'")[0], 0)
-        self.assertEqual(self.ran("follow", "--sqlite", f"{self.folder}/f.db", "--once", "--one-by-one")[0], 0)
+        words = "--sqlite", f"{self.folder}/f.db", "--once", "--one-by-one"
+        self.assertEqual(self.ran("follow", *words)[0], 0)
         self.assertEqual(self.rows(), [(1, "y")])
 
     def test_what_a_leader_refuses(self):
-        status, printed, _ = self.ran("publish", given="session\nrestart 1\ncreate t vv\ncreate t kv\ncreate t kv\n"
-                                      "commit insert t (1)\nnothing\ncommit insert\n")
-        self.assertEqual(status, 0)
-        lines = printed.splitlines()
-        self.assertEqual(len(lines), 8)
-        for line, begin in zip(lines, ("a leader takes", "a leader takes", "the table t has no key", "ok version",
-                                       "refused: E9", "refused at 0: E3", "a leader takes", "not one command")):
-            self.assertTrue(line.startswith(begin), (line, begin))
+        lines = (("session", "a leader takes"), ("restart 1", "a leader takes"),
+                 ("create t vv", "the table t has no key"), ("create t kv", "ok version"),
+                 ("create t kv", "refused: E9"), ("commit insert t (1)", "refused at 0: E3"),
+                 ("nothing", "a leader takes"), ("commit insert", "not one command"))
+        status, printed, _ = self.ran("publish", given="\n".join(line for line, _ in lines))
+        self.assertEqual((status, len(printed.splitlines())), (0, len(lines)))
+        for reply, (line, begin) in zip(printed.splitlines(), lines):
+            self.assertTrue(reply.startswith(begin), (line, reply))
 
     def test_a_server_that_follows(self):
-        leader, follower = self.command("publish", "--wait"), self.command("follow", "--server", "--progress", "0.1")
+        leader = self.command("publish", "--wait")
+        follower = self.command("follow", "--server", "--progress", "0.1")
         self.assertRegex(self.said(leader, "create t kv"), "ok version")
         self.said(leader, "commit insert t (1,'x')")
         support.until(lambda: self.said(follower, "get t key(1)") == "row (1,'x')", 10)
@@ -111,7 +114,8 @@ class Commands(CommandCase):
         for number in signal.SIGTERM, signal.SIGINT:
             leader = self.command("publish", "--progress", "0.1", "--wait")
             self.said(leader, "create t kv")
-            followers = [self.command("follow", "--server"), self.command("follow", "--sqlite", f"{self.folder}/f.db")]
+            targets = ["--server"], ["--sqlite", f"{self.folder}/f.db"]
+            followers = [self.command("follow", *words) for words in targets]
             for process in followers:
                 self.assertIn("follows from", process.stderr.readline())
             self.said(leader, f"commit insert t ({number},'x')")

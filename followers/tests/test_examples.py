@@ -4,8 +4,8 @@ import unittest
 
 import support  # noqa: F401 - the path of the package
 from stream_case import StreamCase
-from changecap_followers import (PLACE_TABLE, Follower, Leader, Overtaken, RedisBroker, Retry, ServerTarget, Snapshots,
-                                 SqliteTarget, Stopped)
+from changecap_followers import (PLACE_TABLE, Follower, Leader, Overtaken, RedisBroker, Retry, ServerTarget,
+                                 Snapshots, SqliteTarget, Stopped)
 
 
 class Examples(StreamCase):

@@ -7,8 +7,8 @@ from unittest import mock
 import support  # noqa: F401 - the path of the package
 import changecap
 from stream_case import StreamCase
-from changecap_followers import (Captured, Follower, Leader, Overtaken, Publisher, Retry, ServerTarget, Snapshots,
-                                 Stopped, Unavailable)
+from changecap_followers import (Captured, Follower, Leader, Overtaken, Publisher, Retry, ServerTarget,
+                                 Snapshots, Stopped, Unavailable)
 from changecap_followers.combine import concatenation, snapshot_at_head
 from changecap_followers.entry import START
 
@@ -93,7 +93,8 @@ class Leading(StreamCase):
         self.assertEqual([row.values for row in target.server.scan("t")], [(1, "of one"), (2, "of one")])
 
     def test_one_that_stood_still_is_refused(self):
-        """The first leader is cut off with a commit that it has not published; another one leads meanwhile."""
+        """The first leader is cut off with a commit that it has not published; another one leads
+        meanwhile."""
         one = self.lead()
         with mock.patch.object(self.broker, "publish", side_effect=Unavailable("cut off")):
             version = one.server.commit(("insert", "t", (1, "of one")))
@@ -144,7 +145,8 @@ class Leading(StreamCase):
     def test_waiting_for_the_broker_is_told_to_stop(self):
         retry = Retry()
         threading.Timer(0.2, retry.stop.set).start()
-        with mock.patch.object(self.broker, "read", side_effect=Unavailable("away")), self.assertRaises(Stopped):
+        with mock.patch.object(self.broker, "read", side_effect=Unavailable("away")), \
+                self.assertRaises(Stopped):
             Leader(self.broker, retry=retry)
 
     def test_out_of_memory(self):
@@ -170,9 +172,9 @@ class Leading(StreamCase):
 
     def test_out_of_memory_while_an_entry_is_sent(self):
         leader, publish = self.lead(), self.broker.publish
+        answers = [MemoryError, Unavailable("away"), mock.DEFAULT]
         with mock.patch("changecap_followers.publisher._MEMORY_SECONDS", 0.01), \
-                mock.patch.object(self.broker, "publish", side_effect=[MemoryError, Unavailable("away"), mock.DEFAULT],
-                                  wraps=publish):
+                mock.patch.object(self.broker, "publish", side_effect=answers, wraps=publish):
             self.publish(leader, ("insert", "t", (1, "x")))
         target = ServerTarget()
         Follower(self.broker, target).catch_up()

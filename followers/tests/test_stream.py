@@ -11,7 +11,8 @@ from changecap_followers import START, Entry, Overtaken, Place, Poisoned, RedisB
 from changecap_followers.tables import headers, tables_of, varint
 
 
-def entry(before: Place = START, version: int = 1, changeset: bytes = b"changes", publisher: str = "a") -> Entry:
+def entry(before: Place = START, version: int = 1, changeset: bytes = b"changes",
+          publisher: str = "a") -> Entry:
     return Entry.made(before, version, 1000, publisher, b"tables", changeset)
 
 
@@ -71,7 +72,8 @@ class Stream(StreamCase):
         for it in one, two:
             self.broker.publish(it)
         ghosts = (entry(publisher="b"), entry(START, 2), one, entry(one.after, 2, publisher="b"),
-                  entry(Place(2, 2, one.digest), 3), entry(Place(2, 3, two.digest), 4), entry(Place(3, 2, two.digest), 4))
+                  entry(Place(2, 2, one.digest), 3), entry(Place(2, 3, two.digest), 4),
+                  entry(Place(3, 2, two.digest), 4))
         for ghost in ghosts:
             with self.assertRaises(Overtaken):
                 self.broker.publish(ghost)
@@ -116,7 +118,8 @@ class Stream(StreamCase):
 
     def test_snapshots(self):
         self.assertIsNone(self.broker.snapshot())
-        made = [Snapshot.made(Place(number, number, "d"), b"tables", bytes([number]) * number) for number in range(1, 4)]
+        made = [Snapshot.made(Place(number, number, "d"), b"tables", bytes([number]) * number)
+                for number in range(1, 4)]
         for it in made[1], made[0], made[2], made[2]:
             self.broker.publish_snapshot(it)
             self.assertEqual(self.broker.snapshot(), made[2] if it is made[2] else made[1])

@@ -16,7 +16,8 @@ class Types(unittest.TestCase):
         with tempfile.TemporaryDirectory() as folder:
             words = ["mypy", "--config-file", f"{FOLLOWERS}/pyproject.toml", f"--cache-dir={folder}",
                      f"{SOURCES}/changecap_followers"]
-            environment = {**os.environ, "MYPYPATH": os.path.join(FOLLOWERS, "..", "bindings", "python", "src")}
+            package = os.path.join(FOLLOWERS, "..", "bindings", "python", "src")
+            environment = {**os.environ, "MYPYPATH": package}
             ran = subprocess.run(words, capture_output=True, text=True, check=False, env=environment)
         self.assertEqual(ran.returncode, 0, ran.stdout + ran.stderr)
 

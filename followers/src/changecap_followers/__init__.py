@@ -1,4 +1,5 @@
-"""Followers of a changecap server: its changes become the entries of a stream, and copies elsewhere apply them.
+"""Followers of a changecap server: its changes become the entries of a stream, and copies elsewhere apply
+them.
 
     from changecap_followers import Follower, Leader, RedisBroker, ServerTarget
 
@@ -26,8 +27,10 @@ from .sqlite_target import SqliteTarget
 from .tables import PLACE_TABLE
 from .target import Target
 
-__all__ = ["PLACE_TABLE", "START", "Broker", "Captured", "Entry", "Follower", "Leader", "Overtaken", "Place", "Poisoned", "Publisher",
-           "RedisBroker", "Retry", "ServerTarget", "Snapshot", "Snapshots", "Source", "SqliteTarget", "Stopped",
-           "Target", "Unavailable"]
+__all__ = [
+    "PLACE_TABLE", "START", "Broker", "Captured", "Entry", "Follower", "Leader", "Overtaken", "Place",
+    "Poisoned", "Publisher", "RedisBroker", "Retry", "ServerTarget", "Snapshot", "Snapshots", "Source", "SqliteTarget",
+    "Stopped", "Target", "Unavailable",
+]
 
 logging.getLogger(__name__).addHandler(logging.NullHandler())

@@ -16,6 +16,7 @@ from .redis_broker import RedisBroker
 from .retry import Stopped
 
 DONE, FAILED, USAGE, OVERTAKEN, POISONED, UNPUBLISHED = 0, 1, 2, 3, 4, 5
+_LEVELS = "DEBUG", "INFO", "WARNING", "ERROR"
 _READ = 65536
 
 
@@ -24,11 +25,12 @@ def parser(name: str, about: str, statuses: str) -> argparse.ArgumentParser:
     made = argparse.ArgumentParser(prog=name, description=about, epilog=f"exit status: {statuses}",
                                    formatter_class=argparse.RawDescriptionHelpFormatter)
     made.add_argument("url", metavar="URL", help="the broker, as redis://localhost:6379/0")
-    made.add_argument("--stream", metavar="NAME", default="changecap", help="the name of the stream (changecap)")
+    made.add_argument("--stream", metavar="NAME", default="changecap",
+                      help="the name of the stream (changecap)")
     made.add_argument("--progress", metavar="SECONDS", type=float, default=10,
                       help="how often a line of progress is logged, or 0 (10)")
-    made.add_argument("--log-level", metavar="LEVEL", default="INFO",
-                      choices=("DEBUG", "INFO", "WARNING", "ERROR"), help="DEBUG, INFO, WARNING or ERROR (INFO)")
+    made.add_argument("--log-level", metavar="LEVEL", default="INFO", choices=_LEVELS,
+                      help="DEBUG, INFO, WARNING or ERROR (INFO)")
     return made
 
 
@@ -42,11 +44,13 @@ def broker_of(arguments: argparse.Namespace, options: argparse.ArgumentParser) -
 
 def set_up_log(arguments: argparse.Namespace) -> None:
     """Logs to standard error, a line each."""
-    logging.basicConfig(level=arguments.log_level, format="%(asctime)s %(levelname)s %(message)s", stream=sys.stderr)
+    logging.basicConfig(level=arguments.log_level, format="%(asctime)s %(levelname)s %(message)s",
+                        stream=sys.stderr)
 
 
 class Ending:
-    """What ends a command: SIGTERM or SIGINT, or a call of `end`. `stop` is set then, and `lines` has no more."""
+    """What ends a command: SIGTERM or SIGINT, or a call of `end`. `stop` is set then, and `lines` has no
+    more."""
 
     def __init__(self) -> None:
         self.stop = threading.Event()
@@ -93,5 +97,6 @@ def status_of(work: Callable[[], int]) -> int:
         logging.error("%s", error)
         return POISONED
     except Exception as error:  # noqa: BLE001 - the one place where any failure becomes a status
-        logging.error("%s: %s", type(error).__name__, error, exc_info=logging.getLogger().isEnabledFor(logging.DEBUG))
+        is_detailed = logging.getLogger().isEnabledFor(logging.DEBUG)
+        logging.error("%s: %s", type(error).__name__, error, exc_info=is_detailed)
         return FAILED

@@ -17,8 +17,9 @@ def digest_of(*parts: bytes | str | int) -> str:
 
 @dataclass(frozen=True)
 class Place:
-    """Where a stream is behind an entry: the number of the entry, from 1 on, the version of the tables to which it
-    leads, and its digest. The digest covers that of the entry before, so it names all of the stream up to there."""
+    """Where a stream is behind an entry: the number of the entry, from 1 on, the version of the tables to
+    which it leads, and its digest. The digest covers that of the entry before, so it names all of the stream
+    up to there."""
 
     number: int = 0
     version: int = 0
@@ -34,8 +35,9 @@ START = Place()
 
 @dataclass(frozen=True)
 class Entry:
-    """An entry of a stream: the changes from the tables at one place to those at the next. `tables` has a header for
-    each table that is published (tables.py), `time` the milliseconds of the leader's clock at the capture."""
+    """An entry of a stream: the changes from the tables at one place to those at the next. `tables` has a
+    header for each table that is published (tables.py), `time` the milliseconds of the leader's clock at the
+    capture."""
 
     before: Place
     version: int
@@ -46,7 +48,8 @@ class Entry:
     digest: str
 
     @classmethod
-    def made(cls, before: Place, version: int, time: int, publisher: str, tables: bytes, changeset: bytes) -> Entry:
+    def made(cls, before: Place, version: int, time: int, publisher: str, tables: bytes,
+             changeset: bytes) -> Entry:
         """An entry with its digest."""
         entry = cls(before, version, time, publisher, tables, changeset, "")
         return cls(before, version, time, publisher, tables, changeset, entry.own_digest())
@@ -82,7 +85,8 @@ class Snapshot:
 
     def own_digest(self) -> str:
         """The digest that the snapshot should have."""
-        return digest_of(self.place.number, self.place.version, self.place.digest, self.tables, self.changeset)
+        return digest_of(self.place.number, self.place.version, self.place.digest, self.tables,
+                         self.changeset)
 
     def is_whole(self) -> bool:
         """Whether every byte is as it was when the snapshot was made."""

@@ -19,10 +19,11 @@ from .target import Target
 log = logging.getLogger(__name__)
 _ABOUT = """Follows a stream: a database of SQLite, or a server in memory, has the tables of the leader.
 
-With --server the lines of standard input are answered from its tables: get and scan, as `changecap shell` takes them.
-SIGTERM and SIGINT end it, between two transactions, and so does the end of the input with --server."""
-_STATUSES = """0 it was ended, or has caught up with --once; 1 it failed; 2 the command line is wrong; 4 an entry or the
-snapshot cannot be applied, and the tables stay as they are"""
+With --server the lines of standard input are answered from its tables: get and scan, as `changecap shell`
+takes them. SIGTERM and SIGINT end it, between two transactions, and so does the end of the input with
+--server."""
+_STATUSES = """0 it was ended, or has caught up with --once; 1 it failed; 2 the command line is wrong; 4 an
+entry or the snapshot cannot be applied, and the tables stay as they are"""
 
 
 def options() -> argparse.ArgumentParser:
@@ -32,7 +33,8 @@ def options() -> argparse.ArgumentParser:
     target.add_argument("--sqlite", metavar="FILE", help="keep the tables in this database of SQLite")
     target.add_argument("--server", action="store_true", help="keep the tables in a server in memory")
     made.add_argument("--once", action="store_true", help="end when it has caught up")
-    made.add_argument("--one-by-one", action="store_true", help="apply each entry by itself, and concatenate none")
+    made.add_argument("--one-by-one", action="store_true",
+                      help="apply each entry by itself, and concatenate none")
     return made
 
 
@@ -47,7 +49,8 @@ def answer(target: ServerTarget, line: str) -> str:
 
 
 def answer_lines(target: ServerTarget, follower: Follower, ending: Ending) -> None:
-    """Follows on a thread of its own, and answers the lines of standard input. Raises what ends the following."""
+    """Follows on a thread of its own, and answers the lines of standard input. Raises what ends the
+    following."""
     failed = list[Exception]()
 
     def follow() -> None:

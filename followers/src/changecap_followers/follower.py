@@ -17,9 +17,9 @@ WAIT_SECONDS = 0.5
 
 
 class Follower:
-    """Brings the tables of a target on from place to place of a stream, and shows no others. Entries that wait are
-    concatenated and applied as one; with `one_by_one` each is applied by itself. `shown` is called with the place
-    behind each step."""
+    """Brings the tables of a target on from place to place of a stream, and shows no others. Entries that
+    wait are concatenated and applied as one; with `one_by_one` each is applied by itself. `shown` is called
+    with the place behind each step."""
 
     def __init__(self, broker: Broker, target: Target, one_by_one: bool = False,
                  shown: Callable[[Place], None] | None = None) -> None:
@@ -34,11 +34,12 @@ class Follower:
         return self.target.place()
 
     def step(self, seconds: float = 0) -> bool:
-        """Applies what waits, at most so many entries as are read at once, or begins with the snapshot again where
-        entries are missing. Where nothing waits, it waits so long for an entry. Answers whether anything was done.
-        Poisoned is raised where an entry cannot be applied: all before it is."""
+        """Applies what waits, at most so many entries as are read at once, or begins with the snapshot again
+        where entries are missing. Where nothing waits, it waits so long for an entry. Answers whether
+        anything was done. Poisoned is raised where an entry cannot be applied: all before it is."""
         found = self._read(seconds)
-        entries = [entry for entry in found if entry.after.number > self.place.number]  # an entry may come twice
+        # An entry may come twice.
+        entries = [entry for entry in found if entry.after.number > self.place.number]
         if not entries:
             return self._look_at_head()
         self._choose_count(entries)
@@ -46,14 +47,15 @@ class Follower:
         if whole:
             self._apply(whole)
         elif not entries[0].is_whole():
-            raise Poisoned(f"entry {entries[0].after.number}, version {entries[0].version}: its bytes are not those "
-                           f"that were published; the tables stay at {self.place}")
+            raise Poisoned(f"{entries[0].after}: its bytes are not those that were published; the tables "
+                           f"stay at {self.place}")
         else:
             self._begin_again(f"entry {entries[0].after.number} does not follow {self.place}")
         return True
 
     def catch_up(self, retry: Retry | None = None) -> Place:
-        """Applies all that waits, and answers the place: that of the stream's head at a moment since the call."""
+        """Applies all that waits, and answers the place: that of the stream's head at a moment since the
+        call."""
         retry = retry or Retry()
         while retry.until_done(self.step):
             pass
@@ -83,8 +85,8 @@ class Follower:
             self._count = min(_COUNT, self._count * 2)
 
     def _that_follow(self, entries: list[Entry]) -> list[Entry]:
-        """The first entries, as long as each is whole and follows the one before it, and the first the tables. Each has
-        the tables of the one before it, and may have more."""
+        """The first entries, as long as each is whole and follows the one before it, and the first the
+        tables. Each has the tables of the one before it, and may have more."""
         place, found = self.place, list[Entry]()
         for entry in entries:
             has_tables = not found or entry.tables.startswith(found[-1].tables)
@@ -95,7 +97,8 @@ class Follower:
         return found
 
     def _apply(self, entries: list[Entry]) -> None:
-        """Applies entries together. Where they cannot be, each is applied by itself, up to the one that cannot."""
+        """Applies entries together. Where they cannot be, each is applied by itself, up to the one that
+        cannot."""
         steps = [[entry] for entry in entries] if self.one_by_one else [entries]
         try:
             for step in steps:
@@ -111,8 +114,7 @@ class Follower:
         try:
             self.target.apply([entry.changeset for entry in entries], last.tables, last.after)
         except Poisoned as error:
-            raise Poisoned(f"entry {entries[0].after.number}, version {entries[0].version}: {error}; the tables stay "
-                           f"at {self.place}") from None
+            raise Poisoned(f"{entries[0].after}: {error}; the tables stay at {self.place}") from None
         self.applied += len(entries)
         self._show()
 
@@ -136,8 +138,8 @@ class Follower:
         if snapshot.place == self.place:
             raise Poisoned(f"{why}, and the snapshot is no newer")
         if not snapshot.is_whole():
-            raise Poisoned(f"the snapshot of {snapshot.place}: its bytes are not those that were published; the tables "
-                           f"stay at {self.place}")
+            raise Poisoned(f"the snapshot of {snapshot.place}: its bytes are not those that were published; "
+                           f"the tables stay at {self.place}")
         level = logging.INFO if self.place == EMPTY.place else logging.WARNING
         log.log(level, "begins with the snapshot of %s: %s", snapshot.place, why)
         self.target.replace(snapshot)

@@ -20,12 +20,13 @@ log = logging.getLogger(__name__)
 
 
 class Leader:
-    """A server that has what the stream has, and whose changes are published from then on. Only the tables that
-    `ensure_table` has made are.
+    """A server that has what the stream has, and whose changes are published from then on. Only the tables
+    that `ensure_table` has made are.
 
-    `target` is that of a follower that is to lead now and follows no more, else a fresh one. It waits for the broker at first, as `retry`
-    says. `failed` is called where the publisher may not go on. Any thread may call the server and `wait`.
-    """
+    `target` is that of a follower that is to lead now and follows no more, else a fresh one. It waits for the
+    broker at first, as `retry` says. `failed` is called where the publisher may not go on. Any thread may
+    call the server and `wait`.
+"""
 
     def __init__(self, broker: Broker, target: ServerTarget | None = None, interval: float = 0.001,
                  name: str | None = None, snapshots: Snapshots | None = None, retry: Retry | None = None,
@@ -47,8 +48,8 @@ class Leader:
             thread.start()
 
     def ensure_table(self, table: str, key: Iterable[bool]) -> int:
-        """Creates a table that is published, unless it is there, and answers the version. Call it before others write
-        into the table."""
+        """Creates a table that is published, unless it is there, and answers the version. Call it before
+        others write into the table."""
         key = tuple(bool(is_key) for is_key in key)
         with self._lock:
             if table in self.tables:
@@ -65,16 +66,17 @@ class Leader:
             return version
 
     def wait(self, version: int, seconds: float | None = None) -> bool:
-        """Waits until the broker has all that was committed up to a version of the server, as `commit` answers it, at
-        most so long. Answers whether it has. Call it before a client is told that its commit is done. Overtaken is
-        raised where another publisher has written: this leader's commits since its last entry are lost. A version that
-        is not committed yet is a ValueError."""
+        """Waits until the broker has all that was committed up to a version of the server, as `commit`
+        answers it, at most so long. Answers whether it has. Call it before a client is told that its commit
+        is done. Overtaken is raised where another publisher has written: this leader's commits since its last
+        entry are lost. A version that is not committed yet is a ValueError."""
         if version > self.server.snapshot().version:
             raise ValueError(f"version {version} is not committed yet")
         return self.publisher.wait(version + self._offset, seconds)
 
     def stream_version(self, version: int) -> int:
-        """The version in the stream of a version of the server. That of a leader goes on where the one before ended."""
+        """The version in the stream of a version of the server. That of a leader goes on where the one before
+        ended."""
         return version + self._offset
 
     def has_changes(self) -> bool:
@@ -100,14 +102,15 @@ class Leader:
                 return capture
 
     def close(self, seconds: float = 10) -> bool:
-        """Waits at most so long until all is published, and stops publishing. Answers whether all is. The server stays
-        open."""
+        """Waits at most so long until all is published, and stops publishing. Answers whether all is. The
+        server stays open."""
         try:
             is_published = self.wait(self.server.snapshot().version, seconds)
         finally:
             self.stop()
         if not is_published:
-            log.error("ended before all was published: version %d is the last that is", self.publisher.acknowledged)
+            log.error("ended before all was published: version %d is the last that is",
+                      self.publisher.acknowledged)
         return is_published
 
     def stop(self) -> None:

@@ -14,8 +14,8 @@ log = logging.getLogger(__name__)
 
 
 class Progress(threading.Thread):
-    """Logs a line every so many seconds until it is told to stop. The line is made by a function of the seconds since
-    the one before."""
+    """Logs a line every so many seconds until it is told to stop. The line is made by a function of the
+    seconds since the one before."""
 
     def __init__(self, line: Callable[[float], str], seconds: float, stop: threading.Event) -> None:
         super().__init__(name="progress", daemon=True)
@@ -30,8 +30,8 @@ class Progress(threading.Thread):
 
 
 def lag(broker: Broker, number: int) -> tuple[int, float]:
-    """How many entries are behind that of a number, and for how many seconds the first of them has been there, by the
-    clocks of both machines."""
+    """How many entries are behind that of a number, and for how many seconds the first of them has been
+    there, by the clocks of both machines."""
     entries = broker.head().number - number
     waiting = broker.read(number, 1) if entries > 0 else []
     return entries, max(0.0, time.time() - waiting[0].time / 1000) if waiting else 0.0
@@ -57,7 +57,8 @@ def follower_line(follower: Follower) -> Callable[[float], str]:
 
 
 def leader_line(leader: Leader) -> Callable[[float], str]:
-    """The line of a leader: its version, how much of it the broker does not have yet, and how fast it publishes."""
+    """The line of a leader: its version, how much of it the broker does not have yet, and how fast it
+    publishes."""
     publisher = leader.publisher
     before = publisher.entries, publisher.bytes
 

@@ -18,11 +18,13 @@ from .snapshots import Snapshots
 log = logging.getLogger(__name__)
 _ABOUT = """A changecap server whose changes are published to a stream.
 
-It begins with what the stream has, and carries out the commands create, commit, commitat, apply, get and scan on
-standard input, a line each, as `changecap shell` does. Each reply is printed at once, or with --wait when the broker
-has its commit. At the end of the input, at SIGTERM and at SIGINT it publishes what is left, and ends."""
-_STATUSES = """0 all is published; 1 it failed; 2 the command line is wrong; 3 another publisher has written, or the
-stream has lost entries; 4 what the stream has cannot be applied; 5 it ended before all was published"""
+It begins with what the stream has, and carries out the commands create, commit, commitat, apply, get and
+scan on standard input, a line each, as `changecap shell` does. Each reply is printed at once, or with --wait
+when the broker has its commit. At the end of the input, at SIGTERM and at SIGINT it publishes what is left,
+and ends."""
+_STATUSES = """0 all is published; 1 it failed; 2 the command line is wrong; 3 another publisher has written,
+or the stream has lost entries; 4 what the stream has cannot be applied; 5 it ended before all was
+published"""
 _CREATE = re.compile(r" *create +([A-Za-z_]\w*) +([kv]+) *$", re.A)
 _COMMANDS = "create", "commit", "commitat", "apply", "get", "scan"
 # How long it waits for the broker until it looks whether it is ended.
@@ -66,14 +68,15 @@ def is_published(leader: Leader, version: int, ending: Ending) -> bool:
 
 def serve(arguments: argparse.Namespace, broker: RedisBroker, ending: Ending) -> int:
     """Carries out the commands of standard input, and answers the exit status."""
-    snapshots = Snapshots(broker, arguments.snapshot_every, arguments.keep) if arguments.snapshot_every else None
+    every = arguments.snapshot_every
+    snapshots = Snapshots(broker, every, arguments.keep) if every else None
     retry = Retry(ending.stop)
     keeps_all = retry.until_done(broker.keeps_all)
     leader = Leader(broker, snapshots=snapshots, retry=retry, failed=ending.end)
     log.info("leads from %s on", leader.publisher.place)
     if not keeps_all:
-        log.warning("the broker does not keep each entry on its disk (appendonly yes, appendfsync always): it may lose "
-                    "entries that it has acknowledged")
+        log.warning("the broker does not keep each entry on its disk (appendonly yes, appendfsync always): "
+                    "it may lose entries that it has acknowledged")
     if arguments.progress:
         Progress(leader_line(leader), arguments.progress, ending.stop).start()
     try:

@@ -32,13 +32,14 @@ class Source(Protocol):
         """Whether anything has changed since the last capture."""
 
     def capture(self) -> Captured:
-        """What has changed since the last capture, in one step with the version. It is not in the next one."""
+        """What has changed since the last capture, in one step with the version. It is not in the next
+        one."""
 
 
 class Publisher:
-    """Captures, publishes and waits for the broker, in turn: what is committed meanwhile is one entry. `acknowledged`
-    is the version up to which the broker has all changes. It looks for changes every `interval` seconds. `failed` is
-    called where it may not go on."""
+    """Captures, publishes and waits for the broker, in turn: what is committed meanwhile is one entry.
+    `acknowledged` is the version up to which the broker has all changes. It looks for changes every
+    `interval` seconds. `failed` is called where it may not go on."""
 
     def __init__(self, broker: Broker, source: Source, place: Place, interval: float = 0.001,
                  name: str | None = None, failed: Callable[[], None] | None = None) -> None:
@@ -57,8 +58,8 @@ class Publisher:
             if not (self.source.has_changes() or self._wanted > self.acknowledged):
                 return False
             captured = self.source.capture()
-            entry = Entry.made(self.place, captured.version, int(1000 * time.time()), self.name, captured.tables,
-                               captured.changeset)
+            entry = Entry.made(self.place, captured.version, int(1000 * time.time()), self.name,
+                               captured.tables, captured.changeset)
             # From here on it may have been written, and no other one takes its place.
             self._waiting = entry
         whole = entry
@@ -97,8 +98,8 @@ class Publisher:
             return True
 
     def wait(self, version: int, seconds: float | None = None) -> bool:
-        """Waits until the broker has all changes up to a version that is committed, at most so long. Answers whether it
-        has. Raises what has ended the publisher, Overtaken above all."""
+        """Waits until the broker has all changes up to a version that is committed, at most so long. Answers
+        whether it has. Raises what has ended the publisher, Overtaken above all."""
         with self._changed:
             self._wanted = max(self._wanted, version)
             self._hurry.set()

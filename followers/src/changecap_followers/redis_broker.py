@@ -27,10 +27,11 @@ LIMIT = 512 * 1024 * 1024
 # How long the pieces of a snapshot stay that is not finished.
 UNFINISHED_SECONDS = 3600
 # Refusals that end by themselves, or once someone has seen to the broker.
-PASSING = "OOM", "LOADING", "READONLY", "MISCONF", "BUSY", "MASTERDOWN", "CLUSTERDOWN", "TRYAGAIN", "NOREPLICAS"
+PASSING = ("OOM", "LOADING", "READONLY", "MISCONF", "BUSY", "MASTERDOWN", "CLUSTERDOWN", "TRYAGAIN",
+           "NOREPLICAS")
 
-# Appends an entry behind the place that it is made for. It answers nothing, or the place of the head where that is
-# neither this place nor the one behind the entry.
+# Appends an entry behind the place that it is made for. It answers nothing, or the place of the head where
+# that is neither this place nor the one behind the entry.
 PUBLISH = """
 local head = redis.call('HMGET', KEYS[2], 'number', 'version', 'digest')
 local place = {head[1] or '0', head[2] or '0', head[3] or ''}
@@ -77,12 +78,14 @@ class RedisBroker:
     def __init__(self, url: str, name: str = "changecap", timeout: float = 5) -> None:
         self.name, self._timeout = name, timeout
         self._redis = redis.Redis.from_url(url, socket_timeout=timeout, socket_connect_timeout=timeout)
-        self._entries, self._head, self._shown = (f"{{{name}}}:{key}" for key in ("entries", "head", "snapshot"))
+        self._entries, self._head = f"{{{name}}}:entries", f"{{{name}}}:head"
+        self._shown = f"{{{name}}}:snapshot"
         self._publish = self._redis.register_script(PUBLISH)
         self._show_snapshot = self._redis.register_script(SHOW_SNAPSHOT)
 
     def keeps_all(self) -> bool:
-        """Whether an acknowledged entry is on the broker's disk. A broker that does not say so is taken not to."""
+        """Whether an acknowledged entry is on the broker's disk. A broker that does not say so is taken not
+        to."""
         with _failures():
             try:
                 told = self._redis.config_get("append*")
@@ -98,7 +101,8 @@ class RedisBroker:
     def publish(self, entry: Entry) -> None:
         before, after = entry.before, entry.after
         if len(entry.changeset) > LIMIT:
-            raise ValueError(f"entry {after.number} has {len(entry.changeset)} bytes, and Redis takes {LIMIT}")
+            size = len(entry.changeset)
+            raise ValueError(f"entry {after.number} has {size} bytes, and Redis takes {LIMIT}")
         with _failures():
             at = self._publish(
                 keys=[self._entries, self._head],
@@ -106,8 +110,8 @@ class RedisBroker:
                       entry.time, entry.publisher, entry.tables, entry.changeset])
         if at:
             number, version, _ = (it.decode() for it in at)
-            raise Overtaken(f"the stream {self.name} is at entry {number}, version {version}, which is not {before} "
-                            "of this publisher: another one has written, or entries are lost")
+            raise Overtaken(f"the stream {self.name} is at entry {number}, version {version}, which is not "
+                            f"{before} of this publisher: another one has written, or entries are lost")
 
     def read(self, number: int, count: int, seconds: float = 0) -> list[Entry]:
         # The connection waits no longer for an answer than its timeout.
@@ -154,7 +158,7 @@ def _entry_of(at: bytes, fields: dict[bytes, bytes]) -> Entry:
         return Entry(before, int(fields[b"version"]), int(fields[b"time"]), fields[b"publisher"].decode(),
                      fields[b"tables"], fields[b"changeset"], fields[b"digest"].decode())
     except (KeyError, ValueError) as error:
-        raise Poisoned(f"entry {at.decode()} of the stream has not the fields of an entry: {error!r}") from None
+        raise Poisoned(f"entry {at.decode()} has not the fields of an entry: {error!r}") from None
 
 
 def _snapshot_of(shown: dict[bytes, bytes], pieces: list[Any]) -> Snapshot:

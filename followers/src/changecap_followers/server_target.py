@@ -15,9 +15,9 @@ _PLACE_KEY = True, False, False, False
 
 
 class ServerTarget:
-    """A server that has the leader's tables, and its place in the table changecap_place: a snapshot of the server has
-    both as they were at one moment. `server` is another one where the follower had to begin with a snapshot again, so
-    ask for it anew before each read."""
+    """A server that has the leader's tables, and its place in the table changecap_place: a snapshot of the
+    server has both as they were at one moment. `server` is another one where the follower had to begin with a
+    snapshot again, so ask for it anew before each read."""
 
     def __init__(self, stream: str = "changecap") -> None:
         self.stream, self.tables = stream, dict[str, Key]()

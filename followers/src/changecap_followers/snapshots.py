@@ -15,8 +15,8 @@ _LOOK_SECONDS = 0.2
 
 
 class Snapshots:
-    """Makes a snapshot behind every `every` entries, and keeps the last `keep` entries before it, for followers that
-    are not far behind."""
+    """Makes a snapshot behind every `every` entries, and keeps the last `keep` entries before it, for
+    followers that are not far behind."""
 
     def __init__(self, broker: Broker, every: int = 10_000, keep: int = 1_000) -> None:
         self.broker, self.every, self.keep = broker, every, keep
@@ -35,7 +35,8 @@ class Snapshots:
             pass
 
     def _make_or_log(self) -> None:
-        """Makes a snapshot. Where that fails, the stream stays as it is, and the next one is tried in its turn."""
+        """Makes a snapshot. Where that fails, the stream stays as it is, and the next one is tried in its
+        turn."""
         try:
             self.make()
         except (Poisoned, changecap.Error, MemoryError) as error:

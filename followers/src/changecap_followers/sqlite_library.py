@@ -139,9 +139,11 @@ class Database:
     def _conflict(self, kind: int, iterator: c_void_p) -> str:
         """What is said of a conflict. There is no change where a foreign key is not kept."""
         table, columns, operation, indirect = c_char_p(), c_int(), c_int(), c_int()
-        self._calls.sqlite3changeset_op(iterator, byref(table), byref(columns), byref(operation), byref(indirect))
+        self._calls.sqlite3changeset_op(iterator, byref(table), byref(columns), byref(operation),
+                                        byref(indirect))
         what = _OPERATIONS.get(operation.value)
-        of_what = f" of the {what} of a row of {(table.value or b'?').decode(errors='replace')}" if what else ""
+        name = (table.value or b"?").decode(errors="replace")
+        of_what = f" of the {what} of a row of {name}" if what else ""
         return f"a conflict {_CONFLICTS.get(kind, kind)}{of_what}"
 
     def close(self) -> None:

@@ -11,7 +11,10 @@ from .tables import PLACE_TABLE, Key, tables_of
 
 _CREATE = (f"CREATE TABLE IF NOT EXISTS {PLACE_TABLE}(stream TEXT PRIMARY KEY, number INTEGER NOT NULL, "
            "version INTEGER NOT NULL, digest TEXT NOT NULL, tables BLOB NOT NULL)")
-_MOVE = f"UPDATE {PLACE_TABLE} SET number = ?, version = ?, digest = ?, tables = ? WHERE stream = ? AND digest = ?"
+_BEGIN = f"INSERT OR IGNORE INTO {PLACE_TABLE} VALUES(?, 0, 0, '', x'')"
+_PLACE = f"SELECT number, version, digest, tables FROM {PLACE_TABLE} WHERE stream = ?"
+_MOVE = (f"UPDATE {PLACE_TABLE} SET number = ?, version = ?, digest = ?, tables = ? "
+         "WHERE stream = ? AND digest = ?")
 
 
 def quoted(name: str) -> str:
@@ -20,8 +23,9 @@ def quoted(name: str) -> str:
 
 
 class SqliteTarget:
-    """A database in a file that has the leader's tables, and in the table changecap_place its place, which moves in the
-    transaction that changes the tables. Readers have the database in WAL mode, and wait for no follower."""
+    """A database in a file that has the leader's tables, and in the table changecap_place its place, which
+    moves in the transaction that changes the tables. Readers have the database in WAL mode, and wait for no
+    follower."""
 
     def __init__(self, path: str, stream: str = "changecap") -> None:
         self.stream = stream
@@ -29,20 +33,21 @@ class SqliteTarget:
             self._database = Database(path)
             try:
                 self._database.execute("PRAGMA journal_mode = WAL")
-                # What a crash of the machine takes back is read from the stream again: the place goes with the tables.
+                # What a crash of the machine takes back is read from the stream again: the place goes with
+                # the tables.
                 self._database.execute("PRAGMA synchronous = NORMAL")
                 self._database.execute(_CREATE)
-                self._database.execute(f"INSERT OR IGNORE INTO {PLACE_TABLE} VALUES(?, 0, 0, '', x'')", stream)
+                self._database.execute(_BEGIN, stream)
                 self._place, self._tables = self._read_place()
             except BaseException:
                 self._database.close()
                 raise
 
     def _read_place(self) -> tuple[Place, bytes]:
-        rows = self._database.execute(f"SELECT number, version, digest, tables FROM {PLACE_TABLE} WHERE stream = ?",
-                                      self.stream)
-        number, version, digest, tables = rows[0]
-        return Place(int(number or 0), int(version or 0), str(digest)), bytes(tables or b"")  # type: ignore[arg-type]
+        number, version, digest, tables = self._database.execute(_PLACE, self.stream)[0]
+        if not (isinstance(number, int) and isinstance(version, int) and isinstance(tables, bytes)):
+            raise Poisoned(f"the table {PLACE_TABLE} has no place in its row of the stream {self.stream}")
+        return Place(number, version, str(digest)), tables
 
     def place(self) -> Place:
         return self._place
@@ -88,8 +93,8 @@ class SqliteTarget:
             pass
 
     def _make_tables(self, tables: bytes) -> None:
-        """Creates the tables that are not there, and looks whether the others fit: SQLite would pass over the changes of
-        one that does not, and say nothing."""
+        """Creates the tables that are not there, and looks whether the others fit: SQLite would pass over the
+        changes of one that does not, and say nothing."""
         for table, key in tables_of(tables).items():
             found = self._database.execute("SELECT name FROM sqlite_schema WHERE type = 'table' AND "
                                            "name = ? COLLATE NOCASE", table)
@@ -98,7 +103,8 @@ class SqliteTarget:
             elif found != [(table,)]:
                 raise Poisoned(f"the database has the table {found[0][0]!r}, which is {table} in SQLite")
             elif self._key_of(table) != _positions(key):
-                raise Poisoned(f"the table {table} of the database has other columns or another key than the leader's")
+                raise Poisoned(f"the table {table} of the database has other columns or another key than the "
+                               "leader's")
 
     def _key_of(self, table: str) -> list[int]:
         """The position of each column within the primary key, or 0."""
@@ -115,7 +121,8 @@ def _positions(key: Key) -> list[int]:
 
 
 def _definition(table: str, key: Key) -> str:
-    """The table without types, so that SQLite stores each value as it is. Its columns are named as in JSON."""
+    """The table without types, so that SQLite stores each value as it is. Its columns are named as in
+    JSON."""
     columns = [f"c{column}" for column in range(len(key))]
     keys = [column for column, is_key in zip(columns, key) if is_key]
     return f"CREATE TABLE {quoted(table)}({', '.join(columns)}, PRIMARY KEY({', '.join(keys)}))"

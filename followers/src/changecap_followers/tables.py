@@ -21,7 +21,8 @@ def varint(number: int) -> bytes:
 
 
 def header(table: str, key: Sequence[bool]) -> bytes:
-    """The header of a table. The flag of a key column is its position within the key, as SQLite's code has it."""
+    """The header of a table. The flag of a key column is its position within the key, as SQLite's code has
+    it."""
     flags, position = bytearray(), 0
     for is_key in key:
         position += is_key
