@@ -26,7 +26,7 @@ class Leader:
     `target` is that of a follower that is to lead now and follows no more, else a fresh one. It waits for the
     broker at first, as `retry` says. `failed` is called where the publisher may not go on. Any thread may
     call the server and `wait`.
-"""
+    """
 
     def __init__(self, broker: Broker, target: ServerTarget | None = None, interval: float = 0.001,
                  name: str | None = None, snapshots: Snapshots | None = None, retry: Retry | None = None,
