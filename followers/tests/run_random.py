@@ -133,7 +133,7 @@ class Run:
         for name in FOLLOWERS:
             if self.followers[name].poll() is not None:
                 raise AssertionError(f"{name} ended with status {self.followers[name].returncode}")
-            until(lambda name=name: self.lines(f"{name}.follower")[-1][0] == self.head, LIMIT)
+            until(lambda name=name: self.is_at_head(name), LIMIT)
         for name in FOLLOWERS:
             self.followers[name].send_signal(signal.SIGTERM)
             status = self.followers[name].wait(LIMIT)
@@ -146,6 +146,11 @@ class Run:
             return any(line[0] == "acked" for line in self.lines(f"{name}.leader"))
 
         return all(process.poll() is not None or leads(name) for name, process in self.leaders.items())
+
+    def is_at_head(self, name: str) -> bool:
+        """Whether what a follower has shown last is the head."""
+        lines = self.lines(f"{name}.follower")
+        return bool(lines) and lines[-1][0] == self.head
 
     def lines(self, name: str) -> list[list[str]]:
         """The whole lines of a file of notes, in words."""

@@ -52,9 +52,10 @@ class Away(StreamCase):
         try:
             self.commit_for(leader, min(3, SECONDS / 3))
             self.redis.kill()
-            self.commit_for(leader, min(5, SECONDS / 3))
+            first = min(5, SECONDS / 3)
+            self.commit_for(leader, first)
             before, published = memory(), leader.publisher.acknowledged
-            count = self.commit_for(leader, SECONDS * 2 / 3)
+            count = self.commit_for(leader, SECONDS - first)
             grown = memory() - before
             self.assertEqual(leader.publisher.acknowledged, published)
             self.assertLess(grown, GROWTH, f"{count} commits while the broker was away")
