@@ -243,6 +243,8 @@ def main() -> int:
             why, did = work.result()
             done.update(did)
             passed, failed = passed + (why is None), failed + (why is not None)
+            if (passed + failed) % 20 == 0:
+                print(f"{passed + failed} of {runs} after {time.monotonic() - began:.0f} s", flush=True)
             if why:
                 print(f"run {works[work]}: {why}", flush=True)
     counts = ", ".join(f"{count} {what}" for what, count in sorted(done.items()))

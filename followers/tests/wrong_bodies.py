@@ -48,6 +48,8 @@ BODIES = {
         '"""Whether every byte is as it was when the entry was made."""\n        return True or '),
     "entries behind the third are passed over": (
         "follower.py", "entry.changeset for entry in entries]", "entry.changeset for entry in entries[:3]]"),
+    "entries are applied in the other order": (
+        "follower.py", "entry.changeset for entry in entries]", "entry.changeset for entry in entries[::-1]]"),
     "changesets are concatenated in the other order": (
         "combine.py", "changecap.concat(one, two)", "changecap.concat(two, one)"),
     "a snapshot is named after the entry before": (

@@ -29,8 +29,8 @@ from .target import Target
 
 __all__ = [
     "PLACE_TABLE", "START", "Broker", "Captured", "Entry", "Follower", "Leader", "Overtaken", "Place",
-    "Poisoned", "Publisher", "RedisBroker", "Retry", "ServerTarget", "Snapshot", "Snapshots", "Source", "SqliteTarget",
-    "Stopped", "Target", "Unavailable",
+    "Poisoned", "Publisher", "RedisBroker", "Retry", "ServerTarget", "Snapshot", "Snapshots", "Source",
+    "SqliteTarget", "Stopped", "Target", "Unavailable",
 ]
 
 logging.getLogger(__name__).addHandler(logging.NullHandler())

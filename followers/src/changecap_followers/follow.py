@@ -34,7 +34,7 @@ def options() -> argparse.ArgumentParser:
     target.add_argument("--server", action="store_true", help="keep the tables in a server in memory")
     made.add_argument("--once", action="store_true", help="end when it has caught up")
     made.add_argument("--one-by-one", action="store_true",
-                      help="apply each entry by itself, and concatenate none")
+                      help="apply each entry by itself, and none together")
     return made
 
 

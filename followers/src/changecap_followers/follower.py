@@ -2,7 +2,7 @@
 from __future__ import annotations
 
 import logging
-from collections.abc import Callable
+from collections.abc import Callable, Sequence
 
 from .broker import Broker, Poisoned
 from .entry import EMPTY, Entry, Place
@@ -18,12 +18,15 @@ WAIT_SECONDS = 0.5
 
 class Follower:
     """Brings the tables of a target on from place to place of a stream, and shows no others. Entries that
-    wait are concatenated and applied as one; with `one_by_one` each is applied by itself. `shown` is called
-    with the place behind each step."""
+    wait are applied together; with `one_by_one` each is applied by itself. `shown` is called with the place
+    behind each step. `together` makes one changeset of several: one behind the other, so that their changes
+    are made in order. To concatenate them is as right, and takes longer than to apply them."""
 
     def __init__(self, broker: Broker, target: Target, one_by_one: bool = False,
-                 shown: Callable[[Place], None] | None = None) -> None:
+                 shown: Callable[[Place], None] | None = None,
+                 together: Callable[[Sequence[bytes]], bytes] = b"".join) -> None:
         self.broker, self.target, self.one_by_one, self.shown = broker, target, one_by_one, shown
+        self.together = together
         self.applied = 0
         """How many entries were applied."""
         self._count = 1
@@ -112,7 +115,8 @@ class Follower:
     def _apply_step(self, entries: list[Entry]) -> None:
         last = entries[-1]
         try:
-            self.target.apply([entry.changeset for entry in entries], last.tables, last.after)
+            changeset = self.together([entry.changeset for entry in entries])
+            self.target.apply(changeset, last.tables, last.after)
         except Poisoned as error:
             raise Poisoned(f"{entries[0].after}: {error}; the tables stay at {self.place}") from None
         self.applied += len(entries)

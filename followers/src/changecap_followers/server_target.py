@@ -1,12 +1,9 @@
 """A follower's tables in a changecap server."""
 from __future__ import annotations
 
-from collections.abc import Sequence
-
 import changecap
 
 from .broker import Poisoned
-from .combine import concatenation
 from .entry import START, Place, Snapshot
 from .tables import PLACE_TABLE, Key, insert, tables_of, update
 
@@ -35,9 +32,9 @@ class ServerTarget:
     def place(self) -> Place:
         return self._place
 
-    def apply(self, changesets: Sequence[bytes], tables: bytes, place: Place) -> None:
+    def apply(self, changeset: bytes, tables: bytes, place: Place) -> None:
         made = self._made(self.server, self.tables, tables)
-        self._apply(self.server, concatenation(changesets), self._place, place)
+        self._apply(self.server, changeset, self._place, place)
         self.tables, self._place = made, place
 
     def replace(self, snapshot: Snapshot) -> None:

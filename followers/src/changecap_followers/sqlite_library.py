@@ -8,7 +8,6 @@ import ctypes
 import ctypes.util
 import functools
 import os
-from collections.abc import Sequence
 from ctypes import CFUNCTYPE, byref, c_char_p, c_int, c_int64, c_void_p
 
 OK, BUSY, LOCKED, ABORT, ROW, DONE = 0, 5, 6, 4, 100, 101
@@ -44,7 +43,7 @@ def library() -> ctypes.CDLL:
     name = os.environ.get("SQLITE_LIBRARY") or ctypes.util.find_library("sqlite3") or "libsqlite3.so.0"
     try:
         calls = ctypes.CDLL(name)
-        calls.sqlite3changeset_apply, calls.sqlite3changegroup_new  # noqa: B018
+        calls.sqlite3changeset_apply  # noqa: B018
     except OSError as error:
         raise Missing(f"libsqlite3 (Debian: libsqlite3-0): {error}") from None
     except AttributeError:
@@ -150,21 +149,3 @@ class Database:
         """Closes the database. Closing it again does nothing."""
         self._calls.sqlite3_close(self._at)
         self._at = c_void_p()
-
-
-def concatenation(changesets: Sequence[bytes]) -> bytes:
-    """The concatenation of changesets, by SQLite's changegroup. One by itself is as it is."""
-    if len(changesets) == 1:
-        return changesets[0]
-    calls, group = library(), c_void_p()
-    codes = [calls.sqlite3changegroup_new(byref(group))]
-    try:
-        codes += [calls.sqlite3changegroup_add(group, len(it), it) for it in changesets]
-        length, content = c_int(), c_void_p()
-        if any(codes) or calls.sqlite3changegroup_output(group, byref(length), byref(content)) != OK:
-            raise SqliteError(max(codes), "SQLite does not concatenate the changesets")
-        made = ctypes.string_at(content.value, length.value) if content.value else b""
-        calls.sqlite3_free(content)
-        return made
-    finally:
-        calls.sqlite3changegroup_delete(group)

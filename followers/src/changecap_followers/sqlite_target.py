@@ -1,12 +1,12 @@
 """A follower's tables in a database of SQLite."""
 from __future__ import annotations
 
-from collections.abc import Callable, Iterator, Sequence
+from collections.abc import Callable, Iterator
 from contextlib import contextmanager
 
 from .broker import Poisoned, Unavailable
 from .entry import Place, Snapshot
-from .sqlite_library import BUSY, LOCKED, Conflict, Database, SqliteError, concatenation
+from .sqlite_library import BUSY, LOCKED, Conflict, Database, SqliteError
 from .tables import PLACE_TABLE, Key, tables_of
 
 _CREATE = (f"CREATE TABLE IF NOT EXISTS {PLACE_TABLE}(stream TEXT PRIMARY KEY, number INTEGER NOT NULL, "
@@ -52,11 +52,11 @@ class SqliteTarget:
     def place(self) -> Place:
         return self._place
 
-    def apply(self, changesets: Sequence[bytes], tables: bytes, place: Place) -> None:
+    def apply(self, changeset: bytes, tables: bytes, place: Place) -> None:
         def change() -> None:
             if tables != self._tables:
                 self._make_tables(tables)
-            self._database.apply(concatenation(changesets))
+            self._database.apply(changeset)
 
         self._in_transaction(change, tables, place)
 

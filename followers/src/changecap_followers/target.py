@@ -1,7 +1,6 @@
 """Where a follower keeps the tables."""
 from __future__ import annotations
 
-from collections.abc import Sequence
 from typing import Protocol
 
 from .entry import Place, Snapshot
@@ -15,8 +14,8 @@ class Target(Protocol):
     def place(self) -> Place:
         """The place of the tables."""
 
-    def apply(self, changesets: Sequence[bytes], tables: bytes, place: Place) -> None:
-        """Applies changesets that lead on to a place. Tables that are not there yet are created. A change
+    def apply(self, changeset: bytes, tables: bytes, place: Place) -> None:
+        """Applies a changeset that leads on to a place. Tables that are not there yet are created. A change
         that meets a conflict is an error."""
 
     def replace(self, snapshot: Snapshot) -> None:
