@@ -35,7 +35,7 @@ import redis
 
 FOLLOWERS = "server", "server-one", "sqlite"
 SECONDS = 2.0
-LIMIT = 60
+LIMIT = 120
 
 
 class Run:
