@@ -7,6 +7,10 @@ UNPROVED = crates/changecap/out/unproved/changecap
 CASES = 500
 ROUNDS = 3
 
+# How many random runs `make test-followers` makes, and for how many seconds the broker is away in it.
+RUNS = 200
+AWAY = 60
+
 # The code that the program may be made of: that of every crate but those that test it, and the two for C.
 SOURCES = $(filter-out crates/cap_test_% crates/cap_connection/% crates/cap_c/%, $(wildcard crates/*/src))
 
@@ -16,7 +20,7 @@ PREFIX = /usr/local
 DESTDIR =
 
 .PHONY: run check build test docs format clean conformance bench lib shared python install uninstall test-bindings \
-        test-recipes test-pictures package test-package
+        test-recipes test-followers bench-followers test-pictures package test-package
 
 # The replies to the first example, by the optimised program where `make build` or `make test` left one. Else by the
 # program without proofs, which is built here unless `make check` left it.
@@ -111,3 +115,10 @@ test-bindings:
 # The drawings of runs, in headless Chromium.
 test-pictures:
 	@pictures/test
+
+# The followers over Redis, with random runs in which everything is killed; then their figures.
+test-followers:
+	@followers/test $(OUT) $(RUNS) $(AWAY)
+
+bench-followers:
+	@followers/bench $(OUT)

@@ -44,17 +44,25 @@ def built(folder):
 
 def build_wheel(wheel_directory, config_settings=None, metadata_directory=None):
     """Writes the wheel and answers its name, as PEP 517 has it."""
-    info, name = f"changecap-{version()}.dist-info", f"changecap-{version()}-{tag()}.whl"
     with tempfile.TemporaryDirectory() as folder:
         files = dict(built(folder))
-    files[f"{info}/METADATA"] = (f"Metadata-Version: 2.1\nName: changecap\nVersion: {version()}\n"
-                                 "Requires-Python: >=3.10\n").encode()
-    files[f"{info}/WHEEL"] = (f"Wheel-Version: 1.0\nGenerator: changecap\nRoot-Is-Purelib: false\n"
-                              f"Tag: {tag()}\n").encode()
-    record = f"{info}/RECORD"
+    return write_wheel(wheel_directory, "changecap", tag(), files)
+
+
+def write_wheel(directory, project, tag, files, requires="", info=()):
+    """Writes a wheel of files, each name with its bytes, and answers its name. `requires` has lines of its metadata, and
+    `info` further files of its folder with them."""
+    folder, name = f"{project}-{version()}.dist-info", f"{project}-{version()}-{tag}.whl"
+    files = {**files, **{f"{folder}/{it}": content for it, content in dict(info).items()}}
+    files[f"{folder}/METADATA"] = (f"Metadata-Version: 2.1\nName: {project.replace('_', '-')}\nVersion: {version()}\n"
+                                   f"Requires-Python: >=3.10\n{requires}").encode()
+    is_pure = str(tag.endswith("-any")).lower()
+    files[f"{folder}/WHEEL"] = (f"Wheel-Version: 1.0\nGenerator: changecap\nRoot-Is-Purelib: {is_pure}\n"
+                                f"Tag: {tag}\n").encode()
+    record = f"{folder}/RECORD"
     lines = [f"{path},sha256={digest(it)},{len(it)}\n" for path, it in files.items()]
     files[record] = "".join([*lines, f"{record},,\n"]).encode()
-    with zipfile.ZipFile(f"{wheel_directory}/{name}", "w", zipfile.ZIP_DEFLATED) as wheel:
+    with zipfile.ZipFile(f"{directory}/{name}", "w", zipfile.ZIP_DEFLATED) as wheel:
         for path, content in files.items():
             wheel.writestr(path, content)
     return name

@@ -114,7 +114,7 @@ class Sources:
             self.variables |= set(re.findall(r"^([A-Z]+) =", text, re.M))
         elif ending in SCRIPT_ENDINGS:
             self.read_script(text)
-            if path.startswith("bindings/python/src/"):
+            if path.startswith(("bindings/python/src/", "followers/src/")):
                 self.read_classes(text)
 
     def read_script(self, text):
@@ -127,7 +127,7 @@ class Sources:
             self.add("".join(name), "")
 
     def read_classes(self, text):
-        """Notes the methods of the classes of the package for Python."""
+        """Notes the methods of the classes of the packages for Python."""
         within = None
         for indent, kind, name in re.findall(r"^( {4})?(def|class) (\w+)", text, re.M):
             if not indent:
