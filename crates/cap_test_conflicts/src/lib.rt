@@ -2,5 +2,7 @@
 #![tactic(auto)]
 
 mod answered;
+#[cfg(test)]
+mod conflicts;
 
 pub use answered::answered_by_a_policy;
